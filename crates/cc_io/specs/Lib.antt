@@ -1,0 +1,6 @@
+pub mod Faults
+pub mod Bytes
+pub mod Errors
+pub mod Memory
+pub mod Devices
+pub mod MemoryLaw
