@@ -1,0 +1,6 @@
+pub mod SideBySide
+pub mod Sizes
+pub mod Progress
+pub mod Parts
+pub mod Unmatched
+pub mod Least

@@ -1,0 +1,83 @@
+ghost use Rattle.std.specs.Prelude.{◌≡◌, ◌↔◌, ℕ, IsTrue, option_map, Option};
+ghost use Rattle.rewriting.specs.Terms as math;
+ghost use Rattle.rewriting.specs.Substitutions.{Matches};
+ghost use Rattle.term_core.specs.View.{view, views};
+ghost use Rattle.matching.specs.Values.{value_at, value_among, Agrees, AgreeAll};
+
+use term_core::{Term, equal};
+
+// The subject's part at the first occurrence of a variable in the pattern.
+#[cycle(value)]
+#[tactic(auto, using(crate::proofs::Sizes::size_pos))]
+fn value_of<'a>(x: u32, pattern: &Term, subject: &'a Term) -> Option<&'a Term>
+    ensures { option_map (λ t. view t.now) result ≡ value_at x (view pattern.now) (view subject.now) }
+{
+    match (pattern, subject) {
+        (Term::Var(y), _) => { if x == *y { Some(subject) } else { None } }
+        (Term::Fun(_, patterns), Term::Fun(_, subjects)) => value_in(x, patterns, subjects),
+        _ => None,
+    }
+}
+
+#[cycle(value)]
+#[tactic(auto, using(crate::proofs::Sizes::size_pos))]
+fn value_in<'a>(x: u32, patterns: &[Term], subjects: &'a [Term]) -> Option<&'a Term>
+    ensures { option_map (λ t. view t.now) result ≡ value_among x (views patterns.now) (views subjects.now) }
+{
+    let [pattern, patterns @ ..] = patterns else {
+        return None;
+    };
+    let [subject, subjects @ ..] = subjects else {
+        return None;
+    };
+    match value_of(x, pattern, subject) {
+        Some(value) => Some(value),
+        None => value_in(x, patterns, subjects),
+    }
+}
+
+// Whether each variable of the pattern stands for the part that it has in the whole.
+#[cycle(agrees)]
+#[tactic(auto, using(crate::proofs::Sizes::size_pos))]
+fn agrees(whole: &Term, onto: &Term, pattern: &Term, subject: &Term) -> bool
+    ensures { IsTrue result ↔ Agrees (λ x. value_at x (view whole.now) (view onto.now)) (view pattern.now) (view subject.now) }
+{
+    match (pattern, subject) {
+        (Term::Var(x), _) => match value_of(*x, whole, onto) {
+            Some(value) => equal(value, subject),
+            None => false,
+        },
+        (Term::Fun(f, patterns), Term::Fun(g, subjects)) => {
+            if *f != *g {
+                return false;
+            }
+            agree_all(whole, onto, patterns, subjects)
+        }
+        _ => false,
+    }
+}
+
+#[cycle(agrees)]
+#[tactic(auto, using(crate::proofs::Sizes::size_pos))]
+fn agree_all(whole: &Term, onto: &Term, patterns: &[Term], subjects: &[Term]) -> bool
+    ensures { IsTrue result ↔ AgreeAll (λ x. value_at x (view whole.now) (view onto.now)) (views patterns.now) (views subjects.now) }
+{
+    let [pattern, patterns @ ..] = patterns else {
+        return subjects.is_empty();
+    };
+    let [subject, subjects @ ..] = subjects else {
+        return false;
+    };
+    if !agrees(whole, onto, pattern, subject) {
+        return false;
+    }
+    agree_all(whole, onto, patterns, subjects)
+}
+
+/// Whether the subject is an instance of the pattern. Nothing is built, and no memory is asked for.
+#[tactic(auto, using(crate::proofs::SideBySide::matches_where, crate::proofs::SideBySide::agrees_where))]
+pub fn matches(pattern: &Term, subject: &Term) -> bool
+    ensures { IsTrue result ↔ Matches (view pattern.now) (view subject.now) }
+{
+    agrees(pattern, subject, pattern, subject)
+}

@@ -1,0 +1,57 @@
+// Matching a pattern onto a subject.
+#![tactic(auto)]
+
+ghost use Rattle.std.specs.FinMap as map;
+ghost use Rattle.term_core.specs.View.{view};
+ghost use Rattle.matching.specs.Answers.{MatchAnswers};
+
+mod finding;
+mod instances;
+mod normal;
+#[cfg(test)]
+mod tests;
+
+use finding::match_into;
+pub use instances::matches;
+pub use normal::matches_nowhere;
+use std::alloc::Global;
+use term_core::{NoMemory, Subst, Term};
+
+/// What matching finds.
+#[derive(Debug, Drop)]
+pub enum Match {
+    /// The least substitution.
+    Bound(Subst),
+    /// There is none.
+    Unmatched,
+}
+
+/// The least substitution that makes the pattern equal the subject. The variables of the two are of
+/// two kinds, even where their numbers agree.
+pub fn match_term(alloc: Global, pattern: &Term, subject: &Term) -> Result<Match, NoMemory>
+    ensures { MatchAnswers map.empty (view pattern.now) (view subject.now) result }
+{
+    match_onto(alloc, &Subst::new(alloc), pattern, subject)
+}
+
+/// The least extension of `start` that makes the pattern equal the subject.
+#[tactic(auto, using(crate::proofs::Unmatched::no_instance))]
+pub fn match_onto(
+    alloc: Global,
+    start: &Subst,
+    pattern: &Term,
+    subject: &Term,
+) -> Result<Match, NoMemory>
+    ensures { MatchAnswers start.now (view pattern.now) (view subject.now) result }
+{
+    // Most patterns do not match, and then nothing is copied.
+    if !matches(pattern, subject) {
+        return Ok(Match::Unmatched);
+    }
+    let mut values = start.try_clone(alloc)?;
+    if match_into(alloc, &mut values, pattern, subject)? {
+        Ok(Match::Bound(values))
+    } else {
+        Ok(Match::Unmatched)
+    }
+}

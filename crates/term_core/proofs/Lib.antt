@@ -1,0 +1,12 @@
+pub mod Arguments
+pub mod Views
+pub mod Over
+pub mod Maps
+pub mod Instances
+pub mod Numbers
+pub mod Conditions
+pub mod Numbered
+pub mod Rules
+pub mod Covers
+pub mod Counting
+pub mod Entries

@@ -1,0 +1,18 @@
+// Terms, positions, substitutions, rules and systems.
+#![tactic(auto)]
+
+mod positions;
+mod soundness;
+mod subst;
+mod systems;
+mod terms;
+#[cfg(test)]
+mod tests;
+mod variables;
+
+pub use positions::{replace, subterm};
+pub use soundness::is_over;
+pub use subst::Subst;
+pub use systems::{Cond, Head, Rule, System, SystemFault};
+pub use terms::{NoMemory, Term, TermError, depth, equal, fits, size, try_clone};
+pub use variables::{is_linear, vars};

@@ -1,0 +1,142 @@
+ghost use Rattle.std.specs.Prelude.{◌≡◌, ◌≤◌, ◌<◌, ◌+◌, ◌↔◌, ℕ, IfOk, OnOk, IfSome, IsTrue, false, map};
+ghost use Rattle.rewriting.specs.Variables.{with_new, with_variables, variables, occurrences, IsLinear};
+ghost use Rattle.rewriting.specs.Terms.{var};
+ghost use Rattle.term_core.specs.View.{view};
+ghost use Rattle.term_core.specs.Counting.{bit, with_counts, HasTwo, IsBelow};
+
+use crate::terms::{NoMemory, Term};
+use std::alloc::Global;
+
+// Puts a variable last, where the list lacks it.
+fn add(x: u32, out: &mut Vec<u32>) -> Result<(), NoMemory>
+    ensures { OnOk result (out.new.items ≡ with_new out.old.items x) }
+{
+    if !out.contains(&x) {
+        out.push(x)?;
+    }
+    Ok(())
+}
+
+fn collect(t: &Term, out: &mut Vec<u32>) -> Result<(), NoMemory>
+    ensures { OnOk result (out.new.items ≡ with_variables out.old.items (view t.now)) }
+{
+    match t {
+        Term::Var(x) => add(*x, out),
+        Term::Fun(_, args) => {
+            for arg in args {
+                collect(arg, out)?;
+            }
+            Ok(())
+        }
+    }
+}
+
+/// The variables of a term, each once, in order of first occurrence.
+pub fn vars(alloc: Global, t: &Term) -> Result<Vec<u32>, NoMemory>
+    ensures { IfOk result (λ xs. xs.items ≡ variables (view t.now)) }
+{
+    let mut out = Vec::new(alloc);
+    collect(t, &mut out)?;
+    Ok(out)
+}
+
+// The variables that one pass of `is_linear` counts: so many numbers in a row.
+const WINDOW: usize = 1024;
+
+// Marks a variable that is among those from `from` on, one for each place; false where it is marked.
+fn mark(x: u32, from: u32, seen: &mut [bool]) -> bool
+    ensures yes { IsTrue result → map bit seen.new ≡ with_counts (λ y. occurrences y (var x)) from (map bit seen.old) }
+    ensures no { result ≡ false → HasTwo (with_counts (λ y. occurrences y (var x)) from (map bit seen.old)) }
+{
+    if x < from {
+        return true;
+    }
+    let at = (x - from) as usize;
+    if at >= seen.len() {
+        return true;
+    }
+    if seen[at] {
+        return false;
+    }
+    seen[at] = true;
+    true
+}
+
+// The same for each variable as it occurs in a term.
+fn mark_all(t: &Term, from: u32, seen: &mut [bool]) -> bool
+    ensures yes { IsTrue result → map bit seen.new ≡ with_counts (λ x. occurrences x (view t.now)) from (map bit seen.old) }
+    ensures no { result ≡ false → HasTwo (with_counts (λ x. occurrences x (view t.now)) from (map bit seen.old)) }
+{
+    match t {
+        Term::Var(x) => mark(*x, from, seen),
+        Term::Fun(_, args) => {
+            for arg in args {
+                if !mark_all(arg, from, seen) {
+                    return false;
+                }
+            }
+            true
+        }
+    }
+}
+
+// Whether no variable of a window occurs twice.
+fn is_linear_from(t: &Term, from: u32) -> bool
+    ensures yes { IsTrue result → (x : ℕ) → from ≤ x → x < from + WINDOW → occurrences x (view t.now) ≤ 1 }
+    ensures no { result ≡ false → (x : ℕ) × (2 ≤ occurrences x (view t.now)) }
+{
+    let mut seen = [false; WINDOW];
+    mark_all(t, from, &mut seen)
+}
+
+// The lesser of two numbers, where there are two.
+fn lesser(a: Option<u32>, b: Option<u32>) -> Option<u32>
+    ensures left { (x : ℕ) → IsBelow x result → IsBelow x a }
+    ensures right { (x : ℕ) → IsBelow x result → IsBelow x b }
+    ensures one { (bound : ℕ) → IfSome a (λ y. bound ≤ y) → IfSome b (λ y. bound ≤ y) → IfSome result (λ y. bound ≤ y) }
+{
+    match (a, b) {
+        (Some(x), Some(y)) => Some(x.min(y)),
+        (Some(x), None) => Some(x),
+        (None, y) => y,
+    }
+}
+
+// The least variable of a term from a number on.
+fn least_from(t: &Term, bound: u64) -> Option<u32>
+    ensures bound { IfSome result (λ y. bound ≤ y) }
+    ensures none_before { (x : ℕ) → bound ≤ x → IsBelow x result → occurrences x (view t.now) ≡ 0 }
+{
+    match t {
+        Term::Var(x) => {
+            if u64::from(*x) >= bound {
+                Some(*x)
+            } else {
+                None
+            }
+        }
+        Term::Fun(_, args) => {
+            let mut least = None;
+            for arg in args {
+                least = lesser(least, least_from(arg, bound));
+            }
+            least
+        }
+    }
+}
+
+/// Whether no variable occurs twice.
+pub fn is_linear(t: &Term) -> bool
+    ensures { IsTrue result ↔ IsLinear (view t.now) }
+{
+    let mut from = 0;
+    'windows: loop {
+        if !is_linear_from(t, from) {
+            return false;
+        }
+        match least_from(t, from as u64 + WINDOW as u64) {
+            Some(next) => from = next,
+            None => return true,
+        }
+    }
+}
