@@ -1,0 +1,17 @@
+// Certificates and the reasons of a rejection, as plain data.
+#![tactic(auto)]
+
+mod copies;
+mod derivations;
+mod evidence;
+mod model;
+mod reasons;
+
+pub use derivations::{Derivation, Step};
+pub use evidence::{Automaton, InfEvidence, PairEvidence, Transition};
+pub use model::{Certificate, Linear, LinearEntry, MeasureCert, NonJoin, PairEntry, Peak, Redex};
+pub use reasons::{BadStep, Blame, Class, EvidenceReason, MeasureReason, Rejected, StepReason};
+pub use term_core::Head;
+
+#[cfg(test)]
+mod tests;

@@ -1,0 +1,3 @@
+pub mod Unique
+pub mod Sound
+pub mod Growth

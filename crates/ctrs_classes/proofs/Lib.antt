@@ -1,0 +1,7 @@
+pub mod Sizes
+pub mod Lists
+pub mod Firsts
+pub mod Linear
+pub mod Ground
+pub mod Prefixes
+pub mod Outside

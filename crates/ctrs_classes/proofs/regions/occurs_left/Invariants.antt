@@ -1,0 +1,8 @@
+use Rattle.std.proofs.Common.{◌≡◌, drop, map}
+use Rattle.rewriting.specs.Variables.{occurs_in}
+use Rattle.rewriting.specs.Rules.{left_sides}
+use Rattle.term_core.specs.RuleView.{condition_view}
+use Rattle.ctrs_classes.proofs.regions.occurs_left.Given as goal
+
+abbrev pub invariant-loop-cond : goal.invariant-loop-cond
+invariant-loop-cond l = occurs_in l.x (left_sides (map condition_view l.conds)) ≡ occurs_in l.x (left_sides (map condition_view (drop l.cond-index l.conds)))

@@ -1,0 +1,5 @@
+pub mod Blames
+pub mod Walks
+pub mod RegionView
+pub mod Faults
+pub mod Answers

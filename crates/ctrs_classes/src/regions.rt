@@ -1,0 +1,205 @@
+ghost use Rattle.std.specs.Prelude.{◌≡◌, ◌+◌, ◌≤◌, ◌&&◌, not, IfOk, map};
+ghost use Rattle.rewriting.specs.Terms.{size, size_all};
+ghost use Rattle.rewriting.specs.Variables as math;
+ghost use Rattle.rewriting.specs.Rules.{left_sides, right_sides, sides};
+ghost use Rattle.term_core.specs.View.{view, views};
+ghost use Rattle.term_core.specs.RuleView.{condition_view};
+ghost use Rattle.ctrs_classes.specs.Blames.{leaves, leaves_of};
+ghost use Rattle.ctrs_classes.specs.Walks.{SeenAnswers, any_where, are_open, first_where, is_open, same};
+ghost use Rattle.ctrs_classes.specs.RegionView.{in_region};
+
+use term_core::{Cond, Term};
+
+// Whether a variable occurs in a term.
+#[cycle(occurs)]
+#[tactic(auto, using(crate::proofs::Sizes::size_pos))]
+pub(crate) fn occurs(x: u32, t: &Term) -> bool
+    ensures { result ≡ math.occurs x (view t.now) }
+{
+    match t {
+        Term::Var(y) => x == *y,
+        Term::Fun(_, args) => occurs_any(x, args),
+    }
+}
+
+#[cycle(occurs)]
+#[tactic(auto, using(crate::proofs::Sizes::size_pos))]
+fn occurs_any(x: u32, args: &[Term]) -> bool
+    ensures { result ≡ math.occurs_in x (views args.now) }
+{
+    match args {
+        [] => false,
+        [first, rest @ ..] => occurs(x, first) || occurs_any(x, rest),
+    }
+}
+
+fn occurs_left(x: u32, conds: &[Cond]) -> bool
+    ensures { result ≡ math.occurs_in x (left_sides (map condition_view conds.now)) }
+{
+    for cond in conds {
+        if occurs(x, &cond.left) {
+            return true;
+        }
+    }
+    false
+}
+
+fn occurs_right(x: u32, conds: &[Cond]) -> bool
+    ensures { result ≡ math.occurs_in x (right_sides (map condition_view conds.now)) }
+{
+    for cond in conds {
+        if occurs(x, &cond.right) {
+            return true;
+        }
+    }
+    false
+}
+
+/// Where a variable may stand: in a rule's left side, in the first left sides and in the first right
+/// sides of its conditions.
+#[derive(Clone, Copy)]
+pub struct Region<'a> {
+    pub left: &'a Term,
+    pub asked: &'a [Cond],
+    pub known: &'a [Cond],
+}
+
+// Whether the variable stands there.
+fn stands(x: u32, region: &Region<'_>) -> bool
+    ensures { result ≡ in_region region.now x }
+{
+    occurs(x, region.left) || occurs_left(x, region.asked) || occurs_right(x, region.known)
+}
+
+fn is_wanted(x: u32, region: &Region<'_>, inside: bool) -> bool
+    ensures { result ≡ same inside (in_region region.now x) }
+{
+    if inside {
+        stands(x, region)
+    } else {
+        !stands(x, region)
+    }
+}
+
+// The first variable of a term that stands in the region, or that does not.
+#[cycle(first)]
+#[tactic(auto, using(crate::proofs::Sizes::size_pos))]
+pub(crate) fn first_variable(t: &Term, region: &Region<'_>, inside: bool) -> Option<u32>
+    ensures { result ≡ first_where (λ x. same inside (in_region region.now x)) (leaves (view t.now)) }
+{
+    match t {
+        Term::Var(x) => {
+            if is_wanted(*x, region, inside) {
+                Some(*x)
+            } else {
+                None
+            }
+        }
+        Term::Fun(_, args) => first_among(args, region, inside),
+    }
+}
+
+#[cycle(first)]
+#[tactic(auto, using(crate::proofs::Sizes::size_pos))]
+fn first_among(args: &[Term], region: &Region<'_>, inside: bool) -> Option<u32>
+    ensures { result ≡ first_where (λ x. same inside (in_region region.now x)) (leaves_of (views args.now)) }
+{
+    match args {
+        [] => None,
+        [first, rest @ ..] => match first_variable(first, region, inside) {
+            Some(x) => Some(x),
+            None => first_among(rest, region, inside),
+        },
+    }
+}
+
+// With the variables numbered as they come, and those below `next` seen: the first that is seen again, or
+// how many there are then, each counted as it stands.
+#[cycle(repeated)]
+#[tactic(auto, using(crate::proofs::Sizes::size_pos))]
+pub(crate) fn first_repeated(t: &Term, next: u32) -> Result<u32, u32>
+    requires { next + size (view t.now) ≤ 20000 }
+    ensures found { SeenAnswers next (leaves (view t.now)) result }
+    ensures bounded { IfOk result (λ n. n ≤ next + size (view t.now)) }
+{
+    match t {
+        Term::Var(x) => { if *x < next { Err(*x) } else { Ok(next + 1) } }
+        Term::Fun(_, args) => first_repeated_among(args, next),
+    }
+}
+
+#[cycle(repeated)]
+#[tactic(auto, using(crate::proofs::Sizes::size_pos))]
+fn first_repeated_among(args: &[Term], next: u32) -> Result<u32, u32>
+    requires { next + size_all (views args.now) ≤ 20000 }
+    ensures found { SeenAnswers next (leaves_of (views args.now)) result }
+    ensures bounded { IfOk result (λ n. n ≤ next + size_all (views args.now)) }
+{
+    match args {
+        [] => Ok(next),
+        [first, rest @ ..] => match first_repeated(first, next) {
+            Ok(after) => first_repeated_among(rest, after),
+            Err(x) => Err(x),
+        },
+    }
+}
+
+// Whether a condition asks of the variable.
+fn is_asked(x: u32, conds: &[Cond]) -> bool
+    ensures { result ≡ math.occurs_in x (sides (map condition_view conds.now)) }
+{
+    for cond in conds {
+        if occurs(x, &cond.left) || occurs(x, &cond.right) {
+            return true;
+        }
+    }
+    false
+}
+
+// Whether a variable of the term stands in some conditions, and not in the region.
+#[cycle(shares)]
+#[tactic(auto, using(crate::proofs::Sizes::size_pos))]
+pub(crate) fn shares_unknown(t: &Term, region: &Region<'_>, conds: &[Cond]) -> bool
+    ensures { result ≡ any_where (λ x. math.occurs_in x (sides (map condition_view conds.now)) && not (in_region region.now x)) (leaves (view t.now)) }
+{
+    match t {
+        Term::Var(x) => is_asked(*x, conds) && !stands(*x, region),
+        Term::Fun(_, args) => share_unknown(args, region, conds),
+    }
+}
+
+#[cycle(shares)]
+#[tactic(auto, using(crate::proofs::Sizes::size_pos, crate::proofs::Lists::any_append, crate::proofs::Lists::leaves_split))]
+fn share_unknown(args: &[Term], region: &Region<'_>, conds: &[Cond]) -> bool
+    ensures { result ≡ any_where (λ x. math.occurs_in x (sides (map condition_view conds.now)) && not (in_region region.now x)) (leaves_of (views args.now)) }
+{
+    match args {
+        [] => false,
+        [first, rest @ ..] => {
+            shares_unknown(first, region, conds) || share_unknown(rest, region, conds)
+        }
+    }
+}
+
+// Whether a variable occurs in the term.
+#[cycle(has_variable)]
+#[tactic(auto, using(crate::proofs::Sizes::size_pos))]
+pub(crate) fn has_variable(t: &Term) -> bool
+    ensures { result ≡ is_open (view t.now) }
+{
+    match t {
+        Term::Var(_) => true,
+        Term::Fun(_, args) => have_variable(args),
+    }
+}
+
+#[cycle(has_variable)]
+#[tactic(auto, using(crate::proofs::Sizes::size_pos))]
+fn have_variable(args: &[Term]) -> bool
+    ensures { result ≡ are_open (views args.now) }
+{
+    match args {
+        [] => false,
+        [first, rest @ ..] => has_variable(first) || have_variable(rest),
+    }
+}
