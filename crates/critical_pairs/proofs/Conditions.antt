@@ -1,0 +1,74 @@
+-- Conditions of a list, one by one.
+use Rattle.std.proofs.Common.{ℕ, zero, suc, ◌≡◌, ◌+◌, ◌<◌, ◌≤◌, true, List, [], ◌∷◌, ◌++◌, map, length, take, drop, get_or, refl, sym, ap, ap₂, ◌∙◌, subst, arith, add-one, append_assoc}
+use Rattle.rewriting.specs.Terms.{Term, Fits}
+use Rattle.rewriting.specs.Substitutions.{Substitution, apply}
+use Rattle.rewriting.specs.Variables.{occurs, occurs_in}
+use Rattle.rewriting.specs.Rules as math
+use Rattle.rewriting.specs.Rules.{sides}
+use Rattle.rewriting.specs.Systems.{Each}
+use Rattle.rewriting.specs.Overlaps.{condition_under, conditions_under}
+use Rattle.rewriting.proofs.Instances.{or_left, or_right}
+use Rattle.term_core.specs.View.{view}
+use Rattle.term_core.specs.RuleView.{condition_view}
+use Rattle.term_core.specs.declared.systems.Cond.{Cond}
+
+pub left_occurs : (k : ℕ) (cs : List Cond) (i : ℕ) (c : Cond) → i < length cs → c ≡ get_or cs i c → occurs k (view c.left) ≡ true → occurs_in k (sides (map condition_view cs)) ≡ true
+left_occurs k [] i c h e o = absurd (omega arith)
+left_occurs k (d ∷ cs) zero c h e o = or_left _ _ (subst (λ z. occurs k (view z.left) ≡ true) e o)
+left_occurs k (d ∷ cs) (suc i) c h e o = or_right _ _ (or_right _ _ (left_occurs k cs i c (omega arith) e o))
+
+pub right_occurs : (k : ℕ) (cs : List Cond) (i : ℕ) (c : Cond) → i < length cs → c ≡ get_or cs i c → occurs k (view c.right) ≡ true → occurs_in k (sides (map condition_view cs)) ≡ true
+right_occurs k [] i c h e o = absurd (omega arith)
+right_occurs k (d ∷ cs) zero c h e o = or_right _ _ (or_left _ _ (subst (λ z. occurs k (view z.right) ≡ true) e o))
+right_occurs k (d ∷ cs) (suc i) c h e o = or_right _ _ (or_right _ _ (right_occurs k cs i c (omega arith) e o))
+
+pub both_fit : (cs : List Cond) (i : ℕ) (c : Cond) → i < length cs → c ≡ get_or cs i c → Each Fits (sides (map condition_view cs)) → Fits (view c.left) × Fits (view c.right)
+both_fit [] i c h e f = absurd (omega arith)
+both_fit (d ∷ cs) zero c h e f = (subst (λ z. Fits (view z.left)) (sym e) f.0, subst (λ z. Fits (view z.right)) (sym e) f.1.0)
+both_fit (d ∷ cs) (suc i) c h e f = both_fit cs i c (omega arith) e f.1.1
+
+pub under-append : (s : Substitution) (cs ds : List math.Condition) → conditions_under s (cs ++ ds) ≡ conditions_under s cs ++ conditions_under s ds
+under-append s [] ds = refl
+under-append s (c ∷ cs) ds = ap (λ z. condition_under s c ∷ z) (under-append s cs ds)
+
+pub fit_append : (cs ds : List math.Condition) → Each Fits (sides cs) → Each Fits (sides ds) → Each Fits (sides (cs ++ ds))
+fit_append [] ds h k = k
+fit_append (c ∷ cs) ds h k = (h.0, (h.1.0, fit_append cs ds h.1.1 k))
+
+pub fit_left : (cs ds : List math.Condition) → Each Fits (sides (cs ++ ds)) → Each Fits (sides cs)
+fit_left [] ds h = tt
+fit_left (c ∷ cs) ds h = (h.0, (h.1.0, fit_left cs ds h.1.1))
+
+pub fit_right : (cs ds : List math.Condition) → Each Fits (sides (cs ++ ds)) → Each Fits (sides ds)
+fit_right [] ds h = h
+fit_right (c ∷ cs) ds h = fit_right cs ds h.1.1
+
+-- the instances of all conditions fit, so those of one do
+pub one_fits : (m : Substitution) (cs : List Cond) (i : ℕ) (c : Cond) → i < length cs → c ≡ get_or cs i c → Each Fits (sides (conditions_under m (map condition_view cs))) → Fits (apply m (view c.left)) × Fits (apply m (view c.right))
+one_fits m [] i c h e f = absurd (omega arith)
+one_fits m (d ∷ cs) zero c h e f = (subst (λ z. Fits (apply m (view z.left))) (sym e) f.0, subst (λ z. Fits (apply m (view z.right))) (sym e) f.1.0)
+one_fits m (d ∷ cs) (suc i) c h e f = one_fits m cs i c (omega arith) e f.1.1
+
+-- the first conditions of a list, and one more
+map_take_suc : (cs : List Cond) (i : ℕ) (c : Cond) → i < length cs → c ≡ get_or cs i c → map condition_view (take (suc i) cs) ≡ map condition_view (take i cs) ++ condition_view c ∷ []
+map_take_suc [] i c h e = absurd (omega arith)
+map_take_suc (d ∷ cs) zero c h e = ap (λ z. condition_view z ∷ []) (sym e)
+map_take_suc (d ∷ cs) (suc i) c h e = ap (λ z. condition_view d ∷ z) (map_take_suc cs i c (omega arith) e)
+
+pub map_take_next : (cs : List Cond) (i : ℕ) (c : Cond) → i < length cs → c ≡ get_or cs i c → map condition_view (take (i + 1) cs) ≡ map condition_view (take i cs) ++ condition_view c ∷ []
+map_take_next cs i c h e = rw add-one (map_take_suc cs i c h e)
+
+pub map_take_all : (cs : List Cond) (i : ℕ) → length cs ≤ i → map condition_view (take i cs) ≡ map condition_view cs
+map_take_all [] zero h = refl
+map_take_all [] (suc i) h = refl
+map_take_all (c ∷ cs) zero h = absurd (omega arith)
+map_take_all (c ∷ cs) (suc i) h = ap (λ z. condition_view c ∷ z) (map_take_all cs i (omega arith))
+
+pub map-append : (cs ds : List Cond) → map condition_view (cs ++ ds) ≡ map condition_view cs ++ map condition_view ds
+map-append [] ds = refl
+map-append (c ∷ cs) ds = ap (λ z. condition_view c ∷ z) (map-append cs ds)
+
+-- the instances of some conditions, and then of others, from none on
+pub both_added : (m : Substitution) (cs ds start middle end : List math.Condition) → start ≡ [] → (middle ≡ start ++ conditions_under m cs) × Each Fits (sides (conditions_under m cs)) → (end ≡ middle ++ conditions_under m ds) × Each Fits (sides (conditions_under m ds))
+    → (end ≡ conditions_under m cs ++ conditions_under m ds) × Each Fits (sides (conditions_under m cs ++ conditions_under m ds))
+both_added m cs ds start middle end e h k = (k.0 ∙ ap (λ z. z ++ conditions_under m ds) (h.0 ∙ ap (λ z. z ++ conditions_under m cs) e), fit_append _ _ h.1 k.1)

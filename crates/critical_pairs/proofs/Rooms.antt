@@ -1,0 +1,27 @@
+-- The variables of a system's rules are few enough to be renamed.
+use Rattle.std.proofs.Common.{ℕ, zero, suc, ◌≡◌, ◌+◌, ◌*◌, ◌^◌, ◌<◌, ◌≤◌, ◌⊎◌, inl, inr, true, List, [], ◌∷◌, map, length, get_or, refl, sym, ap, ◌∙◌, subst, arith}
+use Rattle.rewriting.specs.Terms.{Terms}
+use Rattle.rewriting.specs.Variables.{occurs_in, variables_of}
+use Rattle.rewriting.specs.Rules as math
+use Rattle.rewriting.specs.Signatures.{Signature}
+use Rattle.rewriting.specs.Systems.{CountsFrom, terms_of_rule, rule_variables, IsRule, AreRules}
+use Rattle.rewriting.proofs.Variables.{IsAmong, variables_have_all}
+use Rattle.term_core.specs.RuleView.{rule_view}
+use Rattle.term_core.specs.declared.systems.Rule.{Rule}
+use Rattle.critical_pairs.specs.Building.{HasRoom}
+
+counted_below : (n : ℕ) (xs : List ℕ) (x : ℕ) → CountsFrom n xs → IsAmong x xs → x < n + length xs
+counted_below n [] x h m = absurd m
+counted_below n (y ∷ ys) x h (inl e) = let k = h.0 in omega (arith, k, e)
+counted_below n (y ∷ ys) x h (inr m) = let k = counted_below (suc n) ys x h.1 m in omega (arith, k)
+
+pub has_room : (arities : Signature) (add : ℕ) (r : math.Rule) → add ≤ 1 → IsRule arities r → HasRoom add (terms_of_rule r)
+has_room arities add r small h k o =
+    let below = counted_below 0 (rule_variables r) k h.numbered (variables_have_all k [] (terms_of_rule r) o) in
+    let few = h.few_variables in
+    omega (arith, below, few, small)
+
+pub rule_has_room : (arities : Signature) (add : ℕ) (rs : List Rule) (i : ℕ) (r : Rule) → add ≤ 1 → i < length rs → r ≡ get_or rs i r → AreRules arities (map rule_view rs) → HasRoom add (terms_of_rule (rule_view r))
+rule_has_room arities add [] i r small h e f = absurd (omega arith)
+rule_has_room arities add (s ∷ rs) zero r small h e f = subst (λ z. HasRoom add (terms_of_rule (rule_view z))) (sym e) (has_room arities add (rule_view s) small f.0)
+rule_has_room arities add (s ∷ rs) (suc i) r small h e f = rule_has_room arities add rs i r small (omega arith) e f.1

@@ -1,0 +1,259 @@
+-- What a run at a triple says of the system's overlaps.
+use Rattle.std.proofs.Common.{ℕ, zero, suc, ◌≡◌, ◌≢◌, ◌+◌, ◌<◌, ◌≤◌, ◌⊎◌, inl, inr, List, [], ◌∷◌, ◌++◌, map, length, Option, Some, None, IsSome, refl, sym, ap, ap₂, ◌∙◌, subst, subst₂, arith, slice_get, Result, Ok, Err, ◌^◌, max}
+use Rattle.rewriting.specs.Terms.{Term, Terms, var, app, nil, cons, size, size_all, depth, depth_all, IsVariable, Fits}
+use Rattle.rewriting.specs.Positions.{Position, subterm, replace}
+use Rattle.rewriting.specs.Substitutions.{Substitution, apply, apply_all, compose, Bindings, values_of}
+use Rattle.rewriting.specs.Unifiers.{IsMostGeneral, even, odd}
+use Rattle.rewriting.specs.Rules.{Condition, Rule, System, rule_at, sides}
+use Rattle.rewriting.specs.Systems.{Each, terms_of_rule, IsRule, AreRules, IsSystem}
+use Rattle.rewriting.specs.Overlaps.{IsPlace, CriticalPair, IsCriticalPair, condition_under, conditions_under}
+use Rattle.rewriting.proofs.Instances.{apply-apply, apply-agree}
+use Rattle.rewriting.proofs.Positions.{replaceable}
+use Rattle.rewriting.proofs.Places.{subterm-apply}
+use Rattle.rewriting.proofs.Unifiers.{of_list}
+use Rattle.unifier_run.specs.Run.{Binding, value, Outcome, unifier, clash, too_large, IsOutcome}
+use Rattle.unifier_run.specs.Laws.{as_map}
+use Rattle.unifier_run.specs.Overlaps.{Triple, Overlap, triple, IsOutcomeOf, DoesPairFit, IsOverlapOf, IsTooLargeAt}
+use Rattle.unifier_run.proofs.General.{most_general}
+use Rattle.unifier_run.proofs.Maps.{values_of-as_map}
+use Rattle.unifier_run.proofs.Triples.{DoesClash, AreThose}
+use Rattle.critical_pairs.specs.Building.{rule_under, IsMade}
+use Rattle.critical_pairs.proofs.Sizes.{fits_part}
+use Rattle.critical_pairs.specs.Searching.{AreFound, IsLargeAmong, IsManyAmong, IsInner, IsPartAt, IsSpot, IsRefusal, PutAnswers, SearchAnswers}
+use Rattle.term_core.specs.View.{view}
+use Rattle.term_core.specs.RuleView.{condition_view, rule_view}
+use Rattle.term_core.specs.declared.systems.Cond.{Cond}
+use Rattle.term_core.specs.declared.systems.Rule as Program
+use Rattle.critical_pairs.specs.declared.Overlap as Made
+use Rattle.critical_pairs.specs.View.{overlap_view}
+use Rattle.critical_pairs.specs.declared.OverlapError.{OverlapError}
+use Rattle.critical_pairs.specs.declared.OverlapError.TheVariants.{PairTooLarge, TooManyPairs, NoMemory}
+
+same_rule : (o : Option Rule) (a b : Rule) → o ≡ Some a → o ≡ Some b → a ≡ b
+same_rule o a b e h = (let k : Some a ≡ Some b = sym e ∙ h in cc)
+
+same_term : (o : Option Term) (a b : Term) → o ≡ Some a → o ≡ Some b → a ≡ b
+same_term o a b e h = (let k : Some a ≡ Some b = sym e ∙ h in cc)
+
+variable_renamed : (t : Term) → (IsVariable (apply odd t) → ⊥) → IsVariable t → ⊥
+variable_renamed (var x) h k = h tt
+variable_renamed (app f ts) h k = k
+
+-- a condition list under two substitutions in a row
+under_under : (r m : Substitution) (cs : List Condition) → conditions_under m (conditions_under r cs) ≡ conditions_under (compose r m) cs
+under_under r m [] = refl
+under_under r m (c ∷ cs) = ap₂ (λ x y. x ∷ y) (ap₂ (λ x y. record { left = x; right = y }) (apply-apply r m c.left) (apply-apply r m c.right)) (under_under r m cs)
+
+pub under_agree : (s t : Substitution) (cs : List Condition) → ((x : ℕ) → s x ≡ t x) → conditions_under s cs ≡ conditions_under t cs
+under_agree s t [] h = refl
+under_agree s t (c ∷ cs) h = ap₂ (λ x y. x ∷ y) (ap₂ (λ x y. record { left = x; right = y }) (apply-agree s t c.left (λ x o. h x)) (apply-agree s t c.right (λ x o. h x))) (under_agree s t cs h)
+
+-- the same substitution makes the same pair
+made_agree : (s t : Substitution) (p : Position) (inner outer : Rule) (pair : CriticalPair) → ((x : ℕ) → s x ≡ t x) → IsMade s p inner outer pair → IsMade t p inner outer pair
+made_agree s t p inner outer pair h m =
+    record {
+      source = m.source ∙ apply-agree s t outer.left (λ x o. h x);
+      left = subst₂ (λ x y. replace x p y ≡ Some pair.left) (apply-agree s t outer.left (λ x o. h x)) (apply-agree s t inner.right (λ x o. h x)) m.left;
+      right = m.right ∙ apply-agree s t outer.right (λ x o. h x);
+      conditions = m.conditions ∙ ap₂ (λ x y. x ++ y) (under_agree s t inner.conditions h) (under_agree s t outer.conditions h);
+    }
+
+module _ (sys : System) (i : ℕ) (p : Position) (j : ℕ) (inner outer : Rule) (part : Term) (spot : IsSpot sys i p j inner outer part) where
+  abbrev R : Rule
+  R = spot.is_inner.rule
+
+  abbrev Q : Rule
+  Q = spot.is_part.rule
+
+  abbrev T : Term
+  T = spot.is_part.inside
+
+  pub place : IsPlace sys i p j R Q T
+  place =
+      record {
+        is_inner = spot.is_inner.is_rule;
+        is_outer = spot.is_part.is_rule;
+        is_part = spot.is_part.here;
+        no_variable = variable_renamed T (λ h. spot.no_variable (subst IsVariable (sym spot.is_part.is_part) h));
+        counts = spot.counts;
+      }
+
+  inner_left : inner.left ≡ apply even R.left
+  inner_left = ap (λ z. z.left) spot.is_inner.renamed
+
+  outcome_there : (o : Outcome) → IsOutcome (cons inner.left nil) (cons part nil) o → IsOutcomeOf R.left T o
+  outcome_there o h = subst₂ (λ x y. IsOutcome (cons x nil) (cons y nil) o) inner_left spot.is_part.is_part h
+
+  pub clash_there : IsOutcome (cons inner.left nil) (cons part nil) clash → DoesClash sys (i, (p, j))
+  clash_there h r q t k =
+      let same_inner = same_rule (rule_at sys i) R r spot.is_inner.is_rule k.is_inner in
+      let same_outer = same_rule (rule_at sys j) Q q spot.is_part.is_rule k.is_outer in
+      let same_part = same_term (subterm q.left p) T t (subst (λ z. subterm z.left p ≡ Some T) same_outer spot.is_part.here) k.is_part in
+      subst₂ (λ x y. IsOutcomeOf x.left y clash) same_inner same_part (outcome_there clash h)
+
+  pub too_large_there : IsOutcome (cons inner.left nil) (cons part nil) too_large → IsTooLargeAt sys i p j
+  too_large_there h = record { inner = R; outer = Q; part = T; place = place; why = inl (outcome_there too_large h) }
+
+  module _ (b : List Binding) (m : Bindings) (run : IsOutcome (cons inner.left nil) (cons part nil) (unifier b)) (is : m ≡ as_map b) where
+    values : (x : ℕ) → values_of m x ≡ value b x
+    values x = ap (λ z. values_of z x) is ∙ values_of-as_map b x
+
+    critical : (pair : CriticalPair) → IsMade (values_of m) p inner outer pair → IsCriticalPair (value b) p R Q T pair
+    critical pair made0 =
+        let made = subst₂ (λ x y. IsMade (value b) p x y pair) spot.is_inner.renamed spot.is_part.renamed (made_agree (values_of m) (value b) p inner outer pair values made0) in
+        record {
+          most_general = of_list (value b) (apply even R.left) (apply odd T) (most_general _ _ b (outcome_there (unifier b) run));
+          source = made.source;
+          left = made.left;
+          right = made.right;
+          conditions = made.conditions ∙ ap₂ (λ x y. x ++ y) (under_under even (value b) R.conditions) (under_under odd (value b) Q.conditions);
+        }
+
+    pub overlap_there : (o : Overlap) → IsMade (values_of m) p inner outer o.pair → DoesPairFit o.pair → o.inner ≡ i → o.position ≡ p → o.outer ≡ j → o.inner_conditions ≡ length inner.conditions → IsOverlapOf sys o
+    overlap_there o made fit ei ep ej en =
+        record {
+          inner = R;
+          outer = Q;
+          part = T;
+          place = subst (λ z. IsPlace sys z o.position o.outer R Q T) (sym ei) (subst (λ z. IsPlace sys i z o.outer R Q T) (sym ep) (subst (λ z. IsPlace sys i p z R Q T) (sym ej) place));
+          by = b;
+          outcome = outcome_there (unifier b) run;
+          pair = subst (λ z. IsCriticalPair (value b) z R Q T o.pair) (sym ep) (critical o.pair made);
+          fits = fit;
+          counted = en ∙ (ap (λ z. length z.conditions) spot.is_inner.renamed ∙ length_under even R.conditions);
+        }
+      where
+        length_under : (s : Substitution) (cs : List Condition) → length (conditions_under s cs) ≡ length cs
+        length_under s [] = refl
+        length_under s (c ∷ cs) = ap suc (length_under s cs)
+
+    -- the pair that m makes
+    made_pair : (pair : CriticalPair) × IsMade (values_of m) p inner outer pair
+    made_pair =
+        let here : subterm outer.left p ≡ Some (apply odd T) = subst (λ z. subterm z.left p ≡ Some (apply odd T)) (sym spot.is_part.renamed) (subterm-apply odd Q.left p T spot.is_part.here) in
+        let r = replaceable (apply (values_of m) outer.left) p _ (apply (values_of m) inner.right) (subterm-apply (values_of m) outer.left p _ here) in (
+          record {
+            source = apply (values_of m) outer.left;
+            left = r.0;
+            right = apply (values_of m) outer.right;
+            conditions = conditions_under (values_of m) inner.conditions ++ conditions_under (values_of m) outer.conditions;
+          },
+          record { source = refl; left = r.1; right = refl; conditions = refl },
+        )
+
+    pub pair_too_large : ((pair : CriticalPair) → IsMade (values_of m) p inner outer pair → DoesPairFit pair → ⊥) → IsTooLargeAt sys i p j
+    pair_too_large n =
+        let q = made_pair in
+        record { inner = R; outer = Q; part = T; place = place; why = inr (b, q.0, outcome_there (unifier b) run, critical q.0 q.1, n q.0 q.1) }
+
+-- renaming keeps sizes
+abbrev pub IsRenaming : Substitution → Type 0
+IsRenaming s = (x : ℕ) → (size (s x) ≡ 1) × (depth (s x) ≡ 1)
+
+mutual
+  renamed_size : (s : Substitution) → IsRenaming s → (t : Term) → (size (apply s t) ≡ size t) × (depth (apply s t) ≡ depth t)
+  renamed_size s h (var x) = h x
+  renamed_size s h (app f ts) = let r = renamed_sizes s h ts in (ap suc r.0, ap suc r.1)
+
+  renamed_sizes : (s : Substitution) → IsRenaming s → (ts : Terms) → (size_all (apply_all s ts) ≡ size_all ts) × (depth_all (apply_all s ts) ≡ depth_all ts)
+  renamed_sizes s h nil = (refl, refl)
+  renamed_sizes s h (cons t ts) = let p = renamed_size s h t in let q = renamed_sizes s h ts in (ap₂ (λ x y. x + y) p.0 q.0, ap₂ max p.1 q.1)
+
+pub renamed_fits : (s : Substitution) → IsRenaming s → (t : Term) → Fits t → Fits (apply s t)
+renamed_fits s h t f = let r = renamed_size s h t in record { nodes = omega (arith, r.0, f.nodes); levels = omega (arith, r.1, f.levels) }
+
+sides_fit : (s : Substitution) → IsRenaming s → (cs : List Condition) → Each Fits (sides cs) → Each Fits (sides (conditions_under s cs))
+sides_fit s h [] f = tt
+sides_fit s h (c ∷ cs) f = (renamed_fits s h c.left f.0, (renamed_fits s h c.right f.1.0, sides_fit s h cs f.1.1))
+
+rule_fits : (s : Substitution) → IsRenaming s → (r : Rule) → Each Fits (terms_of_rule r) → Each Fits (terms_of_rule (rule_under s r))
+rule_fits s h r f = (renamed_fits s h r.left f.0, (renamed_fits s h r.right f.1.0, sides_fit s h r.conditions f.1.1))
+
+list_rule : (arities : List ℕ) (rs : List Rule) (k : ℕ) (r : Rule) → AreRules arities rs → slice_get rs k ≡ Some r → IsRule arities r
+list_rule arities [] k r h e = absurd (cc)
+list_rule arities (s ∷ rs) zero r h e = let same : s ≡ r = cc in subst (IsRule arities) same h.0
+list_rule arities (s ∷ rs) (suc k) r h e = list_rule arities rs k r h.1 e
+
+pub numbered_rule : (sys : System) (i : ℕ) (r : Rule) → IsSystem sys → rule_at sys i ≡ Some r → IsRule sys.arities r
+numbered_rule sys zero r h e = absurd (cc)
+numbered_rule sys (suc i) r h e = list_rule sys.arities sys.rules i r h.rules e
+
+length_under : (s : Substitution) (cs : List Condition) → length (conditions_under s cs) ≡ length cs
+length_under s [] = refl
+length_under s (c ∷ cs) = ap suc (length_under s cs)
+
+length_views : (cs : List Cond) → length (map condition_view cs) ≡ length cs
+length_views [] = refl
+length_views (c ∷ cs) = ap suc (length_views cs)
+
+module _ (sys : System) (i : ℕ) (p : Position) (j : ℕ) (inner outer : Program.Rule) (part : Term) (spot : IsSpot sys i p j (rule_view inner) (rule_view outer) part) where
+  pub inner_fits : Each Fits (terms_of_rule (rule_view inner))
+  inner_fits =
+      subst (λ z. Each Fits (terms_of_rule z)) (sym spot.is_inner.renamed)
+      (rule_fits even (λ x. (refl, refl)) spot.is_inner.rule (numbered_rule sys i spot.is_inner.rule spot.system spot.is_inner.is_rule).fits)
+
+  pub outer_fits : Each Fits (terms_of_rule (rule_view outer))
+  outer_fits =
+      subst (λ z. Each Fits (terms_of_rule z)) (sym spot.is_part.renamed)
+      (rule_fits odd (λ x. (refl, refl)) spot.is_part.rule (numbered_rule sys j spot.is_part.rule spot.system spot.is_part.is_rule).fits)
+
+  pub position_there : IsSome (subterm (view outer.left) p)
+  position_there =
+      subst (λ z. IsSome (subterm z.left p)) (sym spot.is_part.renamed)
+      (subst IsSome (sym (subterm-apply odd spot.is_part.rule.left p spot.is_part.inside spot.is_part.here)) refl)
+
+  pub part_fits : Fits part
+  part_fits =
+      subst Fits (sym spot.is_part.is_part)
+      (renamed_fits odd (λ x. (refl, refl)) spot.is_part.inside (fits_part spot.is_part.rule.left p spot.is_part.inside spot.is_part.here (numbered_rule sys j spot.is_part.rule spot.system spot.is_part.is_rule).fits.0))
+
+  pub few_conditions : length inner.conds.items < 2 ^ 32
+  few_conditions =
+      let few = (numbered_rule sys i spot.is_inner.rule spot.system spot.is_inner.is_rule).few_conditions in
+      let same : length inner.conds.items ≡ length spot.is_inner.rule.conditions = sym (length_views inner.conds.items) ∙ (ap (λ z. length z.conditions) spot.is_inner.renamed ∙ length_under even spot.is_inner.rule.conditions) in
+      omega (arith, few, same)
+
+-- answers at one triple
+append_nothing : (os : List Overlap) → os ++ [] ≡ os
+append_nothing [] = refl
+append_nothing (o ∷ os) = ap (λ z. o ∷ z) (append_nothing os)
+
+pub one_clash : (sys : System) (i : ℕ) (p : Position) (j : ℕ) (before : List Overlap) → DoesClash sys (i, (p, j)) → length before ≤ 20000 → AreFound sys ((i, (p, j)) ∷ []) before before
+one_clash sys i p j before h few = record { more = []; all = sym (append_nothing before); those = inl (h, refl); few = few }
+
+pub one_refused : (sys : System) (i : ℕ) (p : Position) (j : ℕ) (before after : List Overlap) (e : OverlapError) → IsTooLargeAt sys i p j → length before ≤ 20000 → IsRefusal i p j e → SearchAnswers sys ((i, (p, j)) ∷ []) before after (Err e)
+one_refused sys i p j before after (PairTooLarge k q l) large few (a, b, c) =
+    record {
+      earlier = [];
+      later = [];
+      split = ap₂ (λ x y. (x, y) ∷ []) (sym a) (ap₂ (λ x y. (x, y)) (sym b) (sym c));
+      more = [];
+      those = refl;
+      large = subst (λ z. IsTooLargeAt sys z q.items l) (sym a) (subst (λ z. IsTooLargeAt sys i z l) (sym b) (subst (IsTooLargeAt sys i p) (sym c) large));
+      few = subst (λ z. length z ≤ 20000) (sym (append_nothing before)) few;
+    }
+one_refused sys i p j before after TooManyPairs large few h = absurd h
+one_refused sys i p j before after NoMemory large few h = tt
+
+pub one_put : (sys : System) (i : ℕ) (p : Position) (j : ℕ) (before after : List Overlap) (o : Overlap) (r : Result (Unit {0}) OverlapError) → IsOverlapOf sys o → triple o ≡ (i, (p, j)) → PutAnswers before o after r → SearchAnswers sys ((i, (p, j)) ∷ []) before after r
+one_put sys i p j before after o (Ok u) is at h = record { more = o ∷ []; all = h.0; those = inr (o, [], refl, is, at, refl); few = h.1 }
+one_put sys i p j before after o (Err (PairTooLarge k q l)) is at h = absurd h
+one_put sys i p j before after o (Err TooManyPairs) is at h =
+    record {
+      next = o;
+      is_overlap = is;
+      earlier = [];
+      later = [];
+      split = ap (λ z. z ∷ []) (sym at);
+      more = [];
+      those = refl;
+      many = ap length (append_nothing before) ∙ h;
+    }
+one_put sys i p j before after o (Err NoMemory) is at h = tt
+
+pub few_views : (os : List Made.Overlap) → length os ≤ 20000 → length (map overlap_view os) ≤ 20000
+few_views os h = let e = length_overlaps os in omega (arith, h, e)
+  where
+    length_overlaps : (os : List Made.Overlap) → length (map overlap_view os) ≡ length os
+    length_overlaps [] = refl
+    length_overlaps (o ∷ os) = ap suc (length_overlaps os)

@@ -1,0 +1,16 @@
+-- What the list of overlaps answers.
+use Rattle.std.specs.Prelude.{map, Vec, Result, Ok, Err}
+use Rattle.std.specs.Global.{Global}
+use Rattle.rewriting.specs.Rules as rules
+use Rattle.unifier_run.specs.Overlaps.{AreOverlaps, IsPairTooLarge, AreTooManyOverlaps}
+use Rattle.critical_pairs.specs.View.{overlap_view}
+use Rattle.critical_pairs.specs.declared.Overlap.{Overlap}
+use Rattle.critical_pairs.specs.declared.OverlapError.{OverlapError}
+use Rattle.critical_pairs.specs.declared.OverlapError.TheVariants.{PairTooLarge, TooManyPairs, NoMemory}
+
+-- the overlaps in order, or the first refusal
+abbrev pub OverlapsAnswers : rules.System → Result (Vec Overlap Global) OverlapError → Type 0
+OverlapsAnswers sys (Ok os) = AreOverlaps sys (map overlap_view os.items)
+OverlapsAnswers sys (Err (PairTooLarge inner pos outer)) = IsPairTooLarge sys inner pos.items outer
+OverlapsAnswers sys (Err TooManyPairs) = AreTooManyOverlaps sys
+OverlapsAnswers sys (Err NoMemory) = Unit {0}

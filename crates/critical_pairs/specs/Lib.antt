@@ -1,0 +1,4 @@
+pub mod View
+pub mod Answers
+pub mod Building
+pub mod Searching

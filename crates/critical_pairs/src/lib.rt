@@ -1,0 +1,95 @@
+// The overlaps of a system, with their conditional critical pairs.
+#![tactic(auto)]
+
+ghost use Rattle.std.specs.Prelude.{◌≡◌};
+ghost use Rattle.critical_pairs.specs.Answers.{OverlapsAnswers};
+
+mod pairs;
+mod renaming;
+mod searching;
+#[cfg(test)]
+mod tests;
+
+use crate::renaming::rename_rules;
+use crate::searching::search;
+use std::alloc::{AllocError, AllocFailed, Global};
+use term_core::{Cond, NoMemory, System, Term};
+
+/// Two rules whose left sides overlap at a position of the outer one, and the terms and conditions
+/// that this gives under the most general unifier of the run.
+#[derive(Debug, Drop)]
+pub struct Overlap {
+    /// The number of the rule whose left side unifies with the subterm, from 1; its variable k is 2k.
+    pub inner: u32,
+    pub pos: Vec<u32>,
+    /// The number of the rule that has the position, from 1; its variable k is 2k + 1.
+    pub outer: u32,
+    /// The instance of the outer left side.
+    pub source: Term,
+    /// The source with the instance of the inner right side at the position.
+    pub left: Term,
+    /// The instance of the outer right side.
+    pub right: Term,
+    /// How many of the first conditions are those of the inner rule.
+    pub inner_conds: u32,
+    /// The instances of the inner rule's conditions, then those of the outer rule.
+    pub conds: Vec<Cond>,
+}
+
+/// Why the list of overlaps is not defined.
+#[derive(Debug, Drop)]
+pub enum OverlapError {
+    /// A run passes the size, or a term of the critical pair does not fit.
+    PairTooLarge {
+        inner: u32,
+        pos: Vec<u32>,
+        outer: u32,
+    },
+    /// There are more than 20,000 overlaps.
+    TooManyPairs,
+    NoMemory,
+}
+
+impl From<NoMemory> for OverlapError {
+    ghost use Rattle.critical_pairs.specs.declared.OverlapError.TheVariants.{NoMemory as no_memory};
+
+    ghost from_gives = { λ _ e. e ≡ no_memory };
+
+    fn from(_e: NoMemory) -> OverlapError {
+        OverlapError::NoMemory
+    }
+}
+
+impl From<AllocError> for OverlapError {
+    ghost use Rattle.critical_pairs.specs.declared.OverlapError.TheVariants.{NoMemory as no_memory};
+
+    ghost from_gives = { λ _ e. e ≡ no_memory };
+
+    fn from(_e: AllocError) -> OverlapError {
+        OverlapError::NoMemory
+    }
+}
+
+impl<T: Drop> From<AllocFailed<T>> for OverlapError {
+    ghost use Rattle.critical_pairs.specs.declared.OverlapError.TheVariants.{NoMemory as no_memory};
+
+    ghost from_gives = { λ _ e. e ≡ no_memory };
+
+    fn from(_e: AllocFailed<T>) -> OverlapError {
+        OverlapError::NoMemory
+    }
+}
+
+/// All overlaps in order by the outer rule, the position and the inner rule, or the first refusal in
+/// that order (after Ohlebusch, Advanced Topics in Term Rewriting, chapter 7).
+pub fn overlaps(alloc: Global, sys: &System) -> Result<Vec<Overlap>, OverlapError>
+    ensures { OverlapsAnswers sys.now result }
+{
+    let inners = rename_rules(alloc, sys.arities(), sys.rules(), 0)?;
+    let outers = rename_rules(alloc, sys.arities(), sys.rules(), 1)?;
+    let mut found = Vec::new(alloc);
+    match search(alloc, sys, &inners, &outers, &mut found) {
+        Ok(()) => Ok(found),
+        Err(e) => Err(e),
+    }
+}

@@ -1,0 +1,5 @@
+pub mod Lefts
+pub mod Judge
+pub mod Parts
+pub mod Renamed
+pub mod Exchanged

@@ -1,0 +1,49 @@
+-- What judging a part of a term answers, all of whose variables are odd numbers.
+use Rattle.std.specs.Prelude.{ℕ, ◌≡◌, ◌<◌, List, [], ◌∷◌, Some, Result, Ok, Err}
+use Rattle.rewriting.specs.Terms as math
+use Rattle.rewriting.specs.Substitutions.{Substitution, apply}
+use Rattle.rewriting.specs.Unifiers.{even}
+use Rattle.rewriting.specs.Rules.{Rule, System, rule_at}
+use Rattle.unifier_run.specs.Run.{Binding, Outcome, unifier, clash, too_large}
+use Rattle.unifier_run.specs.Overlaps.{IsOutcomeOf}
+use Rattle.unifier_run.specs.Irreducible.{DoAllClash, IsFirstOutcome}
+use Rattle.term_core.specs.declared.terms.NoMemory.{NoMemory}
+use Rattle.irreducible.specs.declared.Irreducible.{Irreducible}
+use Rattle.irreducible.specs.declared.Irreducible.TheVariants.{Yes, No, TooLarge}
+
+-- the first rule whose run on the whole term does not clash has this outcome
+pub record IsFirstRule (sys : System) (t : math.Term) (o : Outcome) : Type 0 where
+  pub number : ℕ
+  pub rule : Rule
+  pub is_rule : rule_at sys number ≡ Some rule
+  pub outcome : IsOutcomeOf rule.left t o
+  pub before : (i : ℕ) (r : Rule) → rule_at sys i ≡ Some r → i < number → IsOutcomeOf r.left t clash
+
+-- every rule's run on the whole term clashes
+abbrev pub DoRulesClash : System → math.Term → Type 0
+DoRulesClash sys t = (i : ℕ) (r : Rule) → rule_at sys i ≡ Some r → IsOutcomeOf r.left t clash
+
+abbrev pub RootAnswers : System → math.Term → Result Irreducible NoMemory → Type 0
+RootAnswers sys t (Ok Yes) = DoRulesClash sys t
+RootAnswers sys t (Ok No) = (b : List Binding) × IsFirstRule sys t (unifier b)
+RootAnswers sys t (Ok TooLarge) = IsFirstRule sys t too_large
+RootAnswers sys t (Err e) = Unit {0}
+
+abbrev pub JudgeAnswers : System → math.Term → Result Irreducible NoMemory → Type 0
+JudgeAnswers sys t (Ok Yes) = DoAllClash sys t
+JudgeAnswers sys t (Ok No) = (b : List Binding) × IsFirstOutcome sys t (unifier b)
+JudgeAnswers sys t (Ok TooLarge) = IsFirstOutcome sys t too_large
+JudgeAnswers sys t (Err e) = Unit {0}
+
+-- the left sides of rules under a substitution
+abbrev pub lefts_under : Substitution → List Rule → List math.Term
+lefts_under s [] = []
+lefts_under s (r ∷ rs) = apply s r.left ∷ lefts_under s rs
+
+-- the terms are the left sides of the system's rules, with variables 2k
+abbrev pub AreLefts : System → List math.Term → Type 0
+AreLefts sys ts = ts ≡ lefts_under even sys.rules
+
+-- what the second term answers, the first does
+abbrev pub IsJudgedAs : math.Term → math.Term → Type 0
+IsJudgedAs t u = (sys : System) (r : Result Irreducible NoMemory) → JudgeAnswers sys u r → JudgeAnswers sys t r

@@ -1,0 +1,89 @@
+-- Lists of terms as the program has them.
+use Rattle.std.proofs.Common.{ℕ, zero, suc, ◌≡◌, ◌+◌, ◌<◌, ◌≤◌, true, List, [], ◌∷◌, length, drop, get_or, Option, ◌⊎◌, inl, inr, ◌^◌, Some, None, MatchOption, Vec, Global, refl, sym, ap, ◌∙◌, subst, arith, add-one}
+use Rattle.rewriting.specs.Terms.{nil, cons, Fits, size, size_all}
+use Rattle.rewriting.specs.Systems.{Each}
+use Rattle.rewriting.specs.Substitutions.{apply, apply_all}
+use Rattle.rewriting.specs.Variables.{occurs, occurs_in}
+use Rattle.rewriting.proofs.Instances.{or_left, or_right}
+use Rattle.unifier_run.specs.Run.{Binding, value}
+use Rattle.term_core.specs.View.{view, views}
+use Rattle.term_core.specs.declared.terms.Term.{Term, Fun}
+use Rattle.term_core.proofs.Views.{view-Fun}
+use Rattle.unification.specs.declared.solving.Bound.{Bound}
+use Rattle.unification.specs.Solving.{bindings, IsHead}
+use Rattle.unification.proofs.Measure.{weight, grown_less, same_less}
+
+pub length_bindings : (es : List Bound) → length (bindings es) ≡ length es
+length_bindings [] = refl
+length_bindings (e ∷ es) = ap suc (length_bindings es)
+
+-- the terms from a place on: the one there, then the rest
+views-drop_suc : (ts : List Term) (i : ℕ) (t : Term) → i < length ts → t ≡ get_or ts i t → views (drop i ts) ≡ cons (view t) (views (drop (suc i) ts))
+views-drop_suc [] i t h e = absurd (omega arith)
+views-drop_suc (u ∷ ts) zero t h e = ap (λ z. cons z (views ts)) (ap view (sym e))
+views-drop_suc (u ∷ ts) (suc i) t h e = views-drop_suc ts i t (omega arith) e
+
+pub views-drop : (ts : List Term) (i : ℕ) (t : Term) → i < length ts → t ≡ get_or ts i t → views (drop i ts) ≡ cons (view t) (views (drop (i + 1) ts))
+views-drop ts i t h e = rw add-one (views-drop_suc ts i t h e)
+
+pub views-drop_all : (ts : List Term) (i : ℕ) → length ts ≤ i → views (drop i ts) ≡ nil
+views-drop_all [] zero h = refl
+views-drop_all [] (suc i) h = refl
+views-drop_all (t ∷ ts) zero h = absurd (omega arith)
+views-drop_all (t ∷ ts) (suc i) h = views-drop_all ts i (omega arith)
+
+-- a variable that occurs in one of some terms occurs in them
+pub occurs_at : (k : ℕ) (ts : List Term) (i : ℕ) (t : Term) → i < length ts → t ≡ get_or ts i t → occurs k (view t) ≡ true → occurs_in k (views ts) ≡ true
+occurs_at k [] i t h e o = absurd (omega arith)
+occurs_at k (u ∷ ts) zero t h e o = or_left _ _ (subst (λ z. occurs k (view z) ≡ true) e o)
+occurs_at k (u ∷ ts) (suc i) t h e o = or_right _ _ (occurs_at k ts i t (omega arith) e o)
+
+pub fit_at : (b : List Binding) (ts : List Term) (i : ℕ) (t : Term) → i < length ts → t ≡ get_or ts i t → Each Fits (apply_all (value b) (views ts)) → Fits (apply (value b) (view t))
+fit_at b [] i t h e f = absurd (omega arith)
+fit_at b (u ∷ ts) zero t h e f = subst (λ z. Fits (apply (value b) (view z))) (sym e) f.0
+fit_at b (u ∷ ts) (suc i) t h e f = fit_at b ts i t (omega arith) e f.1
+
+pub size_at : (b : List Binding) (ts : List Term) (i : ℕ) (t : Term) → i < length ts → t ≡ get_or ts i t → size (apply (value b) (view t)) ≤ size_all (apply_all (value b) (views ts))
+size_at b [] i t h e = absurd (omega arith)
+size_at b (u ∷ ts) zero t h e = subst (λ z. size (apply (value b) (view z)) ≤ size_all (apply_all (value b) (views (u ∷ ts)))) (sym e) (omega arith)
+size_at b (u ∷ ts) (suc i) t h e = let k = size_at b ts i t (omega arith) e in omega (arith, k)
+
+-- a term that stands for another under the bindings, where that is a bound variable
+pub as_head : (es fs : List Bound) (o : Option Term) (t r : Term) → es ≡ fs → MatchOption o (IsHead (bindings es) (view t)) (λ u. IsHead (bindings es) (view u) × (apply (value (bindings es)) (view u) ≡ apply (value (bindings es)) (view t)))
+    → MatchOption o (view r ≡ view t) (λ u. view r ≡ view u) → apply (value (bindings fs)) (view r) ≡ apply (value (bindings fs)) (view t)
+as_head es fs None t r same h e = ap (apply (value (bindings fs))) e
+as_head es fs (Some u) t r same h e = ap (apply (value (bindings fs))) e ∙ subst (λ z. apply (value (bindings z)) (view u) ≡ apply (value (bindings z)) (view t)) same h.1
+
+-- a side that fitted fits where nothing has been bound
+pub still_fits : (b c : List Binding) (ts : List Term) (i : ℕ) (t : Term) → (c ≡ b) ⊎ (length b < length c) → length b ≡ length c → Each Fits (apply_all (value b) (views ts)) → i < length ts → t ≡ get_or ts i t
+    → Fits (apply (value c) (view t))
+still_fits b c ts i t (inl e) n f h k = subst (λ z. Fits (apply (value z) (view t))) (sym e) (fit_at b ts i t h k f)
+still_fits b c ts i t (inr e) n f h k = absurd (omega (arith, e, n))
+
+-- an equation weighs less than those that it is one of
+pub one_weighs_less : (b c : List Binding) (xs ys : List Term) (i : ℕ) (x y : Term) → (c ≡ b) ⊎ (length b < length c) → length c < 2 ^ 64 → i < length xs → i < length ys → x ≡ get_or xs i x → y ≡ get_or ys i y
+    → weight (length c) (size (apply (value c) (view x)) + size (apply (value c) (view y))) 2 < weight (length b) (size_all (apply_all (value b) (views xs)) + size_all (apply_all (value b) (views ys))) 3
+one_weighs_less b c xs ys i x y (inl e) small hx hy kx ky =
+    subst (λ z. weight (length z) (size (apply (value z) (view x)) + size (apply (value z) (view y))) 2 < weight (length b) (size_all (apply_all (value b) (views xs)) + size_all (apply_all (value b) (views ys))) 3) (sym e)
+    (let p = size_at b xs i x hx kx in
+    let q = size_at b ys i y hy ky in
+    let sums : size (apply (value b) (view x)) + size (apply (value b) (view y)) ≤ size_all (apply_all (value b) (views xs)) + size_all (apply_all (value b) (views ys)) = omega (arith, p, q) in
+    same_less (length b) _ _ 2 3 sums (omega arith))
+one_weighs_less b c xs ys i x y (inr e) small hx hy kx ky = grown_less (length b) (length c) _ _ 2 3 e small (omega arith)
+
+-- a variable that occurs in an argument occurs in the term
+pub occurs_inside : (k : ℕ) (t : Term) (f : ℕ) (v : Vec Term Global) (items : List Term) (i : ℕ) (u : Term) → t ≡ Fun f v → items ≡ v.items → i < length items → u ≡ get_or items i u → occurs k (view u) ≡ true → occurs k (view t) ≡ true
+occurs_inside k t f v items i u is e h q o =
+    subst (λ z. occurs k z ≡ true) (sym (ap view is ∙ view-Fun f v)) (subst (λ z. occurs_in k (views z) ≡ true) e (occurs_at k items i u h q o))
+
+pub size_inside : (t : Term) (f : ℕ) (v : Vec Term Global) (items : List Term) (i : ℕ) (u : Term) → t ≡ Fun f v → items ≡ v.items → i < length items → u ≡ get_or items i u → size (view u) < size (view t)
+size_inside t f v items i u is e h q =
+    let whole : size (view t) ≡ suc (size_all (views v.items)) = ap size (ap view is ∙ view-Fun f v) in
+    let same : size_all (views items) ≡ size_all (views v.items) = ap (λ z. size_all (views z)) e in
+    let part = one_size items i u h q in
+    omega (arith, whole, same, part)
+  where
+    one_size : (ts : List Term) (i : ℕ) (t : Term) → i < length ts → t ≡ get_or ts i t → size (view t) ≤ size_all (views ts)
+    one_size [] i t h e = absurd (omega arith)
+    one_size (u ∷ ts) zero t h e = subst (λ z. size (view z) ≤ size_all (views (u ∷ ts))) (sym e) (omega arith)
+    one_size (u ∷ ts) (suc i) t h e = let k = one_size ts i t (omega arith) e in omega (arith, k)

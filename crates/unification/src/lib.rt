@@ -1,0 +1,62 @@
+// Most general unifiers of lists of terms.
+#![tactic(auto)]
+
+mod bound;
+mod renaming;
+mod solving;
+#[cfg(test)]
+mod tests;
+
+ghost use Rattle.std.specs.Prelude.{◌≡◌, length};
+ghost use Rattle.rewriting.specs.Terms as math;
+ghost use Rattle.term_core.specs.View.{view, views};
+ghost use Rattle.unification.specs.Solving.{bindings, OutcomeAnswers};
+ghost use Rattle.unification.specs.Answers.{UnifyAnswers};
+
+use crate::bound::subst_of;
+use crate::solving::{Bound, Progress, solve, solve_all};
+pub use renaming::{rename, renamed};
+use std::alloc::Global;
+use term_core::{NoMemory, Subst, Term};
+
+/// What unification finds.
+#[derive(Debug, Drop)]
+pub enum Unified {
+    /// The most general unifier that the run gives.
+    Mgu(Subst),
+    /// There is no unifier.
+    Clash,
+    /// A term of the run has more than 10,000 nodes or a depth of more than 400.
+    TooLarge,
+}
+
+// What a run comes to, with the variables that it has bound.
+fn outcome(alloc: Global, progress: Progress, found: Vec<Bound>) -> Result<Unified, NoMemory>
+    ensures { OutcomeAnswers (bindings found.items) progress result }
+{
+    match progress {
+        Progress::Solved => Ok(Unified::Mgu(subst_of(alloc, found)?)),
+        Progress::Clash => Ok(Unified::Clash),
+        Progress::TooLarge => Ok(Unified::TooLarge),
+    }
+}
+
+/// Solves the equations between the terms of two lists of one length, in order
+/// (Baader and Nipkow, Term Rewriting and All That, section 4.6).
+pub fn unify(alloc: Global, a: &[Term], b: &[Term]) -> Result<Unified, NoMemory>
+    requires { length a.now ≡ length b.now }
+    ensures { UnifyAnswers (views a.now) (views b.now) result }
+{
+    let mut found = Vec::new(alloc);
+    let progress = solve_all(alloc, a, b, false, &mut found)?;
+    outcome(alloc, progress, found)
+}
+
+/// The same for the one equation between two terms.
+pub fn unify_terms(alloc: Global, a: &Term, b: &Term) -> Result<Unified, NoMemory>
+    ensures { UnifyAnswers (math.cons (view a.now) math.nil) (math.cons (view b.now) math.nil) result }
+{
+    let mut found = Vec::new(alloc);
+    let progress = solve(alloc, a, b, false, &mut found)?;
+    outcome(alloc, progress, found)
+}

@@ -1,0 +1,9 @@
+pub mod Values
+pub mod Lists
+pub mod Agree
+pub mod General
+pub mod Unique
+pub mod Equal
+pub mod Maps
+pub mod Triples
+pub mod Spots

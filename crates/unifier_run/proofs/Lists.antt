@@ -1,0 +1,41 @@
+-- Lists of terms, one behind the other.
+use Rattle.std.proofs.Common.{◌≡◌, suc, ◌+◌, refl, ap, ap₂, arith}
+use Rattle.rewriting.specs.Terms.{Terms, nil, cons, count}
+use Rattle.rewriting.specs.Substitutions.{Substitution, apply, apply_all}
+use Rattle.unifier_run.specs.Run.{append}
+
+pub apply_all-append : (s : Substitution) (ts us : Terms) → apply_all s (append ts us) ≡ append (apply_all s ts) (apply_all s us)
+apply_all-append s nil us = refl
+apply_all-append s (cons t ts) us = ap (cons (apply s t)) (apply_all-append s ts us)
+
+pub append-nil : (ts : Terms) → append ts nil ≡ ts
+append-nil nil = refl
+append-nil (cons t ts) = ap (cons t) (append-nil ts)
+
+pub append-append : (ts us vs : Terms) → append (append ts us) vs ≡ append ts (append us vs)
+append-append nil us vs = refl
+append-append (cons t ts) us vs = ap (cons t) (append-append ts us vs)
+
+pub count-append : (ts us : Terms) → count (append ts us) ≡ count ts + count us
+count-append nil us = omega arith
+count-append (cons t ts) us = let e = count-append ts us in omega (arith, e)
+
+pub count-apply_all : (s : Substitution) (ts : Terms) → count (apply_all s ts) ≡ count ts
+count-apply_all s nil = refl
+count-apply_all s (cons t ts) = ap suc (count-apply_all s ts)
+
+-- two lists that are equal, taken apart behind lists of one length
+pub record Parted (ts bs us vs : Terms) : Type 0 where
+  pub first : ts ≡ bs
+  pub second : us ≡ vs
+
+pub part : (ts bs us vs : Terms) → count ts ≡ count bs → append ts us ≡ append bs vs → Parted ts bs us vs
+part nil nil us vs c e = record { first = refl; second = e }
+part nil (cons b bs) us vs c e = absurd (omega (arith, c))
+part (cons t ts) nil us vs c e = absurd (omega (arith, c))
+part (cons t ts) (cons b bs) us vs c e =
+    let h : t ≡ b = cc in
+    let k : append ts us ≡ append bs vs = cc in
+    let c' : count ts ≡ count bs = omega (arith, c) in
+    let p = part ts bs us vs c' k in
+    record { first = ap₂ cons h p.first; second = p.second }

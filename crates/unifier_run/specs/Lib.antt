@@ -1,0 +1,4 @@
+pub mod Run
+pub mod Laws
+pub mod Overlaps
+pub mod Irreducible

@@ -1,0 +1,14 @@
+// The run of unification with its limits on size: definitions that contracts cite, and laws over them.
+#![tactic(auto)]
+
+ghost use Rattle.unifier_run.specs.Laws.{MapsHaveTheValues, OutcomesAreUnique, UnifiersAreMostGeneral, UnifiersAreIdempotent, ClashesHaveNoUnifier};
+
+/// A run has at most one outcome. Its unifier is most general and idempotent, and a clash means that
+/// there is none (Baader and Nipkow, Term Rewriting and All That, section 4.6).
+pub fn laws_of_runs()
+    ensures unique { OutcomesAreUnique }
+    ensures most_general { UnifiersAreMostGeneral }
+    ensures idempotent { UnifiersAreIdempotent }
+    ensures clash { ClashesHaveNoUnifier }
+    ensures values { MapsHaveTheValues }
+{}
