@@ -1,0 +1,5 @@
+pub mod Size
+pub mod Judgement
+pub mod Linear
+pub mod Judged
+pub mod Law

@@ -1,0 +1,5 @@
+pub mod Adding
+pub mod Entries
+pub mod Judging
+pub mod EntryChecks
+pub mod Final

@@ -1,0 +1,103 @@
+-- Sizes of sides, places in a list, and variables one after the other.
+use Rattle.std.proofs.Common.{◌≡◌, ℕ, zero, suc, ◌+◌, ◌<◌, ◌≤◌, refl, ap, ◌∙◌, List, [], ◌∷◌, ◌++◌, map, length, get_or, drop, take, nat_eq, if◌then◌else◌, Bool, true, false, arith, add-one}
+use Rattle.std.specs.List.{list_any}
+use Rattle.std.proofs.lemmas.List.{length-append}
+use Rattle.rewriting.specs.Terms as math
+use Rattle.rewriting.specs.Terms.{Term, var, app, Terms, nil, cons, terms_of, Fits}
+use Rattle.rewriting.specs.Substitutions.{apply, apply_all}
+use Rattle.rewriting.specs.Variables.{with_new, with_variables, with_variables_of}
+use Rattle.rewriting.specs.Unraveling.{variable_terms, keeper, place_of}
+
+size-variable_terms : (xs : List ℕ) → math.size_all (variable_terms xs) ≡ length xs
+size-variable_terms [] = refl
+size-variable_terms (x ∷ xs) = let h = size-variable_terms xs in omega (arith, h)
+
+depth-variable_terms : (xs : List ℕ) → math.depth_all (variable_terms xs) ≤ 1
+depth-variable_terms [] = omega arith
+depth-variable_terms (x ∷ xs) = let h = depth-variable_terms xs in omega (arith, h)
+
+depth_some : (t : Term) → 1 ≤ math.depth t
+depth_some (var x) = omega arith
+depth_some (app f ts) = omega arith
+
+pub size_kept : (f : ℕ) (t : Term) (xs : List ℕ) → math.size (keeper f t xs) ≡ suc (math.size t + length xs)
+size_kept f t xs = let h = size-variable_terms xs in omega (arith, h)
+
+pub depth_kept : (f : ℕ) (t : Term) (xs : List ℕ) → math.depth (keeper f t xs) ≡ suc (math.depth t)
+depth_kept f t xs = let h = depth-variable_terms xs in let k = depth_some t in omega (arith, h, k)
+
+-- a kept term fits exactly where these three hold
+pub kept_fits : (f : ℕ) (t : Term) (xs : List ℕ) → math.size t + length xs < 10000 → math.depth t < 400 → Fits (keeper f t xs)
+kept_fits f t xs nodes levels = let s = size_kept f t xs in let d = depth_kept f t xs in record { nodes = omega (arith, s, nodes); levels = omega (arith, d, levels) }
+
+pub fits_kept : (f : ℕ) (t : Term) (xs : List ℕ) → Fits (keeper f t xs) → (math.size t + length xs < 10000) × (math.depth t < 400)
+fits_kept f t xs h =
+    let s = size_kept f t xs in
+    let d = depth_kept f t xs in
+    let n = h.nodes in
+    let l = h.levels in
+    (omega (arith, s, n), omega (arith, d, l))
+
+-- the place in what is left of a list
+pub place_here : (xs : List ℕ) (i x : ℕ) → i < length xs → place_of (drop i xs) x ≡ (if nat_eq x (get_or xs i 0) then zero else suc (place_of (drop (i + 1) xs) x))
+place_here xs i x h = rw add-one (go xs i h)
+  where
+    go : (ys : List ℕ) (k : ℕ) → k < length ys → place_of (drop k ys) x ≡ (if nat_eq x (get_or ys k 0) then zero else suc (place_of (drop (suc k) ys) x))
+    go [] k h = absurd (omega arith)
+    go (y ∷ ys) zero h = refl
+    go (y ∷ ys) (suc k) h = go ys k (omega arith)
+
+-- the variables of what is left of a list
+pub variables_here : (xs order : List ℕ) (i : ℕ) → i < length xs → with_variables_of order (variable_terms (drop i xs)) ≡ with_variables_of (with_new order (get_or xs i 0)) (variable_terms (drop (i + 1) xs))
+variables_here xs order i h = rw add-one (go xs i h)
+  where
+    go : (ys : List ℕ) (k : ℕ) → k < length ys → with_variables_of order (variable_terms (drop k ys)) ≡ with_variables_of (with_new order (get_or ys k 0)) (variable_terms (drop (suc k) ys))
+    go [] k h = absurd (omega arith)
+    go (y ∷ ys) zero h = refl
+    go (y ∷ ys) (suc k) h = go ys k (omega arith)
+
+pub both_fit : (f : ℕ) (t : Term) (xs : List ℕ) → ((math.size t + length xs < 10000) × (math.depth t < 400)) → Fits (keeper f t xs)
+both_fit f t xs h = kept_fits f t xs h.0 h.1
+
+-- the terms for places, as arguments
+pub places_here : (s : ℕ → Term) (t : Term) (us : List Term) (xs : List ℕ) → us ≡ apply s t ∷ map s xs → terms_of us ≡ apply_all s (cons t (variable_terms xs))
+places_here s t us xs e = ap terms_of e ∙ ap (cons (apply s t)) (go xs)
+  where
+    go : (ys : List ℕ) → terms_of (map s ys) ≡ apply_all s (variable_terms ys)
+    go [] = refl
+    go (y ∷ ys) = ap (cons (s y)) (go ys)
+
+pub take_every : (xs : List ℕ) (i : ℕ) → length xs ≤ i → take i xs ≡ xs
+take_every [] zero h = refl
+take_every [] (suc i) h = refl
+take_every (x ∷ xs) zero h = absurd (omega arith)
+take_every (x ∷ xs) (suc i) h = ap (λ q. x ∷ q) (take_every xs i (omega arith))
+
+-- a term has no more variables than nodes
+length-with_new : (xs : List ℕ) (y : ℕ) → length (with_new xs y) ≤ length xs + 1
+length-with_new xs y = go (list_any (nat_eq y) xs)
+  where
+    go : (b : Bool) → length (if b then xs else (xs ++ y ∷ [])) ≤ length xs + 1
+    go true = omega arith
+    go false = let h = length-append xs (y ∷ []) in omega (arith, h)
+
+mutual
+  pub length-with_variables : (xs : List ℕ) (t : Term) → length (with_variables xs t) ≤ length xs + math.size t
+  length-with_variables xs (var y) = length-with_new xs y
+  length-with_variables xs (app f ts) = let h = length-with_variables_of xs ts in omega (arith, h)
+
+  length-with_variables_of : (xs : List ℕ) (ts : Terms) → length (with_variables_of xs ts) ≤ length xs + math.size_all ts
+  length-with_variables_of xs nil = omega arith
+  length-with_variables_of xs (cons t ts) = let h = length-with_variables xs t in let k = length-with_variables_of (with_variables xs t) ts in omega (arith, h, k)
+
+pub few_variables : (l r : Term) (order : List ℕ) → Fits l → Fits r → order ≡ with_variables (with_variables [] l) r → length order ≤ 20000
+few_variables l r order left right e =
+    let a = length-with_variables [] l in
+    let b = length-with_variables (with_variables [] l) r in
+    let m = left.nodes in
+    let n = right.nodes in
+    let same = ap length e in
+    omega (arith, a, b, m, n, same)
+
+pub few_more : (xs : List ℕ) (t : Term) (ys : List ℕ) → Fits t → ys ≡ with_variables xs t → length ys ≤ length xs + 10000
+few_more xs t ys h e = let a = length-with_variables xs t in let n = h.nodes in let same = ap length e in omega (arith, a, n, same)

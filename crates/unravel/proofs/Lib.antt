@@ -1,0 +1,5 @@
+pub mod Kept
+pub mod Appended
+pub mod Progress
+pub mod SymbolLists
+pub mod Whole

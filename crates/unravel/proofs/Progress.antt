@@ -1,0 +1,122 @@
+-- Rules put behind others, rule by rule.
+use Rattle.std.proofs.Common.{◌≡◌, ℕ, zero, suc, ◌+◌, ◌<◌, ◌≤◌, refl, sym, ap, ap₂, ◌∙◌, subst, List, [], ◌∷◌, ◌++◌, map, length, get_or, take, arith, append_assoc, append-nil, slice_get, option_map, Some, Ok, Err, Vec, Global}
+use Rattle.std.proofs.lemmas.List.{length-map}
+use Rattle.std.proofs.lemmas.Option.{slice_get-map, slice_get_read}
+use Rattle.rewriting.specs.Terms.{Fits}
+use Rattle.rewriting.specs.Rules as rules
+use Rattle.rewriting.specs.Systems.{Each, terms_of_rule, condition_count, AreRules}
+use Rattle.rewriting.specs.Unraveling.{unraveled_rule, unraveled_rules}
+use Rattle.rewriting.specs.Signatures.{Signature}
+use Rattle.interpretations.specs.Size.{DoSidesFit}
+use Rattle.term_core.specs.RuleView.{rule_view, condition_view}
+use Rattle.term_core.specs.declared.systems.Rule.{Rule}
+use Rattle.unravel.specs.declared.rules.RuleError.TheVariants as cause
+use Rattle.unravel.specs.RuleAnswers.{DoTermsFit, IsLargeAt, AppendAnswers, RulesAnswers}
+
+take_all : {A : Type 0} (xs : List A) (i : ℕ) → length xs ≤ i → take i xs ≡ xs
+take_all [] zero h = refl
+take_all [] (suc i) h = refl
+take_all (x ∷ xs) zero h = absurd (omega arith)
+take_all (x ∷ xs) (suc i) h = ap (λ q. x ∷ q) (take_all xs i (omega arith))
+
+pub sides_fit-append : (xs ys : List rules.Rule) → DoSidesFit xs → DoSidesFit ys → DoSidesFit (xs ++ ys)
+sides_fit-append [] ys h k = k
+sides_fit-append (x ∷ xs) ys h k = (h.0, h.1, sides_fit-append xs ys h.2 k)
+
+pub sides_fit-first : (xs ys : List rules.Rule) → DoSidesFit (xs ++ ys) → DoSidesFit xs
+sides_fit-first [] ys h = tt
+sides_fit-first (x ∷ xs) ys h = (h.0, h.1, sides_fit-first xs ys h.2)
+
+pub sides_fit-second : (xs ys : List rules.Rule) → DoSidesFit (xs ++ ys) → DoSidesFit ys
+sides_fit-second [] ys h = h
+sides_fit-second (x ∷ xs) ys h = sides_fit-second xs ys h.2
+
+rules_take : (f : ℕ) (rs : List rules.Rule) (i : ℕ) (q : rules.Rule) → slice_get rs i ≡ Some q
+    → unraveled_rules f (take (suc i) rs) ≡ unraveled_rules f (take i rs) ++ unraveled_rule (f + condition_count (take i rs)) q
+rules_take f [] i q e = absurd (cc)
+rules_take f (r ∷ rs) zero q e =
+    let same : r ≡ q = cc in
+    let start : f + 0 ≡ f = omega arith in
+    append-nil (unraveled_rule f r) ∙ ap₂ unraveled_rule (sym start) same
+rules_take f (r ∷ rs) (suc i) q e =
+    let rest = rules_take (f + length r.conditions) rs i q e in
+    let start : (f + length r.conditions) + condition_count (take i rs) ≡ f + (length r.conditions + condition_count (take i rs)) = omega arith in
+    ap (λ z. unraveled_rule f r ++ z) rest ∙ sym (append_assoc (unraveled_rule f r) _ _) ∙ ap (λ n. (unraveled_rule f r ++ unraveled_rules (f + length r.conditions) (take i rs)) ++ unraveled_rule n q) start
+
+count_take : (rs : List rules.Rule) (i : ℕ) (q : rules.Rule) → slice_get rs i ≡ Some q → condition_count (take (suc i) rs) ≡ condition_count (take i rs) + length q.conditions
+count_take [] i q e = absurd (cc)
+count_take (r ∷ rs) zero q e = let same : r ≡ q = cc in let k = ap (λ r. length r.conditions) same in omega (arith, k)
+count_take (r ∷ rs) (suc i) q e = let k = count_take rs i q e in omega (arith, k)
+
+count_within : (rs : List rules.Rule) (i : ℕ) → condition_count (take i rs) ≤ condition_count rs
+count_within [] zero = omega arith
+count_within [] (suc i) = omega arith
+count_within (r ∷ rs) zero = omega arith
+count_within (r ∷ rs) (suc i) = let k = count_within rs i in omega (arith, k)
+
+terms_fit_at : (rs : List rules.Rule) (i : ℕ) (q : rules.Rule) → DoTermsFit rs → slice_get rs i ≡ Some q → Each Fits (terms_of_rule q)
+terms_fit_at [] i q h e = absurd (cc)
+terms_fit_at (r ∷ rs) zero q h e = let same : r ≡ q = cc in subst (λ z. Each Fits (terms_of_rule z)) same h.0
+terms_fit_at (r ∷ rs) (suc i) q h e = terms_fit_at rs i q h.1 e
+
+-- the rule at a place, seen as a mathematical one
+at_place : (rs : List Rule) (i : ℕ) (r : Rule) → i < length rs → r ≡ get_or rs i r → slice_get (map rule_view rs) i ≡ Some (rule_view r)
+at_place rs i r h is = slice_get-map rule_view rs i ∙ ap (option_map rule_view) (slice_get_read rs (length rs) i r refl h is)
+
+pub terms_fit_here : (rs : List Rule) (i : ℕ) (r : Rule) → DoTermsFit (map rule_view rs) → i < length rs → r ≡ get_or rs i r → Each Fits (terms_of_rule (rule_view r))
+terms_fit_here rs i r fit h is = terms_fit_at (map rule_view rs) i (rule_view r) fit (at_place rs i r h is)
+
+-- the rules of the first i rules stand
+pub record Progress (f : ℕ) (rs : List Rule) (i symbol : ℕ) (out : List Rule) : Type 0 where
+  pub symbol_is : symbol ≡ f + condition_count (take i (map rule_view rs))
+  pub out_is : map rule_view out ≡ unraveled_rules f (take i (map rule_view rs))
+  pub fit : DoSidesFit (unraveled_rules f (take i (map rule_view rs)))
+
+pub begin : (f : ℕ) (rs out : List Rule) → out ≡ [] → Progress f rs 0 f out
+begin f rs out e = record { symbol_is = omega arith; out_is = ap (map rule_view) e; fit = tt }
+
+pub room : (f : ℕ) (rs : List Rule) (i symbol : ℕ) (out : List Rule) (r : Rule) → Progress f rs i symbol out → i < length rs → r ≡ get_or rs i r → symbol + length r.conds.items ≤ f + condition_count (map rule_view rs)
+room f rs i symbol out r p h is =
+    let s = p.symbol_is in
+    let next = count_take (map rule_view rs) i (rule_view r) (at_place rs i r h is) in
+    let most = count_within (map rule_view rs) (suc i) in
+    let same = length-map r.conds.items condition_view in
+    omega (arith, s, next, most, same)
+
+pub advance : (f : ℕ) (rs : List Rule) (i symbol : ℕ) (out after : List Rule) (r : Rule) (done : Unit {0}) → Progress f rs i symbol out → i < length rs → r ≡ get_or rs i r
+    → AppendAnswers (unraveled_rule symbol (rule_view r)) out after (Ok done) → Progress f rs (i + 1) (symbol + length r.conds.items) after
+advance f rs i symbol out after r done p h is a =
+    let there = at_place rs i r h is in
+    let next = count_take (map rule_view rs) i (rule_view r) there in
+    let same = length-map r.conds.items condition_view in
+    let s = p.symbol_is in
+    let rules_next = rules_take f (map rule_view rs) i (rule_view r) there in
+    let one : i + 1 ≡ suc i = omega arith in
+    let at : unraveled_rule symbol (rule_view r) ≡ unraveled_rule (f + condition_count (take i (map rule_view rs))) (rule_view r) = ap (λ n. unraveled_rule n (rule_view r)) s in
+    subst (λ k. Progress f rs k (symbol + length r.conds.items) after) (sym one) record {
+      symbol_is = omega (arith, s, next, same);
+      out_is = a.0 ∙ ap₂ (λ x y. x ++ y) p.out_is at ∙ sym rules_next;
+      fit = subst DoSidesFit (sym rules_next) (sides_fit-append (unraveled_rules f (take i (map rule_view rs))) _ p.fit (subst DoSidesFit at a.1));
+    }
+
+pub finish : (f : ℕ) (rs : List Rule) (i symbol : ℕ) (v : Vec Rule Global) → Progress f rs i symbol v.items → length rs ≤ i → RulesAnswers f (map rule_view rs) (Ok v)
+finish f rs i symbol v p h =
+    let all : take i (map rule_view rs) ≡ map rule_view rs = take_all (map rule_view rs) i (let same = length-map rs rule_view in omega (arith, same, h)) in
+    (p.out_is ∙ ap (unraveled_rules f) all, subst (λ z. DoSidesFit (unraveled_rules f z)) all p.fit)
+
+pub fail : (f : ℕ) (rs : List Rule) (i symbol : ℕ) (out after : List Rule) (r : Rule) → Progress f rs i symbol out → i < length rs → r ≡ get_or rs i r
+    → AppendAnswers (unraveled_rule symbol (rule_view r)) out after (Err cause.TooLarge) → IsLargeAt f (map rule_view rs) (i + 1)
+fail f rs i symbol out after r p h is a =
+    record {
+      place = i;
+      is_number = refl;
+      rule = rule_view r;
+      is_rule = at_place rs i r h is;
+      before = p.fit;
+      here = λ k. a (subst (λ n. DoSidesFit (unraveled_rule n (rule_view r))) (sym p.symbol_is) k);
+    }
+
+-- the terms of a system's rules fit
+pub terms_fit : (arities : Signature) (rs : List rules.Rule) → AreRules arities rs → DoTermsFit rs
+terms_fit arities [] h = tt
+terms_fit arities (r ∷ rs) h = (h.0.fits, terms_fit arities rs h.1)
