@@ -1,0 +1,14 @@
+-- What a lexer answers.
+use Rattle.std.specs.Prelude.{ℕ, List, Result, Ok, Err}
+use Rattle.std.specs.Global.{Vec}
+use Rattle.file_text.specs.declared.Token.{Token}
+use Rattle.file_text.specs.Tokens.{Spells, IsBadByte, IsLongId}
+use Rattle.cops_lex.specs.declared.LexError.{LexError}
+use Rattle.cops_lex.specs.declared.LexError.TheVariants.{BadByte, IdTooLong, NoMemory}
+
+-- The tokens that the text spells; or the place of the byte, or of the identifier, that stands in none.
+abbrev pub TokensAnswers : List ℕ → Result (Vec Token) LexError → Type 0
+TokensAnswers bytes (Ok v) = Spells bytes v.items
+TokensAnswers bytes (Err (BadByte at)) = IsBadByte bytes at
+TokensAnswers bytes (Err (IdTooLong at)) = IsLongId bytes at
+TokensAnswers bytes (Err NoMemory) = Unit {0}

@@ -1,0 +1,35 @@
+//! Bytes of a file to tokens.
+#![tactic(auto)]
+
+ghost use Rattle.std.specs.Prelude.{◌≡◌};
+ghost use Rattle.cops_lex.specs.declared.LexError.TheVariants.{NoMemory};
+
+pub use file_text::{Kind, Token};
+pub use scan::tokens;
+use std::alloc::AllocFailed;
+use thiserror::Error;
+
+/// Why bytes have no list of tokens. A place is a byte number from 0.
+#[derive(Debug, Drop, Error)]
+pub enum LexError {
+    /// A byte that is in no token and is no white space.
+    #[error("bad byte at {at}")]
+    BadByte { at: usize },
+    /// The first byte of an identifier of more than 255 bytes.
+    #[error("identifier too long at {at}")]
+    IdTooLong { at: usize },
+    #[error("no memory")]
+    NoMemory,
+}
+
+impl<T: Drop> From<AllocFailed<T>> for LexError {
+    ghost from_gives = { λ _ e. e ≡ NoMemory };
+
+    fn from(_: AllocFailed<T>) -> Self {
+        LexError::NoMemory
+    }
+}
+
+mod scan;
+#[cfg(test)]
+mod tests;

@@ -1,0 +1,137 @@
+ghost use Rattle.std.specs.Prelude.{◌≡◌, ◌<◌, ◌≤◌, ◌+◌, ◌||◌, length, Some};
+ghost use Rattle.file_text.specs.Bytes as spec;
+ghost use Rattle.file_text.specs.Bytes.{white_len, run_len};
+ghost use Rattle.file_text.specs.Tokens.{kind_at, len_at};
+ghost use Rattle.cops_lex.specs.Answers.{TokensAnswers};
+
+use crate::{Kind, LexError, Token};
+use std::alloc::Global;
+
+const LONGEST: usize = 255;
+
+fn is_white(b: u8) -> bool
+    ensures { result ≡ spec.is_white b }
+{
+    b == 9 || b == 10 || b == 13 || b == 32
+}
+
+fn is_id(b: u8) -> bool
+    ensures { result ≡ spec.is_id b }
+{
+    b > 32 && b < 127 && !(b == 40 || b == 41 || b == 44 || b == 124 || b == 34 || b == 92)
+}
+
+fn begins_arrow(bytes: &[u8]) -> bool
+    ensures { result ≡ spec.begins_arrow bytes.now }
+{
+    match bytes {
+        [a, b, ..] => *a == b'-' && *b == b'>',
+        _ => false,
+    }
+}
+
+fn begins_equal(bytes: &[u8]) -> bool
+    ensures { result ≡ spec.begins_equal bytes.now }
+{
+    match bytes {
+        [a, b, ..] => *a == b'=' && *b == b'=',
+        _ => false,
+    }
+}
+
+// how much white space stands at the front
+#[tactic(auto, using(crate::proofs::Runs::white_more, crate::proofs::Runs::white_stops, crate::proofs::Runs::white_end))]
+fn skip_white(bytes: &[u8]) -> usize
+    ensures len { result ≡ white_len bytes.now }
+    ensures within { result ≤ length bytes.now }
+{
+    let mut n = 0;
+    'white: while n < bytes.len() {
+        if !is_white(bytes[n]) {
+            break;
+        }
+        n += 1;
+    }
+    n
+}
+
+// how long the identifier at the front is
+#[tactic(auto, using(crate::proofs::Runs::run_more, crate::proofs::Runs::run_stops_byte, crate::proofs::Runs::run_stops_arrow, crate::proofs::Runs::run_stops_equal, crate::proofs::Runs::run_end))]
+fn skip_run(bytes: &[u8]) -> usize
+    ensures len { result ≡ run_len bytes.now }
+    ensures within { result ≤ length bytes.now }
+{
+    let mut n = 0;
+    'run: while n < bytes.len() {
+        let (_, left) = bytes.split_at(n);
+        if !is_id(bytes[n]) || begins_arrow(left) || begins_equal(left) {
+            break;
+        }
+        n += 1;
+    }
+    n
+}
+
+// the kind of the token at the front
+fn kind_of(bytes: &[u8]) -> Option<Kind>
+    ensures { result ≡ kind_at bytes.now }
+{
+    match bytes {
+        [] => None,
+        [b'(', ..] => Some(Kind::LeftParen),
+        [b')', ..] => Some(Kind::RightParen),
+        [b',', ..] => Some(Kind::Comma),
+        [b'|', ..] => Some(Kind::Bar),
+        [b, ..] => {
+            if begins_arrow(bytes) {
+                Some(Kind::Arrow)
+            } else if begins_equal(bytes) {
+                Some(Kind::Equal)
+            } else if is_id(*b) {
+                Some(Kind::Id)
+            } else {
+                None
+            }
+        }
+    }
+}
+
+#[tactic(auto, using(crate::proofs::Fronts::id_some, crate::proofs::Fronts::arrow_two, crate::proofs::Fronts::equal_two, crate::proofs::Fronts::kind_some))]
+fn len_of(kind: Kind, bytes: &[u8]) -> usize
+    requires { kind_at bytes.now ≡ Some kind }
+    ensures len { result ≡ len_at kind bytes.now }
+    ensures within { result ≤ length bytes.now }
+    ensures some { 0 < result }
+{
+    match kind {
+        Kind::Id => skip_run(bytes),
+        Kind::LeftParen | Kind::RightParen | Kind::Comma | Kind::Bar => 1,
+        Kind::Arrow | Kind::Equal => 2,
+    }
+}
+
+/// The tokens of a text, in order. Comments are not known yet.
+pub fn tokens(alloc: Global, bytes: &[u8]) -> Result<Vec<Token>, LexError>
+    ensures { TokensAnswers bytes.now result }
+{
+    let mut out = Vec::new(alloc);
+    let mut at = 0;
+    'tokens: loop {
+        let (_, behind) = bytes.split_at(at);
+        let from = at + skip_white(behind);
+        let (_, left) = bytes.split_at(from);
+        if left.is_empty() {
+            return Ok(out);
+        }
+        let Some(kind) = kind_of(left) else {
+            return Err(LexError::BadByte { at: from });
+        };
+        let len = len_of(kind, left);
+        if len > LONGEST {
+            return Err(LexError::IdTooLong { at: from });
+        }
+        let to = from + len;
+        out.push(Token { kind, from, to })?;
+        at = to;
+    }
+}

@@ -1,0 +1,12 @@
+pub mod Numbers
+pub mod Lists
+pub mod Growth
+pub mod Unique
+pub mod Sound
+pub mod Uses
+pub mod Sets
+pub mod Walks
+pub mod Parts
+pub mod Repeats
+pub mod Wholes
+pub mod Readings

@@ -1,0 +1,62 @@
+-- A set of names and the list that it stands for.
+use Rattle.std.proofs.Common.{◌≡◌, ℕ, Bool, true, false, List, [], ◌∷◌, ◌++◌, map, Option, Some, None, refl, sym, ap, ◌∙◌, Bor, Vec, Global}
+use Rattle.std.specs.Prelude.{if◌then◌else◌, ◌||◌}
+use Rattle.std.specs.List.{list_any, position_or_len}
+use Rattle.std.specs.Str.{bytes_eq}
+use Rattle.std.proofs.lemmas.Slice.Eq.{bytes_eq-Decides}
+use Rattle.std.specs.Prelude.{option_map}
+use Rattle.std.specs.Option.{unwrap_or}
+use Rattle.cops_syntax.specs.View.{name_view}
+use Rattle.cops_syntax.specs.declared.tree.Name.{Name}
+use Rattle.cops_read.specs.Meaning.{place_of, is_among, with_name, with_names}
+use Rattle.cops_read.proofs.Lists.{position_of_any, position_end, or_len_of_none}
+
+abbrev pub texts : List (Bor (List ℕ)) → List (List ℕ)
+texts ks = map (λ k. k.now) ks
+
+pub any_is : (name : List ℕ) (ks : List (Bor (List ℕ))) → list_any (λ k. bytes_eq name k.now) ks ≡ is_among (texts ks) name
+any_is name [] = refl
+any_is name (k ∷ ks) = ap (λ (b : Bool). bytes_eq name k.now || b) (any_is name ks)
+
+pub place_is : (name : List ℕ) (ks : List (Bor (List ℕ))) → position_or_len (λ k. bytes_eq name k.now) ks ≡ position_or_len (bytes_eq name) (texts ks)
+place_is name [] = refl
+place_is name (k ∷ ks) = rw (place_is name ks) refl
+
+texts_end : (ks : List (Bor (List ℕ))) (k : Bor (List ℕ)) → texts (ks ++ k ∷ []) ≡ texts ks ++ k.now ∷ []
+texts_end [] k = refl
+texts_end (j ∷ ks) k = ap (λ (w : List (List ℕ)). j.now ∷ w) (texts_end ks k)
+
+texts_if : (b : Bool) (ks : List (Bor (List ℕ))) (k : Bor (List ℕ)) → texts (if b then ks else (ks ++ k ∷ [])) ≡ (if b then texts ks else (texts ks ++ k.now ∷ []))
+texts_if true ks k = refl
+texts_if false ks k = texts_end ks k
+
+pub texts_with : (ks after : List (Bor (List ℕ))) (k : Bor (List ℕ)) → after ≡ (if list_any (λ j. bytes_eq k.now j.now) ks then ks else (ks ++ k ∷ [])) → texts after ≡ with_name (texts ks) k.now
+texts_with ks after k e =
+    ap texts e ∙ texts_if (list_any (λ j. bytes_eq k.now j.now) ks) ks k
+    ∙ ap (λ (b : Bool). if b then texts ks else (texts ks ++ k.now ∷ [])) (any_is k.now ks)
+
+place_if : (names : List (List ℕ)) (name : List ℕ) (b : Bool) → is_among names name ≡ b → place_of (if b then names else (names ++ name ∷ [])) name ≡ Some (position_or_len (bytes_eq name) names)
+place_if names name true h = position_of_any (bytes_eq name) names h
+place_if names name false h = position_end (bytes_eq name) names name [] h ((bytes_eq-Decides name name).1 refl) ∙ ap Some (sym (or_len_of_none (bytes_eq name) names h))
+
+-- the place that a name has once it is there
+pub place_with : (names after : List (List ℕ)) (name : List ℕ) → after ≡ with_name names name → place_of after name ≡ Some (position_or_len (bytes_eq name) names)
+place_with names after name e = ap (λ (w : List (List ℕ)). place_of w name) e ∙ place_if names name (is_among names name) refl
+
+texts_of_views : (ns : List Name) → map (λ n. n.text) (map name_view ns) ≡ map (λ n. n.text.now) ns
+texts_of_views [] = refl
+texts_of_views (n ∷ ns) = ap (λ (w : List (List ℕ)). n.text.now ∷ w) (texts_of_views ns)
+
+-- the names of a variables' block
+abbrev pub block_of : Option (Vec Name Global) → List (List ℕ)
+block_of o = with_names [] (map (λ n. n.text) (unwrap_or (option_map (λ v. map name_view v.items) o) []))
+
+pub block_some : (o : Option (Vec Name Global)) (v : Vec Name Global) (start block : List (List ℕ)) (items : List Name) → o ≡ Some v → start ≡ [] → items ≡ v.items
+    → block ≡ with_names start (map (λ n. n.text.now) items) → block ≡ block_of o
+block_some o v start block items is none_yet same h =
+    h ∙ ap (λ (w : List (List ℕ)). with_names w (map (λ (n : Name). n.text.now) items)) none_yet
+    ∙ ap (λ (ns : List Name). with_names [] (map (λ (n : Name). n.text.now) ns)) same
+    ∙ ap (with_names []) (sym (texts_of_views v.items)) ∙ ap block_of (sym is)
+
+pub block_none : (o : Option (Vec Name Global)) (block : List (List ℕ)) → o ≡ None → block ≡ [] → block ≡ block_of o
+block_none o block is h = h ∙ ap block_of (sym is)

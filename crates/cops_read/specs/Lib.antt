@@ -1,0 +1,9 @@
+pub mod NameTable
+pub mod NamesView
+pub mod Meaning
+pub mod Limits
+pub mod File
+pub mod Answers
+pub mod Steps
+pub mod NameSetView
+pub mod RuleSteps

@@ -1,0 +1,4 @@
+pub mod Pushes
+pub mod Runs
+pub mod Unclosed
+pub mod Parsed

@@ -1,0 +1,13 @@
+//! Tokens of a file to a syntax tree.
+#![tactic(auto)]
+
+mod blocks;
+mod reader;
+mod reading;
+#[cfg(test)]
+mod tests;
+mod tree;
+mod word;
+
+pub use reader::{SyntaxError, parse};
+pub use tree::{CondText, FileText, Name, Phrase, RuleText};

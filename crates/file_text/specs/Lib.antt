@@ -1,0 +1,9 @@
+pub mod Bytes
+pub mod Tokens
+pub mod Syntax
+pub mod Grammar
+pub mod Depth
+pub mod Texts
+pub mod Machine
+pub mod Blocks
+pub mod Laws

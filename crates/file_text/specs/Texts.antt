@@ -1,0 +1,30 @@
+-- Which syntax tree a text spells.
+use Rattle.std.specs.Prelude.{ℕ, List, map, slice_range}
+use Rattle.file_text.specs.declared.Kind.{Kind}
+use Rattle.file_text.specs.declared.Kind.TheVariants.{Id, LeftParen, RightParen, Comma, Bar, Arrow, Equal}
+use Rattle.file_text.specs.declared.Token.{Token}
+use Rattle.file_text.specs.Tokens.{Spells}
+use Rattle.file_text.specs.Syntax.{Name, FileTree}
+use Rattle.file_text.specs.Grammar.{Word, id, left_paren, right_paren, comma, bar, arrow, equal, IsFile}
+
+abbrev pub word_of_kind : Kind → Name → Word
+word_of_kind Id name = id name
+word_of_kind LeftParen name = left_paren
+word_of_kind RightParen name = right_paren
+word_of_kind Comma name = comma
+word_of_kind Bar name = bar
+word_of_kind Arrow name = arrow
+word_of_kind Equal name = equal
+
+-- the word that the text has at this token
+abbrev pub word_of : List ℕ → Token → Word
+word_of bytes t = word_of_kind t.kind record { at = t.from; text = slice_range bytes t.from t.to }
+
+abbrev pub words_of : List ℕ → List Token → List Word
+words_of bytes ts = map (word_of bytes) ts
+
+-- the tokens of the text spell this tree
+pub record IsText (bytes : List ℕ) (file : FileTree) : Type 0 where
+  pub tokens : List Token
+  pub spelled : Spells bytes tokens
+  pub whole : IsFile (words_of bytes tokens) file

@@ -1,0 +1,36 @@
+//! The file text: what bytes mean as tokens, what tokens mean as a syntax tree, and laws over both.
+#![tactic(auto)]
+
+ghost use Rattle.file_text.specs.Laws.{OneTokenList, OneBadPlace, NeverBoth, OneTree};
+
+/// What a token is.
+#[derive(Clone, Copy, Debug, PartialEq, Eq)]
+pub enum Kind {
+    Id,
+    LeftParen,
+    RightParen,
+    Comma,
+    Bar,
+    Arrow,
+    Equal,
+}
+
+/// A token, and where it stands in the text: from its first byte to the byte behind its last.
+#[derive(Clone, Copy, Debug, PartialEq, Eq)]
+pub struct Token {
+    pub kind: Kind,
+    pub from: usize,
+    pub to: usize,
+}
+
+/// A text has one list of tokens, or one place that is bad, for one cause.
+pub fn one_reading()
+    ensures tokens { OneTokenList }
+    ensures place { OneBadPlace }
+    ensures either { NeverBoth }
+{}
+
+/// A text has at most one syntax tree.
+pub fn one_tree()
+    ensures { OneTree }
+{}
