@@ -1,0 +1,12 @@
+pub mod Cuts
+pub mod Numerals
+pub mod Places
+pub mod Lines
+pub mod OneReading
+pub mod Exits
+pub mod Loops
+pub mod Views
+pub mod Names
+pub mod OneTerm
+pub mod Arguments
+pub mod Whole

@@ -1,0 +1,5 @@
+use Rattle.cert_text.proofs.Whole.{same_certificate}
+use Rattle.cert_text.proofs.reader.one_certificate.Goals as goal
+
+pub returns : goal.returns
+returns c = same_certificate

@@ -1,0 +1,181 @@
+ghost use Rattle.std.specs.Prelude.{◌≡◌, ◌++◌, ◌↔◌, ℕ, IsTrue, MatchOption};
+ghost use Rattle.file_text.specs.Bytes as text;
+ghost use Rattle.term_core.specs.View.{view, views};
+ghost use Rattle.cert_text.specs.Words.{IsIdentifier, IsNamed};
+ghost use Rattle.cert_text.specs.ReadingTerms as spec;
+ghost use Rattle.cert_text.specs.ReadingTerms.{WordAt, TermAt, TermBehind, ArgumentsAt, IsTermText};
+ghost use Rattle.cert_text.specs.Answers.{Answers};
+
+use crate::error::CertError;
+use crate::words::{behind, number};
+use cops_read::Names;
+use std::alloc::Global;
+use std::str;
+use term_core::Term;
+
+// The greatest depth and the greatest number of nodes of a term.
+const MOST_LEVELS: u32 = 400;
+
+const MOST_NODES: u32 = 10_000;
+
+// Whether the byte is one of identifiers.
+fn is_id(b: u8) -> bool
+    ensures { result ≡ text.is_id b }
+{
+    b > 32
+        && b < 127
+        && !(b == b'(' || b == b')' || b == b',' || b == b'|' || b == b'"' || b == b'\\')
+}
+
+// Whether an identifier goes on with the first byte.
+fn goes_on(bytes: &[u8]) -> bool
+    ensures { result ≡ spec.goes_on bytes.now }
+{
+    match bytes {
+        [] => false,
+        [b'-', b'>', ..] | [b'=', b'=', ..] => false,
+        [b, ..] => is_id(*b),
+    }
+}
+
+// Whether the bytes are one identifier.
+fn is_identifier(name: &[u8]) -> bool
+    ensures { IsTrue result ↔ IsIdentifier name.now }
+{
+    'bytes: for at in 0..name.len() {
+        let (_, left) = name.split_at(at);
+        if !goes_on(left) {
+            return false;
+        }
+    }
+    !name.is_empty()
+}
+
+// The symbol that the name is of, and its arity.
+fn symbol(names: &Names, name: &[u8]) -> Option<(u32, u32)>
+    ensures { MatchOption result ((f n : ℕ) → IsNamed names.now f name.now n → ⊥) (λ x. IsNamed names.now x.0 name.now x.1) }
+{
+    if !is_identifier(name) {
+        return None;
+    }
+    let Ok(text) = str::from_utf8(name) else {
+        return None;
+    };
+    let Some(f) = names.symbol_number(text) else {
+        return None;
+    };
+    let Some(arity) = names.arity(f) else {
+        return None;
+    };
+    Some((f, arity))
+}
+
+// Whether the byte ends a word of a term.
+fn ends_word(b: u8) -> bool
+    ensures { result ≡ spec.ends_word b }
+{
+    b == b'(' || b == b')' || b == b','
+}
+
+// The word at the front, and what is behind it.
+fn word_of(bytes: &[u8]) -> (&[u8], &[u8])
+    ensures { WordAt bytes.now result.0.now result.1.now }
+{
+    'bytes: for (at, b) in bytes.iter().enumerate() {
+        if ends_word(*b) {
+            return bytes.split_at(at);
+        }
+    }
+    bytes.split_at(bytes.len())
+}
+
+// The term at the front, no deeper than the levels and with no more than the nodes, what is behind
+// it, and how many nodes are left.
+#[cycle(term)]
+fn term<'a>(
+    alloc: Global,
+    names: &Names,
+    bytes: &'a [u8],
+    levels: u32,
+    nodes: u32,
+) -> Result<(Term, &'a [u8], u32), CertError>
+    ensures { Answers (TermAt names.now levels nodes bytes.now) (λ x. (view x.0, x.1.now, x.2)) result }
+{
+    if levels == 0 || nodes == 0 {
+        return Err(CertError::NotBuilt);
+    }
+    let (word, rest) = word_of(bytes);
+    if let Some(digits) = behind(word, b"|") {
+        return match number(digits) {
+            Some(x) => Ok((Term::Var(x), rest, nodes - 1)),
+            None => Err(CertError::NotBuilt),
+        };
+    }
+    let Some((f, arity)) = symbol(names, word) else {
+        return Err(CertError::NotBuilt);
+    };
+    let (args, rest, spare) = arguments(alloc, names, rest, arity, levels - 1, nodes - 1)?;
+    Ok((Term::Fun(f, args), rest, spare))
+}
+
+// The same of the term behind a mark.
+#[cycle(term)]
+fn term_behind<'a>(
+    alloc: Global,
+    names: &Names,
+    bytes: &'a [u8],
+    mark: &[u8],
+    levels: u32,
+    nodes: u32,
+) -> Result<(Term, &'a [u8], u32), CertError>
+    ensures { Answers (TermBehind mark.now names.now levels nodes bytes.now) (λ x. (view x.0, x.1.now, x.2)) result }
+{
+    let Some(inner) = behind(bytes, mark) else {
+        return Err(CertError::NotBuilt);
+    };
+    term(alloc, names, inner, levels, nodes)
+}
+
+// As many arguments, what is behind them, and how many nodes are left.
+#[cycle(term)]
+fn arguments<'a>(
+    alloc: Global,
+    names: &Names,
+    bytes: &'a [u8],
+    count: u32,
+    levels: u32,
+    nodes: u32,
+) -> Result<(Vec<Term>, &'a [u8], u32), CertError>
+    ensures { Answers (ArgumentsAt names.now levels count nodes bytes.now) (λ x. (views x.0.items, x.1.now, x.2)) result }
+{
+    let mut args = Vec::new(alloc);
+    if count == 0 {
+        return Ok((args, bytes, nodes));
+    }
+    let (first, rest, spare) = term_behind(alloc, names, bytes, b"(", levels, nodes)?;
+    args.push(first)?;
+    let mut left = rest;
+    let mut nodes_left = spare;
+    'further: for _ in 1..count {
+        let (next, rest, spare) = term_behind(alloc, names, left, b",", levels, nodes_left)?;
+        args.push(next)?;
+        left = rest;
+        nodes_left = spare;
+    }
+    match behind(left, b")") {
+        Some(rest) => Ok((args, rest, nodes_left)),
+        None => Err(CertError::NotBuilt),
+    }
+}
+
+/// The term that the bytes are the text of, if it fits.
+pub fn whole_term(alloc: Global, names: &Names, bytes: &[u8]) -> Result<Term, CertError>
+    ensures { Answers (IsTermText names.now bytes.now) view result }
+{
+    let (found, rest, _) = term(alloc, names, bytes, MOST_LEVELS, MOST_NODES)?;
+    if rest.is_empty() {
+        Ok(found)
+    } else {
+        Err(CertError::NotBuilt)
+    }
+}

@@ -1,0 +1,108 @@
+ghost use Rattle.std.specs.Prelude.{◌≡◌, ℕ, MatchOption, ◌⊎◌, ◌==◌, ◌++◌, List, position};
+ghost use Rattle.cert_text.specs.Reading.{Lacks, IsCut, IsNumber, IsPlace, IsPosition, NumberBefore, PositionBefore};
+ghost use Rattle.cert_text.specs.Answers.{Answers};
+
+use crate::CertError;
+use itoa::Buffer;
+use std::alloc::Global;
+use std::str;
+
+/// What is behind a word at the front.
+pub fn behind<'a>(bytes: &'a [u8], word: &[u8]) -> Option<&'a [u8]>
+    ensures { MatchOption result ((rest : List ℕ) → bytes.now ≡ word.now ++ rest → ⊥) (λ rest. bytes.now ≡ word.now ++ rest.now) }
+{
+    bytes.strip_prefix(word)
+}
+
+// The place of the first such byte.
+fn place_of(bytes: &[u8], end: u8) -> Option<usize>
+    ensures { result ≡ position (λ b. b == end) bytes.now }
+{
+    bytes.iter().position(|b| *b == end)
+}
+
+/// The bytes up to the first `end`, and those behind it.
+pub fn cut(bytes: &[u8], end: u8) -> Option<(&[u8], &[u8])>
+    ensures { MatchOption result (Lacks end bytes.now) (λ x. IsCut end bytes.now x.0.now x.1.now) }
+{
+    let Some(at) = place_of(bytes, end) else {
+        return None;
+    };
+    let (word, left) = bytes.split_at(at);
+    let (_, rest) = left.split_at(1);
+    Some((word, rest))
+}
+
+/// The number that the word is in decimal.
+pub fn number(word: &[u8]) -> Option<u32>
+    ensures { MatchOption result ((n : ℕ) → IsNumber word.now n → ⊥) (λ n. IsNumber word.now n) }
+{
+    let Ok(text) = str::from_utf8(word) else {
+        return None;
+    };
+    let Ok(n) = text.parse::<u32>() else {
+        return None;
+    };
+    let mut buffer = Buffer::new();
+    if buffer.format(n).as_bytes() == word {
+        Some(n)
+    } else {
+        None
+    }
+}
+
+// The same of a number that is not 0.
+fn place(word: &[u8]) -> Result<u32, CertError>
+    ensures { Answers (IsPlace word.now) (λ n. n) result }
+{
+    match number(word) {
+        Some(n) => if n > 0 {
+            Ok(n)
+        } else {
+            Err(CertError::NotBuilt)
+        },
+        None => Err(CertError::NotBuilt),
+    }
+}
+
+// The position that the word is.
+fn position_of(alloc: Global, word: &[u8]) -> Result<Vec<u32>, CertError>
+    ensures { Answers (IsPosition word.now) (λ places. places.items) result }
+{
+    let mut places = Vec::new(alloc);
+    if word == b"e".as_slice() {
+        return Ok(places);
+    }
+    let mut left = word;
+    'places: while let Some((part, rest)) = cut(left, b'.') {
+        places.push(place(part)?)?;
+        left = rest;
+    }
+    places.push(place(left)?)?;
+    Ok(places)
+}
+
+/// The number in front of a byte that is no digit, and what is behind that.
+pub fn number_before(bytes: &[u8], end: u8) -> Result<(u32, &[u8]), CertError>
+    requires { (end ≡ 10) ⊎ (end ≡ 32) }
+    ensures { Answers (NumberBefore end bytes.now) (λ x. (x.0, x.1.now)) result }
+{
+    let Some((word, rest)) = cut(bytes, end) else {
+        return Err(CertError::NotBuilt);
+    };
+    match number(word) {
+        Some(n) => Ok((n, rest)),
+        None => Err(CertError::NotBuilt),
+    }
+}
+
+/// The position in front of a line's end or a space, and what is behind that.
+pub fn position_before(alloc: Global, bytes: &[u8], end: u8) -> Result<(Vec<u32>, &[u8]), CertError>
+    requires { (end ≡ 10) ⊎ (end ≡ 32) }
+    ensures { Answers (PositionBefore end bytes.now) (λ x. (x.0.items, x.1.now)) result }
+{
+    let Some((word, rest)) = cut(bytes, end) else {
+        return Err(CertError::NotBuilt);
+    };
+    Ok((position_of(alloc, word)?, rest))
+}
