@@ -1,0 +1,9 @@
+pub mod Ways
+pub mod Numbers
+pub mod Judging
+pub mod Contracting
+pub mod Shown
+pub mod OneStep
+pub mod Loops
+pub mod Progress
+pub mod Outcomes

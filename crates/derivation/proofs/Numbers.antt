@@ -1,0 +1,68 @@
+-- Parts of lists by number, seen through what they stand for.
+use Rattle.std.proofs.Common.{◌≡◌, ℕ, zero, suc, ◌-◌, ◌<◌, ◌≤◌, List, [], ◌∷◌, map, length, get_or, slice_get, Option, Some, None, is_some, IfSome, option_map, Bor, refl, sym, ap, subst, arith}
+use Rattle.std.proofs.Math.Dec.{ltb}
+use Rattle.std.proofs.lemmas.Bool.{ltb-true, ltb-false}
+use Rattle.rewriting.specs.Rules.{Condition, Rule, System, rule_at, sides}
+use Rattle.rewriting.specs.Systems.{IsRule, AreRules, IsSystem, Each}
+use Rattle.rewriting.specs.Terms.{Fits, cons}
+use Rattle.certificates.specs.Judging.{hypothesis_at}
+use Rattle.certificates.specs.Sizes.{DoConditionsFit}
+use Rattle.term_core.specs.declared.systems.Rule as program
+use Rattle.term_core.specs.declared.systems.Cond as condition
+use Rattle.term_core.specs.RuleView.{rule_view, condition_view}
+use Rattle.derivation.specs.Judged.{IsJudgable, DoesConditionFit}
+
+module _ {A B : Type 0} (f : A → B) where
+  absent : (xs : List A) (i : ℕ) → length xs ≤ i → slice_get (map f xs) i ≡ None
+  absent [] i h = refl
+  absent (x ∷ xs) zero h = absurd (omega arith)
+  absent (x ∷ xs) (suc i) h = absent xs i (omega arith)
+
+  present : (xs : List A) (i : ℕ) (x : A) → i < length xs → x ≡ get_or xs i x → slice_get (map f xs) i ≡ Some (f x)
+  present [] i x h e = absurd (omega arith)
+  present (y ∷ xs) zero x h e = ap (λ z. Some (f z)) (sym e)
+  present (y ∷ xs) (suc i) x h e = present xs i x (omega arith) e
+
+  -- what `get` on a slice gives
+  pub got : (xs : List A) (i : ℕ) (o : Option (Bor A)) → is_some o ≡ ltb i (length xs) → IfSome o (λ x. x.now ≡ get_or xs i x.now) → option_map (λ x. f x.now) o ≡ slice_get (map f xs) i
+  got xs i None out e = sym (absent xs i (ltb-false i (length xs) (sym out)))
+  got xs i (Some x) in_range e = sym (present xs i x.now (ltb-true i (length xs) (sym in_range)) e)
+
+pub hypothesis_before : (cs : List Condition) (k : ℕ) → (k ≡ 0 → ⊥) → slice_get cs (k - 1) ≡ hypothesis_at cs k
+hypothesis_before cs zero h = absurd (h refl)
+hypothesis_before cs (suc k) h = (let e : suc k - 1 ≡ k = omega arith in ap (slice_get cs) e)
+
+-- hypotheses that fit fit one by one
+pub fitting : (cs : List Condition) (i : ℕ) (o : Option (Bor condition.Cond)) → DoConditionsFit cs → option_map (λ h. condition_view h.now) o ≡ slice_get cs i
+    → IfSome o (λ h. DoesConditionFit (condition_view h.now))
+fitting cs i None fits e = tt
+fitting cs i (Some h) fits e = at cs i fits (sym e)
+  where
+    at : (ds : List Condition) (k : ℕ) → DoConditionsFit ds → slice_get ds k ≡ Some (condition_view h.now) → DoesConditionFit (condition_view h.now)
+    at [] k all f = cc
+    at (d ∷ ds) zero (l, r, rest) f = (let same : d ≡ condition_view h.now = cc in subst DoesConditionFit same record { left = l; right = r })
+    at (d ∷ ds) (suc k) (l, r, rest) f = at ds k rest f
+
+pub rule_before : (sys : System) (k : ℕ) → (k ≡ 0 → ⊥) → slice_get sys.rules (k - 1) ≡ rule_at sys k
+rule_before sys zero h = absurd (h refl)
+rule_before sys (suc k) h = (let e : suc k - 1 ≡ k = omega arith in ap (slice_get sys.rules) e)
+
+conditions_fit : (cs : List Condition) → Each Fits (sides cs) → DoConditionsFit cs
+conditions_fit [] h = tt
+conditions_fit (c ∷ cs) (l, (r, rest)) = (l, r, conditions_fit cs rest)
+
+judgable_rule : (arities : List ℕ) (r : Rule) → IsRule arities r → IsJudgable r
+judgable_rule arities r good = parts good.fits
+  where
+    parts : Each Fits (cons r.left (cons r.right (sides r.conditions))) → IsJudgable r
+    parts (left, (right, rest)) = record { right = right; conditions = conditions_fit r.conditions rest; few = good.few_conditions }
+
+pub is_rule_at : (arities : List ℕ) (rs : List Rule) (i : ℕ) (r : Rule) → AreRules arities rs → slice_get rs i ≡ Some r → IsRule arities r
+is_rule_at arities [] i r all e = cc
+is_rule_at arities (q ∷ rs) zero r all e = (let same : q ≡ r = cc in subst (IsRule arities) same all.0)
+is_rule_at arities (q ∷ rs) (suc i) r all e = is_rule_at arities rs i r all.1 e
+
+-- the rules that a system has may be judged
+pub judgable : (sys : System) (i : ℕ) (o : Option (Bor program.Rule)) → IsSystem sys → option_map (λ r. rule_view r.now) o ≡ slice_get sys.rules i → IfSome o (λ r. IsJudgable (rule_view r.now))
+judgable sys i None good e = tt
+judgable sys i (Some r) good e = judgable_rule sys.arities (rule_view r.now) (is_rule_at sys.arities sys.rules i (rule_view r.now) good.rules (sym e))

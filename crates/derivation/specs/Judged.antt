@@ -1,0 +1,67 @@
+-- What the parts of judging answer.
+use Rattle.std.specs.Prelude.{◌≡◌, ◌⊎◌, ◌≤◌, ℕ, length, Some, None}
+use Rattle.rewriting.specs.Terms as math
+use Rattle.rewriting.specs.Positions.{Position, subterm, replace}
+use Rattle.rewriting.specs.Substitutions.{Bindings, apply, values_of}
+use Rattle.rewriting.specs.Matching.{HasNoMatch, IsLeastMatch}
+use Rattle.std.specs.FinMap.{empty}
+use Rattle.certificates.specs.Reasons.{StepReason, unbound, too_large}
+use Rattle.rewriting.specs.Rules.{Condition, Rule}
+use Rattle.certificates.specs.Judging.{Covers}
+use Rattle.certificates.specs.Sizes.{DoConditionsFit}
+use Rattle.term_core.specs.View.{view}
+use Rattle.derivation.specs.declared.places.Counted.{Counted}
+use Rattle.derivation.specs.declared.instances.Found.{Found}
+
+-- the instance of a term is none: a variable has no value, or the instance does not fit
+abbrev pub HasNoInstance : Bindings → math.Term → StepReason → Type 0
+HasNoInstance b t reason =
+    ((reason ≡ unbound) × (Covers b t → ⊥)) ⊎ ((reason ≡ too_large) × Covers b t × (math.Fits (apply (values_of b) t) → ⊥))
+
+-- the instance of a term whose variables are bound, where it fits
+pub record IsInstance (b : Bindings) (t u : math.Term) : Type 0 where
+  pub covered : Covers b t
+  pub is : u ≡ apply (values_of b) t
+  pub fits : math.Fits u
+
+-- the least match of a pattern at the position, and the number of nodes there
+pub record IsMatch (pattern t : math.Term) (p : Position) (found : Found) : Type 0 where
+  pub part : math.Term
+  pub stands : subterm t p ≡ Some part
+  pub matches : IsLeastMatch empty found.values pattern part
+  pub nodes : math.size part ≡ found.nodes
+
+-- no match there
+abbrev pub IsUnmatchedAt : math.Term → math.Term → Position → Type 0
+IsUnmatchedAt pattern t p = (subterm t p ≡ None) ⊎ ((part : math.Term) × (subterm t p ≡ Some part) × HasNoMatch empty pattern part)
+
+-- a term that fits, with its number of nodes
+pub record IsCounted (u : Counted) : Type 0 where
+  pub nodes : math.size (view u.term) ≡ u.nodes
+  pub fits : math.Fits (view u.term)
+
+-- the subterm at the position has a number of nodes
+abbrev pub HasSizeAt : math.Term → Position → ℕ → Type 0
+HasSizeAt t p n = (part : math.Term) × (subterm t p ≡ Some part) × (math.size part ≡ n)
+
+-- both sides of a condition fit
+pub record DoesConditionFit (c : Condition) : Type 0 where
+  pub left : math.Fits c.left
+  pub right : math.Fits c.right
+
+-- the instance of the right side under the values stands at the position of t in u
+pub record IsContracted (right : math.Term) (values : Bindings) (t : math.Term) (p : Position) (u : math.Term) : Type 0 where
+  pub covered : Covers values right
+  pub result : replace t p (apply (values_of values) right) ≡ Some u
+
+-- there is no such term: a variable has no value, or the term does not fit
+abbrev pub HasNoContractum : math.Term → Bindings → math.Term → Position → StepReason → Type 0
+HasNoContractum right values t p reason =
+    ((reason ≡ unbound) × (Covers values right → ⊥))
+    ⊎ ((reason ≡ too_large) × Covers values right × ((u : math.Term) → replace t p (apply (values_of values) right) ≡ Some u → math.Fits u → ⊥))
+
+-- the right side of a rule fits, and so do its conditions, at most 100
+pub record IsJudgable (r : Rule) : Type 0 where
+  pub right : math.Fits r.right
+  pub conditions : DoConditionsFit r.conditions
+  pub few : length r.conditions ≤ 100

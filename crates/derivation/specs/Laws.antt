@@ -1,0 +1,20 @@
+-- A derivation from a term has one outcome.
+use Rattle.std.specs.Prelude.{◌≡◌, List}
+use Rattle.rewriting.specs.Terms.{Term}
+use Rattle.rewriting.specs.Rules.{Condition, System}
+use Rattle.certificates.specs.Derivations.{Derivation}
+use Rattle.certificates.specs.Judging.{Derives, IsFirstBad}
+use Rattle.certificates.specs.Reasons.{BadStep}
+
+-- it has at most one end
+abbrev pub EndsAreUnique : Type 0
+EndsAreUnique = (sys : System) (hyps : List Condition) (t : Term) (d : Derivation) (u v : Term) → Derives sys hyps t d u → Derives sys hyps t d v → u ≡ v
+
+-- it has no end beside a bad step
+abbrev pub BadStepsHaveNoEnd : Type 0
+BadStepsHaveNoEnd = (sys : System) (hyps : List Condition) (t : Term) (d : Derivation) (u : Term) (bad : BadStep) → Derives sys hyps t d u → IsFirstBad sys hyps t d bad → ⊥
+
+-- it has at most one first bad step
+abbrev pub FirstBadStepsAreUnique : Type 0
+FirstBadStepsAreUnique =
+    (sys : System) (hyps : List Condition) (t : Term) (d : Derivation) (bad other : BadStep) → IsFirstBad sys hyps t d bad → IsFirstBad sys hyps t d other → bad ≡ other

@@ -1,0 +1,4 @@
+pub mod Errors
+pub mod Judged
+pub mod Answers
+pub mod Laws

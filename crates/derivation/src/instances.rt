@@ -1,0 +1,79 @@
+ghost use Rattle.std.specs.Prelude.{◌≡◌, [], option_map, IfSome, map};
+ghost use Rattle.rewriting.specs.Terms as math;
+ghost use Rattle.rewriting.specs.Rules as rules;
+ghost use Rattle.rewriting.specs.Substitutions.{apply, values_of};
+ghost use Rattle.certificates.specs.Judging.{Covers, hypothesis_at};
+ghost use Rattle.certificates.specs.Reasons.{no_redex};
+ghost use Rattle.certificates.specs.Sizes.{DoConditionsFit};
+ghost use Rattle.term_core.specs.View.{view};
+ghost use Rattle.term_core.specs.RuleView.{condition_view, rule_view};
+ghost use Rattle.derivation.specs.Errors.{Judged};
+ghost use Rattle.derivation.specs.Judged.{HasNoInstance, IsInstance, IsMatch, IsUnmatchedAt, HasSizeAt, IsJudgable, DoesConditionFit};
+
+use crate::errors::{ReplayError, here};
+use cert_model::StepReason;
+use matching::{Match, match_term};
+use std::alloc::Global;
+use term_core::{Cond, Rule, Subst, System, Term, TermError, size, subterm};
+
+// The rule with a number.
+pub fn rule_at(sys: &System, number: u32) -> Option<&Rule>
+    ensures rule { option_map (λ r. rule_view r.now) result ≡ rules.rule_at sys.now number }
+    ensures good { IfSome result (λ r. IsJudgable (rule_view r.now)) }
+{
+    if number == 0 {
+        return None;
+    }
+    sys.rules().get(number as usize - 1)
+}
+
+// The hypothesis with a number.
+pub fn hypothesis(hyps: &[Cond], number: u32) -> Option<&Cond>
+    requires { DoConditionsFit (map condition_view hyps.now) }
+    ensures fits { IfSome result (λ h. DoesConditionFit (condition_view h.now)) }
+    ensures hypothesis { option_map (λ h. condition_view h.now) result ≡ hypothesis_at (map condition_view hyps.now) number }
+{
+    if number == 0 {
+        return None;
+    }
+    hyps.get(number as usize - 1)
+}
+
+// The instance of a term whose variables all have values.
+pub fn instance(alloc: Global, values: &Subst, t: &Term) -> Result<Term, ReplayError>
+    requires { math.Fits (view t.now) }
+    ensures { Judged (λ u. IsInstance values.now (view t.now) (view u)) (λ path reason. (path ≡ []) × HasNoInstance values.now (view t.now) reason) result }
+{
+    if !values.covers(t) {
+        return Err(here(alloc, StepReason::Unbound));
+    }
+    match values.apply(alloc, t) {
+        Ok(u) => Ok(u),
+        Err(TermError::NoMemory) => Err(ReplayError::NoMemory),
+        Err(_) => Err(here(alloc, StepReason::TooLarge)),
+    }
+}
+
+// A rule's match at a position, and the number of nodes there.
+#[derive(Drop)]
+pub struct Found {
+    pub values: Subst,
+    pub nodes: u32,
+}
+
+// The match of a left side at a position.
+pub fn found_at(alloc: Global, left: &Term, t: &Term, p: &[u32]) -> Result<Found, ReplayError>
+    requires { math.Fits (view t.now) }
+    ensures { Judged (λ f. IsMatch (view left.now) (view t.now) p.now f) (λ path reason. (path ≡ []) × (reason ≡ no_redex) × IsUnmatchedAt (view left.now) (view t.now) p.now) result }
+{
+    let Some(part) = subterm(t, p) else {
+        return Err(here(alloc, StepReason::NoRedex));
+    };
+    match match_term(alloc, left, part)? {
+        Match::Bound(values) => Ok(Found {
+            values,
+            nodes: size(part),
+        }),
+        Match::Unmatched => Err(here(alloc, StepReason::NoRedex)),
+    }
+}

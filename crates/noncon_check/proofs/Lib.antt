@@ -1,0 +1,4 @@
+pub mod FirstRedex
+pub mod Searching
+pub mod Rules
+pub mod Apart

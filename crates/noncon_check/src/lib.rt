@@ -1,0 +1,8 @@
+//! Certificates of non-confluence: peaks.
+#![tactic(auto)]
+
+mod peaks;
+mod redexes;
+
+pub use peaks::check_peak;
+pub use validity::CheckError;

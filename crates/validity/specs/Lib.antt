@@ -1,0 +1,3 @@
+pub mod Peaks
+pub mod Laws
+pub mod Answers
