@@ -1,0 +1,57 @@
+-- What the readers promise of a peak is what its check asks.
+use Rattle.std.proofs.Common.{◌≡◌, ℕ, suc, ◌-◌, List, map, refl, subst, ap, ◌∙◌, arith}
+use Rattle.std.specs.Prelude.{slice_get}
+use Rattle.std.proofs.lemmas.Option.{slice_get-map}
+use Rattle.rewriting.specs.Terms.{Term, Terms, var, app, nil, cons}
+use Rattle.rewriting.specs.Signatures.{IsOver, AreOver}
+use Rattle.rewriting.specs.Rules.{System}
+use Rattle.certificates.specs.Derivations.{Derivation, no_steps, first_step, Step, by_rule, by_hypothesis, Derivations, no_derivations, first_derivation}
+use Rattle.certificates.specs.Certificates.{Peak, peak_certificate}
+use Rattle.certificates.specs.Sizes.{IsShort, AreStepsShort, IsStepShort, AreShort}
+use Rattle.certificates.specs.Sizes as sizes
+use Rattle.cops_read.specs.NameTable.{NameTable}
+use Rattle.cops_read.specs.File.{IsFile}
+use Rattle.cert_text.specs.Words.{IsSpelt, AreSpelt}
+use Rattle.cert_text.specs.Steps as steps
+use Rattle.cert_text.specs.Limits.{AreSteps, IsStep, AreDerivations, IsDerivation}
+use Rattle.cert_text.specs.Certificate.{IsCertificate}
+
+-- terms that the names spell are over the arities of the names
+mutual
+  spelt_over : (names : NameTable) (arities : List ℕ) → arities ≡ map (λ s. s.1) names.symbols → (t : Term) → IsSpelt names t → IsOver arities t
+  spelt_over names arities e (var x) h = tt
+  spelt_over names arities e (app f ts) h =
+      (ap (λ (l : List ℕ). slice_get l f) e ∙ slice_get-map (λ (s : List ℕ × ℕ). s.1) names.symbols f ∙ h.0.1.arity, spelt_all_over names arities e ts h.1)
+
+  spelt_all_over : (names : NameTable) (arities : List ℕ) → arities ≡ map (λ s. s.1) names.symbols → (ts : Terms) → AreSpelt names ts → AreOver arities ts
+  spelt_all_over names arities e nil h = tt
+  spelt_all_over names arities e (cons t ts) h = (spelt_over names arities e t h.0, spelt_all_over names arities e ts h.1)
+
+same_count : (d : Derivation) → steps.step_count d ≡ sizes.step_count d
+same_count no_steps = refl
+same_count (first_step s d) = ap suc (same_count d)
+
+mutual
+  steps_short : (levels : ℕ) (d : Derivation) → AreSteps levels d → AreStepsShort d
+  steps_short levels no_steps h = tt
+  steps_short levels (first_step s d) h = (step_short levels s h.0, steps_short levels d h.1)
+
+  step_short : (levels : ℕ) (s : Step) → IsStep levels s → IsStepShort s
+  step_short levels (by_rule i p ds) h = all_short levels ds h.3
+  step_short levels (by_hypothesis k p) h = tt
+
+  all_short : (levels : ℕ) (ds : Derivations) → AreDerivations levels ds → AreShort ds
+  all_short levels no_derivations h = tt
+  all_short levels (first_derivation d ds) h = (omega (arith, same_count d, h.1), steps_short (levels - 1) d h.2, all_short levels ds h.3)
+
+pub short : (d : Derivation) → IsDerivation 50 d → IsShort d
+short d h = record { few_steps = omega (arith, same_count d, h.1); inner = steps_short 49 d h.2 }
+
+pub start_over : (file cert : List ℕ) (sys : System) (names : NameTable) (peak : Peak) → IsFile file sys names → IsCertificate names cert (peak_certificate peak) → IsOver sys.arities peak.start
+start_over file cert sys names peak f c = let same : c.start ≡ peak.start = cc (c.peak) in subst (λ t. IsOver sys.arities t) same (spelt_over names sys.arities f.meant.arities c.start c.spelt)
+
+pub first_short : (names : NameTable) (cert : List ℕ) (peak : Peak) → IsCertificate names cert (peak_certificate peak) → IsShort peak.first
+first_short names cert peak c = let same : c.first ≡ peak.first = cc (c.peak) in subst IsShort same (short c.first c.first_meets)
+
+pub second_short : (names : NameTable) (cert : List ℕ) (peak : Peak) → IsCertificate names cert (peak_certificate peak) → IsShort peak.second
+second_short names cert peak c = let same : c.second ≡ peak.second = cc (c.peak) in subst IsShort same (short c.second c.second_meets)

@@ -1,0 +1,88 @@
+-- What the parts of a check answer.
+use Rattle.std.specs.Prelude.{◌≡◌, ◌⊎◌, ◌++◌, ℕ, List, [], Result, Ok, Err, codes}
+use Rattle.rewriting.specs.Rules.{System}
+use Rattle.certificates.specs.Certificates as math
+use Rattle.certificates.specs.Certificates.{peak_certificate}
+use Rattle.certificates.specs.Reasons.{Rejection}
+use Rattle.validity.specs.Peaks.{IsValidPeak, IsPeakRejected}
+use Rattle.validity.specs.Laws.{ReachesApart}
+use Rattle.cops_read.specs.NameTable.{NameTable}
+use Rattle.cert_model.specs.CertificateView.{peak_view}
+use Rattle.cert_model.specs.declared.model.Peak.{Peak}
+use Rattle.cc_io.specs.declared.shelf.ReadAllError.{ReadAllError}
+use Rattle.cc_io.specs.declared.shelf.ReadAllError.TheVariants as reading
+use Rattle.concon.specs.Rejections.{rejection_text}
+use Rattle.concon.specs.Said.{Said}
+use Rattle.concon.specs.Outcomes.{Bytes, no_system, no_certificate, rejected, refuted, SpellsSystem, SpellsNoSystem, SpellsPeak, SpellsNoCertificate, ComesTo, IsRefuted, said_of_outcome}
+use Rattle.concon.specs.Causes.{Run, bytes_of, Failed, said_of, file_fault, cert_fault, no_memory}
+use Rattle.concon.specs.declared.judge.Refusal.{Refusal}
+use Rattle.concon.specs.declared.judge.Refusal.TheVariants as refusal
+use Rattle.concon.specs.declared.status.Status.TheVariants as status
+
+-- a text that is not read whole is a refusal of the file, or of the certificate
+abbrev pub file_refusal : ReadAllError → Refusal
+file_refusal reading.ReadFault = refusal.FileFault
+file_refusal (reading.TooLong n) = refusal.FileNotBuilt
+file_refusal reading.NoMemory = refusal.NoMemory
+
+abbrev pub cert_refusal : ReadAllError → Refusal
+cert_refusal reading.ReadFault = refusal.CertFault
+cert_refusal (reading.TooLong n) = refusal.CertNotBuilt
+cert_refusal reading.NoMemory = refusal.NoMemory
+
+abbrev pub SystemAnswers : Bytes → Type 0 → Result (System × NameTable) Refusal → Type 0
+SystemAnswers file failed (Ok found) = SpellsSystem file found.0 found.1
+SystemAnswers file failed (Err refusal.FileFault) = failed
+SystemAnswers file failed (Err refusal.FileNotBuilt) = SpellsNoSystem file
+SystemAnswers file failed (Err refusal.NoMemory) = Unit {0}
+SystemAnswers file failed (Err _) = ⊥
+
+abbrev pub PeakAnswers : Bytes → Type 0 → NameTable → Result Peak Refusal → Type 0
+PeakAnswers cert failed names (Ok peak) = SpellsPeak cert names (peak_view peak)
+PeakAnswers cert failed names (Err refusal.CertFault) = failed
+PeakAnswers cert failed names (Err refusal.CertNotBuilt) = SpellsNoCertificate cert names
+PeakAnswers cert failed names (Err refusal.NoMemory) = Unit {0}
+PeakAnswers cert failed names (Err _) = ⊥
+
+-- the line that says why a certificate is rejected
+abbrev pub IsRejectionLine : NameTable → Rejection → List ℕ → Type 0
+IsRejectionLine names reason line = line ≡ codes "REJECTED " ++ (rejection_text names reason ++ codes "\n")
+
+abbrev pub CheckAnswers : System → NameTable → math.Peak → Result (Unit {0}) Refusal → Type 0
+CheckAnswers sys names peak (Ok u) = IsValidPeak sys peak × ReachesApart sys peak.start
+CheckAnswers sys names peak (Err (refusal.Rejected line)) = (reason : Rejection) × IsPeakRejected sys peak reason × IsRejectionLine names reason line.items
+CheckAnswers sys names peak (Err refusal.NoMemory) = Unit {0}
+CheckAnswers sys names peak (Err _) = ⊥
+
+-- the whole check of a file and a certificate, with these words for them
+abbrev pub Judged : Run → List ℕ → List ℕ → Result (Unit {0}) Refusal → Type 0
+Judged run file cert (Ok u) = ComesTo (bytes_of run file) (bytes_of run cert) refuted × IsRefuted (bytes_of run file) (bytes_of run cert)
+Judged run file cert (Err refusal.FileFault) = Failed run file
+Judged run file cert (Err refusal.FileNotBuilt) = ComesTo (bytes_of run file) (bytes_of run cert) no_system
+Judged run file cert (Err refusal.CertFault) = Failed run cert × ((sys : System) × (names : NameTable) × SpellsSystem (bytes_of run file) sys names)
+Judged run file cert (Err refusal.CertNotBuilt) = ComesTo (bytes_of run file) (bytes_of run cert) no_certificate
+Judged run file cert (Err (refusal.Rejected line)) =
+    (names : NameTable) × (reason : Rejection) × ComesTo (bytes_of run file) (bytes_of run cert) (rejected names reason)
+    × IsRejectionLine names reason line.items
+Judged run file cert (Err refusal.NoMemory) = Unit {0}
+
+-- a fact that holds where the file is refused
+abbrev pub WhereFileIsRefused : Result (Unit {0}) Refusal → Type 0 → Type 0
+WhereFileIsRefused (Ok u) P = Unit {0}
+WhereFileIsRefused (Err refusal.FileFault) P = P
+WhereFileIsRefused (Err refusal.FileNotBuilt) P = P
+WhereFileIsRefused (Err _) P = Unit {0}
+
+-- this is said, or that memory was refused
+abbrev pub SaysUnlessNoMemory : Said → Said → Type 0
+SaysUnlessNoMemory said wanted = (said ≡ wanted) ⊎ (said ≡ said_of no_memory)
+
+-- what is said of a check that was judged so
+abbrev pub Says : List ℕ → List ℕ → Result (Unit {0}) Refusal → Said → Type 0
+Says file cert (Ok u) said = said ≡ said_of_outcome file cert refuted
+Says file cert (Err refusal.FileFault) said = SaysUnlessNoMemory said (said_of (file_fault file cert))
+Says file cert (Err refusal.FileNotBuilt) said = SaysUnlessNoMemory said (said_of_outcome file cert no_system)
+Says file cert (Err refusal.CertFault) said = SaysUnlessNoMemory said (said_of (cert_fault file cert))
+Says file cert (Err refusal.CertNotBuilt) said = SaysUnlessNoMemory said (said_of_outcome file cert no_certificate)
+Says file cert (Err (refusal.Rejected line)) said = said ≡ record { status = status.Rejected; out = line.items; err = [] }
+Says file cert (Err refusal.NoMemory) said = said ≡ said_of no_memory

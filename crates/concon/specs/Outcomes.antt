@@ -1,0 +1,59 @@
+-- What the check of two texts comes to.
+use Rattle.std.specs.Prelude.{◌++◌, ℕ, List, [], codes}
+use Rattle.rewriting.specs.Rules.{System}
+use Rattle.certificates.specs.Certificates.{Certificate, Peak, peak_certificate}
+use Rattle.certificates.specs.Reasons.{Rejection}
+use Rattle.validity.specs.Peaks.{IsValidPeak, IsPeakRejected}
+use Rattle.validity.specs.Laws.{ReachesApart}
+use Rattle.cops_read.specs.NameTable.{NameTable}
+use Rattle.cops_read.specs.File.{IsFile}
+use Rattle.cert_text.specs.Certificate.{IsCertificate}
+use Rattle.concon.specs.Rejections.{rejection_text}
+use Rattle.concon.specs.Said.{Said}
+use Rattle.concon.specs.declared.status.Status.TheVariants as status
+
+-- the bytes of a file or of a certificate: a set of lists, since a shelf may not tell which they are
+abbrev pub Bytes : Type 1
+Bytes = List ℕ → Type 0
+
+-- the file spells the system with these names, or no system
+abbrev pub SpellsSystem : Bytes → System → NameTable → Type 0
+SpellsSystem file sys names = (bytes : List ℕ) × file bytes × IsFile bytes sys names
+
+abbrev pub SpellsNoSystem : Bytes → Type 0
+SpellsNoSystem file = (bytes : List ℕ) × file bytes × ((sys : System) (names : NameTable) → IsFile bytes sys names → ⊥)
+
+-- with these names the certificate's text is that of the peak, or of no certificate
+abbrev pub SpellsPeak : Bytes → NameTable → Peak → Type 0
+SpellsPeak cert names peak = (bytes : List ℕ) × cert bytes × IsCertificate names bytes (peak_certificate peak)
+
+abbrev pub SpellsNoCertificate : Bytes → NameTable → Type 0
+SpellsNoCertificate cert names = (bytes : List ℕ) × cert bytes × ((c : Certificate) → IsCertificate names bytes c → ⊥)
+
+pub data Outcome : Type 0 where
+  no_system : Outcome
+  no_certificate : Outcome
+  -- the certificate is rejected; the names are those of the file
+  rejected : NameTable → Rejection → Outcome
+  -- the certificate is valid: the system is not confluent
+  refuted : Outcome
+
+abbrev pub ComesTo : Bytes → Bytes → Outcome → Type 0
+ComesTo file cert no_system = SpellsNoSystem file
+ComesTo file cert no_certificate = (sys : System) × (names : NameTable) × SpellsSystem file sys names × SpellsNoCertificate cert names
+ComesTo file cert (rejected names reason) =
+    (sys : System) × (peak : Peak) × SpellsSystem file sys names × SpellsPeak cert names peak × IsPeakRejected sys peak reason
+ComesTo file cert refuted =
+    (sys : System) × (names : NameTable) × (peak : Peak) × SpellsSystem file sys names × SpellsPeak cert names peak × IsValidPeak sys peak
+
+-- the file spells a system, and the certificate a peak whose start reaches two terms without a common reduct
+abbrev pub IsRefuted : Bytes → Bytes → Type 0
+IsRefuted file cert =
+    (sys : System) × (names : NameTable) × (peak : Peak) × SpellsSystem file sys names × SpellsPeak cert names peak × ReachesApart sys peak.start
+
+-- what is said of it, with the words for the file and for the certificate
+abbrev pub said_of_outcome : List ℕ → List ℕ → Outcome → Said
+said_of_outcome file cert no_system = record { status = status.NotBuilt; out = []; err = file ++ codes ": not built\n" }
+said_of_outcome file cert no_certificate = record { status = status.NotBuilt; out = []; err = cert ++ codes ": not built\n" }
+said_of_outcome file cert (rejected names reason) = record { status = status.Rejected; out = codes "REJECTED " ++ (rejection_text names reason ++ codes "\n"); err = [] }
+said_of_outcome file cert refuted = record { status = status.No; out = codes "NO\n"; err = [] }

@@ -1,0 +1,126 @@
+//! Reads the two texts, and judges the certificate.
+ghost use Rattle.std.specs.Prelude.{◌≡◌, ◌≤◌, ◌++◌, ℕ, List, []};
+ghost use Rattle.cc_io.specs.Errors.{IsBegunIfAny};
+ghost use Rattle.cc_io.specs.Faults.{Rose};
+ghost use Rattle.certificates.specs.Certificates.{peak_certificate};
+ghost use Rattle.cops_read.specs.File.{IsFile};
+ghost use Rattle.cert_text.specs.Certificate.{IsCertificate};
+ghost use Rattle.cert_model.specs.CertificateView.{peak_view};
+ghost use Rattle.concon.specs.Causes.{run_of, told_or_any};
+ghost use Rattle.concon.specs.Judging.{file_refusal, cert_refusal, SystemAnswers, PeakAnswers, CheckAnswers, Judged, WhereFileIsRefused};
+
+use crate::texts::rejection_line;
+use cc_io::{ReadAllError, Shelf, read_all};
+use cert_model::{Certificate, Peak};
+use cert_text::{CertError, read_cert};
+use cops_read::{Names, ReadError, read_system};
+use noncon_check::{CheckError, check_peak};
+use std::alloc::{AllocError, Global};
+use term_core::System;
+
+/// Why the answer is not NO.
+#[derive(Drop)]
+pub enum Refusal {
+    FileFault,
+    FileNotBuilt,
+    CertFault,
+    CertNotBuilt,
+    /// The certificate is rejected: the line that says why.
+    Rejected(Vec<u8>),
+    NoMemory,
+}
+
+impl From<AllocError> for Refusal {
+    ghost use Rattle.concon.specs.declared.judge.Refusal.TheVariants.{NoMemory as no_memory};
+
+    ghost from_gives = { λ _ e. e ≡ no_memory };
+
+    fn from(_: AllocError) -> Self {
+        Refusal::NoMemory
+    }
+}
+
+// how many bytes a file and a certificate may have
+const FILE_LIMIT: u64 = 1048576;
+
+const CERT_LIMIT: u64 = 16777216;
+
+fn refusal_of_file(error: ReadAllError) -> Refusal
+    ensures { result ≡ file_refusal error }
+{
+    match error {
+        ReadAllError::ReadFault => Refusal::FileFault,
+        ReadAllError::TooLong { limit: _ } => Refusal::FileNotBuilt,
+        ReadAllError::NoMemory => Refusal::NoMemory,
+    }
+}
+
+fn refusal_of_cert(error: ReadAllError) -> Refusal
+    ensures { result ≡ cert_refusal error }
+{
+    match error {
+        ReadAllError::ReadFault => Refusal::CertFault,
+        ReadAllError::TooLong { limit: _ } => Refusal::CertNotBuilt,
+        ReadAllError::NoMemory => Refusal::NoMemory,
+    }
+}
+
+fn system_of<S: Shelf>(alloc: Global, shelf: &mut S, file: &str) -> Result<(System, Names), Refusal>
+    ensures answers { SystemAnswers (told_or_any (S.contents shelf.old file.now)) (Rose (S.faults shelf.old file.now) (S.faults shelf.new file.now)) result }
+    ensures begun { IsBegunIfAny file.now (S.begun shelf.new) }
+    ensures contents { S.contents shelf.new ≡ S.contents shelf.old }
+    ensures never_falls { (name : List ℕ) → S.faults shelf.old name ≤ S.faults shelf.new name }
+{
+    let bytes = match read_all(alloc, shelf, file, FILE_LIMIT) {
+        Ok(bytes) => bytes,
+        Err(error) => return Err(refusal_of_file(error)),
+    };
+    match read_system(alloc, &bytes) {
+        Ok(found) => Ok(found),
+        Err(ReadError::NotBuilt) => Err(Refusal::FileNotBuilt),
+        Err(ReadError::NoMemory) => Err(Refusal::NoMemory),
+    }
+}
+
+fn peak_of<S: Shelf>(
+    alloc: Global,
+    shelf: &mut S,
+    cert: &str,
+    names: &Names,
+) -> Result<Peak, Refusal>
+    ensures answers { PeakAnswers (told_or_any (S.contents shelf.old cert.now)) (Rose (S.faults shelf.old cert.now) (S.faults shelf.new cert.now)) names.now result }
+{
+    let bytes = match read_all(alloc, shelf, cert, CERT_LIMIT) {
+        Ok(bytes) => bytes,
+        Err(error) => return Err(refusal_of_cert(error)),
+    };
+    match read_cert(alloc, names, &bytes) {
+        Ok(Certificate::Peak(peak)) => Ok(peak),
+        Ok(_) => Err(Refusal::CertNotBuilt),
+        Err(CertError::NotBuilt) => Err(Refusal::CertNotBuilt),
+        Err(CertError::NoMemory) => Err(Refusal::NoMemory),
+    }
+}
+
+fn check(alloc: Global, sys: &System, names: &Names, peak: &Peak) -> Result<(), Refusal>
+    requires read { (file : List ℕ) × (cert : List ℕ) × IsFile file sys.now names.now × IsCertificate names.now cert (peak_certificate (peak_view peak.now)) }
+    ensures { CheckAnswers sys.now names.now (peak_view peak.now) result }
+{
+    match check_peak(alloc, sys, peak) {
+        Ok(()) => Ok(()),
+        Err(CheckError::Rejected(reason)) => Err(Refusal::Rejected(rejection_line(
+            alloc, names, &reason,
+        )?)),
+        Err(CheckError::NoMemory) => Err(Refusal::NoMemory),
+    }
+}
+
+/// Reads the file, then the certificate, and checks it. The answer is NO, or the first refusal.
+pub fn judge<S: Shelf>(alloc: Global, shelf: &mut S, file: &str, cert: &str) -> Result<(), Refusal>
+    ensures judged { Judged (run_of [] (S.contents shelf.old) (S.faults shelf.old) (S.faults shelf.new)) file.now cert.now result }
+    ensures begun { WhereFileIsRefused result (IsBegunIfAny file.now (S.begun shelf.new)) }
+{
+    let (sys, names) = system_of(alloc, shelf, file)?;
+    let peak = peak_of(alloc, shelf, cert, &names)?;
+    check(alloc, &sys, &names, &peak)
+}
