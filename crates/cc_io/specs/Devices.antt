@@ -24,6 +24,10 @@ shelf_faults m name = m.faults
 abbrev pub shelf_given : MemoryShelf → ℕ
 shelf_given m = m.given
 
+-- how often a shelf was read
+abbrev pub shelf_reads : MemoryShelf → ℕ
+shelf_reads m = m.reads.number
+
 -- how many calls of a shelf were counted
 abbrev pub shelf_calls : MemoryShelf → ℕ
 shelf_calls m = m.calls
@@ -39,6 +43,10 @@ sink_written m = Some m.bytes.items
 -- how often a sink has failed
 abbrev pub sink_faults : MemorySink → ℕ
 sink_faults m = m.faults
+
+-- how often a sink was written to
+abbrev pub sink_writes : MemorySink → ℕ
+sink_writes m = m.writes.number
 
 -- how many calls of a sink were counted
 abbrev pub sink_calls : MemorySink → ℕ

@@ -3,6 +3,7 @@ ghost use Rattle.std.specs.Prelude.{◌≡◌, ◌<◌, ◌≤◌, ◌+◌, ◌-
 ghost use Rattle.cc_io.specs.Faults.{Rose, raised, top};
 ghost use Rattle.cc_io.specs.Memory.{bytes_at};
 
+use crate::count::Count;
 use crate::shelf::Shelf;
 use crate::sink::{Failed, Sink};
 use std::alloc::{AllocError, Global};
@@ -22,13 +23,14 @@ pub struct MemoryShelf {
     calls: u64,
     faults: u64,
     given: u64,
+    reads: Count,
     begun: Option<usize>,
     at: usize,
 }
 
 impl MemoryShelf {
     ghost use Rattle.cc_io.specs.Memory.{place_of, first_named};
-    ghost use Rattle.cc_io.specs.Devices.{shelf_contents, shelf_begun, shelf_rest, shelf_faults, shelf_given, shelf_calls, shelf_fails};
+    ghost use Rattle.cc_io.specs.Devices.{shelf_contents, shelf_begun, shelf_rest, shelf_faults, shelf_given, shelf_reads, shelf_calls, shelf_fails};
 
     /// These files. Each call whose number, from 1 on, is in `fails` fails. Calls that cannot fail are not counted.
     pub fn new(files: Vec<MemoryFile>, fails: Vec<u64>) -> MemoryShelf
@@ -37,6 +39,7 @@ impl MemoryShelf {
         ensures rest { shelf_rest result ≡ Some [] }
         ensures faults { (name : List ℕ) → shelf_faults result name ≡ 0 }
         ensures given { shelf_given result ≡ 0 }
+        ensures reads { shelf_reads result ≡ 0 }
         ensures calls { shelf_calls result ≡ 0 }
         ensures fails { shelf_fails result ≡ fails.items }
     {
@@ -46,6 +49,7 @@ impl MemoryShelf {
             calls: 0,
             faults: 0,
             given: 0,
+            reads: Count::new(),
             begun: None,
             at: 0,
         }
@@ -99,7 +103,7 @@ fn fails_now(calls: &mut u64, fails: &[u64]) -> bool
 impl Shelf for MemoryShelf {
     ghost use Rattle.cc_io.specs.MemoryLaw.{none-unread};
     ghost use Rattle.cc_io.specs.Bytes.{prefixed};
-    ghost use Rattle.cc_io.specs.Devices.{shelf_contents, shelf_begun, shelf_rest, shelf_faults, shelf_given, shelf_calls, shelf_fails};
+    ghost use Rattle.cc_io.specs.Devices.{shelf_contents, shelf_begun, shelf_rest, shelf_faults, shelf_given, shelf_reads, shelf_calls, shelf_fails};
 
     ghost contents = { shelf_contents };
 
@@ -111,6 +115,8 @@ impl Shelf for MemoryShelf {
 
     ghost given = { shelf_given };
 
+    ghost reads = { shelf_reads };
+
     ghost none_unread = { λ m. none-unread m.files.items m.begun m.at };
 
     #[tactic(auto, using(crate::proofs::MemoryReads::place_named))]
@@ -118,6 +124,7 @@ impl Shelf for MemoryShelf {
         ensures begun { shelf_begun self.new ≡ (if is_ok result then Some name.now else None) }
         ensures rest { OnOk result (shelf_rest self.new ≡ shelf_contents self.old name.now) }
         ensures given { shelf_given self.new ≡ shelf_given self.old }
+        ensures reads { shelf_reads self.new ≡ shelf_reads self.old }
         ensures most { shelf_given self.new ≤ top }
         ensures contents { shelf_contents self.new ≡ shelf_contents self.old }
         ensures rose { OnErr result (Rose (shelf_faults self.old name.now) (shelf_faults self.new name.now)) }
@@ -150,6 +157,7 @@ impl Shelf for MemoryShelf {
         ensures nothing { (length buf.old ≡ 0) ⊎ (shelf_begun self.old ≡ None) → result ≡ Ok 0 }
         ensures given { IfOk result (λ n. shelf_given self.new ≡ raised (shelf_given self.old) n) }
         ensures none_given { OnErr result (shelf_given self.new ≡ shelf_given self.old) }
+        ensures reads { shelf_reads self.new ≡ shelf_reads self.old + 1 }
         ensures most { shelf_given self.new ≤ top }
         ensures contents { shelf_contents self.new ≡ shelf_contents self.old }
         ensures rose { OnErr result (IfSome (shelf_begun self.old) (λ name. Rose (shelf_faults self.old name) (shelf_faults self.new name))) }
@@ -162,6 +170,7 @@ impl Shelf for MemoryShelf {
         ensures count { (name : List ℕ) → shelf_faults self.new name ≡ (if is_ok result then shelf_faults self.old name else raised (shelf_faults self.old name) 1) }
     {
         let _given = self.given;
+        self.reads = self.reads.next();
         let Some(place) = self.begun else {
             return Ok(0);
         };
@@ -191,12 +200,13 @@ pub struct MemorySink {
     fails: Vec<u64>,
     calls: u64,
     faults: u64,
+    writes: Count,
     ghost reserved: { room ≤ vec_capacity bytes },
     ghost piece_some: { 0 < piece },
 }
 
 impl MemorySink {
-    ghost use Rattle.cc_io.specs.Devices.{sink_written, sink_faults, sink_calls, sink_fails, sink_room, sink_piece};
+    ghost use Rattle.cc_io.specs.Devices.{sink_written, sink_faults, sink_writes, sink_calls, sink_fails, sink_room, sink_piece};
 
     /// A sink that takes at most `piece` bytes a call and `room` bytes in all. Each call whose number, from 1 on, is
     /// in `fails` fails. Calls that cannot fail are not counted.
@@ -209,6 +219,7 @@ impl MemorySink {
         requires { 0 < piece }
         ensures written { IfOk result (λ s. sink_written s ≡ Some []) }
         ensures faults { IfOk result (λ s. sink_faults s ≡ 0) }
+        ensures writes { IfOk result (λ s. sink_writes s ≡ 0) }
         ensures calls { IfOk result (λ s. sink_calls s ≡ 0) }
         ensures fails { IfOk result (λ s. sink_fails s ≡ fails.items) }
         ensures room { IfOk result (λ s. sink_room s ≡ room) }
@@ -221,6 +232,7 @@ impl MemorySink {
             fails,
             calls: 0,
             faults: 0,
+            writes: Count::new(),
         })
     }
 
@@ -234,11 +246,13 @@ impl MemorySink {
 
 impl Sink for MemorySink {
     ghost use Rattle.cc_io.specs.Bytes.{appended};
-    ghost use Rattle.cc_io.specs.Devices.{sink_written, sink_faults, sink_calls, sink_fails, sink_room, sink_piece};
+    ghost use Rattle.cc_io.specs.Devices.{sink_written, sink_faults, sink_writes, sink_calls, sink_fails, sink_room, sink_piece};
 
     ghost written = { sink_written };
 
     ghost faults = { sink_faults };
+
+    ghost writes = { sink_writes };
 
     fn write(&mut self, bytes: &[u8]) -> Result<usize, Failed>
         ensures within { IfOk result (λ n. n ≤ length bytes.now) }
@@ -248,6 +262,7 @@ impl Sink for MemorySink {
         ensures not_empty { OnErr result (0 < length bytes.now) }
         ensures rose { OnErr result (Rose (sink_faults self.old) (sink_faults self.new)) }
         ensures never_falls { sink_faults self.old ≤ sink_faults self.new }
+        ensures writes { sink_writes self.new ≡ sink_writes self.old + 1 }
         ensures piece { IfOk result (λ n. n ≤ sink_piece self.old) }
         // An empty piece is not counted.
         ensures not_counted { length bytes.now ≡ 0 → sink_calls self.new ≡ sink_calls self.old }
@@ -260,6 +275,7 @@ impl Sink for MemorySink {
             ⊎ IfSome (sink_written self.old) (λ taken. sink_room self.old ≤ length taken))) }
         ensures count { sink_faults self.new ≡ (if is_ok result then sink_faults self.old else raised (sink_faults self.old) 1) }
     {
+        self.writes = self.writes.next();
         if bytes.is_empty() {
             return Ok(0);
         }

@@ -25,11 +25,15 @@ pub trait Shelf {
     /// How many bytes it has given, up to the greatest 64-bit number.
     ghost given: { Self → ℕ };
 
+    /// How often `read` was called, whatever it answered.
+    ghost reads: { Self → ℕ };
+
     /// Starts a file anew.
     fn begin(&mut self, name: &str) -> Result<(), Failed>
         ensures begun { begun self.new ≡ (if is_ok result then Some name.now else None) }
         ensures rest { OnOk result (rest self.new ≡ contents self.old name.now) }
         ensures given { given self.new ≡ given self.old }
+        ensures reads { reads self.new ≡ reads self.old }
         ensures most { given self.new ≤ top }
         ensures contents { contents self.new ≡ contents self.old }
         ensures rose { OnErr result (Rose (faults self.old name.now) (faults self.new name.now)) }
@@ -46,6 +50,7 @@ pub trait Shelf {
         ensures nothing { (length buf.old ≡ 0) ⊎ (begun self.old ≡ None) → result ≡ Ok 0 }
         ensures given { IfOk result (λ n. given self.new ≡ raised (given self.old) n) }
         ensures none_given { OnErr result (given self.new ≡ given self.old) }
+        ensures reads { reads self.new ≡ reads self.old + 1 }
         ensures most { given self.new ≤ top }
         ensures contents { contents self.new ≡ contents self.old }
         ensures rose { OnErr result (IfSome (begun self.old) (λ name. Rose (faults self.old name) (faults self.new name))) }
@@ -95,6 +100,9 @@ pub fn read_all<S: Shelf>(
     ensures all { IfOk result (λ v. IfSome (S.contents shelf.old name.now) (λ bytes. v.items ≡ bytes)) }
     ensures limit { IfOk result (λ v. length v.items ≤ limit) }
     ensures given { IfOk result (λ v. S.given shelf.new ≡ raised (S.given shelf.old) (length v.items)) }
+    ensures few_reads { S.reads shelf.new ≤ S.reads shelf.old + (limit + 1) }
+    // Each read but the last gave a byte.
+    ensures each_gives { IfOk result (λ v. S.reads shelf.new ≤ S.reads shelf.old + (length v.items + 1)) }
     ensures fault { IsErrOf result ReadAllError.ReadFault → Rose (S.faults shelf.old name.now) (S.faults shelf.new name.now) }
     ensures too_long { IfErr result (λ e. IsTooLong e → GrewPast limit (S.given shelf.old) (S.given shelf.new)) }
     ensures which_limit { (n : ℕ) → IsErrOf result (ReadAllError.TooLong n) → n ≡ limit }

@@ -95,6 +95,7 @@ struct Drips {
     begun: bool,
     faults: u64,
     given: u64,
+    counted: Count,
 }
 
 impl Shelf for Drips {
@@ -112,6 +113,8 @@ impl Shelf for Drips {
 
     ghost given = { λ d. min d.given top };
 
+    ghost reads = { λ d. d.counted.number };
+
     ghost none_unread = { λ d. Prim.search rules };
 
     fn begin(&mut self, name: &str) -> Result<(), Failed> {
@@ -125,6 +128,7 @@ impl Shelf for Drips {
     }
 
     fn read(&mut self, buf: &mut [u8]) -> Result<usize, Failed> {
+        self.counted = self.counted.next();
         if buf.is_empty() || !self.begun {
             return Ok(0);
         }
@@ -143,10 +147,11 @@ fn reading_stops_soon_after_the_limit(rt: HostRuntime) -> Result<(), Fail> {
         begun: false,
         faults: 0,
         given: 0,
+        counted: Count::new(),
     };
     let answer = read_all(rt.alloc(), &mut drips, "drips", 10);
     assert!(rt; matches!(answer, Err(ReadAllError::TooLong { limit: 10 })));
-    assert!(rt; drips.reads <= 12);
+    assert_eq!(rt; drips.reads, 11);
     assert_eq!(rt; drips.buffer, 65536);
     Ok(())
 }
