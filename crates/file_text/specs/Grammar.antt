@@ -1,14 +1,16 @@
 -- How a syntax tree is spelled in words, and which tree a list of words spells.
-use Rattle.std.specs.Prelude.{◌≡◌, ℕ, Bool, true, false, List, [], ◌∷◌, ◌++◌, map, Option, Some, None, codes}
-use Rattle.file_text.specs.Syntax.{Name, Phrase, Phrases, word, call, none, more, ConditionTree, RuleTree, FileTree}
+use Rattle.std.specs.Prelude.{◌≡◌, ℕ, Bool, true, false, List, [], ◌∷◌, ◌++◌, map, Option, Some, None, codes, not, ◌&&◌}
+use Rattle.std.specs.List.{list_any}
+use Rattle.std.specs.Str.{bytes_eq}
+use Rattle.file_text.specs.Syntax.{Name, Phrase, Phrases, word, call, none, more, ConditionTree, Guard, RuleTree, FileTree}
 
--- a token without its place, but that an identifier keeps its own
+-- a token without its place, but that an identifier and a bar keep theirs
 pub data Word : Type 0 where
   id : Name → Word
   left_paren : Word
   right_paren : Word
   comma : Word
-  bar : Word
+  bar : ℕ → Word
   arrow : Word
   equal : Word
 
@@ -38,13 +40,13 @@ spelled_others [] = []
 spelled_others (c ∷ cs) = comma ∷ (spelled_condition c ++ spelled_others cs)
 
 -- nothing, or a bar and conditions with commas between them
-abbrev pub spelled_conditions : List ConditionTree → List Word
-spelled_conditions [] = []
-spelled_conditions (c ∷ cs) = bar ∷ (spelled_condition c ++ spelled_others cs)
+abbrev pub spelled_guard : Option Guard → List Word
+spelled_guard None = []
+spelled_guard (Some g) = bar g.at ∷ (spelled_condition g.first ++ spelled_others g.others)
 
 -- rule = term "->" term [ "|" cond { "," cond } ]
 abbrev pub spelled_rule : RuleTree → List Word
-spelled_rule r = spelled r.left ++ arrow ∷ (spelled r.right ++ spelled_conditions r.conditions)
+spelled_rule r = spelled r.left ++ arrow ∷ (spelled r.right ++ spelled_guard r.guard)
 
 abbrev pub spelled_rules : List RuleTree → List Word
 spelled_rules [] = []
@@ -54,26 +56,62 @@ spelled_rules (r ∷ rs) = spelled_rule r ++ spelled_rules rs
 abbrev pub id_at : ℕ → List ℕ → Word
 id_at at text = id record { at = at; text = text }
 
--- nothing, or "(" "CONDITIONTYPE" "ORIENTED" ")"
-abbrev pub IsConditionType : List Word → Bool → Type 0
-IsConditionType ws false = ws ≡ []
-IsConditionType ws true = (p q : ℕ) × (ws ≡ left_paren ∷ id_at p (codes "CONDITIONTYPE") ∷ id_at q (codes "ORIENTED") ∷ right_paren ∷ [])
+-- a block of a file, with the places of its own words
+pub data Block : Type 0 where
+  condition_type : ℕ → ℕ → Block
+  variables : ℕ → List Name → Block
+  rules : ℕ → List RuleTree → Block
 
--- nothing, or "(" "VAR" { id } ")"
-abbrev pub AreVariables : List Word → Option (List Name) → Type 0
-AreVariables ws None = ws ≡ []
-AreVariables ws (Some names) = (p : ℕ) × (ws ≡ left_paren ∷ id_at p (codes "VAR") ∷ (map (λ n. id n) names ++ right_paren ∷ []))
+-- the identifier that tells what a block is
+abbrev pub title : Block → List ℕ
+title (condition_type p q) = codes "CONDITIONTYPE"
+title (variables p names) = codes "VAR"
+title (rules p rs) = codes "RULES"
 
--- "(" "RULES" { rule } ")"
-abbrev pub AreRules : List Word → List RuleTree → Type 0
-AreRules ws rs = (p : ℕ) × (ws ≡ left_paren ∷ id_at p (codes "RULES") ∷ (spelled_rules rs ++ right_paren ∷ []))
+-- block = "(" "CONDITIONTYPE" "ORIENTED" ")" | "(" "VAR" { id } ")" | "(" "RULES" { rule } ")"
+abbrev pub spelled_block : Block → List Word
+spelled_block (condition_type p q) = left_paren ∷ id_at p (codes "CONDITIONTYPE") ∷ id_at q (codes "ORIENTED") ∷ right_paren ∷ []
+spelled_block (variables p names) = left_paren ∷ id_at p (codes "VAR") ∷ (map (λ n. id n) names ++ right_paren ∷ [])
+spelled_block (rules p rs) = left_paren ∷ id_at p (codes "RULES") ∷ (spelled_rules rs ++ right_paren ∷ [])
 
--- the blocks in their order, the first two optional
+-- file = { block }
+abbrev pub spelled_blocks : List Block → List Word
+spelled_blocks [] = []
+spelled_blocks (b ∷ bs) = spelled_block b ++ spelled_blocks bs
+
+-- whether some block has this title
+abbrev pub has_block : List Block → List ℕ → Bool
+has_block bs text = list_any (λ b. bytes_eq text (title b)) bs
+
+-- whether no two blocks have one title
+abbrev pub are_distinct : List Block → Bool
+are_distinct [] = true
+are_distinct (b ∷ bs) = not (has_block bs (title b)) && are_distinct bs
+
+-- what the blocks hold: whether a condition type, the identifiers of the first block of variables, the rules of the first block of rules
+abbrev pub oriented_in : List Block → Bool
+oriented_in [] = false
+oriented_in (condition_type p q ∷ bs) = true
+oriented_in (variables p names ∷ bs) = oriented_in bs
+oriented_in (rules p rs ∷ bs) = oriented_in bs
+
+abbrev pub variables_in : List Block → List Name
+variables_in [] = []
+variables_in (condition_type p q ∷ bs) = variables_in bs
+variables_in (variables p names ∷ bs) = names
+variables_in (rules p rs ∷ bs) = variables_in bs
+
+abbrev pub rules_in : List Block → Option (List RuleTree)
+rules_in [] = None
+rules_in (condition_type p q ∷ bs) = rules_in bs
+rules_in (variables p names ∷ bs) = rules_in bs
+rules_in (rules p rs ∷ bs) = Some rs
+
+-- blocks in any order, each at most once, and one of rules
 pub record IsFile (ws : List Word) (file : FileTree) : Type 0 where
-  pub first : List Word
-  pub second : List Word
-  pub third : List Word
-  pub split : ws ≡ first ++ (second ++ third)
-  pub condition_type : IsConditionType first file.oriented
-  pub variables : AreVariables second file.variables
-  pub rules : AreRules third file.rules
+  pub blocks : List Block
+  pub spelled : ws ≡ spelled_blocks blocks
+  pub distinct : are_distinct blocks ≡ true
+  pub oriented : file.oriented ≡ oriented_in blocks
+  pub variables : file.variables ≡ variables_in blocks
+  pub rules : rules_in blocks ≡ Some file.rules

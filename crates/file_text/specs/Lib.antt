@@ -2,8 +2,7 @@ pub mod Bytes
 pub mod Tokens
 pub mod Syntax
 pub mod Grammar
-pub mod Depth
-pub mod Texts
+pub mod Refusals
 pub mod Machine
-pub mod Blocks
+pub mod Texts
 pub mod Laws

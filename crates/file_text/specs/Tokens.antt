@@ -1,9 +1,9 @@
 -- The tokens of a text.
-use Rattle.std.specs.Prelude.{◌≡◌, ℕ, ◌+◌, ◌<◌, ◌≤◌, List, [], ◌∷◌, length, drop, Option, Some, None, ◌==◌, if◌then◌else◌}
+use Rattle.std.specs.Prelude.{◌≡◌, ℕ, ◌+◌, ◌-◌, ◌<◌, ◌≤◌, Bool, true, false, List, [], ◌∷◌, length, drop, Option, Some, None, ◌==◌, ◌&&◌, if◌then◌else◌}
 use Rattle.file_text.specs.declared.Kind.{Kind}
 use Rattle.file_text.specs.declared.Kind.TheVariants.{Id, LeftParen, RightParen, Comma, Bar, Arrow, Equal}
 use Rattle.file_text.specs.declared.Token.{Token}
-use Rattle.file_text.specs.Bytes.{is_id, begins_arrow, begins_equal, white_len, run_len}
+use Rattle.file_text.specs.Bytes.{is_id, begins_arrow, begins_equal, white_len, run_len, begins_comment, comment_len}
 
 -- the kind of token that these bytes begin with
 abbrev pub kind_at : List ℕ → Option Kind
@@ -30,30 +30,85 @@ len_at Equal bytes = 2
 abbrev pub longest : ℕ
 longest = 255
 
--- The token stands behind the white space at a place, is as long as its kind says, and not too long.
-pub record Stands (bytes : List ℕ) (at : ℕ) (t : Token) : Type 0 where
-  pub begins : t.from ≡ at + white_len (drop at bytes)
+-- the count of open brackets behind a token
+abbrev pub open_after : ℕ → Kind → ℕ
+open_after count Id = count
+open_after count LeftParen = count + 1
+open_after count RightParen = count - 1
+open_after count Comma = count
+open_after count Bar = count
+open_after count Arrow = count
+open_after count Equal = count
+
+-- a comment begins at the front, where so many brackets are open
+abbrev pub is_comment_at : ℕ → List ℕ → Bool
+is_comment_at count bytes = (count == 0) && begins_comment bytes
+
+-- the place behind the white space at a place
+abbrev pub behind_white : List ℕ → ℕ → ℕ
+behind_white bytes at = at + white_len (drop at bytes)
+
+-- The token stands behind the white space at a place, begins no comment, is as long as its kind says, and not too long.
+pub record Stands (bytes : List ℕ) (at : ℕ) (count : ℕ) (t : Token) : Type 0 where
+  pub begins : t.from ≡ behind_white bytes at
+  pub no_comment : is_comment_at count (drop t.from bytes) ≡ false
   pub kind : kind_at (drop t.from bytes) ≡ Some t.kind
   pub ends : t.to ≡ t.from + len_at t.kind (drop t.from bytes)
   pub short : len_at t.kind (drop t.from bytes) ≤ longest
 
--- from a place on these tokens stand, with white space before and between them, and the last ends at a place
-abbrev pub LeadsTo : List ℕ → ℕ → List Token → ℕ → Type 0
-LeadsTo bytes at [] end = at ≡ end
-LeadsTo bytes at (t ∷ ts) end = Stands bytes at t × LeadsTo bytes t.to ts end
+-- A comment stands behind the white space at a place, and ends at another.
+pub record StandsComment (bytes : List ℕ) (at : ℕ) (count : ℕ) (to : ℕ) : Type 0 where
+  pub begins : is_comment_at count (drop (behind_white bytes at) bytes) ≡ true
+  pub len : ℕ
+  pub closed : comment_len (drop (behind_white bytes at) bytes) ≡ Some len
+  pub ends : to ≡ behind_white bytes at + len
 
--- the text is these tokens, with white space before, between and behind them
-abbrev pub Spells : List ℕ → List Token → Type 0
-Spells bytes ts = (end : ℕ) × LeadsTo bytes 0 ts end × (end + white_len (drop end bytes) ≡ length bytes)
+-- a token, or a comment that ends at this place
+pub data Piece : Type 0 where
+  token : Token → Piece
+  comment : ℕ → Piece
 
--- this place stands behind some tokens and white space
-abbrev pub IsReached : List ℕ → ℕ → Type 0
-IsReached bytes place = (ts : List Token) × (end : ℕ) × LeadsTo bytes 0 ts end × (place ≡ end + white_len (drop end bytes))
+abbrev pub tokens_of : List Piece → List Token
+tokens_of [] = []
+tokens_of (token t ∷ ps) = t ∷ tokens_of ps
+tokens_of (comment to ∷ ps) = tokens_of ps
+
+-- from a place on, where so many brackets are open, these pieces stand, with white space before and between them, and the last ends at a place
+abbrev pub LeadsTo : List ℕ → ℕ → ℕ → List Piece → ℕ → Type 0
+LeadsTo bytes at count [] end = at ≡ end
+LeadsTo bytes at count (token t ∷ ps) end = Stands bytes at count t × LeadsTo bytes t.to (open_after count t.kind) ps end
+LeadsTo bytes at count (comment to ∷ ps) end = StandsComment bytes at count to × LeadsTo bytes to count ps end
+
+-- the text is these tokens, with white space and comments before, between and behind them
+pub record Spells (bytes : List ℕ) (ts : List Token) : Type 0 where
+  pub pieces : List Piece
+  pub end : ℕ
+  pub leads : LeadsTo bytes 0 0 pieces end
+  pub whole : behind_white bytes end ≡ length bytes
+  pub tokens : tokens_of pieces ≡ ts
+
+-- the count of open brackets behind pieces
+abbrev pub opened : ℕ → List Piece → ℕ
+opened count [] = count
+opened count (token t ∷ ps) = opened (open_after count t.kind) ps
+opened count (comment to ∷ ps) = opened count ps
+
+-- This place stands behind some pieces and white space, and so many brackets are open there.
+pub record IsReached (bytes : List ℕ) (count : ℕ) (place : ℕ) : Type 0 where
+  pub pieces : List Piece
+  pub end : ℕ
+  pub leads : LeadsTo bytes 0 0 pieces end
+  pub behind : place ≡ behind_white bytes end
+  pub counted : count ≡ opened 0 pieces
 
 -- a byte stands there that is in no token
 abbrev pub IsBadByte : List ℕ → ℕ → Type 0
-IsBadByte bytes place = IsReached bytes place × (place < length bytes) × (kind_at (drop place bytes) ≡ None)
+IsBadByte bytes place = (count : ℕ) × IsReached bytes count place × (place < length bytes) × (kind_at (drop place bytes) ≡ None)
 
 -- an identifier begins there that is too long
 abbrev pub IsLongId : List ℕ → ℕ → Type 0
-IsLongId bytes place = IsReached bytes place × (kind_at (drop place bytes) ≡ Some Id) × (longest < run_len (drop place bytes))
+IsLongId bytes place = (count : ℕ) × IsReached bytes count place × (kind_at (drop place bytes) ≡ Some Id) × (longest < run_len (drop place bytes))
+
+-- the text ends there, in a comment that is not closed
+abbrev pub IsOpenComment : List ℕ → ℕ → Type 0
+IsOpenComment bytes at = (count : ℕ) × (place : ℕ) × IsReached bytes count place × (is_comment_at count (drop place bytes) ≡ true) × (comment_len (drop place bytes) ≡ None) × (at ≡ length bytes)

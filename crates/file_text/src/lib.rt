@@ -1,7 +1,7 @@
 //! The file text: what bytes mean as tokens, what tokens mean as a syntax tree, and laws over both.
 #![tactic(auto)]
 
-ghost use Rattle.file_text.specs.Laws.{OneTokenList, OneBadPlace, NeverBoth, OneTree};
+ghost use Rattle.file_text.specs.Laws.{OneTokenList, OneBadPlace, NeverBoth, TokensOrRefusal, OneTree, OneSyntaxRefusal, NeverTreeAndRefusal, TreeOrRefusal};
 
 /// What a token is.
 #[derive(Clone, Copy, Debug, PartialEq, Eq)]
@@ -23,14 +23,22 @@ pub struct Token {
     pub to: usize,
 }
 
-/// A text has one list of tokens, or one place that is bad, for one cause.
+/// A text has one list of tokens, or one place that is bad, for one cause; and never both.
 pub fn one_reading()
     ensures tokens { OneTokenList }
     ensures place { OneBadPlace }
     ensures either { NeverBoth }
+    ensures some { TokensOrRefusal }
 {}
 
 /// A text has at most one syntax tree.
 pub fn one_tree()
     ensures { OneTree }
+{}
+
+/// A text of tokens has a syntax tree or one refusal, and never both.
+pub fn one_refusal()
+    ensures refusal { OneSyntaxRefusal }
+    ensures either { NeverTreeAndRefusal }
+    ensures some { TreeOrRefusal }
 {}
