@@ -1,7 +1,8 @@
--- Longest runs, as a loop goes over them.
-use Rattle.std.proofs.Common.{◌≡◌, ℕ, suc, ◌+◌, ◌<◌, ◌≤◌, Bool, true, false, cond, List, ◌∷◌, length, drop, get_or, refl, sym, ap, ◌∙◌, drop-cons, add-one, ◌&&◌, ◌||◌, not}
+-- Longest runs and comments, as a loop goes over them.
+use Rattle.std.proofs.Common.{◌≡◌, ℕ, suc, ◌+◌, ◌<◌, ◌≤◌, Bool, true, false, cond, eqb, List, ◌∷◌, length, drop, get_or, Option, Some, None, option_map, refl, sym, ap, ◌∙◌, drop-cons, add-one, ◌&&◌, ◌||◌, not, arith}
 use Rattle.std.proofs.Math.ListN.{drop_of_length-le}
-use Rattle.file_text.specs.Bytes.{is_white, is_id, begins_arrow, begins_equal, white_len, run_len}
+use Rattle.std.proofs.lemmas.Bool.{eqb-true, false_from_ne_true}
+use Rattle.file_text.specs.Bytes.{is_white, is_id, begins_arrow, begins_equal, white_len, run_len, count_after, closing_len, comment_len}
 
 front : (bytes : List ℕ) (n : ℕ) → n < length bytes → drop n bytes ≡ get_or bytes n 0 ∷ drop (n + 1) bytes
 front bytes n lt = rw (add-one, drop-cons bytes n 0) refl
@@ -56,3 +57,46 @@ run_stops_equal bytes n lt e =
 pub run_end : (bytes : List ℕ) (n : ℕ) → length bytes ≤ n → run_len (drop n bytes) ≡ 0
 unfolding run_len
 run_end bytes n le = ap run_len (drop_of_length-le bytes le)
+
+-- a length counted from a place
+abbrev from_place : ℕ → Option ℕ → Option ℕ
+from_place n o = option_map (λ k. n + k) o
+
+moved : (n : ℕ) (o : Option ℕ) → from_place n (option_map (λ k. suc k) o) ≡ from_place (n + 1) o
+moved n None = refl
+moved n (Some k) = let e : n + suc k ≡ n + 1 + k = omega arith in ap (λ m. Some m) e
+
+pub comment_start : (bytes : List ℕ) → option_map (λ k. 0 + k) (closing_len 0 bytes) ≡ comment_len bytes
+comment_start bytes = go (closing_len 0 bytes)
+  where
+    go : (o : Option ℕ) → from_place 0 o ≡ o
+    go None = refl
+    go (Some k) = let e : 0 + k ≡ k = omega arith in ap (λ m. Some m) e
+
+abbrev choice : Bool → ℕ → List ℕ → Option ℕ
+choice b count bs = cond b (Some 1) (option_map (λ k. suc k) (closing_len count bs))
+
+closing_here : (bytes : List ℕ) (n count : ℕ) → n < length bytes → closing_len count (drop n bytes) ≡ choice (eqb (count_after count (get_or bytes n 0)) 0) (count_after count (get_or bytes n 0)) (drop (n + 1) bytes)
+unfolding closing_len
+closing_here bytes n count lt = ap (closing_len count) (front bytes n lt)
+
+pub comment_more : (bytes : List ℕ) (n count m : ℕ) → n < length bytes → m ≡ count_after count (get_or bytes n 0) → (m ≡ 0 → ⊥)
+    → option_map (λ k. n + 1 + k) (closing_len m (drop (n + 1) bytes)) ≡ option_map (λ k. n + k) (closing_len count (drop n bytes))
+comment_more bytes n count m lt e more =
+    let none : eqb (count_after count (get_or bytes n 0)) 0 ≡ false = ap (λ k. eqb k 0) (sym e) ∙ false_from_ne_true (eqb m 0) (λ h. more (eqb-true m 0 h)) in
+    let here : from_place n (closing_len count (drop n bytes)) ≡ from_place (n + 1) (closing_len (count_after count (get_or bytes n 0)) (drop (n + 1) bytes)) =
+    ap (from_place n) (closing_here bytes n count lt)
+    ∙ ap (λ (b : Bool). from_place n (choice b (count_after count (get_or bytes n 0)) (drop (n + 1) bytes))) none
+    ∙ moved n (closing_len (count_after count (get_or bytes n 0)) (drop (n + 1) bytes)) in
+    ap (λ k. from_place (n + 1) (closing_len k (drop (n + 1) bytes))) e ∙ sym here
+
+pub comment_ends : (bytes : List ℕ) (n count m : ℕ) → n < length bytes → m ≡ count_after count (get_or bytes n 0) → m ≡ 0
+    → Some (n + 1) ≡ option_map (λ k. n + k) (closing_len count (drop n bytes))
+comment_ends bytes n count m lt e z =
+    let none : eqb (count_after count (get_or bytes n 0)) 0 ≡ true = ap (λ k. eqb k 0) (sym e ∙ z) in
+    sym (ap (from_place n) (closing_here bytes n count lt)
+    ∙ ap (λ (b : Bool). from_place n (choice b (count_after count (get_or bytes n 0)) (drop (n + 1) bytes))) none)
+
+pub comment_never : (bytes : List ℕ) (n count : ℕ) → length bytes ≤ n → None ≡ option_map (λ k. n + k) (closing_len count (drop n bytes))
+unfolding closing_len
+comment_never bytes n count le = ap (λ (bs : List ℕ). from_place n (closing_len count bs)) (sym (drop_of_length-le bytes le))

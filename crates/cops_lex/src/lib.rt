@@ -18,6 +18,9 @@ pub enum LexError {
     /// The first byte of an identifier of more than 255 bytes.
     #[error("identifier too long at {at}")]
     IdTooLong { at: usize },
+    /// The length of a text that ends in a comment.
+    #[error("comment not closed at {at}")]
+    CommentNotClosed { at: usize },
     #[error("no memory")]
     NoMemory,
 }

@@ -1,7 +1,8 @@
-ghost use Rattle.std.specs.Prelude.{◌≡◌, ◌<◌, ◌≤◌, ◌+◌, ◌||◌, length, Some};
+ghost use Rattle.std.specs.Prelude.{◌≡◌, ◌<◌, ◌≤◌, ◌+◌, ◌||◌, length, Some, IfSome};
 ghost use Rattle.file_text.specs.Bytes as spec;
-ghost use Rattle.file_text.specs.Bytes.{white_len, run_len};
+ghost use Rattle.file_text.specs.Bytes.{white_len, run_len, comment_len};
 ghost use Rattle.file_text.specs.Tokens.{kind_at, len_at};
+ghost use Rattle.file_text.specs.Tokens as text;
 ghost use Rattle.cops_lex.specs.Answers.{TokensAnswers};
 
 use crate::{Kind, LexError, Token};
@@ -96,7 +97,7 @@ fn kind_of(bytes: &[u8]) -> Option<Kind>
     }
 }
 
-#[tactic(auto, using(crate::proofs::Fronts::id_some, crate::proofs::Fronts::arrow_two, crate::proofs::Fronts::equal_two, crate::proofs::Fronts::kind_some))]
+#[tactic(auto, using(crate::proofs::Fronts::id_runs, crate::proofs::Fronts::arrow_two, crate::proofs::Fronts::equal_two, crate::proofs::Fronts::kind_some))]
 fn len_of(kind: Kind, bytes: &[u8]) -> usize
     requires { kind_at bytes.now ≡ Some kind }
     ensures len { result ≡ len_at kind bytes.now }
@@ -110,18 +111,91 @@ fn len_of(kind: Kind, bytes: &[u8]) -> usize
     }
 }
 
-/// The tokens of a text, in order. Comments are not known yet.
+// whether a bracket stands at the front, and behind any white space the identifier COMMENT
+fn begins_comment(bytes: &[u8]) -> bool
+    ensures { result ≡ spec.begins_comment bytes.now }
+{
+    match bytes {
+        [b'(', inner @ ..] => {
+            let (_, behind) = inner.split_at(skip_white(inner));
+            let (word, _) = behind.split_at(skip_run(behind));
+            word == b"COMMENT".as_slice()
+        }
+        _ => false,
+    }
+}
+
+// whether a comment begins at the front, where so many brackets are open
+fn is_comment_at(count: usize, bytes: &[u8]) -> bool
+    ensures { result ≡ text.is_comment_at count bytes.now }
+{
+    count == 0 && begins_comment(bytes)
+}
+
+// the count of open brackets, a byte later
+fn count_after(count: usize, byte: u8) -> usize
+    requires { count < usize.MAX }
+    ensures { result ≡ spec.count_after count byte }
+{
+    match byte {
+        b'(' => count + 1,
+        b')' => count.saturating_sub(1),
+        _ => count,
+    }
+}
+
+// how long the comment at the front is, if it is closed
+#[tactic(auto, using(crate::proofs::Runs::comment_start))]
+fn skip_comment(bytes: &[u8]) -> Option<usize>
+    ensures len { result ≡ comment_len bytes.now }
+    ensures within { IfSome result (λ n. n ≤ length bytes.now) }
+    ensures some { IfSome result (λ n. 0 < n) }
+{
+    let mut count = 0;
+    let mut n = 0;
+    'comment: while n < bytes.len() {
+        count = count_after(count, bytes[n]);
+        n += 1;
+        if count == 0 {
+            return Some(n);
+        }
+    }
+    None
+}
+
+// the count of open brackets behind a token
+fn open_after(count: usize, kind: Kind) -> usize
+    requires { count < usize.MAX }
+    ensures opened { result ≡ text.open_after count kind }
+    ensures within { result ≤ count + 1 }
+{
+    match kind {
+        Kind::LeftParen => count + 1,
+        Kind::RightParen => count.saturating_sub(1),
+        Kind::Id | Kind::Comma | Kind::Bar | Kind::Arrow | Kind::Equal => count,
+    }
+}
+
+/// The tokens of a text, in order. A comment gives none.
 pub fn tokens(alloc: Global, bytes: &[u8]) -> Result<Vec<Token>, LexError>
     ensures { TokensAnswers bytes.now result }
 {
     let mut out = Vec::new(alloc);
     let mut at = 0;
-    'tokens: loop {
+    let mut count = 0;
+    'pieces: loop {
         let (_, behind) = bytes.split_at(at);
         let from = at + skip_white(behind);
         let (_, left) = bytes.split_at(from);
         if left.is_empty() {
             return Ok(out);
+        }
+        if is_comment_at(count, left) {
+            let Some(len) = skip_comment(left) else {
+                return Err(LexError::CommentNotClosed { at: bytes.len() });
+            };
+            at = from + len;
+            continue;
         }
         let Some(kind) = kind_of(left) else {
             return Err(LexError::BadByte { at: from });
@@ -132,6 +206,7 @@ pub fn tokens(alloc: Global, bytes: &[u8]) -> Result<Vec<Token>, LexError>
         }
         let to = from + len;
         out.push(Token { kind, from, to })?;
+        count = open_after(count, kind);
         at = to;
     }
 }

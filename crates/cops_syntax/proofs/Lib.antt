@@ -1,4 +1,4 @@
-pub mod Pushes
-pub mod Runs
-pub mod Unclosed
-pub mod Parsed
+mod Pushes
+mod FlatTrees
+mod FlatBlocks
+mod Parsed

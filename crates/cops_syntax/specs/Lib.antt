@@ -1,3 +1,4 @@
 pub mod View
+pub mod Flat
 pub mod States
 pub mod Answers

@@ -1,149 +1,210 @@
-ghost use Rattle.std.specs.Prelude.{◌≡◌, ℕ, List, IfOk, option_map};
-ghost use Rattle.file_text.specs.Depth.{deepest};
-ghost use Rattle.file_text.specs.Texts.{words_of};
-ghost use Rattle.file_text.specs.Blocks as math;
-ghost use Rattle.cops_syntax.specs.View.{names_view, file_view};
+ghost use Rattle.std.specs.Prelude.{◌≡◌, IfOk};
+ghost use Rattle.cops_syntax.specs.Flat as flat;
+ghost use Rattle.cops_syntax.specs.Flat.{CanRead, CanStep};
+ghost use Rattle.cops_syntax.specs.View.{name_view, names_view};
+ghost use Rattle.cops_syntax.specs.States.{word_view, stage_view, blocks_view, reading_view, cause_of, passed, file_view, ended_file};
 
-use crate::reading::read_rules;
-use crate::tree::{FileText, Name};
-use crate::word::{Word, word_at};
-use cops_lex::{Kind, Token};
+use crate::rules::Reading;
+use crate::tree::{FileText, Name, RuleText};
+use crate::word::Word;
 use std::alloc::{AllocError, Global};
+use std::mem;
 
-// What stands behind this identifier, if the tokens begin so.
-fn behind_id<'t>(bytes: &[u8], tokens: &'t [Token], text: &[u8]) -> Option<&'t [Token]>
-    ensures { option_map (λ r. words_of bytes.now r.now) result ≡ math.behind_id text.now (words_of bytes.now tokens.now) }
-{
-    let [first, rest @ ..] = tokens else {
-        return None;
-    };
-    match word_at(bytes, *first) {
-        Word::Id(name) if name.text == text => Some(rest),
-        _ => None,
-    }
+/// Why a word may not stand where it does.
+#[derive(Clone, Copy)]
+pub enum Refusal {
+    Syntax,
+    UnknownBlock,
+    RepeatedBlock,
+    ConditionTypeOther,
+    MissingRules,
 }
 
-// What stands behind a bracket and this identifier, if the tokens begin so.
-fn behind_head<'t>(bytes: &[u8], tokens: &'t [Token], text: &[u8]) -> Option<&'t [Token]>
-    ensures { option_map (λ r. words_of bytes.now r.now) result ≡ math.behind_head text.now (words_of bytes.now tokens.now) }
-{
-    let [first, rest @ ..] = tokens else {
-        return None;
-    };
-    match word_at(bytes, *first) {
-        Word::LeftParen => behind_id(bytes, rest, text),
-        _ => None,
-    }
+// Where in a block the next word stands.
+#[derive(Drop)]
+enum Stage<'a> {
+    Outside,
+    Title,
+    ConditionType,
+    TypeEnd,
+    Variables(Vec<Name<'a>>),
+    Rules(Reading<'a>),
 }
 
-// What stands behind a closing bracket, if the tokens begin so.
-fn behind_close<'t>(bytes: &[u8], tokens: &'t [Token]) -> Option<&'t [Token]>
-    ensures { option_map (λ r. words_of bytes.now r.now) result ≡ math.behind_close (words_of bytes.now tokens.now) }
-{
-    let [first, rest @ ..] = tokens else {
-        return None;
-    };
-    match word_at(bytes, *first) {
-        Word::RightParen => Some(rest),
-        _ => None,
-    }
-}
-
-// All tokens but the last, if that is a closing bracket.
-fn unclosed<'t>(bytes: &[u8], tokens: &'t [Token]) -> Option<&'t [Token]>
-    ensures { option_map (λ r. words_of bytes.now r.now) result ≡ math.unclosed (words_of bytes.now tokens.now) }
-{
-    let [body @ .., last] = tokens else {
-        return None;
-    };
-    match word_at(bytes, *last) {
-        Word::RightParen => Some(body),
-        _ => None,
-    }
-}
-
-// The identifiers up to a closing bracket, and what stands behind it.
-fn read_names<'a, 't>(
-    alloc: Global,
-    bytes: &'a [u8],
-    tokens: &'t [Token],
-) -> Result<Option<(Vec<Name<'a>>, &'t [Token])>, AllocError>
-    ensures { IfOk result (λ o. option_map (λ p. (names_view p.0, words_of bytes.now p.1.now)) o ≡ math.read_names (words_of bytes.now tokens.now)) }
-{
-    let mut names = Vec::new(alloc);
-    'names: for (at, token) in tokens.iter().enumerate() {
-        match word_at(bytes, *token) {
-            Word::Id(name) => names.push(name)?,
-            Word::RightParen => {
-                let (_, rest) = tokens.split_at(at + 1);
-                return Ok(Some((names, rest)));
-            }
-            _ => return Ok(None),
-        }
-    }
-    Ok(None)
-}
-
-// A file from its rules' block on.
-fn read_third<'a>(
-    alloc: Global,
-    bytes: &'a [u8],
-    tokens: &[Token],
+/// Blocks that are read, one word after the other: what the whole ones hold, and how far the next
+/// one is.
+#[derive(Drop)]
+pub struct Blocks<'a> {
     oriented: bool,
     variables: Option<Vec<Name<'a>>>,
-) -> Result<Option<FileText<'a>>, AllocError>
-    ensures { IfOk result (λ f. option_map file_view f ≡ math.read_third deepest oriented (option_map names_view variables.entry) (words_of bytes.now tokens.now)) }
-{
-    let Some(rest) = behind_head(bytes, tokens, b"RULES") else {
-        return Ok(None);
-    };
-    let Some(body) = unclosed(bytes, rest) else {
-        return Ok(None);
-    };
-    match read_rules(alloc, bytes, body)? {
-        Some(rules) => Ok(Some(FileText {
+    rules: Option<Vec<RuleText<'a>>>,
+    stage: Stage<'a>,
+}
+
+impl<'a> Blocks<'a> {
+    /// No block yet.
+    pub fn new() -> Self
+        ensures { blocks_view result ≡ flat.begin }
+    {
+        Blocks {
+            oriented: false,
+            variables: None,
+            rules: None,
+            stage: Stage::Outside,
+        }
+    }
+
+    // A block begins, unless there was one of its title.
+    fn enter(&mut self, again: bool, stage: Stage<'a>) -> Option<Refusal>
+        ensures { passed result self.new ≡ flat.enter (blocks_view self.old) again (stage_view stage.entry) }
+    {
+        if again {
+            return Some(Refusal::RepeatedBlock);
+        }
+        self.stage = stage;
+        None
+    }
+
+    // An identifier behind a block's bracket.
+    fn titled(&mut self, alloc: Global, name: Name<'a>) -> Option<Refusal>
+        ensures { passed result self.new ≡ flat.title_step (blocks_view self.old) (name_view name.entry) }
+    {
+        if name.is(b"CONDITIONTYPE") {
+            self.enter(self.oriented, Stage::ConditionType)
+        } else if name.is(b"VAR") {
+            let again = self.variables.is_some();
+            self.enter(again, Stage::Variables(Vec::new(alloc)))
+        } else if name.is(b"RULES") {
+            let again = self.rules.is_some();
+            self.enter(again, Stage::Rules(Reading::new(alloc)))
+        } else {
+            Some(Refusal::UnknownBlock)
+        }
+    }
+
+    // An identifier behind the title of a condition type.
+    fn typed(&mut self, name: Name<'a>) -> Option<Refusal>
+        ensures { passed result self.new ≡ flat.type_step (blocks_view self.old) (name_view name.entry) }
+    {
+        if name.is(b"ORIENTED") {
+            self.stage = Stage::TypeEnd;
+            None
+        } else {
+            Some(Refusal::ConditionTypeOther)
+        }
+    }
+
+    // A word in a block of variables.
+    fn variable(
+        &mut self,
+        mut names: Vec<Name<'a>>,
+        word: Word<'a>,
+    ) -> Result<Option<Refusal>, AllocError>
+        requires { self.old.stage ≡ Stage.Outside }
+        ensures { IfOk result (λ o. passed o self.new ≡ flat.variable_step (blocks_view self.old) (names_view names.entry.items) (word_view word.entry)) }
+    {
+        match word {
+            Word::Id(name) => {
+                names.push(name)?;
+                self.stage = Stage::Variables(names);
+                Ok(None)
+            }
+            Word::RightParen => {
+                self.variables = Some(names);
+                Ok(None)
+            }
+            _ => Ok(Some(Refusal::Syntax)),
+        }
+    }
+
+    // The block of rules ends.
+    fn close_rules(
+        &mut self,
+        alloc: Global,
+        reading: Reading<'a>,
+    ) -> Result<Option<Refusal>, AllocError>
+        requires { self.old.stage ≡ Stage.Outside }
+        ensures { IfOk result (λ o. passed o self.new ≡ flat.closed_step (blocks_view self.old) (reading_view reading.entry)) }
+    {
+        match reading.finish(alloc)? {
+            Some(rules) => {
+                self.rules = Some(rules);
+                Ok(None)
+            }
+            None => Ok(Some(Refusal::Syntax)),
+        }
+    }
+
+    // A word in a block of rules.
+    fn rule(
+        &mut self,
+        alloc: Global,
+        mut reading: Reading<'a>,
+        word: Word<'a>,
+    ) -> Result<Option<Refusal>, AllocError>
+        requires outside { self.old.stage ≡ Stage.Outside }
+        requires ready { CanRead (reading_view reading) }
+        ensures { IfOk result (λ o. passed o self.new ≡ flat.rule_step (blocks_view self.old) (reading_view reading.entry) (word_view word.entry)) }
+    {
+        if reading.is_flat() && matches!(word, Word::RightParen) {
+            return self.close_rules(alloc, reading);
+        }
+        if reading.step(alloc, word)? {
+            self.stage = Stage::Rules(reading);
+            Ok(None)
+        } else {
+            Ok(Some(Refusal::Syntax))
+        }
+    }
+
+    /// The refusal that the word calls for, if it may not stand here; else the state is the one
+    /// behind it.
+    pub fn step(&mut self, alloc: Global, word: Word<'a>) -> Result<Option<Refusal>, AllocError>
+        requires { CanStep (stage_view self.old.stage) }
+        ensures { IfOk result (λ o. passed o self.new ≡ flat.step_blocks (blocks_view self.old) (word_view word.entry)) }
+    {
+        let stage = mem::replace(&mut self.stage, Stage::Outside);
+        match (stage, word) {
+            (Stage::Outside, Word::LeftParen) => {
+                self.stage = Stage::Title;
+                Ok(None)
+            }
+            (Stage::Title, Word::Id(name)) => Ok(self.titled(alloc, name)),
+            (Stage::ConditionType, Word::Id(name)) => Ok(self.typed(name)),
+            (Stage::TypeEnd, Word::RightParen) => {
+                self.oriented = true;
+                Ok(None)
+            }
+            (Stage::Variables(names), word) => self.variable(names, word),
+            (Stage::Rules(reading), word) => self.rule(alloc, reading, word),
+            _ => Ok(Some(Refusal::Syntax)),
+        }
+    }
+
+    /// The file that ends here, or why none does.
+    pub fn finish(self, alloc: Global) -> Result<FileText<'a>, Refusal>
+        ensures { ended_file result ≡ flat.finish (blocks_view self.entry) }
+    {
+        let Blocks {
             oriented,
             variables,
             rules,
-        })),
-        None => Ok(None),
+            stage,
+        } = self;
+        let Stage::Outside = stage else {
+            return Err(Refusal::Syntax);
+        };
+        let Some(rules) = rules else {
+            return Err(Refusal::MissingRules);
+        };
+        let variables = match variables {
+            Some(names) => names,
+            None => Vec::new(alloc),
+        };
+        Ok(FileText {
+            oriented,
+            variables,
+            rules,
+        })
     }
-}
-
-// A file from its variables' block on, which may be absent.
-fn read_second<'a>(
-    alloc: Global,
-    bytes: &'a [u8],
-    tokens: &[Token],
-    oriented: bool,
-) -> Result<Option<FileText<'a>>, AllocError>
-    ensures { IfOk result (λ f. option_map file_view f ≡ math.read_second deepest oriented (words_of bytes.now tokens.now)) }
-{
-    let Some(rest) = behind_head(bytes, tokens, b"VAR") else {
-        return read_third(alloc, bytes, tokens, oriented, None);
-    };
-    match read_names(alloc, bytes, rest)? {
-        Some((names, rest)) => read_third(alloc, bytes, rest, oriented, Some(names)),
-        None => Ok(None),
-    }
-}
-
-/// The file that the tokens spell, all of them, with no term too deep.
-pub fn read_file<'a>(
-    alloc: Global,
-    bytes: &'a [u8],
-    tokens: &[Token],
-) -> Result<Option<FileText<'a>>, AllocError>
-    ensures { IfOk result (λ f. option_map file_view f ≡ math.read_file deepest (words_of bytes.now tokens.now)) }
-{
-    let Some(rest) = behind_head(bytes, tokens, b"CONDITIONTYPE") else {
-        return read_second(alloc, bytes, tokens, false);
-    };
-    let Some(rest) = behind_id(bytes, rest, b"ORIENTED") else {
-        return Ok(None);
-    };
-    let Some(rest) = behind_close(bytes, rest) else {
-        return Ok(None);
-    };
-    read_second(alloc, bytes, rest, true)
 }

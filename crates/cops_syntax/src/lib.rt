@@ -3,11 +3,11 @@
 
 mod blocks;
 mod reader;
-mod reading;
+mod rules;
 #[cfg(test)]
 mod tests;
 mod tree;
 mod word;
 
 pub use reader::{SyntaxError, parse};
-pub use tree::{CondText, FileText, Name, Phrase, RuleText};
+pub use tree::{CondText, FileText, Name, Node, RuleText};

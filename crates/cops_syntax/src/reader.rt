@@ -1,20 +1,42 @@
 ghost use Rattle.std.specs.Prelude.{◌≡◌};
-ghost use Rattle.cops_syntax.specs.Answers.{ParseAnswers, cause_of};
+ghost use Rattle.cops_syntax.specs.Answers.{ParseAnswers, error_of};
+ghost use Rattle.cops_syntax.specs.States.{cause_of, error_at};
 ghost use Rattle.cops_syntax.specs.declared.reader.SyntaxError.TheVariants.{NoMemory};
 
-use crate::blocks::read_file;
+use crate::blocks::{Blocks, Refusal};
 use crate::tree::FileText;
+use crate::word::word_at;
 use cops_lex::{LexError, tokens};
 use std::alloc::{AllocError, Global};
 use thiserror::Error;
 
-/// Why bytes have no syntax tree.
+/// Why bytes have no syntax tree. A place is a byte number from 0.
 #[derive(Debug, Drop, Error)]
 pub enum SyntaxError {
-    /// The bytes are no text of the form that is built: no comment, the blocks `CONDITIONTYPE`,
-    /// `VAR` and `RULES` in this order, the first two optional, and no term deeper than 200.
-    #[error("not built")]
-    NotBuilt,
+    /// A byte that is in no token and is no white space.
+    #[error("bad byte at {at}")]
+    BadByte { at: usize },
+    /// The first byte of an identifier of more than 255 bytes.
+    #[error("identifier too long at {at}")]
+    IdTooLong { at: usize },
+    /// A comment that is not closed: the length of the text.
+    #[error("comment not closed at {at}")]
+    CommentNotClosed { at: usize },
+    /// A token that continues no text of the grammar, or the length of a text that ends too early.
+    #[error("syntax at {at}")]
+    Syntax { at: usize },
+    /// A block's title that is none of the three words.
+    #[error("unknown block at {at}")]
+    UnknownBlock { at: usize },
+    /// A block's title that an earlier block has.
+    #[error("repeated block at {at}")]
+    RepeatedBlock { at: usize },
+    /// A condition type that is not `ORIENTED`.
+    #[error("condition type other at {at}")]
+    ConditionTypeOther { at: usize },
+    /// Whole blocks of which none has rules: the length of the text.
+    #[error("missing rules at {at}")]
+    MissingRules { at: usize },
     #[error("no memory")]
     NoMemory,
 }
@@ -28,23 +50,44 @@ impl From<AllocError> for SyntaxError {
 }
 
 impl From<LexError> for SyntaxError {
-    ghost from_gives = { λ e s. s ≡ cause_of e };
+    ghost from_gives = { λ e s. s ≡ error_of e };
 
     fn from(error: LexError) -> Self {
         match error {
+            LexError::BadByte { at } => SyntaxError::BadByte { at },
+            LexError::IdTooLong { at } => SyntaxError::IdTooLong { at },
+            LexError::CommentNotClosed { at } => SyntaxError::CommentNotClosed { at },
             LexError::NoMemory => SyntaxError::NoMemory,
-            LexError::BadByte { .. } | LexError::IdTooLong { .. } => SyntaxError::NotBuilt,
         }
     }
 }
 
-/// The syntax tree that the bytes spell.
+// The refusal at its place.
+fn refused(refusal: Refusal, at: usize) -> SyntaxError
+    ensures { result ≡ error_at (cause_of refusal) at }
+{
+    match refusal {
+        Refusal::Syntax => SyntaxError::Syntax { at },
+        Refusal::UnknownBlock => SyntaxError::UnknownBlock { at },
+        Refusal::RepeatedBlock => SyntaxError::RepeatedBlock { at },
+        Refusal::ConditionTypeOther => SyntaxError::ConditionTypeOther { at },
+        Refusal::MissingRules => SyntaxError::MissingRules { at },
+    }
+}
+
+/// The syntax tree that the bytes spell, or the first refusal.
 pub fn parse(alloc: Global, bytes: &[u8]) -> Result<FileText<'_>, SyntaxError>
     ensures { ParseAnswers bytes.now result }
 {
     let tokens = tokens(alloc, bytes)?;
-    match read_file(alloc, bytes, &tokens)? {
-        Some(file) => Ok(file),
-        None => Err(SyntaxError::NotBuilt),
+    let mut blocks = Blocks::new();
+    'tokens: for token in &tokens {
+        if let Some(refusal) = blocks.step(alloc, word_at(bytes, *token))? {
+            return Err(refused(refusal, token.from));
+        }
+    }
+    match blocks.finish(alloc) {
+        Ok(file) => Ok(file),
+        Err(refusal) => Err(refused(refusal, bytes.len())),
     }
 }

@@ -1,3 +1,6 @@
+ghost use Rattle.std.specs.Prelude.{◌≡◌};
+ghost use Rattle.std.specs.Str.{bytes_eq};
+
 /// An identifier, and the place of its first byte.
 #[derive(Clone, Copy, Debug)]
 pub struct Name<'a> {
@@ -5,33 +8,44 @@ pub struct Name<'a> {
     pub text: &'a [u8],
 }
 
-/// An identifier alone, or one with a list in brackets, which may be empty.
-#[derive(Debug, Drop)]
-pub enum Phrase<'a> {
-    Word(Name<'a>),
-    Call(Name<'a>, Vec<Phrase<'a>>),
+impl Name<'_> {
+    // Whether the identifier has this text.
+    pub(crate) fn is(&self, text: &[u8]) -> bool
+        ensures { result ≡ bytes_eq self.now.text.now text.now }
+    {
+        self.text == text
+    }
 }
 
-/// A condition of a rule: `left == right`.
+/// An identifier of a term: whether brackets stand behind it, and how many arguments are in them.
+#[derive(Clone, Copy, Debug)]
+pub struct Node<'a> {
+    pub name: Name<'a>,
+    pub brackets: bool,
+    pub arguments: usize,
+}
+
+/// A condition of a rule: `left == right`. A term is the list of its identifiers in the order of
+/// the text, so that it may be as deep as the text makes it.
 #[derive(Debug, Drop)]
 pub struct CondText<'a> {
-    pub left: Phrase<'a>,
-    pub right: Phrase<'a>,
+    pub left: Vec<Node<'a>>,
+    pub right: Vec<Node<'a>>,
 }
 
-/// A rule: `left -> right | conditions`.
+/// A rule: `left -> right | conditions`, and the place of the bar where there is one.
 #[derive(Debug, Drop)]
 pub struct RuleText<'a> {
-    pub left: Phrase<'a>,
-    pub right: Phrase<'a>,
+    pub left: Vec<Node<'a>>,
+    pub right: Vec<Node<'a>>,
+    pub bar: Option<usize>,
     pub conditions: Vec<CondText<'a>>,
 }
 
-/// A file: whether it has a condition type, the identifiers of its variables' block where it has
-/// one, and its rules.
+/// A file: whether it has a condition type, the identifiers of its variables' block, and its rules.
 #[derive(Debug, Drop)]
 pub struct FileText<'a> {
     pub oriented: bool,
-    pub variables: Option<Vec<Name<'a>>>,
+    pub variables: Vec<Name<'a>>,
     pub rules: Vec<RuleText<'a>>,
 }

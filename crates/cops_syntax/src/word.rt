@@ -5,14 +5,14 @@ ghost use Rattle.cops_syntax.specs.States.{word_view};
 use crate::tree::Name;
 use cops_lex::{Kind, Token};
 
-/// A token with what it says.
+/// A token with what it says. A bar keeps its place.
 #[derive(Clone, Copy)]
 pub enum Word<'a> {
     Id(Name<'a>),
     LeftParen,
     RightParen,
     Comma,
-    Bar,
+    Bar(usize),
     Arrow,
     Equal,
 }
@@ -38,7 +38,7 @@ pub fn word_at<'a>(bytes: &'a [u8], token: Token) -> Word<'a>
         Kind::LeftParen => Word::LeftParen,
         Kind::RightParen => Word::RightParen,
         Kind::Comma => Word::Comma,
-        Kind::Bar => Word::Bar,
+        Kind::Bar => Word::Bar(token.from),
         Kind::Arrow => Word::Arrow,
         Kind::Equal => Word::Equal,
     }

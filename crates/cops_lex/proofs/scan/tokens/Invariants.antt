@@ -1,12 +1,13 @@
 use Rattle.std.proofs.Common.{◌≤◌, ◌-◌, length}
-use Rattle.file_text.specs.Tokens.{LeadsTo}
+use Rattle.cops_lex.proofs.Pieces.{HasRead}
 use Rattle.cops_lex.proofs.scan.tokens.Given as goal
 
-abbrev pub invariant-tokens : goal.invariant-tokens
-invariant-tokens l = record {
-  leads : LeadsTo l.bytes 0 l.out.items l.at;
+abbrev pub invariant-pieces : goal.invariant-pieces
+invariant-pieces l = record {
+  read : HasRead l.bytes l.out.items l.count l.at;
   within : l.at ≤ length l.bytes;
+  few : l.count ≤ l.at;
 }
 
-abbrev pub decreases-tokens : goal.decreases-tokens
-decreases-tokens l = length l.bytes - l.at
+abbrev pub decreases-pieces : goal.decreases-pieces
+decreases-pieces l = length l.bytes - l.at

@@ -1,12 +1,31 @@
-use Rattle.cops_syntax.proofs.Parsed.{refused_so, parsed_file, parsed_nothing}
+use Rattle.std.proofs.Common.{sym, subst, arith}
+use Rattle.file_text.specs.Tokens.{Spells}
+use Rattle.cops_syntax.proofs.Parsed.{follows_start, follows_can, follows_next, follows_refused, follows_file, follows_missing, refused_as}
 use Rattle.cops_syntax.proofs.reader.parse.Goals as goal
 
-pub returns-in_err-tokens : goal.returns-in_err-tokens
-returns-in_err-tokens c = refused_so c.args.bytes.now c.in_err-tokens.field-0.0 c.from_residual.result c.from_residual.ensures.1 c.in_err-tokens.ensures
+pub tokens-init : goal.tokens-init
+tokens-init c = follows_start _ _ c.new-blocks.result c.new-blocks.ensures
+
+pub step-requires : goal.step-requires
+step-requires c = follows_can _ _ _ _ c.tokens.invariant
 
 pub returns-in-Some : goal.returns-in-Some
 returns-in-Some c =
-    parsed_file c.args.bytes.now c.in_ok-tokens.tokens.items c.deref.result.now c.in_ok-file.field-0 c.in-Some.file c.in_ok-tokens.ensures c.in_ok-file.ensures c.deref.ensures.value c.in-Some.is
+    refused_as _ _ _ c.refused.result c.refused.ensures
+    (follows_refused _ _ c.tokens.token-index _ c.tokens.blocks c.step.new.self _ c.in_ok-refusal.field-0 c.in-Some.refusal
+    (subst (Spells c.args.bytes.now) (sym c.deref-token-items.ensures.value) c.in_ok-tokens.ensures) c.tokens-test.true c.tokens.invariant c.word_at.ensures c.in_ok-refusal.ensures c.in-Some.is)
+
+pub tokens-preserved : goal.tokens-preserved
+tokens-preserved c =
+    follows_next _ _ c.tokens.token-index _ c.tokens.blocks c.step.new.self _ c.in_ok-refusal.field-0 c.tokens-test.true c.tokens.invariant c.word_at.ensures c.in_ok-refusal.ensures c.in_default.is
+
+pub returns-in-Ok : goal.returns-in-Ok
+returns-in-Ok c =
+    follows_file _ _ _ c.tokens.blocks c.finish.result c.in-Ok.file (subst (Spells c.args.bytes.now) (sym c.deref-token-items.ensures.value) c.in_ok-tokens.ensures) (omega arith) c.tokens.invariant
+    c.finish.ensures c.in-Ok.is
 
 pub returns : goal.returns
-returns c = parsed_nothing c.args.bytes.now c.in_ok-tokens.tokens.items c.deref.result.now c.in_ok-file.field-0 c.in_ok-tokens.ensures c.in_ok-file.ensures c.deref.ensures.value c.in-None.is
+returns c =
+    refused_as _ _ _ c.refused-in-Err.result c.refused-in-Err.ensures
+    (follows_missing _ _ _ c.tokens.blocks c.finish.result c.in-Err.refusal (subst (Spells c.args.bytes.now) (sym c.deref-token-items.ensures.value) c.in_ok-tokens.ensures) (omega arith)
+    c.tokens.invariant c.finish.ensures c.in-Err.is)
