@@ -2,13 +2,12 @@
 use Rattle.std.proofs.Common.{◌≡◌, ℕ, Bool, true, false, List, [], ◌∷◌, Option, Some, None, refl, ap, ◌∙◌}
 use Rattle.std.specs.Prelude.{option_map, slice_get, if◌then◌else◌, is_some}
 use Rattle.std.specs.Str.{bytes_eq}
-use Rattle.file_text.specs.Syntax.{Phrase, Phrases, word, call, none, more, ConditionTree, RuleTree}
+use Rattle.file_text.specs.Syntax.{Phrase, Phrases, word, call, none, more, count, ConditionTree, RuleTree, conditions_of}
 use Rattle.rewriting.specs.Terms.{Term, var, app, Terms, nil, cons}
 use Rattle.rewriting.specs.Rules.{Condition, Rule}
 use Rattle.cops_read.specs.NameTable.{number_of}
-use Rattle.cops_read.specs.Meaning.{is_among, with_name, with_symbol, count, phrases_of_rule, with_variables, with_all_variables, with_symbols, with_all_symbols, with_rule_symbols, IsVariableOf, IsSymbolOf, IsTermOf, AreTermsOf, AreConditionsOf, IsRuleOf, AreRulesOf}
-use Rattle.cops_read.specs.Steps.{Extends}
-use Rattle.cops_read.proofs.Lists.{extends_refl, extends_trans, extends_one, extends_position, extends_get}
+use Rattle.cops_read.specs.Meaning.{is_among, with_name, with_symbol, phrases_of_rule, with_variables, with_all_variables, with_symbols, with_all_symbols, with_rule_symbols, IsVariableOf, IsSymbolOf, IsTermOf, AreTermsOf, AreConditionsOf, IsRuleOf, AreRulesOf}
+use Rattle.cops_read.proofs.Lists.{Extends, extends_refl, extends_trans, extends_one, extends_position, extends_get}
 
 extends_or : {A : Type 0} (b : Bool) (xs ys : List A) → Extends xs ys → Extends xs (if b then xs else ys)
 extends_or true xs ys e = extends_refl xs
@@ -89,7 +88,7 @@ module _ (block : List (List ℕ)) where
   rule_grows table longer t r e h = record {
     left = term_grows table _ longer _ t.left r.left e (extends_refl _) h.left;
     right = term_grows table _ longer _ t.right r.right e (extends_refl _) h.right;
-    conditions = conditions_grow table _ longer _ t.conditions r.conditions e (extends_refl _) h.conditions;
+    conditions = conditions_grow table _ longer _ (conditions_of t) r.conditions e (extends_refl _) h.conditions;
   }
 
   pub rules_grow : (table longer : List (List ℕ × ℕ)) (ts : List RuleTree) (rs : List Rule) → Extends table longer → AreRulesOf block table ts rs → AreRulesOf block longer ts rs

@@ -4,7 +4,11 @@ use lib.Dec.{is_le}
 use Rattle.std.proofs.Common.{◌≡◌, ℕ, zero, suc, ◌≤◌, Bool, true, false, cond, List, [], ◌∷◌, ◌++◌, length, Option, Some, None, refl, sym, ap, ◌∙◌, arith, append_assoc, append-nil, length-append, lt-ltb}
 use Rattle.std.specs.Prelude.{position, option_map, nat_lt, slice_get, if◌then◌else◌}
 use Rattle.std.specs.List.{position_or_len, list_any}
-use Rattle.cops_read.specs.Steps.{Extends}
+
+-- the second list begins with the first
+pub record Extends {A : Type 0} (xs ys : List A) : Type 0 where
+  pub rest : List A
+  pub split : ys ≡ xs ++ rest
 
 lt_suc : (m n : ℕ) → nat_lt (suc m) (suc n) ≡ nat_lt m n
 lt_suc m n = ap is_le (compare.suc-suc (suc m) n)

@@ -1,38 +1,49 @@
 -- From the syntax tree of a text to what the text spells.
-use Rattle.std.proofs.Common.{◌≡◌, ℕ, ◌≤◌, List, length, Result, Ok, Err, subst}
-use Rattle.std.specs.Result.{IsErrAnd}
+use Rattle.std.proofs.Common.{ℕ, List, Result, Ok, Err}
 use Rattle.file_text.specs.Syntax.{FileTree}
 use Rattle.file_text.specs.Texts.{IsText}
-use Rattle.cops_syntax.specs.Answers.{ParseAnswers}
+use Rattle.cops_syntax.specs.Answers.{IsCauseOf}
 use Rattle.cops_syntax.specs.declared.reader.SyntaxError.{SyntaxError}
-use Rattle.cops_syntax.specs.declared.reader.SyntaxError.TheVariants as causes
+use Rattle.cops_syntax.specs.declared.reader.SyntaxError.TheVariants as syntax
 use Rattle.rewriting.specs.Rules.{System}
 use Rattle.cops_read.specs.NameTable.{NameTable}
-use Rattle.cops_read.specs.Limits.{most_bytes}
-use Rattle.cops_read.specs.File.{IsSystemOf}
-use Rattle.cops_read.specs.Answers.{read_error_of, ReadAnswers, FileAnswers, OneSystem, SystemsAreSound}
+use Rattle.cops_read.specs.Refusals.{refusal_of}
+use Rattle.cops_read.specs.Answers.{IsRefusedFor, ReadAnswers}
+use Rattle.cops_read.specs.Steps.{Tells, read_error_of}
+use Rattle.cops_read.specs.RuleSteps.{FileAnswers}
 use Rattle.cops_read.specs.declared.reader.ReadError.{ReadError}
-use Rattle.cops_read.specs.declared.reader.ReadError.TheVariants.{NotBuilt, NoMemory}
-use Rattle.cops_read.proofs.Sound.{system_is, tree_is_shallow}
-use Rattle.cops_read.proofs.Unique.{one_table, one_system}
-use Rattle.file_text.proofs.Files.{one_tree_of}
+use Rattle.cops_read.specs.declared.reader.ReadError.TheVariants.{BadByte, IdTooLong, CommentNotClosed, Syntax, UnknownBlock, RepeatedBlock, ConditionTypeOther, MissingRules, ConditionsWithoutType, VariableWithArguments, ArityDiffers, LeftVariable, TooDeep, TooMany, NoMemory}
 
-pub parse_fails : (bytes : List ℕ) (e : SyntaxError) (r : Result (System × NameTable) ReadError) → ParseAnswers bytes (Err e) → IsErrAnd r (λ d. d ≡ read_error_of e) → ReadAnswers bytes r
-parse_fails bytes e (Ok found) h is = absurd is
-parse_fails bytes e (Err NoMemory) h is = tt
-parse_fails bytes causes.NoMemory (Err NotBuilt) h is = cc
-parse_fails bytes causes.NotBuilt (Err NotBuilt) h is = λ sys names file. h file.tree file.spelled (tree_is_shallow file.tree sys names file.meant)
+-- a text without a tree
+pub no_tree : (bytes : List ℕ) (e : SyntaxError) → IsCauseOf bytes e → IsRefusedFor bytes (read_error_of e)
+no_tree bytes (syntax.BadByte at) h = h
+no_tree bytes (syntax.IdTooLong at) h = h
+no_tree bytes (syntax.CommentNotClosed at) h = h
+no_tree bytes (syntax.Syntax at) h = h
+no_tree bytes (syntax.UnknownBlock at) h = h
+no_tree bytes (syntax.RepeatedBlock at) h = h
+no_tree bytes (syntax.ConditionTypeOther at) h = h
+no_tree bytes (syntax.MissingRules at) h = h
+no_tree bytes syntax.NoMemory h = tt
 
-pub read_from : (bytes : List ℕ) (file : FileTree) (r : Result (System × NameTable) ReadError) → IsText bytes file → length bytes ≤ most_bytes → FileAnswers file r → ReadAnswers bytes r
-read_from bytes file (Ok found) spelled short h = record { short = short; tree = file; spelled = spelled; meant = h }
-read_from bytes file (Err NoMemory) spelled short h = tt
-read_from bytes file (Err NotBuilt) spelled short h = λ sys names other.
-    h sys names (subst (λ (t : FileTree). IsSystemOf t sys names) (one_tree_of bytes other.tree file other.spelled spelled) other.meant)
+-- a tree that means no system
+refused : (bytes : List ℕ) (tree : FileTree) (e : ReadError) → IsText bytes tree → Tells e (refusal_of tree) → IsRefusedFor bytes e
+refused bytes tree (BadByte at) spelled h = absurd h
+refused bytes tree (IdTooLong at) spelled h = absurd h
+refused bytes tree (CommentNotClosed at) spelled h = absurd h
+refused bytes tree (Syntax at) spelled h = absurd h
+refused bytes tree (UnknownBlock at) spelled h = absurd h
+refused bytes tree (RepeatedBlock at) spelled h = absurd h
+refused bytes tree (ConditionTypeOther at) spelled h = absurd h
+refused bytes tree (MissingRules at) spelled h = absurd h
+refused bytes tree (ConditionsWithoutType at) spelled h = record { tree = tree; spelled = spelled; refused = h }
+refused bytes tree (VariableWithArguments at) spelled h = record { tree = tree; spelled = spelled; refused = h }
+refused bytes tree (ArityDiffers at) spelled h = record { tree = tree; spelled = spelled; refused = h }
+refused bytes tree (LeftVariable at) spelled h = record { tree = tree; spelled = spelled; refused = h }
+refused bytes tree (TooDeep at) spelled h = record { tree = tree; spelled = spelled; refused = h }
+refused bytes tree (TooMany what limit at) spelled h = (record { tree = tree; spelled = spelled; refused = h.0 }, h.1)
+refused bytes tree NoMemory spelled h = tt
 
-pub one_reading : OneSystem
-one_reading bytes sys other names others h g =
-    let again = subst (λ (t : FileTree). IsSystemOf t other others) (one_tree_of bytes g.tree h.tree g.spelled h.spelled) g.meant in
-    (one_system h.tree sys other names others h.meant again, one_table h.tree sys other names others h.meant again)
-
-pub sound : SystemsAreSound
-sound bytes sys names h = system_is h.tree sys names h.meant
+pub read_from : (bytes : List ℕ) (tree : FileTree) (r : Result (System × NameTable) ReadError) → IsText bytes tree → FileAnswers tree r → ReadAnswers bytes r
+read_from bytes tree (Ok found) spelled h = record { tree = tree; spelled = spelled; meant = h }
+read_from bytes tree (Err e) spelled h = refused bytes tree e spelled h

@@ -1,14 +1,10 @@
 -- A set of names and the list that it stands for.
-use Rattle.std.proofs.Common.{◌≡◌, ℕ, Bool, true, false, List, [], ◌∷◌, ◌++◌, map, Option, Some, None, refl, sym, ap, ◌∙◌, Bor, Vec, Global}
+use Rattle.std.proofs.Common.{◌≡◌, ℕ, Bool, true, false, List, [], ◌∷◌, ◌++◌, map, Some, refl, sym, ap, ◌∙◌, Bor}
 use Rattle.std.specs.Prelude.{if◌then◌else◌, ◌||◌}
 use Rattle.std.specs.List.{list_any, position_or_len}
 use Rattle.std.specs.Str.{bytes_eq}
 use Rattle.std.proofs.lemmas.Slice.Eq.{bytes_eq-Decides}
-use Rattle.std.specs.Prelude.{option_map}
-use Rattle.std.specs.Option.{unwrap_or}
-use Rattle.cops_syntax.specs.View.{name_view}
-use Rattle.cops_syntax.specs.declared.tree.Name.{Name}
-use Rattle.cops_read.specs.Meaning.{place_of, is_among, with_name, with_names}
+use Rattle.cops_read.specs.Meaning.{place_of, is_among, with_name}
 use Rattle.cops_read.proofs.Lists.{position_of_any, position_end, or_len_of_none}
 
 abbrev pub texts : List (Bor (List ℕ)) → List (List ℕ)
@@ -42,21 +38,3 @@ place_if names name false h = position_end (bytes_eq name) names name [] h ((byt
 -- the place that a name has once it is there
 pub place_with : (names after : List (List ℕ)) (name : List ℕ) → after ≡ with_name names name → place_of after name ≡ Some (position_or_len (bytes_eq name) names)
 place_with names after name e = ap (λ (w : List (List ℕ)). place_of w name) e ∙ place_if names name (is_among names name) refl
-
-texts_of_views : (ns : List Name) → map (λ n. n.text) (map name_view ns) ≡ map (λ n. n.text.now) ns
-texts_of_views [] = refl
-texts_of_views (n ∷ ns) = ap (λ (w : List (List ℕ)). n.text.now ∷ w) (texts_of_views ns)
-
--- the names of a variables' block
-abbrev pub block_of : Option (Vec Name Global) → List (List ℕ)
-block_of o = with_names [] (map (λ n. n.text) (unwrap_or (option_map (λ v. map name_view v.items) o) []))
-
-pub block_some : (o : Option (Vec Name Global)) (v : Vec Name Global) (start block : List (List ℕ)) (items : List Name) → o ≡ Some v → start ≡ [] → items ≡ v.items
-    → block ≡ with_names start (map (λ n. n.text.now) items) → block ≡ block_of o
-block_some o v start block items is none_yet same h =
-    h ∙ ap (λ (w : List (List ℕ)). with_names w (map (λ (n : Name). n.text.now) items)) none_yet
-    ∙ ap (λ (ns : List Name). with_names [] (map (λ (n : Name). n.text.now) ns)) same
-    ∙ ap (with_names []) (sym (texts_of_views v.items)) ∙ ap block_of (sym is)
-
-pub block_none : (o : Option (Vec Name Global)) (block : List (List ℕ)) → o ≡ None → block ≡ [] → block ≡ block_of o
-block_none o block is h = h ∙ ap block_of (sym is)

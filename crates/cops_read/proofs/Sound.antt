@@ -1,5 +1,5 @@
--- What a tree means is a system, as deep and as large as the tree.
-use Rattle.std.proofs.Common.{◌≡◌, ℕ, zero, suc, ◌+◌, ◌*◌, ◌^◌, ◌<◌, ◌≤◌, max, Bool, true, false, List, [], ◌∷◌, ◌++◌, length, map, Some, All, refl, sym, ap, ap₂, subst, ◌∙◌, arith, length-append, eq-eqb, ne_eqb, inl, inr, ◌⊎◌}
+-- What a tree means is a system.
+use Rattle.std.proofs.Common.{◌≡◌, ℕ, zero, suc, ◌+◌, ◌*◌, ◌^◌, ◌<◌, ◌≤◌, Bool, true, false, List, [], ◌∷◌, ◌++◌, length, map, Some, All, refl, sym, ap, subst, ◌∙◌, arith, length-append, eq-eqb, ne_eqb, inl, inr, ◌⊎◌}
 use Rattle.std.specs.Prelude.{if◌then◌else◌, nat_eq, ◌||◌}
 use Rattle.std.specs.List.{list_any, position_or_len}
 use Rattle.std.specs.Str.{bytes_eq}
@@ -9,8 +9,7 @@ use Rattle.std.proofs.lemmas.Bool.{cases_lt}
 use Rattle.std.proofs.lemmas.List.{length-map}
 use Rattle.std.proofs.lemmas.List.Elements.{All-head, All-tail}
 use Rattle.std.proofs.lemmas.Slice.Eq.{bytes_eq-Decides}
-use Rattle.file_text.specs.Syntax.{Phrase, Phrases, word, call, none, more, ConditionTree, RuleTree, FileTree}
-use Rattle.file_text.specs.Depth.{depth_of, depth_of_all, deepest, AreShallowConditions, AreShallowRules, IsShallowFile}
+use Rattle.file_text.specs.Syntax.{Phrase, Phrases, word, call, none, more, count, ConditionTree, RuleTree, conditions_of, FileTree}
 use Rattle.rewriting.specs.Terms as terms
 use Rattle.rewriting.specs.Terms.{Term, var, app, Terms, nil, cons, size, size_all, depth, depth_all, Fits, IsVariable}
 use Rattle.rewriting.specs.Variables as math
@@ -20,40 +19,14 @@ use Rattle.rewriting.specs.Rules as rules
 use Rattle.rewriting.specs.Systems as systems
 use Rattle.rewriting.specs.Systems.{Each, terms_of_rule, CountsFrom, IsRuleOver, IsRule, AreRules, condition_count, IsSystem}
 use Rattle.cops_read.specs.NameTable.{NameTable}
-use Rattle.cops_read.specs.Meaning.{is_among, place_of, with_name, count, sides, phrases_of_rule, variables_of, with_variables, with_all_variables, rule_variables, IsTermOf, AreTermsOf, AreConditionsOf, IsRuleOf, AreRulesOf}
+use Rattle.cops_read.specs.Meaning.{is_among, place_of, with_name, sides, phrases_of_rule, variables_of, with_variables, with_all_variables, rule_variables, IsTermOf, AreTermsOf, AreConditionsOf, IsRuleOf, AreRulesOf}
 use Rattle.cops_read.specs.Limits.{IsSmall, IsAllowed}
 use Rattle.cops_read.specs.File.{IsSystemOf}
-use Rattle.cops_read.proofs.Lists.{extends_refl, extends_trans, extends_position, position_end, position_of_any}
-use Rattle.cops_read.specs.Steps.{Extends, nodes, all_nodes}
+use Rattle.cops_read.proofs.Lists.{Extends, extends_refl, extends_trans, extends_position, position_end, position_of_any}
 use Rattle.cops_read.proofs.Growth.{all_variables_extend}
+use Rattle.cops_read.proofs.Within.{is_within_limits}
 
 module _ (block : List (List ℕ)) (table : List (List ℕ × ℕ)) where
-  mutual
-    pub size_is : (names : List (List ℕ)) (p : Phrase) (t : Term) → IsTermOf block table names p t → size t ≡ nodes p
-    size_is names (word f) (var x) h = refl
-    size_is names (word f) (app k us) h = ap (λ (ts : Terms). suc (size_all ts)) h.1
-    size_is names (call f ts) (var x) h = absurd h
-    size_is names (call f ts) (app k us) h = ap suc (sizes_are names ts us h.1)
-
-    sizes_are : (names : List (List ℕ)) (ps : Phrases) (ts : Terms) → AreTermsOf block table names ps ts → size_all ts ≡ all_nodes ps
-    sizes_are names none nil h = refl
-    sizes_are names none (cons t ts) h = absurd h
-    sizes_are names (more p ps) nil h = absurd h
-    sizes_are names (more p ps) (cons t ts) h = ap₂ (λ (m n : ℕ). m + n) (size_is names p t h.0) (sizes_are names ps ts h.1)
-
-  mutual
-    pub depth_is : (names : List (List ℕ)) (p : Phrase) (t : Term) → IsTermOf block table names p t → depth t ≡ depth_of p
-    depth_is names (word f) (var x) h = refl
-    depth_is names (word f) (app k us) h = ap (λ (ts : Terms). suc (depth_all ts)) h.1
-    depth_is names (call f ts) (var x) h = absurd h
-    depth_is names (call f ts) (app k us) h = let e = depths_are names ts us h.1 in omega (arith, e)
-
-    depths_are : (names : List (List ℕ)) (ps : Phrases) (ts : Terms) → AreTermsOf block table names ps ts → depth_all ts ≡ depth_of_all ps
-    depths_are names none nil h = refl
-    depths_are names none (cons t ts) h = absurd h
-    depths_are names (more p ps) nil h = absurd h
-    depths_are names (more p ps) (cons t ts) h = ap₂ (λ (m n : ℕ). max m n) (depth_is names p t h.0) (depths_are names ps ts h.1)
-
   counts_are : (names : List (List ℕ)) (ps : Phrases) (ts : Terms) → AreTermsOf block table names ps ts → count ps ≡ terms.count ts
   counts_are names none nil h = refl
   counts_are names none (cons t ts) h = absurd h
@@ -194,7 +167,7 @@ module _ (block : List (List ℕ)) (table : List (List ℕ × ℕ)) where
   sides_are names (c ∷ cs) (d ∷ ds) h = (h.0, (h.1, sides_are names cs ds h.2))
 
   pub terms_are : (tree : RuleTree) (r : Rule) → IsRuleOf block table tree r → AreTermsOf block table (rule_variables block tree) (phrases_of_rule tree) (terms_of_rule r)
-  terms_are tree r h = (h.left, (h.right, sides_are _ tree.conditions r.conditions h.conditions))
+  terms_are tree r h = (h.left, (h.right, sides_are _ (conditions_of tree) r.conditions h.conditions))
 
   pub variables_are : (tree : RuleTree) (r : Rule) → IsRuleOf block table tree r → systems.rule_variables r ≡ upto (length (rule_variables block tree))
   variables_are tree r h =
@@ -225,43 +198,16 @@ conditions_few oriented (r ∷ rs) h = let here = (All-head (IsAllowed oriented)
 
 pub system_is : (file : FileTree) (sys : System) (names : NameTable) → IsSystemOf file sys names → IsSystem sys
 system_is file sys names h =
-    let few = conditions_few file.oriented sys.rules h.limits.rules in
-    let rules = h.limits.few_rules in
-    let symbols = h.limits.few_symbols in
+    let limits = is_within_limits file sys names h in
+    let few = conditions_few file.oriented sys.rules limits.rules in
+    let rules = limits.few_rules in
+    let symbols = limits.few_symbols in
     let arities = ap length h.arities in
     let same = length-map names.symbols (λ (s : List ℕ × ℕ). s.1) in
     record {
       rules = subst (λ (a : List ℕ). AreRules a sys.rules) (sym h.arities)
-          (rules_are (variables_of file) names.symbols file.oriented file.rules sys.rules h.rules h.limits.rules
-          (subst (All (λ (list : List (List ℕ)). length list ≤ 100)) h.variables h.limits.few_variables));
+          (rules_are (variables_of file) names.symbols file.oriented file.rules sys.rules h.rules limits.rules
+          (subst (All (λ (list : List (List ℕ)). length list ≤ 100)) h.variables limits.few_variables));
       few_symbols = omega (arith, few, rules, symbols, arities, same);
       few_rules = omega (arith, few, rules);
     }
-
--- the tree is as deep as what it means
-shallow : (block : List (List ℕ)) (table : List (List ℕ × ℕ)) (names : List (List ℕ)) (p : Phrase) (t : Term) → IsTermOf block table names p t → IsSmall t → depth_of p ≤ deepest
-shallow block table names p t h a = let levels = a.levels in omega (arith, depth_is block table names p t h, levels)
-
-shallow_conditions : (block : List (List ℕ)) (table : List (List ℕ × ℕ)) (names : List (List ℕ)) (cs : List ConditionTree) (ds : List Condition)
-    → AreConditionsOf block table names cs ds → Each IsSmall (rules.sides ds) → AreShallowConditions deepest cs
-shallow_conditions block table names [] ds h a = tt
-shallow_conditions block table names (c ∷ cs) [] h a = absurd h
-shallow_conditions block table names (c ∷ cs) (d ∷ ds) h a =
-    (shallow block table names c.left d.left h.0 a.0, shallow block table names c.right d.right h.1 a.1.0, shallow_conditions block table names cs ds h.2 a.1.1)
-
-shallow_rules : (block : List (List ℕ)) (table : List (List ℕ × ℕ)) (oriented : Bool) (trees : List RuleTree) (rs : List Rule) → AreRulesOf block table trees rs
-    → All (IsAllowed oriented) rs → AreShallowRules deepest trees
-shallow_rules block table oriented [] rs h a = tt
-shallow_rules block table oriented (t ∷ ts) [] h a = absurd h
-shallow_rules block table oriented (t ∷ ts) (r ∷ rs) h a =
-    let allowed = All-head (IsAllowed oriented) r rs a in (
-      record {
-        left = shallow block table _ t.left r.left h.0.left allowed.terms.0;
-        right = shallow block table _ t.right r.right h.0.right allowed.terms.1.0;
-        conditions = shallow_conditions block table _ t.conditions r.conditions h.0.conditions allowed.terms.1.1;
-      },
-      shallow_rules block table oriented ts rs h.1 (All-tail (IsAllowed oriented) r rs a),
-    )
-
-pub tree_is_shallow : (file : FileTree) (sys : System) (names : NameTable) → IsSystemOf file sys names → IsShallowFile file
-tree_is_shallow file sys names h = shallow_rules (variables_of file) names.symbols file.oriented file.rules sys.rules h.rules h.limits.rules

@@ -1,6 +1,6 @@
 -- A phrase means at most one term, and a tree at most one system.
 use Rattle.std.proofs.Common.{◌≡◌, ℕ, Bool, true, false, List, [], ◌∷◌, map, Option, Some, refl, sym, ap, ap₂, subst, ◌∙◌}
-use Rattle.file_text.specs.Syntax.{Phrase, Phrases, word, call, none, more, ConditionTree, RuleTree, FileTree}
+use Rattle.file_text.specs.Syntax.{Phrase, Phrases, word, call, none, more, ConditionTree, RuleTree, conditions_of, FileTree}
 use Rattle.rewriting.specs.Terms.{Term, var, app, Terms, nil, cons}
 use Rattle.rewriting.specs.Rules.{Condition, Rule, System}
 use Rattle.cops_read.specs.NameTable.{NameTable}
@@ -49,7 +49,7 @@ module _ (block : List (List ℕ)) (table : List (List ℕ × ℕ)) where
   one_rule tree r s h g =
       let left = one_term _ tree.left r.left s.left h.left g.left in
       let right = one_term _ tree.right r.right s.right h.right g.right in
-      let conditions = one_conditions _ tree.conditions r.conditions s.conditions h.conditions g.conditions in
+      let conditions = one_conditions _ (conditions_of tree) r.conditions s.conditions h.conditions g.conditions in
       ap₂ (λ (x : Term) (rest : Term × List Condition). record { left = x; right = rest.0; conditions = rest.1 }) left (ap₂ (λ (x : Term) (cs : List Condition). (x, cs)) right conditions)
 
   pub one_rules : (trees : List RuleTree) (rs ss : List Rule) → AreRulesOf block table trees rs → AreRulesOf block table trees ss → rs ≡ ss

@@ -1,209 +1,190 @@
--- Reading a term: from a symbol and its arguments to the whole.
-use Rattle.std.proofs.Common.{◌≡◌, ℕ, zero, suc, ◌+◌, ◌-◌, ◌<◌, ◌≤◌, false, List, [], ◌∷◌, ◌++◌, length, take, drop, get_or, Result, Ok, Err, Vec, Global, refl, sym, ap, subst, ◌∙◌, arith, rules}
-use Rattle.std.specs.Result.{IsErrAnd}
-use Rattle.file_text.specs.Syntax as syntax
-use Rattle.file_text.specs.Syntax.{Phrases, word, call, none, more, phrases_of}
-use Rattle.cops_syntax.specs.View as tree
-use Rattle.cops_syntax.specs.declared.tree.Name.{Name}
-use Rattle.cops_syntax.specs.declared.tree.Phrase.{Phrase, Word, Call, the_lemmas}
+-- Reading a term: from an identifier and its arguments to the whole.
+use Rattle.std.proofs.Common.{◌≡◌, ℕ, suc, ◌+◌, ◌≤◌, true, false, List, [], ◌∷◌, ◌++◌, drop, Option, None, Vec, Global, refl, sym, ap, ap₂, subst, ◌∙◌, arith, append_assoc}
+use Rattle.file_text.specs.Syntax.{Phrase, Phrases, word, call, none, more, with_last, count, Node, flat, flat_all}
+use Rattle.cops_syntax.specs.View.{nodes_view}
+use Rattle.cops_syntax.specs.declared.tree.Node as program
 use Rattle.rewriting.specs.Terms as math
 use Rattle.rewriting.specs.Terms.{var, app, nil, cons}
 use Rattle.term_core.specs.View.{view, views}
-use Rattle.term_core.specs.declared.terms.Term.{Term, Fun}
-use Rattle.term_core.proofs.Views.{view-Fun}
-use Rattle.cops_read.specs.Meaning.{is_among, count, with_symbol, with_symbols, with_all_symbols, with_variables, with_all_variables, IsSymbolOf, IsTermOf, AreTermsOf}
-use Rattle.cops_read.specs.Steps.{Extends, all_nodes, IsTable, IsUsed, IsRead, Refuses, TermAnswers, AreRead, RefusesAll, ArgumentsAnswers, HeadAnswers}
+use Rattle.term_core.specs.declared.terms.Term.{Term, Var, Fun}
+use Rattle.term_core.proofs.Views.{view-Var, view-Fun}
+use Rattle.cops_read.specs.Meaning.{is_among, with_symbol, with_symbols, with_all_symbols, with_variables, with_all_variables, IsTermOf, AreTermsOf}
+use Rattle.cops_read.specs.Uses.{Side, Use}
+use Rattle.cops_read.specs.Refusals.{Cause, limit_cause, cause_at, first_or, variable_cause, symbol_cause}
+use Rattle.cops_read.specs.Steps.{Tells, or_refusal, nodes, all_nodes, use_at, term_refusal, terms_refusal, IsRead, AreRead}
+use Rattle.cops_read.specs.Heads.{IsHead}
+use Rattle.cops_read.specs.declared.heads.Head.TheVariants.{Variable, Symbol}
 use Rattle.cops_read.specs.declared.reader.ReadError.{ReadError}
-use Rattle.cops_read.specs.declared.reader.ReadError.TheVariants.{NotBuilt, NoMemory}
-use Rattle.std.proofs.lemmas.List.{take_more, drop_more, take_all, drop_all}
-use Rattle.cops_read.proofs.Lists.{extends_trans}
-use Rattle.cops_read.proofs.Growth.{symbols_extend, all_symbols_extend, variables_extend, all_variables_extend, symbol_grows, terms_grow}
+use Rattle.cops_read.proofs.Lists.{Extends}
+use Rattle.cops_read.proofs.Growth.{symbols_extend, all_symbols_extend, variables_extend, symbol_grows, terms_grow}
+use Rattle.cops_read.proofs.Tells.{tells_at, tells_behind, tells_here}
+use Rattle.cops_read.proofs.Phrases.{head_of, arguments_of, flat_length, drop_phrases, take_phrases, IsNext, dropped_all, taken_all, behind}
 
-pub view_word : (n : Name) → tree.view (Word n) ≡ word (tree.name_view n)
-view_word n = search (rules, the_lemmas)
+module _ (block : List (List ℕ)) (table : List (List ℕ × ℕ)) (names : List (List ℕ)) (side : Side) (depth argument before : ℕ) where
+  refusal_is : (p : Phrase) → term_refusal block table names side depth argument before p
+      ≡ first_or (cause_at block table names (use_at side depth argument before (head_of p))) (head_of p).name.at
+      (terms_refusal block (with_symbol table (head_of p).name.text (head_of p).arguments) names side (depth + 1) 1 (before + 1) (arguments_of p))
+  refusal_is (word f) = refl
+  refusal_is (call f ts) = refl
 
-pub view_call : (n : Name) (v : Vec Phrase Global) → tree.view (Call n v) ≡ call (tree.name_view n) (tree.views v.items)
-view_call n v = search (rules, the_lemmas)
+  -- the identifier is refused
+  pub head_fails : (p : Phrase) (n : Node) (e : ReadError) → n ≡ head_of p → Tells e (first_or (cause_at block table names (use_at side depth argument before n)) n.name.at None)
+      → Tells e (term_refusal block table names side depth argument before p)
+  head_fails p n e same t =
+      let t' = subst (λ (m : Node). Tells e (first_or (cause_at block table names (use_at side depth argument before m)) m.name.at None)) same t in
+      subst (Tells e) (sym (refusal_is p)) (tells_at (cause_at block table names (use_at side depth argument before (head_of p))) (head_of p).name.at
+      (terms_refusal block (with_symbol table (head_of p).name.text (head_of p).arguments) names side (depth + 1) 1 (before + 1) (arguments_of p)) e t')
 
-pub count_is : (ps : List Phrase) → count (tree.views ps) ≡ length ps
-count_is [] = refl
-count_is (p ∷ ps) = ap suc (count_is ps)
+  cause_of_variable : (u : Use) → limit_cause u ≡ None → is_among block u.spot.node.name.text ≡ true → variable_cause names u ≡ None → cause_at block table names u ≡ None
+  cause_of_variable u l b v = rw (l, b) v
 
-module _ (block : List (List ℕ)) (table : List (List ℕ × ℕ)) (names : List (List ℕ)) where
-  -- a symbol that is refused before its brackets
-  head_refuses : (n : syntax.Name) (ps : Phrases) (room : ℕ)
-      → ((end : List (List ℕ × ℕ)) (f : ℕ) → Extends (with_symbol table n.text (count ps)) end → IsTable end → IsSymbolOf block end n.text (count ps) f → ⊥)
-      → Refuses block table names (call n ps) room
-  head_refuses n ps room h table_end names_end (var x) e few m = m
-  head_refuses n ps room h table_end names_end (app g us) e few m =
-      h table_end g (extends_trans _ _ _ (all_symbols_extend block (with_symbol table n.text (count ps)) ps) e.symbols) e.within m.0
+  cause_of_symbol : (u : Use) → limit_cause u ≡ None → is_among block u.spot.node.name.text ≡ false → symbol_cause table u ≡ None → cause_at block table names u ≡ None
+  cause_of_symbol u l b v = rw (l, b) v
 
-  -- arguments that are refused
-  arguments_refuse : (n : syntax.Name) (ps : Phrases) (room : ℕ) → RefusesAll block (with_symbol table n.text (count ps)) names ps (room - 1) → Refuses block table names (call n ps) room
-  arguments_refuse n ps room h table_end names_end (var x) e few m = m
-  arguments_refuse n ps room h table_end names_end (app g us) e few m =
-      h table_end names_end us (record { symbols = e.symbols; variables = e.variables; within = e.within; few = e.few }) (omega arith) m.1
+  no_brackets : (f : List ℕ) (u : Use) → u.spot.node.brackets ≡ true → variable_cause names u ≡ None → ⊥
+  no_brackets f u b h = let h' = rw b at h in cc
 
-  -- a symbol with arguments that were read
-  call_read : (n : syntax.Name) (ps : Phrases) (room : ℕ) (middle after : List (List ℕ × ℕ)) (later : List (List ℕ)) (f : ℕ) (us : math.Terms) (left : ℕ)
-      → is_among block n.text ≡ false → IsUsed table n.text (count ps) middle f → 1 ≤ room → AreRead block middle names ps (room - 1) after later us left
-      → IsRead block table names (call n ps) room after later (app f us) left
-  call_read n ps room middle after later f us left free used some h =
-      let grown : Extends middle after = subst (λ (t : List (List ℕ × ℕ)). Extends middle t) (sym h.symbols) (all_symbols_extend block middle ps) in
-      let left_over = h.nodes_left in
+  -- the identifier is a variable
+  variable_read : (p : Phrase) (after : List (List ℕ × ℕ)) (later : List (List ℕ)) (x : ℕ) → limit_cause (use_at side depth argument before (head_of p)) ≡ None
+      → IsHead block table names (use_at side depth argument before (head_of p)) after later (Variable x)
+      → IsRead block table names p before (term_refusal block table names side depth argument before p) after later (var x) (before + 1)
+  variable_read (word f) after later x l h = record {
+    accepted = ap (λ (c : Option Cause). first_or c f.at None) (cause_of_variable (use_at side depth argument before (head_of (word f))) l h.0 h.2.accepted);
+    symbols = h.1 ∙ (let b = h.0 in rw b refl);
+    variables = h.2.added ∙ (let b = h.0 in rw b refl);
+    means = (h.0, h.2.number);
+    end = refl;
+  }
+  variable_read (call f ts) after later x l h = absurd (no_brackets f.text (use_at side depth argument before (head_of (call f ts))) refl h.2.accepted)
+
+  pub whole_variable : (p : Phrase) (n : Node) (after : List (List ℕ × ℕ)) (later : List (List ℕ)) (x : ℕ) → n ≡ head_of p → limit_cause (use_at side depth argument before n) ≡ None
+      → IsHead block table names (use_at side depth argument before n) after later (Variable x)
+      → IsRead block table names p before (term_refusal block table names side depth argument before p) after later (view (Var x)) (before + 1)
+  whole_variable p n after later x same l h =
+      subst (λ (t : math.Term). IsRead block table names p before (term_refusal block table names side depth argument before p) after later t (before + 1)) (sym (view-Var x))
+      (variable_read p after later x (subst (λ (m : Node). limit_cause (use_at side depth argument before m) ≡ None) same l)
+      (subst (λ (m : Node). IsHead block table names (use_at side depth argument before m) after later (Variable x)) same h))
+
+  -- the identifier is a symbol, and an argument is refused
+  pub arguments_fail : (p : Phrase) (n : Node) (middle : List (List ℕ × ℕ)) (between : List (List ℕ)) (f : ℕ) (e : ReadError) → n ≡ head_of p → limit_cause (use_at side depth argument before n) ≡ None
+      → IsHead block table names (use_at side depth argument before n) middle between (Symbol f)
+      → Tells e (terms_refusal block middle between side (depth + 1) 1 (before + 1) (arguments_of p)) → Tells e (term_refusal block table names side depth argument before p)
+  arguments_fail p n middle between f e same l h t =
+      let l' = subst (λ (m : Node). limit_cause (use_at side depth argument before m) ≡ None) same l in
+      let h' = subst (λ (m : Node). IsHead block table names (use_at side depth argument before m) middle between (Symbol f)) same h in
+      let t1 = subst (λ (x : List (List ℕ)). Tells e (terms_refusal block middle x side (depth + 1) 1 (before + 1) (arguments_of p))) h'.1 t in
+      let t2 = subst (λ (x : List (List ℕ × ℕ)). Tells e (terms_refusal block x names side (depth + 1) 1 (before + 1) (arguments_of p))) h'.2.added t1 in
+      subst (Tells e) (sym (refusal_is p))
+      (tells_behind (cause_at block table names (use_at side depth argument before (head_of p))) (head_of p).name.at _ e
+      (cause_of_symbol (use_at side depth argument before (head_of p)) l' h'.0 h'.2.accepted) t2)
+
+  -- the identifier is a symbol, and its arguments were read
+  symbol_read : (p : Phrase) (middle after : List (List ℕ × ℕ)) (later : List (List ℕ)) (f : ℕ) (us : math.Terms) (next : ℕ) → limit_cause (use_at side depth argument before (head_of p)) ≡ None
+      → IsHead block table names (use_at side depth argument before (head_of p)) middle names (Symbol f)
+      → AreRead block middle names (arguments_of p) (before + 1) (terms_refusal block middle names side (depth + 1) 1 (before + 1) (arguments_of p)) after later us next
+      → IsRead block table names p before (term_refusal block table names side depth argument before p) after later (app f us) next
+  symbol_read (word g) middle after later f (cons u us) next l h r = absurd r.mean
+  symbol_read (word g) middle after later f nil next l h r =
+      let b = h.0 in
+      let whole = r.symbols ∙ h.2.added in
       record {
-        symbols = h.symbols ∙ ap (λ (t : List (List ℕ × ℕ)). with_all_symbols block t ps) used.added;
-        variables = h.variables;
-        means = (symbol_grows block middle after n.text (count ps) f grown (free, used.number, used.arity), h.mean);
-        nodes_left = omega arith;
-        within = λ w. h.within (used.within w);
-        few = h.few;
+        accepted = ap (λ (c : Option Cause). first_or c g.at None) (cause_of_symbol (use_at side depth argument before (head_of (word g))) l h.0 h.2.accepted);
+        symbols = whole ∙ (rw b refl);
+        variables = r.variables ∙ (rw b refl);
+        means = (symbol_grows block middle after g.text 0 f (subst (λ (x : List (List ℕ × ℕ)). Extends middle x) (sym r.symbols) (all_symbols_extend block middle none)) (h.0, h.2.number, h.2.arity), refl);
+        end = let e = r.end in omega arith;
+      }
+  symbol_read (call g ts) middle after later f us next l h r =
+      let cause = cause_of_symbol (use_at side depth argument before (head_of (call g ts))) l h.0 h.2.accepted in
+      let refused = subst (λ (x : List (List ℕ × ℕ)). terms_refusal block x names side (depth + 1) 1 (before + 1) ts ≡ None) h.2.added r.accepted in
+      record {
+        accepted = ap (λ (c : Option Cause). first_or c g.at (terms_refusal block (with_symbol table g.text (count ts)) names side (depth + 1) 1 (before + 1) ts)) cause ∙ refused;
+        symbols = r.symbols ∙ ap (λ (x : List (List ℕ × ℕ)). with_all_symbols block x ts) h.2.added;
+        variables = r.variables;
+        means = (symbol_grows block middle after g.text (count ts) f (subst (λ (x : List (List ℕ × ℕ)). Extends middle x) (sym r.symbols) (all_symbols_extend block middle ts)) (h.0, h.2.number, h.2.arity), r.mean);
+        end = let e = r.end in omega arith;
       }
 
-module _ (block : List (List ℕ)) (table : List (List ℕ × ℕ)) (names : List (List ℕ)) (phrase : Phrase) (name : Name) (arguments : Vec Phrase Global) (is : phrase ≡ Call name arguments) where
-  shown : tree.view phrase ≡ call (tree.name_view name) (tree.views arguments.items)
-  shown = ap tree.view is ∙ view_call name arguments
-
-  pub head_fails : (room n : ℕ) (middle after : List (List ℕ × ℕ)) (later : List (List ℕ)) (e : ReadError) (r : Result (Term × ℕ) ReadError) → n ≡ length arguments.items
-      → HeadAnswers block table name.text.now n middle (Err e) → IsErrAnd r (λ d. d ≡ e) → TermAnswers block table names (tree.view phrase) room after later r
-  head_fails room n middle after later e (Ok t) same h g = absurd g
-  head_fails room n middle after later e (Err NoMemory) same h g = tt
-  head_fails room n middle after later NoMemory (Err NotBuilt) same h g = cc
-  head_fails room n middle after later NotBuilt (Err NotBuilt) same h g =
-      let counted : n ≡ count (tree.views arguments.items) = same ∙ sym (count_is arguments.items) in
-      let h' = subst (λ (k : ℕ). HeadAnswers block table name.text.now k middle (Err NotBuilt)) counted h in
-      subst (λ (p : syntax.Phrase). Refuses block table names p room) (sym shown) (head_refuses block table names (tree.name_view name) (tree.views arguments.items) room h')
-
-  pub arguments_fail : (room n f : ℕ) (middle after : List (List ℕ × ℕ)) (later : List (List ℕ)) (e : ReadError) (r : Result (Term × ℕ) ReadError) → n ≡ length arguments.items
-      → IsUsed table name.text.now n middle f → ArgumentsAnswers block middle names (tree.views arguments.items) (room - 1) after later (Err e) → IsErrAnd r (λ d. d ≡ e)
-      → TermAnswers block table names (tree.view phrase) room after later r
-  arguments_fail room n f middle after later e (Ok t) same used h g = absurd g
-  arguments_fail room n f middle after later e (Err NoMemory) same used h g = tt
-  arguments_fail room n f middle after later NoMemory (Err NotBuilt) same used h g = cc
-  arguments_fail room n f middle after later NotBuilt (Err NotBuilt) same used h g =
-      let counted : n ≡ count (tree.views arguments.items) = same ∙ sym (count_is arguments.items) in
-      let added : middle ≡ with_symbol table name.text.now (count (tree.views arguments.items)) = used.added ∙ ap (with_symbol table name.text.now) counted in
-      let h' = subst (λ (t : List (List ℕ × ℕ)). RefusesAll block t names (tree.views arguments.items) (room - 1)) added h in
-      subst (λ (p : syntax.Phrase). Refuses block table names p room) (sym shown) (arguments_refuse block table names (tree.name_view name) (tree.views arguments.items) room h')
-
-  pub whole_call : (room n f : ℕ) (middle after : List (List ℕ × ℕ)) (later : List (List ℕ)) (terms : Vec Term Global) (left : ℕ) → n ≡ length arguments.items → 1 ≤ room
-      → (is_among block name.text.now ≡ false) × IsUsed table name.text.now n middle f → AreRead block middle names (tree.views arguments.items) (room - 1) after later (views terms.items) left
-      → IsRead block table names (tree.view phrase) room after later (view (Fun f terms)) left
-  whole_call room n f middle after later terms left same some head h =
-      let counted : n ≡ count (tree.views arguments.items) = same ∙ sym (count_is arguments.items) in
-      let used = subst (λ (k : ℕ). IsUsed table name.text.now k middle f) counted head.1 in
-      let whole = call_read block table names (tree.name_view name) (tree.views arguments.items) room middle after later f (views terms.items) left head.0 used some h in
-      let whole' = subst (λ (p : syntax.Phrase). IsRead block table names p room after later (app f (views terms.items)) left) (sym shown) whole in
-      subst (λ (t : math.Term). IsRead block table names (tree.view phrase) room after later t left) (sym (view-Fun f terms)) whole'
-
--- the items from a place on, and the items before the next place
-pub rest_is : (ps : List Phrase) (i : ℕ) (p : Phrase) → i < length ps → p ≡ get_or ps i p → tree.views (drop i ps) ≡ more (tree.view p) (tree.views (drop (i + 1) ps))
-rest_is ps i p h e = ap tree.views (drop_more ps i p h) ∙ ap (λ (q : Phrase). more (tree.view q) (tree.views (drop (i + 1) ps))) (sym e)
-
-front_is : (ps : List Phrase) (i : ℕ) (p : Phrase) → i < length ps → p ≡ get_or ps i p → take (i + 1) ps ≡ take i ps ++ p ∷ []
-front_is ps i p h e = take_more ps i p h ∙ ap (λ (q : Phrase). take i ps ++ q ∷ []) (sym e)
+  pub whole_symbol : (p : Phrase) (n : Node) (middle after : List (List ℕ × ℕ)) (between later : List (List ℕ)) (f : ℕ) (terms : Vec Term Global) (next : ℕ) → n ≡ head_of p
+      → limit_cause (use_at side depth argument before n) ≡ None → IsHead block table names (use_at side depth argument before n) middle between (Symbol f)
+      → AreRead block middle between (arguments_of p) (before + 1) (terms_refusal block middle between side (depth + 1) 1 (before + 1) (arguments_of p)) after later (views terms.items) next
+      → IsRead block table names p before (term_refusal block table names side depth argument before p) after later (view (Fun f terms)) next
+  whole_symbol p n middle after between later f terms next same l h r =
+      let l' = subst (λ (m : Node). limit_cause (use_at side depth argument before m) ≡ None) same l in
+      let h' = subst (λ (m : Node). IsHead block table names (use_at side depth argument before m) middle between (Symbol f)) same h in
+      let h'' = subst (λ (x : List (List ℕ)). IsHead block table names (use_at side depth argument before (head_of p)) middle x (Symbol f)) h'.1 h' in
+      let r' = subst (λ (x : List (List ℕ)). AreRead block middle x (arguments_of p) (before + 1) (terms_refusal block middle x side (depth + 1) 1 (before + 1) (arguments_of p)) after later (views terms.items) next) h'.1 r in
+      subst (λ (t : math.Term). IsRead block table names p before (term_refusal block table names side depth argument before p) after later t next) (sym (view-Fun f terms))
+      (symbol_read p middle after later f (views terms.items) next l' h'' r')
 
 module _ (block : List (List ℕ)) where
-  terms_end : (table : List (List ℕ × ℕ)) (names : List (List ℕ)) (ps : List Phrase) (ts : List Term) (p : Phrase) (t : Term) → AreTermsOf block table names (tree.views ps) (views ts)
-      → IsTermOf block table names (tree.view p) (view t) → AreTermsOf block table names (tree.views (ps ++ p ∷ [])) (views (ts ++ t ∷ []))
-  terms_end table names [] [] p t h g = (g, tt)
-  terms_end table names [] (u ∷ us) p t h g = absurd h
-  terms_end table names (q ∷ qs) [] p t h g = absurd h
-  terms_end table names (q ∷ qs) (u ∷ us) p t h g = (h.0, terms_end table names qs us p t h.1 g)
-
-  member : (table : List (List ℕ × ℕ)) (names : List (List ℕ)) (ps : List Phrase) (us : math.Terms) (i : ℕ) (p : Phrase) → i < length ps → p ≡ get_or ps i p
-      → AreTermsOf block table names (tree.views ps) us → (u : math.Term) × IsTermOf block table names (tree.view p) u
-  member table names [] us i p l e h = absurd (omega arith)
-  member table names (q ∷ qs) nil i p l e h = absurd h
-  member table names (q ∷ qs) (cons u us) zero p l e h = (u, subst (λ (r : Phrase). IsTermOf block table names (tree.view r) u) (sym e) h.0)
-  member table names (q ∷ qs) (cons u us) (suc i) p l e h = member table names qs us i p (omega arith) e h.1
+  terms_end : (table : List (List ℕ × ℕ)) (names : List (List ℕ)) (ps : Phrases) (ts : List Term) (p : Phrase) (t : Term) → AreTermsOf block table names ps (views ts)
+      → IsTermOf block table names p (view t) → AreTermsOf block table names (with_last ps p) (views (ts ++ t ∷ []))
+  terms_end table names none [] p t h g = (g, tt)
+  terms_end table names none (u ∷ us) p t h g = absurd h
+  terms_end table names (more q qs) [] p t h g = absurd h
+  terms_end table names (more q qs) (u ∷ us) p t h g = (h.0, terms_end table names qs us p t h.1 g)
 
   -- what a loop over phrases keeps
-  pub record Loop (table : List (List ℕ × ℕ)) (names : List (List ℕ)) (phrases : List Phrase) (room i : ℕ) (now : List (List ℕ × ℕ)) (later : List (List ℕ)) (terms : List Term) (left : ℕ) : Type 0 where
-    pub symbols : with_all_symbols block now (tree.views (drop i phrases)) ≡ with_all_symbols block table (tree.views phrases)
-    pub variables : with_all_variables block later (tree.views (drop i phrases)) ≡ with_all_variables block names (tree.views phrases)
-    pub mean : AreTermsOf block now later (tree.views (take i phrases)) (views terms)
-    pub nodes_left : left + all_nodes (tree.views phrases) ≡ room + all_nodes (tree.views (drop i phrases))
-    pub within : IsTable table → IsTable now
-    pub few : length names ≤ 100 → length later ≤ 100
+  pub record Loop (table : List (List ℕ × ℕ)) (names : List (List ℕ)) (side : Side) (depth start : ℕ) (ns : List program.Node) (ps : Phrases) (rest : List Node) (i : ℕ)
+      (now : List (List ℕ × ℕ)) (later : List (List ℕ)) (terms : List Term) (before : ℕ) : Type 0 where
+    pub refusal : terms_refusal block now later side depth (i + 1) before (drop_phrases i ps) ≡ terms_refusal block table names side depth 1 start ps
+    pub symbols : with_all_symbols block now (drop_phrases i ps) ≡ with_all_symbols block table ps
+    pub variables : with_all_variables block later (drop_phrases i ps) ≡ with_all_variables block names ps
+    pub mean : AreTermsOf block now later (take_phrases i ps) (views terms)
+    pub end : before + all_nodes (drop_phrases i ps) ≡ start + all_nodes ps
+    pub nodes_left : nodes_view (drop before ns) ≡ flat_all (drop_phrases i ps) ++ rest
 
-  pub loop_start : (table : List (List ℕ × ℕ)) (names : List (List ℕ)) (phrases : List Phrase) (room : ℕ) → Loop table names phrases room 0 table names [] room
-  loop_start table names phrases room = record { symbols = refl; variables = refl; mean = tt; nodes_left = refl; within = λ w. w; few = λ f. f }
+  module _ (table : List (List ℕ × ℕ)) (names : List (List ℕ)) (side : Side) (depth start : ℕ) (ns : List program.Node) (ps : Phrases) (rest : List Node) where
+    pub loop_start : nodes_view (drop start ns) ≡ flat_all ps ++ rest → Loop table names side depth start ns ps rest 0 table names [] start
+    loop_start h = record { refusal = refl; symbols = refl; variables = refl; mean = tt; end = refl; nodes_left = h }
 
-  pub loop_step : (table now after : List (List ℕ × ℕ)) (names later latest : List (List ℕ)) (phrases : List Phrase) (room i left rest : ℕ) (terms : List Term) (p : Phrase) (t : Term)
-      → i < length phrases → p ≡ get_or phrases i p → Loop table names phrases room i now later terms left → IsRead block now later (tree.view p) left after latest (view t) rest
-      → Loop table names phrases room (i + 1) after latest (terms ++ t ∷ []) rest
-  loop_step table now after names later latest phrases room i left rest terms p t l e h r =
-      let split = rest_is phrases i p l e in
-      let nodes_split = ap all_nodes split in
-      let before = h.nodes_left in
-      let here = r.nodes_left in
-      let grown : Extends now after = subst (λ (x : List (List ℕ × ℕ)). Extends now x) (sym r.symbols) (symbols_extend block now (tree.view p)) in
-      let grown_names : Extends later latest = subst (λ (x : List (List ℕ)). Extends later x) (sym r.variables) (variables_extend block later (tree.view p)) in
-      let mean = terms_end after latest (take i phrases) terms p t (terms_grow block now later after latest (tree.views (take i phrases)) (views terms) grown grown_names h.mean) r.means in
-      record {
-        symbols = ap (λ (x : List (List ℕ × ℕ)). with_all_symbols block x (tree.views (drop (i + 1) phrases))) r.symbols ∙ sym (ap (with_all_symbols block now) split) ∙ h.symbols;
-        variables = ap (λ (x : List (List ℕ)). with_all_variables block x (tree.views (drop (i + 1) phrases))) r.variables ∙ sym (ap (with_all_variables block later) split) ∙ h.variables;
-        mean = subst (λ (qs : List Phrase). AreTermsOf block after latest (tree.views qs) (views (terms ++ t ∷ []))) (sym (front_is phrases i p l e)) mean;
-        nodes_left = omega (arith, nodes_split, before, here);
-        within = λ w. r.within (h.within w);
-        few = λ f. r.few (h.few f);
-      }
+    module _ (i : ℕ) (now : List (List ℕ × ℕ)) (later : List (List ℕ)) (terms : List Term) (before : ℕ) (h : Loop table names side depth start ns ps rest i now later terms before) where
+      -- where the next phrase stands
+      pub nodes_here : (n : IsNext ps i) → nodes_view (drop before ns) ≡ flat n.phrase ++ (flat_all (drop_phrases (suc i) ps) ++ rest)
+      nodes_here n = h.nodes_left ∙ ap (λ (qs : Phrases). flat_all qs ++ rest) n.later ∙ append_assoc (flat n.phrase) (flat_all (drop_phrases (suc i) ps)) rest
 
-  pub loop_end : (table now : List (List ℕ × ℕ)) (names later : List (List ℕ)) (phrases : List Phrase) (room i left : ℕ) (terms : List Term) → length phrases ≤ i
-      → Loop table names phrases room i now later terms left → AreRead block table names (tree.views phrases) room now later (views terms) left
-  loop_end table now names later phrases room i left terms l h =
-      let over = drop_all i phrases l in
-      let before = h.nodes_left in
-      let none_left = ap (λ (qs : List Phrase). all_nodes (tree.views qs)) over in
-      record {
-        symbols = ap (λ (qs : List Phrase). with_all_symbols block now (tree.views qs)) (sym over) ∙ h.symbols;
-        variables = ap (λ (qs : List Phrase). with_all_variables block later (tree.views qs)) (sym over) ∙ h.variables;
-        mean = subst (λ (qs : List Phrase). AreTermsOf block now later (tree.views qs) (views terms)) (take_all i phrases l) h.mean;
-        nodes_left = omega (arith, none_left, before);
-        within = h.within;
-        few = h.few;
-      }
+      pub loop_fails : (n : IsNext ps i) (e : ReadError) → Tells e (term_refusal block now later side depth (i + 1) before n.phrase) → Tells e (terms_refusal block table names side depth 1 start ps)
+      loop_fails n e t =
+          let whole = ap (terms_refusal block now later side depth (i + 1) before) n.later in
+          subst (Tells e) (sym whole ∙ h.refusal) (tells_here (term_refusal block now later side depth (i + 1) before n.phrase) _ e t)
 
-  pub loop_refuses : (table now : List (List ℕ × ℕ)) (names later : List (List ℕ)) (phrases : List Phrase) (room i left : ℕ) (terms : List Term) (p : Phrase)
-      → i < length phrases → p ≡ get_or phrases i p → Loop table names phrases room i now later terms left → Refuses block now later (tree.view p) left
-      → RefusesAll block table names (tree.views phrases) room
-  loop_refuses table now names later phrases room i left terms p l e h none_is table_end names_end us end small m =
-      let split = rest_is phrases i p l e in
-      let nodes_split = ap all_nodes split in
-      let before = h.nodes_left in
-      let u = member table_end names_end phrases us i p l e m in
-      let whole = sym (ap (with_all_symbols block now) split) ∙ h.symbols in
-      let whole_names = sym (ap (with_all_variables block later) split) ∙ h.variables in
-      let longer = subst (λ (x : List (List ℕ × ℕ)). Extends x table_end) (sym whole) end.symbols in
-      let longer_names = subst (λ (x : List (List ℕ)). Extends x names_end) (sym whole_names) end.variables in
-      none_is table_end names_end u.0 (record {
-        symbols = extends_trans _ _ _ (all_symbols_extend block (with_symbols block now (tree.view p)) (tree.views (drop (i + 1) phrases))) longer;
-        variables = extends_trans _ _ _ (all_variables_extend block (with_variables block later (tree.view p)) (tree.views (drop (i + 1) phrases))) longer_names;
-        within = end.within;
-        few = end.few;
-      }) (omega (arith, nodes_split, before, small)) u.1
+      pub loop_step : (n : IsNext ps i) (after : List (List ℕ × ℕ)) (latest : List (List ℕ)) (t : Term) (next : ℕ)
+          → IsRead block now later n.phrase before (term_refusal block now later side depth (i + 1) before n.phrase) after latest (view t) next
+          → Loop table names side depth start ns ps rest (suc i) after latest (terms ++ t ∷ []) next
+      loop_step n after latest t next r =
+          let left = drop_phrases (suc i) ps in
+          let grown : Extends now after = subst (λ (x : List (List ℕ × ℕ)). Extends now x) (sym r.symbols) (symbols_extend block now n.phrase) in
+          let grown_names : Extends later latest = subst (λ (x : List (List ℕ)). Extends later x) (sym r.variables) (variables_extend block later n.phrase) in
+          let place : suc i + 1 ≡ (i + 1) + 1 = omega arith in
+          let further : Option (Cause × ℕ) = terms_refusal block (with_symbols block now n.phrase) (with_variables block later n.phrase) side depth ((i + 1) + 1) (before + nodes n.phrase) left in
+          let refusal : further ≡ terms_refusal block table names side depth 1 start ps =
+          ap (λ (o : Option (Cause × ℕ)). or_refusal o further) (sym r.accepted) ∙ sym (ap (terms_refusal block now later side depth (i + 1) before) n.later) ∙ h.refusal in
+          let count_left = ap all_nodes n.later in
+          let before_end = h.end in
+          let next_end = r.end in
+          record {
+            refusal = ap (λ (x : List (List ℕ × ℕ)). terms_refusal block x latest side depth (suc i + 1) next left) r.symbols
+                ∙ ap (λ (x : List (List ℕ)). terms_refusal block (with_symbols block now n.phrase) x side depth (suc i + 1) next left) r.variables
+                ∙ ap₂ (λ (a b : ℕ). terms_refusal block (with_symbols block now n.phrase) (with_variables block later n.phrase) side depth a b left) place r.end ∙ refusal;
+            symbols = ap (λ (x : List (List ℕ × ℕ)). with_all_symbols block x left) r.symbols ∙ sym (ap (with_all_symbols block now) n.later) ∙ h.symbols;
+            variables = ap (λ (x : List (List ℕ)). with_all_variables block x left) r.variables ∙ sym (ap (with_all_variables block later) n.later) ∙ h.variables;
+            mean = subst (λ (qs : Phrases). AreTermsOf block after latest qs (views (terms ++ t ∷ []))) (sym n.front)
+                (terms_end after latest (take_phrases i ps) terms n.phrase t (terms_grow block now later after latest (take_phrases i ps) (views terms) grown grown_names h.mean) r.means);
+            end = omega arith;
+            nodes_left = subst (λ (k : ℕ). nodes_view (drop k ns) ≡ flat_all left ++ rest) (ap (λ (k : ℕ). before + k) (flat_length n.phrase) ∙ sym r.end)
+                (behind ns before (flat n.phrase) (flat_all left ++ rest) (nodes_here n));
+          }
 
-module _ (block : List (List ℕ)) (table now after : List (List ℕ × ℕ)) (names later latest : List (List ℕ)) (phrases : List Phrase) (room i left : ℕ) (terms : List Term) (p : Phrase)
-    (within : i < length phrases) (item : p ≡ get_or phrases i p) (h : Loop block table names phrases room i now later terms left) where
-  pub loop_fails : (e : ReadError) (r : Result (Vec Term Global × ℕ) ReadError) → TermAnswers block now later (tree.view p) left after latest (Err e) → IsErrAnd r (λ d. d ≡ e)
-      → ArgumentsAnswers block table names (tree.views phrases) room after latest r
-  loop_fails e (Ok t) g is = absurd is
-  loop_fails e (Err NoMemory) g is = tt
-  loop_fails NoMemory (Err NotBuilt) g is = cc
-  loop_fails NotBuilt (Err NotBuilt) g is = loop_refuses block table now names later phrases room i left terms p within item h g
-
-  pub loop_fails_at : (other : List (List ℕ)) (e : ReadError) (r : Result (Vec Term Global × ℕ) ReadError) → other ≡ block → TermAnswers other now later (tree.view p) left after latest (Err e)
-      → IsErrAnd r (λ d. d ≡ e) → ArgumentsAnswers block table names (tree.views phrases) room after latest r
-  loop_fails_at other e r same g is = loop_fails e r (subst (λ (b : List (List ℕ)). TermAnswers b now later (tree.view p) left after latest (Err e)) same g) is
-
-module _ (block : List (List ℕ)) (table : List (List ℕ × ℕ)) (names : List (List ℕ)) (phrase : Phrase) (name : Name) (arguments : Vec Phrase Global) (is : phrase ≡ Call name arguments) where
-  pub arguments_fail_at : (other_block other_names : List (List ℕ)) (items : List Phrase) (room n f : ℕ) (middle after : List (List ℕ × ℕ)) (later : List (List ℕ)) (e : ReadError)
-      (r : Result (Term × ℕ) ReadError) → other_block ≡ block → other_names ≡ names → items ≡ arguments.items → n ≡ length arguments.items → IsUsed table name.text.now n middle f
-      → ArgumentsAnswers other_block middle other_names (tree.views items) (room - 1) after later (Err e) → IsErrAnd r (λ d. d ≡ e)
-      → TermAnswers block table names (tree.view phrase) room after later r
-  arguments_fail_at other_block other_names items room n f middle after later e r same_block same_names same_items same used h g =
-      let h1 = subst (λ (b : List (List ℕ)). ArgumentsAnswers b middle other_names (tree.views items) (room - 1) after later (Err e)) same_block h in
-      let h2 = subst (λ (b : List (List ℕ)). ArgumentsAnswers block middle b (tree.views items) (room - 1) after later (Err e)) same_names h1 in
-      let h3 = subst (λ (b : List Phrase). ArgumentsAnswers block middle names (tree.views b) (room - 1) after later (Err e)) same_items h2 in
-      arguments_fail block table names phrase name arguments is room n f middle after later e r same used h3 g
+      pub loop_end : count ps ≤ i → AreRead block table names ps start (terms_refusal block table names side depth 1 start ps) now later (views terms) before
+      loop_end l =
+          let over = dropped_all ps i l in
+          let none_left = ap all_nodes over in
+          let end_here = h.end in
+          record {
+            accepted = sym h.refusal ∙ ap (terms_refusal block now later side depth (i + 1) before) over;
+            symbols = ap (with_all_symbols block now) (sym over) ∙ h.symbols;
+            variables = ap (with_all_variables block later) (sym over) ∙ h.variables;
+            mean = subst (λ (qs : Phrases). AreTermsOf block now later qs (views terms)) (taken_all ps i l) h.mean;
+            end = omega arith;
+          }

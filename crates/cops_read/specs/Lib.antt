@@ -1,9 +1,12 @@
 pub mod NameTable
 pub mod NamesView
 pub mod Meaning
+pub mod Uses
+pub mod Refusals
 pub mod Limits
 pub mod File
 pub mod Answers
 pub mod Steps
-pub mod NameSetView
 pub mod RuleSteps
+pub mod Heads
+pub mod NameSetView

@@ -1,12 +1,9 @@
--- The limits of a file.
-use Rattle.std.specs.Prelude.{◌≡◌, ℕ, ◌≤◌, Bool, false, [], length, All}
+-- The limits that what a file spells keeps.
+use Rattle.std.specs.Prelude.{◌≡◌, ◌≤◌, Bool, false, [], length, All}
 use Rattle.rewriting.specs.Terms.{Term, IsVariable, size, depth}
 use Rattle.rewriting.specs.Rules.{Rule, System}
 use Rattle.rewriting.specs.Systems.{Each, terms_of_rule}
 use Rattle.cops_read.specs.NameTable.{NameTable}
-
-abbrev pub most_bytes : ℕ
-most_bytes = 1048576
 
 -- nodes and depth of a term
 pub record IsSmall (t : Term) : Type 0 where

@@ -1,9 +1,8 @@
 -- Which system, with which names, the syntax tree of a file means.
-use Rattle.std.specs.Prelude.{◌≡◌, ℕ, suc, Bool, true, false, if◌then◌else◌, List, [], ◌∷◌, ◌++◌, map, position, Option, Some, is_some, option_map, slice_get}
-use Rattle.std.specs.Option.{unwrap_or}
+use Rattle.std.specs.Prelude.{◌≡◌, ℕ, Bool, true, false, if◌then◌else◌, List, [], ◌∷◌, ◌++◌, map, position, Option, Some, is_some, option_map, slice_get}
 use Rattle.std.specs.List.{list_any}
 use Rattle.std.specs.Str.{bytes_eq}
-use Rattle.file_text.specs.Syntax.{Phrase, Phrases, word, call, none, more, ConditionTree, RuleTree, FileTree}
+use Rattle.file_text.specs.Syntax.{Phrase, Phrases, word, call, none, more, count, ConditionTree, RuleTree, conditions_of, FileTree}
 use Rattle.rewriting.specs.Terms.{Term, var, app, Terms, nil, cons}
 use Rattle.rewriting.specs.Rules.{Condition, Rule}
 use Rattle.cops_read.specs.NameTable.{number_of}
@@ -26,12 +25,7 @@ with_names names (x ∷ xs) = with_names (with_name names x) xs
 
 -- the names of the variables' block, each once
 abbrev pub variables_of : FileTree → List (List ℕ)
-variables_of file = with_names [] (map (λ n. n.text) (unwrap_or file.variables []))
-
--- how many phrases there are
-abbrev pub count : Phrases → ℕ
-count none = 0
-count (more t ts) = suc (count ts)
+variables_of file = with_names [] (map (λ n. n.text) file.variables)
 
 -- both sides of each condition in order, and the phrases of a rule: left side, right side, then these
 abbrev pub sides : List ConditionTree → Phrases
@@ -39,7 +33,7 @@ sides [] = none
 sides (c ∷ cs) = more c.left (more c.right (sides cs))
 
 abbrev pub phrases_of_rule : RuleTree → Phrases
-phrases_of_rule r = more r.left (more r.right (sides r.conditions))
+phrases_of_rule r = more r.left (more r.right (sides (conditions_of r)))
 
 -- the table, and behind it the symbol where the table lacks its name; a variable is no symbol
 abbrev pub with_symbol : List (List ℕ × ℕ) → List ℕ → ℕ → List (List ℕ × ℕ)
@@ -108,7 +102,7 @@ module _ (block : List (List ℕ)) where
   pub record IsRuleOf (table : List (List ℕ × ℕ)) (tree : RuleTree) (r : Rule) : Type 0 where
     pub left : IsTermOf table (rule_variables tree) tree.left r.left
     pub right : IsTermOf table (rule_variables tree) tree.right r.right
-    pub conditions : AreConditionsOf table (rule_variables tree) tree.conditions r.conditions
+    pub conditions : AreConditionsOf table (rule_variables tree) (conditions_of tree) r.conditions
 
   abbrev pub AreRulesOf : List (List ℕ × ℕ) → List RuleTree → List Rule → Type 0
   AreRulesOf table [] [] = Unit {0}

@@ -1,110 +1,115 @@
 -- What the parts of the reader answer that read rules.
-use Rattle.std.specs.Prelude.{◌≡◌, ℕ, ◌≤◌, Bool, false, List, [], ◌∷◌, ◌++◌, map, length, Result, Ok, Err}
+use Rattle.std.specs.Prelude.{◌≡◌, ℕ, ◌+◌, Bool, true, false, if◌then◌else◌, List, [], ◌∷◌, ◌++◌, map, length, Option, Some, None, option_map, Result, Ok, Err}
 use Rattle.std.specs.Global.{Vec}
-use Rattle.file_text.specs.Syntax.{Phrase, Phrases, word, call, none, more, ConditionTree, RuleTree}
+use Rattle.file_text.specs.Syntax.{Phrase, ConditionTree, RuleTree, conditions_of, FileTree}
 use Rattle.rewriting.specs.Terms as math
 use Rattle.rewriting.specs.Rules as rules
 use Rattle.term_core.specs.View.{view}
 use Rattle.term_core.specs.RuleView.{rule_view, condition_view}
 use Rattle.term_core.specs.declared.terms.Term.{Term}
-use Rattle.term_core.specs.declared.systems.Rule.{Rule}
 use Rattle.term_core.specs.declared.systems.Cond.{Cond}
-use Rattle.cops_read.specs.Meaning.{is_among, sides, phrases_of_rule, with_symbols, with_all_symbols, with_variables, with_all_variables, with_rule_symbols, rule_variables, IsTermOf, AreConditionsOf, IsRuleOf, AreRulesOf}
-use Rattle.cops_read.specs.Steps.{Extends, nodes, IsTable, IsEnd, Refuses}
+use Rattle.term_core.specs.declared.systems.Rule.{Rule}
+use Rattle.cops_read.specs.Meaning.{sides, phrases_of_rule, with_symbols, with_all_symbols, with_variables, with_all_variables, with_rule_symbols, rule_variables, IsTermOf, AreConditionsOf, IsRuleOf, AreRulesOf}
+use Rattle.cops_read.specs.Uses.{Side, side_of}
+use Rattle.cops_read.specs.NameTable.{NameTable}
+use Rattle.cops_read.specs.File.{IsSystemOf}
+use Rattle.cops_read.specs.Refusals.{Cause, conditions_without_type, refusal_of}
+use Rattle.cops_read.specs.Steps.{Tells, or_refusal, term_refusal}
 use Rattle.cops_read.specs.declared.reader.ReadError.{ReadError}
-use Rattle.cops_read.specs.declared.reader.ReadError.TheVariants.{NotBuilt, NoMemory}
 
--- each phrase has few nodes
-abbrev pub AreFew : Phrases → Type 0
-AreFew none = Unit {0}
-AreFew (more t ts) = (nodes t ≤ 2000) × AreFew ts
+-- at a bar
+abbrev pub bar_refusal : Bool → Option ℕ → Option (Cause × ℕ)
+bar_refusal oriented None = None
+bar_refusal oriented (Some at) = if oriented then None else Some (conditions_without_type, at)
 
+abbrev pub BarAnswers : Bool → Option ℕ → Result (Unit {0}) ReadError → Type 0
+BarAnswers oriented bar (Ok _) = bar_refusal oriented bar ≡ None
+BarAnswers oriented bar (Err e) = Tells e (bar_refusal oriented bar)
+
+-- Of the identifiers, those of the block are variables. Refusals come with the symbols and the rule's variables so far.
 module _ (block : List (List ℕ)) where
-  -- the phrase is no variable
-  abbrev pub BeginsWithSymbol : Phrase → Type 0
-  BeginsWithSymbol (word f) = is_among block f.text ≡ false
-  BeginsWithSymbol (call f ts) = Unit {0}
+  -- in a side of a rule or of a condition
+  abbrev pub side_refusal : List (List ℕ × ℕ) → List (List ℕ) → Side → Phrase → Option (Cause × ℕ)
+  side_refusal table names side p = term_refusal block table names side 1 0 0 p
 
-  -- the limits of a rule, of its tree
-  pub record IsTreeAllowed (oriented : Bool) (tree : RuleTree) : Type 0 where
-    pub left : BeginsWithSymbol tree.left
-    pub nodes_few : AreFew (phrases_of_rule tree)
-    pub few_variables : length (rule_variables block tree) ≤ 100
-    pub few_conditions : length tree.conditions ≤ 20
-    pub conditions : oriented ≡ false → tree.conditions ≡ []
+  -- in the condition with a number
+  abbrev pub condition_refusal : List (List ℕ × ℕ) → List (List ℕ) → ℕ → ℕ → ConditionTree → Option (Cause × ℕ)
+  condition_refusal table names rule number c =
+      or_refusal (side_refusal table names (side_of rule number false) c.left)
+      (side_refusal (with_symbols block table c.left) (with_variables block names c.left) (side_of rule number false) c.right)
 
-  abbrev pub AreTreesAllowed : Bool → List RuleTree → Type 0
-  AreTreesAllowed oriented [] = Unit {0}
-  AreTreesAllowed oriented (t ∷ ts) = IsTreeAllowed oriented t × AreTreesAllowed oriented ts
+  -- in conditions from a number on
+  abbrev pub conditions_refusal : List (List ℕ × ℕ) → List (List ℕ) → ℕ → ℕ → List ConditionTree → Option (Cause × ℕ)
+  conditions_refusal table names rule number [] = None
+  conditions_refusal table names rule number (c ∷ cs) =
+      or_refusal (condition_refusal table names rule number c)
+      (conditions_refusal (with_symbols block (with_symbols block table c.left) c.right) (with_variables block (with_variables block names c.left) c.right) rule (number + 1) cs)
 
-  -- a side of a rule or a condition
-  pub record IsSideRead (table : List (List ℕ × ℕ)) (names : List (List ℕ)) (p : Phrase) (after : List (List ℕ × ℕ)) (later : List (List ℕ)) (t : math.Term) : Type 0 where
+  -- in the rule with a number
+  abbrev pub rule_refusal : Bool → List (List ℕ × ℕ) → ℕ → RuleTree → Option (Cause × ℕ)
+  rule_refusal oriented table number r =
+      or_refusal (side_refusal table [] (side_of number 0 true) r.left)
+      (or_refusal (side_refusal (with_symbols block table r.left) (with_variables block [] r.left) (side_of number 0 false) r.right)
+      (or_refusal (bar_refusal oriented (option_map (λ g. g.at) r.guard))
+      (conditions_refusal (with_symbols block (with_symbols block table r.left) r.right) (with_variables block (with_variables block [] r.left) r.right) number 1 (conditions_of r))))
+
+  -- in rules from a number on
+  abbrev pub rules_refusal : Bool → List (List ℕ × ℕ) → ℕ → List RuleTree → Option (Cause × ℕ)
+  rules_refusal oriented table number [] = None
+  rules_refusal oriented table number (r ∷ rs) =
+      or_refusal (rule_refusal oriented table number r) (rules_refusal oriented (with_all_symbols block table (phrases_of_rule r)) (number + 1) rs)
+
+  -- a side of a rule or a condition was read: what it adds to the symbols and the variables, and what it means
+  pub record IsSideRead (table : List (List ℕ × ℕ)) (names : List (List ℕ)) (side : Side) (p : Phrase) (after : List (List ℕ × ℕ)) (later : List (List ℕ)) (t : math.Term) : Type 0 where
+    pub accepted : side_refusal table names side p ≡ None
     pub symbols : after ≡ with_symbols block table p
     pub variables : later ≡ with_variables block names p
     pub means : IsTermOf block after later p t
-    pub nodes_few : nodes p ≤ 2000
-    pub within : IsTable table → IsTable after
-    pub few : length names ≤ 100 → length later ≤ 100
 
-  abbrev pub SideAnswers : List (List ℕ × ℕ) → List (List ℕ) → Phrase → List (List ℕ × ℕ) → List (List ℕ) → Result Term ReadError → Type 0
-  SideAnswers table names p after later (Ok t) = IsSideRead table names p after later (view t)
-  SideAnswers table names p after later (Err NotBuilt) = Refuses block table names p 2000
-  SideAnswers table names p after later (Err NoMemory) = Unit {0}
+  abbrev pub SideAnswers : List (List ℕ × ℕ) → List (List ℕ) → Side → Phrase → List (List ℕ × ℕ) → List (List ℕ) → Result Term ReadError → Type 0
+  SideAnswers table names side p after later (Ok t) = IsSideRead table names side p after later (view t)
+  SideAnswers table names side p after later (Err e) = Tells e (side_refusal table names side p)
 
-  -- conditions
-  pub record AreConditionsRead (table : List (List ℕ × ℕ)) (names : List (List ℕ)) (cs : List ConditionTree) (after : List (List ℕ × ℕ)) (later : List (List ℕ)) (ds : List rules.Condition) : Type 0 where
+  -- the same of a condition
+  pub record IsConditionRead (table : List (List ℕ × ℕ)) (names : List (List ℕ)) (rule number : ℕ) (c : ConditionTree) (after : List (List ℕ × ℕ)) (later : List (List ℕ)) (d : rules.Condition) : Type 0 where
+    pub accepted : condition_refusal table names rule number c ≡ None
+    pub symbols : after ≡ with_symbols block (with_symbols block table c.left) c.right
+    pub variables : later ≡ with_variables block (with_variables block names c.left) c.right
+    pub left : IsTermOf block after later c.left d.left
+    pub right : IsTermOf block after later c.right d.right
+
+  abbrev pub ConditionAnswers : List (List ℕ × ℕ) → List (List ℕ) → ℕ → ℕ → ConditionTree → List (List ℕ × ℕ) → List (List ℕ) → Result Cond ReadError → Type 0
+  ConditionAnswers table names rule number c after later (Ok d) = IsConditionRead table names rule number c after later (condition_view d)
+  ConditionAnswers table names rule number c after later (Err e) = Tells e (condition_refusal table names rule number c)
+
+  -- the same of conditions, from the first on
+  pub record AreConditionsRead (table : List (List ℕ × ℕ)) (names : List (List ℕ)) (rule : ℕ) (cs : List ConditionTree) (after : List (List ℕ × ℕ)) (later : List (List ℕ)) (ds : List rules.Condition) : Type 0 where
+    pub accepted : conditions_refusal table names rule 1 cs ≡ None
     pub symbols : after ≡ with_all_symbols block table (sides cs)
     pub variables : later ≡ with_all_variables block names (sides cs)
     pub mean : AreConditionsOf block after later cs ds
-    pub nodes_few : AreFew (sides cs)
-    pub within : IsTable table → IsTable after
-    pub few : length names ≤ 100 → length later ≤ 100
 
-  abbrev pub RefusesConditions : List (List ℕ × ℕ) → List (List ℕ) → List ConditionTree → Type 0
-  RefusesConditions table names cs = (table_end : List (List ℕ × ℕ)) (names_end : List (List ℕ)) (ds : List rules.Condition)
-      → IsEnd (with_all_symbols block table (sides cs)) (with_all_variables block names (sides cs)) table_end names_end → AreFew (sides cs)
-      → AreConditionsOf block table_end names_end cs ds → ⊥
+  abbrev pub ConditionsAnswers : List (List ℕ × ℕ) → List (List ℕ) → ℕ → List ConditionTree → List (List ℕ × ℕ) → List (List ℕ) → Result (Vec Cond) ReadError → Type 0
+  ConditionsAnswers table names rule cs after later (Ok v) = AreConditionsRead table names rule cs after later (map condition_view v.items)
+  ConditionsAnswers table names rule cs after later (Err e) = Tells e (conditions_refusal table names rule 1 cs)
 
-  abbrev pub ConditionsAnswers : List (List ℕ × ℕ) → List (List ℕ) → List ConditionTree → List (List ℕ × ℕ) → List (List ℕ) → Result (Vec Cond) ReadError → Type 0
-  ConditionsAnswers table names cs after later (Ok v) = AreConditionsRead table names cs after later (map condition_view v.items)
-  ConditionsAnswers table names cs after later (Err NotBuilt) = RefusesConditions table names cs
-  ConditionsAnswers table names cs after later (Err NoMemory) = Unit {0}
-
-  abbrev pub ConditionAnswers : List (List ℕ × ℕ) → List (List ℕ) → ConditionTree → List (List ℕ × ℕ) → List (List ℕ) → Result Cond ReadError → Type 0
-  ConditionAnswers table names c after later (Ok d) = AreConditionsRead table names (c ∷ []) after later (condition_view d ∷ [])
-  ConditionAnswers table names c after later (Err NotBuilt) = RefusesConditions table names (c ∷ [])
-  ConditionAnswers table names c after later (Err NoMemory) = Unit {0}
-
-  -- the sides and the conditions of a rule
-  pub record ArePartsRead (table : List (List ℕ × ℕ)) (tree : RuleTree) (after : List (List ℕ × ℕ)) (later : List (List ℕ)) (r : rules.Rule) : Type 0 where
+  -- a rule was read: its symbols, the names of its variables, and what it means
+  pub record IsRuleRead (oriented : Bool) (table : List (List ℕ × ℕ)) (number : ℕ) (tree : RuleTree) (after : List (List ℕ × ℕ)) (later : List (List ℕ)) (r : Rule) : Type 0 where
+    pub accepted : rule_refusal oriented table number tree ≡ None
     pub symbols : after ≡ with_all_symbols block table (phrases_of_rule tree)
     pub variables : later ≡ rule_variables block tree
-    pub means : IsRuleOf block after tree r
-    pub nodes_few : AreFew (phrases_of_rule tree)
-    pub left : BeginsWithSymbol tree.left
-    pub within : IsTable table → IsTable after
-    pub few : length later ≤ 100
-
-  abbrev pub PartsAnswers : List (List ℕ × ℕ) → RuleTree → List (List ℕ × ℕ) → List (List ℕ) → Result Rule ReadError → Type 0
-  PartsAnswers table tree after later (Ok r) = ArePartsRead table tree after later (rule_view r) × (r.vars ≡ length later)
-  PartsAnswers table tree after later (Err NotBuilt) = (end : List (List ℕ × ℕ)) (r : rules.Rule) → Extends (with_all_symbols block table (phrases_of_rule tree)) end → IsTable end
-      → length (rule_variables block tree) ≤ 100 → AreFew (phrases_of_rule tree) → BeginsWithSymbol tree.left → IsRuleOf block end tree r → ⊥
-  PartsAnswers table tree after later (Err NoMemory) = Unit {0}
-
-  -- a rule, with the names of its variables put last
-  pub record IsRuleRead (oriented : Bool) (table : List (List ℕ × ℕ)) (tree : RuleTree) (before : List (List (List ℕ))) (after : List (List ℕ × ℕ)) (listed : List (List (List ℕ))) (r : Rule) : Type 0 where
-    pub symbols : after ≡ with_all_symbols block table (phrases_of_rule tree)
-    pub variables : listed ≡ before ++ rule_variables block tree ∷ []
     pub means : IsRuleOf block after tree (rule_view r)
-    pub allowed : IsTreeAllowed oriented tree
     pub counted : r.vars ≡ length (rule_variables block tree)
-    pub within : IsTable table → IsTable after
 
-  abbrev pub RuleAnswers : Bool → List (List ℕ × ℕ) → RuleTree → List (List (List ℕ)) → List (List ℕ × ℕ) → List (List (List ℕ)) → Result Rule ReadError → Type 0
-  RuleAnswers oriented table tree before after listed (Ok r) = IsRuleRead oriented table tree before after listed r
-  RuleAnswers oriented table tree before after listed (Err NotBuilt) = (end : List (List ℕ × ℕ)) (r : rules.Rule)
-      → Extends (with_all_symbols block table (phrases_of_rule tree)) end → IsTable end → IsTreeAllowed oriented tree → IsRuleOf block end tree r → ⊥
-  RuleAnswers oriented table tree before after listed (Err NoMemory) = Unit {0}
+  abbrev pub PartsAnswers : Bool → List (List ℕ × ℕ) → ℕ → RuleTree → List (List ℕ × ℕ) → List (List ℕ) → Result Rule ReadError → Type 0
+  PartsAnswers oriented table number tree after later (Ok r) = IsRuleRead oriented table number tree after later r
+  PartsAnswers oriented table number tree after later (Err e) = Tells e (rule_refusal oriented table number tree)
+
+  -- the names of its variables were put last
+  abbrev pub RuleAnswers : Bool → List (List ℕ × ℕ) → ℕ → RuleTree → List (List (List ℕ)) → List (List ℕ × ℕ) → List (List (List ℕ)) → Result Rule ReadError → Type 0
+  RuleAnswers oriented table number tree before after listed (Ok r) =
+      IsRuleRead oriented table number tree after (rule_variables block tree) r × (listed ≡ before ++ rule_variables block tree ∷ [])
+  RuleAnswers oriented table number tree before after listed (Err e) = Tells e (rule_refusal oriented table number tree)
 
   -- each rule tells the number of its variables
   abbrev pub AreNumbersOf : List RuleTree → List Rule → Type 0
@@ -113,17 +118,19 @@ module _ (block : List (List ℕ)) where
   AreNumbersOf (t ∷ ts) [] = ⊥
   AreNumbersOf (t ∷ ts) (r ∷ rs) = (r.vars ≡ length (rule_variables block t)) × AreNumbersOf ts rs
 
-  -- rules
-  pub record AreRulesRead (oriented : Bool) (table : List (List ℕ × ℕ)) (trees : List RuleTree) (before : List (List (List ℕ))) (after : List (List ℕ × ℕ)) (listed : List (List (List ℕ))) (rs : List Rule) : Type 0 where
+  -- the same of rules, from the first on
+  pub record AreRulesRead (oriented : Bool) (table : List (List ℕ × ℕ)) (trees : List RuleTree) (after : List (List ℕ × ℕ)) (listed : List (List (List ℕ))) (rs : List Rule) : Type 0 where
+    pub accepted : rules_refusal oriented table 1 trees ≡ None
     pub symbols : after ≡ with_rule_symbols block table trees
-    pub variables : listed ≡ before ++ map (rule_variables block) trees
+    pub variables : listed ≡ map (rule_variables block) trees
     pub mean : AreRulesOf block after trees (map rule_view rs)
-    pub allowed : AreTreesAllowed oriented trees
     pub counted : AreNumbersOf trees rs
-    pub within : IsTable table → IsTable after
 
-  abbrev pub RulesAnswers : Bool → List (List ℕ × ℕ) → List RuleTree → List (List (List ℕ)) → List (List ℕ × ℕ) → List (List (List ℕ)) → Result (Vec Rule) ReadError → Type 0
-  RulesAnswers oriented table trees before after listed (Ok v) = AreRulesRead oriented table trees before after listed v.items
-  RulesAnswers oriented table trees before after listed (Err NotBuilt) = (end : List (List ℕ × ℕ)) (rs : List rules.Rule)
-      → Extends (with_rule_symbols block table trees) end → IsTable end → AreTreesAllowed oriented trees → AreRulesOf block end trees rs → ⊥
-  RulesAnswers oriented table trees before after listed (Err NoMemory) = Unit {0}
+  abbrev pub RulesAnswers : Bool → List (List ℕ × ℕ) → List RuleTree → List (List ℕ × ℕ) → List (List (List ℕ)) → Result (Vec Rule) ReadError → Type 0
+  RulesAnswers oriented table trees after listed (Ok v) = AreRulesRead oriented table trees after listed v.items
+  RulesAnswers oriented table trees after listed (Err e) = Tells e (rules_refusal oriented table 1 trees)
+
+-- the system that the tree of a file means, with its names, or the one refusal
+abbrev pub FileAnswers : FileTree → Result (rules.System × NameTable) ReadError → Type 0
+FileAnswers file (Ok found) = IsSystemOf file found.0 found.1
+FileAnswers file (Err e) = Tells e (refusal_of file)

@@ -1,24 +1,22 @@
-ghost use Rattle.std.specs.Prelude.{◌≡◌, ◌<◌, IfOk, Ok, OnOk, map};
-ghost use Rattle.file_text.specs.Depth.{IsShallowFile};
+ghost use Rattle.std.specs.Prelude.{◌≡◌, [], IfOk, Ok, OnOk, map};
+ghost use Rattle.file_text.specs.Syntax as syntax;
+ghost use Rattle.cops_syntax.specs.View.{IsFileText, names_view};
 ghost use Rattle.rewriting.specs.Systems.{IsSystem};
 ghost use Rattle.term_core.specs.RuleView.{rule_view, AreCounted};
-ghost use Rattle.cops_syntax.specs.View as tree;
-ghost use Rattle.cops_read.specs.Meaning.{variables_of, with_names};
-ghost use Rattle.cops_read.specs.Answers.{FileAnswers};
+ghost use Rattle.cops_read.specs.Meaning.{with_names};
+ghost use Rattle.cops_read.specs.RuleSteps.{FileAnswers};
 
+use crate::heads::{Scope, text_of};
 use crate::name_set::NameSet;
 use crate::names::Names;
 use crate::reader::ReadError;
 use crate::rules::read_rules;
-use crate::scope::{Scope, text_of};
 use cops_syntax::{FileText, Name};
 use std::alloc::Global;
 use term_core::{NoMemory, Rule, System};
 
-const MOST_RULES: usize = 1000;
-
 fn add_names<'a>(block: &mut NameSet<'a>, names: &[Name<'a>]) -> Result<(), NoMemory>
-    ensures { OnOk result (block.new ≡ with_names block.old (map (λ n. n.text.now) names.now)) }
+    ensures { OnOk result (block.new ≡ with_names block.old (map (λ n. n.text) (names_view names.now))) }
 {
     'names: for name in names {
         block.add(text_of(name)?)?;
@@ -27,13 +25,11 @@ fn add_names<'a>(block: &mut NameSet<'a>, names: &[Name<'a>]) -> Result<(), NoMe
 }
 
 // The names of the variables' block, each once.
-fn read_block<'a>(alloc: Global, file: &FileText<'a>) -> Result<NameSet<'a>, NoMemory>
-    ensures { IfOk result (λ block. block ≡ variables_of (tree.file_view file.now)) }
+fn read_block<'a>(alloc: Global, names: &[Name<'a>]) -> Result<NameSet<'a>, NoMemory>
+    ensures { IfOk result (λ block. block ≡ with_names [] (map (λ n. n.text) (names_view names.now))) }
 {
     let mut block = NameSet::new(alloc);
-    if let Some(names) = &file.variables {
-        add_names(&mut block, names)?;
-    }
+    add_names(&mut block, names)?;
     Ok(block)
 }
 
@@ -45,7 +41,7 @@ fn make_system(arities: Vec<u32>, rules: Vec<Rule>) -> Result<System, ReadError>
 {
     match System::make(arities, rules) {
         Ok(system) => Ok(system),
-        Err(_) => Err(ReadError::NotBuilt),
+        Err(_) => Err(ReadError::NoMemory),
     }
 }
 
@@ -54,14 +50,11 @@ pub(crate) fn read_file<'a>(
     alloc: Global,
     file: &FileText<'a>,
 ) -> Result<(System, Names), ReadError>
-    requires { IsShallowFile (tree.file_view file.now) }
-    ensures { FileAnswers (tree.file_view file.now) result }
+    requires { (tree : syntax.FileTree) × IsFileText file.now tree }
+    ensures { (tree : syntax.FileTree) → IsFileText file.now tree → FileAnswers tree result }
 {
-    if file.rules.len() > MOST_RULES {
-        return Err(ReadError::NotBuilt);
-    }
     let mut scope = Scope {
-        block: read_block(alloc, file)?,
+        block: read_block(alloc, &file.variables)?,
         names: Names::new(alloc),
         variables: NameSet::new(alloc),
     };

@@ -2,14 +2,14 @@
 #![tactic(auto)]
 
 mod files;
+mod heads;
 mod name_set;
 mod names;
 mod reader;
 mod rules;
-mod scope;
-mod symbols;
+mod terms;
 #[cfg(test)]
 mod tests;
 
 pub use names::Names;
-pub use reader::{ReadError, one_reading, read_system};
+pub use reader::{Count, ReadError, one_reading, read_system};

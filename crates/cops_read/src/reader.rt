@@ -1,23 +1,104 @@
 ghost use Rattle.std.specs.Prelude.{◌≡◌};
-ghost use Rattle.cops_read.specs.Answers.{ReadAnswers, OneSystem, SystemsAreSound};
+ghost use Rattle.cops_read.specs.Answers.{most_of, ReadAnswers, OneSystem, SystemsAreSound, SystemsAreWithinLimits, OneRefusal, NeverSystemAndRefusal, SystemOrRefusal};
 ghost use Rattle.cops_read.specs.declared.reader.ReadError.TheVariants.{NoMemory as no_memory};
 
 use crate::files::read_file;
 use crate::names::Names;
 use cops_syntax::{SyntaxError, parse};
 use std::alloc::{AllocError, AllocFailed, Global};
+use std::fmt;
 use term_core::{NoMemory, System};
 use thiserror::Error;
 
-const MOST_BYTES: usize = 1048576;
+/// Parts of a file of which there is a greatest number.
+#[derive(Clone, Copy, Debug, PartialEq, Eq)]
+pub enum Count {
+    /// The rules of the file.
+    Rules,
+    /// The conditions of a rule.
+    Conditions,
+    /// The arguments of a symbol.
+    Arity,
+    /// The identifiers of a term.
+    Nodes,
+    /// The variables of a rule.
+    Variables,
+    /// The symbols of the file.
+    Symbols,
+}
 
-/// Why bytes are read to no system.
+impl Count {
+    /// The greatest number of such parts.
+    pub fn limit(self) -> u32
+        ensures { result ≡ most_of self }
+    {
+        match self {
+            Count::Rules | Count::Symbols => 1000,
+            Count::Conditions | Count::Arity => 20,
+            Count::Nodes => 2000,
+            Count::Variables => 100,
+        }
+    }
+}
+
+impl fmt::Display for Count {
+    fn fmt<W: fmt::Write>(&self, f: &mut fmt::Formatter<W>) -> fmt::Result {
+        f.write_str(match self {
+            Count::Rules => "rules",
+            Count::Conditions => "conditions",
+            Count::Arity => "arguments",
+            Count::Nodes => "nodes",
+            Count::Variables => "variables",
+            Count::Symbols => "symbols",
+        })
+    }
+}
+
+/// Why bytes are read to no system. A place is a byte number from 0.
 #[derive(Debug, Drop, Error)]
 pub enum ReadError {
-    /// The bytes are no text of the form that is built: no comment, the blocks `CONDITIONTYPE`,
-    /// `VAR` and `RULES` in this order, the first two optional, and everything within the limits.
-    #[error("not built")]
-    NotBuilt,
+    /// A byte outside comments that is in no token and is no white space.
+    #[error("bad byte at {at}")]
+    BadByte { at: usize },
+    /// The first byte of an identifier of more than 255 bytes.
+    #[error("identifier too long at {at}")]
+    IdTooLong { at: usize },
+    /// A comment that is not closed: the length of the text.
+    #[error("comment not closed at {at}")]
+    CommentNotClosed { at: usize },
+    /// The first token that goes on with no text of the grammar, or the length of the text.
+    #[error("syntax at {at}")]
+    Syntax { at: usize },
+    /// The title of a block that is none of the three.
+    #[error("unknown block at {at}")]
+    UnknownBlock { at: usize },
+    /// The title of an earlier block.
+    #[error("repeated block at {at}")]
+    RepeatedBlock { at: usize },
+    /// A condition type other than `ORIENTED`.
+    #[error("condition type other at {at}")]
+    ConditionTypeOther { at: usize },
+    /// No block of rules: the length of the text.
+    #[error("missing rules at {at}")]
+    MissingRules { at: usize },
+    /// The first bar in a file without a condition type.
+    #[error("conditions without type at {at}")]
+    ConditionsWithoutType { at: usize },
+    /// A variable before brackets.
+    #[error("variable with arguments at {at}")]
+    VariableWithArguments { at: usize },
+    /// A symbol with another number of arguments than at its first use.
+    #[error("arity differs at {at}")]
+    ArityDiffers { at: usize },
+    /// A variable that is the left side of a rule.
+    #[error("left side is a variable at {at}")]
+    LeftVariable { at: usize },
+    /// An identifier at depth 201 of a term.
+    #[error("too deep at {at}")]
+    TooDeep { at: usize },
+    /// The first of the parts that are too many.
+    #[error("too many {what} at {at}")]
+    TooMany { what: Count, limit: u32, at: usize },
     #[error("no memory")]
     NoMemory,
 }
@@ -47,13 +128,20 @@ impl<T: Drop> From<AllocFailed<T>> for ReadError {
 }
 
 impl From<SyntaxError> for ReadError {
-    ghost use Rattle.cops_read.specs.Answers.{read_error_of};
+    ghost use Rattle.cops_read.specs.Steps.{read_error_of};
 
     ghost from_gives = { λ e d. d ≡ read_error_of e };
 
     fn from(error: SyntaxError) -> Self {
         match error {
-            SyntaxError::NotBuilt => ReadError::NotBuilt,
+            SyntaxError::BadByte { at } => ReadError::BadByte { at },
+            SyntaxError::IdTooLong { at } => ReadError::IdTooLong { at },
+            SyntaxError::CommentNotClosed { at } => ReadError::CommentNotClosed { at },
+            SyntaxError::Syntax { at } => ReadError::Syntax { at },
+            SyntaxError::UnknownBlock { at } => ReadError::UnknownBlock { at },
+            SyntaxError::RepeatedBlock { at } => ReadError::RepeatedBlock { at },
+            SyntaxError::ConditionTypeOther { at } => ReadError::ConditionTypeOther { at },
+            SyntaxError::MissingRules { at } => ReadError::MissingRules { at },
             SyntaxError::NoMemory => ReadError::NoMemory,
         }
     }
@@ -63,15 +151,17 @@ impl From<SyntaxError> for ReadError {
 pub fn read_system(alloc: Global, bytes: &[u8]) -> Result<(System, Names), ReadError>
     ensures { ReadAnswers bytes.now result }
 {
-    if bytes.len() > MOST_BYTES {
-        return Err(ReadError::NotBuilt);
-    }
     let file = parse(alloc, bytes)?;
     read_file(alloc, &file)
 }
 
-/// A text spells at most one system, with one table of names, and what it spells is a system.
+/// A text spells one system, with one table of names, or it has one refusal other than want of memory,
+/// and never both. What it spells is a system within the limits.
 pub fn one_reading()
     ensures one { OneSystem }
     ensures sound { SystemsAreSound }
+    ensures limits { SystemsAreWithinLimits }
+    ensures refusal { OneRefusal }
+    ensures either { NeverSystemAndRefusal }
+    ensures some { SystemOrRefusal }
 {}

@@ -1,36 +1,45 @@
-use Rattle.std.proofs.Common.{ap, map, arith}
-use Rattle.std.proofs.lemmas.List.{length-map}
-use Rattle.cops_syntax.specs.View as tree
+use Rattle.std.proofs.Common.{◌≡◌, ◌∙◌, ap, map, List, ℕ, []}
+use Rattle.file_text.specs.Syntax.{Name, FileTree}
+use Rattle.cops_syntax.specs.View.{IsFileText, names_view}
+use Rattle.cops_syntax.specs.declared.tree.Name as program
+use Rattle.cops_syntax.specs.declared.tree.FileText.{FileText}
 use Rattle.cops_read.specs.NameTable.{NameTable}
-use Rattle.cops_read.proofs.Wholes.{too_many, rules_fail, rules_sound, rules_counted, file_read}
+use Rattle.cops_read.specs.Meaning.{with_names, variables_of}
+use Rattle.cops_read.specs.RuleSteps.{FileAnswers}
+use Rattle.cops_read.proofs.Tells.{handed}
+use Rattle.cops_read.proofs.Wholes.{rules_told, rules_sound, rules_counted, file_read}
 use Rattle.cops_read.proofs.files.read_file.Goals as goal
 
-pub returns-then-len-gt-MOST_RULES : goal.returns-then-len-gt-MOST_RULES
-returns-then-len-gt-MOST_RULES c sys names h =
-    too_many (tree.file_view c.args.file.now) (omega (arith, c.if-len-gt-MOST_RULES.true, c.len.ensures, c.args.file.now.rules.ok.0, length-map c.args.file.now.rules.items tree.rule_view)) sys names h
+block_is : (file : FileTree) (text : FileText) (block : List (List ℕ)) (items : List program.Name) → IsFileText text file → block ≡ with_names [] (map (λ n. n.text) (names_view items))
+    → items ≡ text.variables.items → block ≡ variables_of file
+block_is file text block items h e same =
+    e ∙ ap (λ (ns : List program.Name). with_names [] (map (λ (n : Name). n.text) (names_view ns))) same ∙ ap (λ (ns : List Name). with_names [] (map (λ (n : Name). n.text) ns)) h.variables
 
 pub returns-in_err-rules : goal.returns-in_err-rules
-returns-in_err-rules c =
-    rules_fail (tree.file_view c.args.file.now) c.in_ok-read_block.field-0 c.new.result.symbols (map tree.rule_view c.deref.result.now)
-    c.in_ok-read_block.ensures (ap (λ (n : NameTable). n.symbols) c.new.ensures) (ap (map tree.rule_view) c.deref.ensures.value)
-    c.read_rules.new.scope.names.symbols c.read_rules.new.scope.names.variables c.in_err-rules.field-0.0 c.from_residual-in_err-rules.result c.in_err-rules.ensures.rules c.from_residual-in_err-rules.ensures.1
+returns-in_err-rules c tree h =
+    handed (FileAnswers tree) c.in_err-rules.field-0.0 c.from_residual-in_err-rules.result c.from_residual-in_err-rules.ensures.1
+    (rules_told tree c.args.file.now h c.in_ok-read_block.field-0 c.new.result.symbols c.deref-2.result.now
+    (block_is tree c.args.file.now c.in_ok-read_block.field-0 c.deref.result.now h c.in_ok-read_block.ensures c.deref.ensures.value) (ap (λ (n : NameTable). n.symbols) c.new.ensures) c.deref-2.ensures.value
+    c.read_rules.new.scope.names.symbols c.read_rules.new.scope.names.variables c.in_err-rules.field-0.0 c.in_err-rules.ensures.rules)
 
 pub make_system-requires-clause-sound : goal.make_system-requires-clause-sound
 make_system-requires-clause-sound c =
-    rules_sound (tree.file_view c.args.file.now) c.in_ok-read_block.field-0 c.new.result.symbols (map tree.rule_view c.deref.result.now)
-    c.in_ok-read_block.ensures (ap (λ (n : NameTable). n.symbols) c.new.ensures) (ap (map tree.rule_view) c.deref.ensures.value)
-    c.read_rules.new.scope.names c.in_ok-arities.arities.items c.in_ok-rules.rules.items c.requires
-    (omega (arith, c.if-len-gt-MOST_RULES.false, c.len.ensures, c.args.file.now.rules.ok.0, length-map c.args.file.now.rules.items tree.rule_view)) c.in_ok-rules.ensures.rules c.in_ok-arities.ensures
+    let tree = c.requires.0 in
+    let h = c.requires.1 in
+    rules_sound tree c.args.file.now h c.in_ok-read_block.field-0 c.new.result.symbols c.deref-2.result.now
+    (block_is tree c.args.file.now c.in_ok-read_block.field-0 c.deref.result.now h c.in_ok-read_block.ensures c.deref.ensures.value) (ap (λ (n : NameTable). n.symbols) c.new.ensures) c.deref-2.ensures.value
+    c.read_rules.new.scope.names c.in_ok-arities.arities.items c.in_ok-rules.rules.items c.in_ok-rules.ensures.rules c.in_ok-arities.ensures
 
 pub make_system-requires-clause-counted : goal.make_system-requires-clause-counted
 make_system-requires-clause-counted c =
-    rules_counted (tree.file_view c.args.file.now) c.in_ok-read_block.field-0 c.new.result.symbols (map tree.rule_view c.deref.result.now)
-    c.in_ok-read_block.ensures (ap (λ (n : NameTable). n.symbols) c.new.ensures) (ap (map tree.rule_view) c.deref.ensures.value)
-    c.read_rules.new.scope.names c.in_ok-rules.rules.items c.in_ok-rules.ensures.rules
+    let tree = c.requires.0 in
+    let h = c.requires.1 in
+    rules_counted tree c.args.file.now h c.in_ok-read_block.field-0 c.new.result.symbols c.deref-2.result.now
+    (block_is tree c.args.file.now c.in_ok-read_block.field-0 c.deref.result.now h c.in_ok-read_block.ensures c.deref.ensures.value) (ap (λ (n : NameTable). n.symbols) c.new.ensures) c.deref-2.ensures.value
+    c.read_rules.new.scope.names c.in_ok-arities.arities.items c.in_ok-rules.rules.items c.in_ok-rules.ensures.rules c.in_ok-arities.ensures
 
 pub returns : goal.returns
-returns c =
-    file_read (tree.file_view c.args.file.now) c.in_ok-read_block.field-0 c.new.result.symbols (map tree.rule_view c.deref.result.now)
-    c.in_ok-read_block.ensures (ap (λ (n : NameTable). n.symbols) c.new.ensures) (ap (map tree.rule_view) c.deref.ensures.value)
-    c.in_ok-system.system c.read_rules.new.scope.names c.in_ok-arities.arities.items c.in_ok-rules.rules.items c.requires
-    (omega (arith, c.if-len-gt-MOST_RULES.false, c.len.ensures, c.args.file.now.rules.ok.0, length-map c.args.file.now.rules.items tree.rule_view)) c.in_ok-rules.ensures.rules c.in_ok-arities.ensures c.in_ok-system.ensures
+returns c tree h =
+    file_read tree c.args.file.now h c.in_ok-read_block.field-0 c.new.result.symbols c.deref-2.result.now
+    (block_is tree c.args.file.now c.in_ok-read_block.field-0 c.deref.result.now h c.in_ok-read_block.ensures c.deref.ensures.value) (ap (λ (n : NameTable). n.symbols) c.new.ensures) c.deref-2.ensures.value
+    c.read_rules.new.scope.names c.in_ok-arities.arities.items c.in_ok-rules.rules.items c.in_ok-rules.ensures.rules c.in_ok-arities.ensures c.in_ok-system.system c.in_ok-system.ensures

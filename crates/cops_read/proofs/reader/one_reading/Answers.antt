@@ -1,8 +1,20 @@
-use Rattle.cops_read.proofs.Readings as readings
+use Rattle.cops_read.proofs.Laws as laws
 use Rattle.cops_read.proofs.reader.one_reading.Goals as goal
 
 pub returns-clause-one : goal.returns-clause-one
-returns-clause-one c = readings.one_reading
+returns-clause-one c = laws.one_reading
 
 pub returns-clause-sound : goal.returns-clause-sound
-returns-clause-sound c = readings.sound
+returns-clause-sound c = laws.sound
+
+pub returns-clause-limits : goal.returns-clause-limits
+returns-clause-limits c = laws.within_limits
+
+pub returns-clause-refusal : goal.returns-clause-refusal
+returns-clause-refusal c = laws.one_refusal
+
+pub returns-clause-either : goal.returns-clause-either
+returns-clause-either c = laws.never_both
+
+pub returns-clause-some : goal.returns-clause-some
+returns-clause-some c = laws.some_reading
