@@ -1,0 +1,14 @@
+pub mod Growing
+pub mod Members
+pub mod Sets
+pub mod Rules
+pub mod Trees
+pub mod TreeTokens
+pub mod Placed
+pub mod SameText
+pub mod Agree
+pub mod Mean
+pub mod Refuse
+pub mod FileNames
+pub mod FileText
+pub mod ReadBack

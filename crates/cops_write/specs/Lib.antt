@@ -1,0 +1,5 @@
+pub mod Text
+pub mod Grows
+pub mod NameSetView
+pub mod Numbered
+pub mod Laws

@@ -1,0 +1,10 @@
+//! Writes the text of a conditional rewrite system.
+#![tactic(auto)]
+
+mod name_set;
+mod terms;
+#[cfg(test)]
+mod tests;
+mod writer;
+
+pub use writer::{write_system, write_term, written_is_read};
