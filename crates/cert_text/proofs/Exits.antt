@@ -1,7 +1,5 @@
 -- Where a part refuses, the whole refuses.
-use Rattle.std.proofs.Common.{not, ap, Ok, ◌≡◌, Result, Err, List, ℕ, Bool, true, false, sym, subst, ◌∙◌}
-use Rattle.std.specs.Str.{bytes_eq}
-use Rattle.std.proofs.lemmas.Slice.Eq.{bytes_eq-Decides}
+use Rattle.std.proofs.Common.{Ok, ◌≡◌, Result, Err, List, ℕ, Bool, true, false, sym, subst, ◌∙◌}
 use Rattle.std.specs.Result.{IsErrAnd}
 use Rattle.std.proofs.lemmas.Result.{err_from_is_err_and}
 use Rattle.cert_text.specs.declared.error.CertError.{CertError}
@@ -28,8 +26,6 @@ pub through : {A C : Type 0} (P : A → Type 0) (Q : A → Type 0) (value : C �
 through P Q value (Ok x) h there back = there (value x) h
 through P Q value (Err e) h there back = handed P Q e h (λ y q. (y, back y q))
 
-pub words_differ : (word text wanted : List ℕ) (r : Bool) → r ≡ not (bytes_eq word text) → r ≡ true → text ≡ wanted → word ≡ wanted → ⊥
-words_differ word text wanted r h t e q =
-    let same : bytes_eq word text ≡ true = (bytes_eq-Decides word text).1 (q ∙ sym e) in
-    let both : true ≡ false = sym t ∙ h ∙ ap not same in
-    absurd cc
+-- a test that failed
+pub when_false : {P : Type 0} (r : Bool) → (P → r ≡ true) → r ≡ false → P → ⊥
+when_false r h f p = let both : true ≡ false = sym (h p) ∙ f in absurd cc

@@ -1,6 +1,6 @@
 -- Identifiers and the symbols that they name.
 use Rattle.std.proofs.Common.{ne_eqb, take, drop, IsTrue, ◌↔◌, nat_lt, ◌==◌, eqb-true, zero, ◌≡◌, ℕ, suc, ◌+◌, ◌<◌, ◌≤◌, Bool, true, false, cond, not, ◌&&◌, ◌||◌, List, [], ◌∷◌, ◌++◌, length, get_or, Option, Some, None, refl, sym, ap, ◌∙◌, subst, arith}
-use Rattle.std.specs.Prelude.{option_map}
+use Rattle.std.specs.Prelude.{option_map, MatchOption}
 use Rattle.std.specs.List.{AllByRecursion}
 use Rattle.std.specs.Str.{bytes_eq, IsUtf8}
 use Rattle.std.proofs.lemmas.Str.{IsUtf8-from_ascii}
@@ -12,6 +12,7 @@ use Rattle.std.proofs.lemmas.Option.{slice_get-get_or}
 use Rattle.file_text.specs.Bytes.{is_id, begins_arrow, begins_equal, run_len}
 use Rattle.cops_read.specs.NameTable.{NameTable, name_at, arity_at, number_of}
 use Rattle.cert_text.specs.Words.{IsIdentifier, IsNamed}
+use Rattle.cert_text.specs.EvidenceText.{IsName}
 use Rattle.cert_text.specs.Reading.{Lacks}
 use Rattle.cert_text.specs.ReadingTerms.{IsPlain, Stops, WordAt, ends_word, goes_on}
 
@@ -53,20 +54,20 @@ and_both true true e = (refl, refl)
 and_both true false e = absurd cc
 and_both false w e = absurd cc
 
-all_of_run : (P : ℕ → Type 0) → ((b : ℕ) → is_id b ≡ true → P b) → (bs : List ℕ) → is_run bs ≡ true → AllByRecursion P bs
+pub all_of_run : (P : ℕ → Type 0) → ((b : ℕ) → is_id b ≡ true → P b) → (bs : List ℕ) → is_run bs ≡ true → AllByRecursion P bs
 all_of_run P h [] e = tt
 all_of_run P h (b ∷ bs) e =
     let both = and_both (goes_on (b ∷ bs)) (is_run bs) e in
     (h b (and_both (is_id b) (not (begins_arrow (b ∷ bs) || begins_equal (b ∷ bs))) both.0).0, all_of_run P h bs both.1)
 
 -- a byte of an identifier is ASCII, ends no word, and is no bar
-no_such : (c : ℕ) → is_id c ≡ false → (b : ℕ) → is_id b ≡ true → b ≡ c → ⊥
+pub no_such : (c : ℕ) → is_id c ≡ false → (b : ℕ) → is_id b ≡ true → b ≡ c → ⊥
 no_such c f b e q = let both : true ≡ false = sym e ∙ ap is_id q ∙ f in absurd cc
 
 id_small : (b : ℕ) → is_id b ≡ true → b < 127
 id_small b e = ltb-true b 127 (and_both (nat_lt 32 b) (nat_lt b 127) (and_both (nat_lt 32 b && nat_lt b 127) _ e).0).1
 
-id_large : (b : ℕ) → is_id b ≡ true → 32 < b
+pub id_large : (b : ℕ) → is_id b ≡ true → 32 < b
 id_large b e = ltb-true 32 b (and_both (nat_lt 32 b) (nat_lt b 127) (and_both (nat_lt 32 b && nat_lt b 127) _ e).0).0
 
 pub ends_none : (b : ℕ) → (b ≡ 40 → ⊥) → (b ≡ 41 → ⊥) → (b ≡ 44 → ⊥) → ends_word b ≡ false
@@ -88,12 +89,13 @@ identifier_is_plain name h = plain name (all_of_run (λ b. ends_word b ≡ false
     plain [] e = tt
     plain (b ∷ bs) e = (e.0, plain bs e.1)
 
-pub identifier_lacks_end : (name : List ℕ) → IsIdentifier name → Lacks 10 name
-identifier_lacks_end name h = lacks name (all_of_run (λ b. 32 < b) id_large name (whole_is_run name h.1))
+-- an identifier has no space and no line's end
+pub identifier_lacks : (e : ℕ) (name : List ℕ) → e ≤ 32 → IsIdentifier name → Lacks e name
+identifier_lacks e name l h = lacks name (all_of_run (λ b. 32 < b) id_large name (whole_is_run name h.1))
   where
-    lacks : (bs : List ℕ) → AllByRecursion (λ b. 32 < b) bs → Lacks 10 bs
-    lacks [] e = tt
-    lacks (b ∷ bs) e = (λ q. omega (arith, e.0), lacks bs e.1)
+    lacks : (bs : List ℕ) → AllByRecursion (λ b. 32 < b) bs → Lacks e bs
+    lacks [] k = tt
+    lacks (b ∷ bs) k = (λ q. omega (arith, k.0), lacks bs k.1)
 
 pub identifier_is_text : (name : List ℕ) → IsIdentifier name → IsUtf8 name
 identifier_is_text name h = IsUtf8-from_ascii name (ascii name (all_of_run (λ b. b < 127) id_small name (whole_is_run name h.1)))
@@ -120,23 +122,28 @@ found_is_named names name f e =
     some : List ℕ → Option (List ℕ)
     some x = Some x
 
-pub symbol_whole : (names : NameTable) (name : List ℕ) (f n : ℕ) (found arity : Option ℕ) → IsIdentifier name → found ≡ number_of names.symbols name → found ≡ Some f → arity ≡ arity_at names f → arity ≡ Some n → IsNamed names f name n
-symbol_whole names name f n found arity h p q r s = record {
-  named = found_is_named names name f (sym p ∙ q);
-  identifier = h;
-  found = sym p ∙ q;
-  arity = sym r ∙ s;
-}
+-- the symbol of an identifier
+pub named_decided : (names : NameTable) (name text : List ℕ) (found : Option ℕ) → IsIdentifier name → text ≡ name → found ≡ number_of names.symbols text → MatchOption found ((f : ℕ) → IsName names f name → ⊥) (λ f. IsName names f name)
+named_decided names name text None h q p = λ f k. let both : None ≡ Some f = p ∙ ap (number_of names.symbols) q ∙ k.found in absurd cc
+named_decided names name text (Some f) h q p =
+    let found : number_of names.symbols name ≡ Some f = sym (p ∙ ap (number_of names.symbols) q) in
+    record { named = found_is_named names name f found; identifier = h; found = found }
 
-pub no_symbol : (names : NameTable) (name : List ℕ) (f n : ℕ) (found : Option ℕ) → found ≡ number_of names.symbols name → found ≡ None → IsNamed names f name n → ⊥
-no_symbol names name f n found p q h = let both : None ≡ Some f = sym q ∙ p ∙ h.found in cc
+pub no_identifier_named : (names : NameTable) (name : List ℕ) → (IsIdentifier name → ⊥) → (f : ℕ) → IsName names f name → ⊥
+no_identifier_named names name bad f h = bad h.identifier
 
-pub no_arity : (names : NameTable) (name : List ℕ) (f g n : ℕ) (found arity : Option ℕ) → found ≡ number_of names.symbols name → found ≡ Some f → arity ≡ arity_at names f → arity ≡ None → IsNamed names g name n → ⊥
-no_arity names name f g n found arity p q r s h =
-    let both : Some f ≡ Some g = sym q ∙ p ∙ h.found in
+pub named_absent : (names : NameTable) (name : List ℕ) → ((f : ℕ) → IsName names f name → ⊥) → (f n : ℕ) → IsNamed names f name n → ⊥
+named_absent names name bad f n h = bad f (record { named = h.named; identifier = h.identifier; found = h.found })
+
+pub named_symbol : (names : NameTable) (name : List ℕ) (f n : ℕ) (arity : Option ℕ) → IsName names f name → arity ≡ arity_at names f → arity ≡ Some n → IsNamed names f name n
+named_symbol names name f n arity h r s = record { named = h.named; identifier = h.identifier; found = h.found; arity = sym r ∙ s }
+
+pub no_arity : (names : NameTable) (name : List ℕ) (f g n : ℕ) (arity : Option ℕ) → IsName names f name → arity ≡ arity_at names f → arity ≡ None → IsNamed names g name n → ⊥
+no_arity names name f g n arity h r s k =
+    let both : Some f ≡ Some g = sym h.found ∙ k.found in
     let same : f ≡ g = cc in
-    let none : None ≡ Some n = sym s ∙ r ∙ ap (arity_at names) same ∙ h.arity in
-    cc
+    let none : None ≡ Some n = sym s ∙ r ∙ ap (arity_at names) same ∙ k.arity in
+    absurd cc
 
 -- a name has one symbol and one arity
 pub named_same : (names : NameTable) (name : List ℕ) (f g m n : ℕ) → IsNamed names f name m → IsNamed names g name n → (f ≡ g) × (m ≡ n)

@@ -1,61 +1,110 @@
-ghost use Rattle.std.specs.Prelude.{◌≡◌, ℕ, List, IfOk, IfErr};
+ghost use Rattle.std.specs.Prelude.{◌≡◌, ℕ, List, IfOk, IfErr, map};
 ghost use Rattle.certificates.specs.Certificates as math;
 ghost use Rattle.cops_read.specs.NameTable.{NameTable};
-ghost use Rattle.cert_model.specs.CertificateView.{certificate_view};
-ghost use Rattle.cert_text.specs.Certificate.{IsCertificate};
+ghost use Rattle.cert_model.specs.CertificateView.{pair_entry_view, measure_view, certificate_view};
+ghost use Rattle.cert_text.specs.CertificateText.{IsCertificateText};
+ghost use Rattle.cert_text.specs.ReadingCertificates.{IsQuasiText, IsBodyText, IsPlainText, IsAnsweredText, HasAnswer};
 ghost use Rattle.cert_text.specs.Answers.{Answers, IsRefused};
 
 use crate::error::CertError;
-use crate::steps::derivation;
-use crate::terms::whole_term;
-use crate::words::{behind, cut};
-use cert_model::{Certificate, NonJoin, Peak};
+use crate::evidence::pairs;
+use crate::measures::entries;
+use crate::peaks::peak;
+use crate::words::behind;
+use cert_model::{Certificate, Linear, MeasureCert, PairEntry};
 use cops_read::Names;
 use std::alloc::Global;
 
-// The greatest length of a text, and how deep derivations are nested at most.
-const MOST_BYTES: usize = 16_777_216;
-
-const MOST_NESTING: u32 = 50;
-
-// The certificate, by one definition for all answers.
-fn plain_peak(alloc: Global, names: &Names, bytes: &[u8]) -> Result<Certificate, CertError>
-    ensures { Answers (IsCertificate names.now bytes.now) certificate_view result }
+// The measure and the overlaps up to the last line.
+fn quasi(
+    alloc: Global,
+    names: &Names,
+    bytes: &[u8],
+) -> Result<(MeasureCert, Vec<PairEntry>), CertError>
+    ensures { Answers (IsQuasiText names.now bytes.now) (λ x. (measure_view x.0, map pair_entry_view x.1.items)) result }
 {
-    if bytes.len() > MOST_BYTES {
-        return Err(CertError::NotBuilt);
-    }
-    let Some(line) = behind(bytes, b"concon 1\npeak\nstart ") else {
+    let Some(lines) = behind(bytes, b"linear\n") else {
         return Err(CertError::NotBuilt);
     };
-    let Some((word, rest)) = cut(line, b'\n') else {
-        return Err(CertError::NotBuilt);
-    };
-    let start = whole_term(alloc, names, word)?;
-    let (first, rest) = derivation(alloc, rest, MOST_NESTING)?;
-    let (second, rest) = derivation(alloc, rest, MOST_NESTING)?;
-    if rest != b"normal\nend\n".as_slice() {
-        return Err(CertError::NotBuilt);
-    }
-    let apart = NonJoin::Normal(Vec::new(alloc));
-    Ok(Certificate::Peak(Peak {
-        start,
-        first,
-        second,
-        apart,
-    }))
+    let (entries, rest) = entries(alloc, names, lines)?;
+    let pairs = pairs(alloc, names, rest)?;
+    Ok((MeasureCert::Linear(Linear { entries }), pairs))
 }
 
-/// The certificate that the bytes are the text of: a peak of two derivations without redex lines.
-/// `NotBuilt` where there is none.
-pub fn read_cert(alloc: Global, names: &Names, bytes: &[u8]) -> Result<Certificate, CertError>
-    ensures found { IfOk result (λ c. IsCertificate names.now bytes.now (certificate_view c)) }
-    ensures refused { IfErr result (IsRefused (IsCertificate names.now bytes.now)) }
+// The certificate behind its first line, up to the last line.
+fn body(alloc: Global, names: &Names, bytes: &[u8]) -> Result<Certificate, CertError>
+    ensures { Answers (IsBodyText names.now bytes.now) certificate_view result }
 {
-    plain_peak(alloc, names, bytes)
+    if let Some(rest) = behind(bytes, b"ortho\n") {
+        let pairs = pairs(alloc, names, rest)?;
+        return Ok(Certificate::Ortho(pairs));
+    }
+    if let Some(rest) = behind(bytes, b"quasi\n") {
+        let (measure, pairs) = quasi(alloc, names, rest)?;
+        return Ok(Certificate::Quasi(measure, pairs));
+    }
+    let Some(rest) = behind(bytes, b"peak\n") else {
+        return Err(CertError::NotBuilt);
+    };
+    let peak = peak(alloc, names, rest)?;
+    Ok(Certificate::Peak(peak))
+}
+
+// The certificate without an answer line.
+fn plain(alloc: Global, names: &Names, bytes: &[u8]) -> Result<Certificate, CertError>
+    ensures { Answers (IsPlainText names.now bytes.now) certificate_view result }
+{
+    match behind(bytes, b"concon 1\n") {
+        Some(rest) => body(alloc, names, rest),
+        None => Err(CertError::NotBuilt),
+    }
+}
+
+// Whether the certificate is for the answer YES; else it is for NO.
+fn is_for_yes(cert: &Certificate) -> bool
+    ensures { HasAnswer result (certificate_view cert.now) }
+{
+    match cert {
+        Certificate::Ortho(_) | Certificate::Quasi(_, _) => true,
+        Certificate::Peak(_) => false,
+    }
+}
+
+// The certificate behind an answer line.
+fn answered(alloc: Global, names: &Names, bytes: &[u8], yes: bool) -> Result<Certificate, CertError>
+    ensures { Answers (IsAnsweredText names.now bytes.now yes) certificate_view result }
+{
+    let found = plain(alloc, names, bytes)?;
+    if is_for_yes(&found) == yes {
+        Ok(found)
+    } else {
+        Err(CertError::NotBuilt)
+    }
+}
+
+// The certificate, by one definition for all answers.
+fn certificate(alloc: Global, names: &Names, bytes: &[u8]) -> Result<Certificate, CertError>
+    ensures { Answers (IsCertificateText names.now bytes.now) certificate_view result }
+{
+    if let Some(text) = behind(bytes, b"YES\n") {
+        return answered(alloc, names, text, true);
+    }
+    if let Some(text) = behind(bytes, b"NO\n") {
+        return answered(alloc, names, text, false);
+    }
+    plain(alloc, names, bytes)
+}
+
+/// The certificate that the bytes are the text of, with its answer line or without one. `NotBuilt` where
+/// there is none.
+pub fn read_cert(alloc: Global, names: &Names, bytes: &[u8]) -> Result<Certificate, CertError>
+    ensures found { IfOk result (λ c. IsCertificateText names.now bytes.now (certificate_view c)) }
+    ensures refused { IfErr result (IsRefused (IsCertificateText names.now bytes.now)) }
+{
+    certificate(alloc, names, bytes)
 }
 
 /// Bytes are the text of one certificate at most.
 pub fn one_certificate()
-    ensures { (names : NameTable) (bytes : List ℕ) (c d : math.Certificate) → IsCertificate names bytes c → IsCertificate names bytes d → c ≡ d }
+    ensures { (names : NameTable) (bytes : List ℕ) (c d : math.Certificate) → IsCertificateText names bytes c → IsCertificateText names bytes d → c ≡ d }
 {}

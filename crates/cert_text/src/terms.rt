@@ -2,6 +2,7 @@ ghost use Rattle.std.specs.Prelude.{◌≡◌, ◌++◌, ◌↔◌, ℕ, IsTrue,
 ghost use Rattle.file_text.specs.Bytes as text;
 ghost use Rattle.term_core.specs.View.{view, views};
 ghost use Rattle.cert_text.specs.Words.{IsIdentifier, IsNamed};
+ghost use Rattle.cert_text.specs.EvidenceText.{IsName};
 ghost use Rattle.cert_text.specs.ReadingTerms as spec;
 ghost use Rattle.cert_text.specs.ReadingTerms.{WordAt, TermAt, TermBehind, ArgumentsAt, IsTermText};
 ghost use Rattle.cert_text.specs.Answers.{Answers};
@@ -51,17 +52,24 @@ fn is_identifier(name: &[u8]) -> bool
     !name.is_empty()
 }
 
-// The symbol that the name is of, and its arity.
-fn symbol(names: &Names, name: &[u8]) -> Option<(u32, u32)>
-    ensures { MatchOption result ((f n : ℕ) → IsNamed names.now f name.now n → ⊥) (λ x. IsNamed names.now x.0 name.now x.1) }
+/// The symbol that the name is of.
+pub fn named(names: &Names, name: &[u8]) -> Option<u32>
+    ensures { MatchOption result ((f : ℕ) → IsName names.now f name.now → ⊥) (λ f. IsName names.now f name.now) }
 {
     if !is_identifier(name) {
         return None;
     }
-    let Ok(text) = str::from_utf8(name) else {
-        return None;
-    };
-    let Some(f) = names.symbol_number(text) else {
+    match str::from_utf8(name) {
+        Ok(text) => names.symbol_number(text),
+        Err(_) => None,
+    }
+}
+
+/// The symbol that the name is of, and its arity.
+pub fn symbol(names: &Names, name: &[u8]) -> Option<(u32, u32)>
+    ensures { MatchOption result ((f n : ℕ) → IsNamed names.now f name.now n → ⊥) (λ x. IsNamed names.now x.0 name.now x.1) }
+{
+    let Some(f) = named(names, name) else {
         return None;
     };
     let Some(arity) = names.arity(f) else {
@@ -77,8 +85,8 @@ fn ends_word(b: u8) -> bool
     b == b'(' || b == b')' || b == b','
 }
 
-// The word at the front, and what is behind it.
-fn word_of(bytes: &[u8]) -> (&[u8], &[u8])
+/// The word at the front, and what is behind it.
+pub fn word_of(bytes: &[u8]) -> (&[u8], &[u8])
     ensures { WordAt bytes.now result.0.now result.1.now }
 {
     'bytes: for (at, b) in bytes.iter().enumerate() {

@@ -1,5 +1,7 @@
-ghost use Rattle.std.specs.Prelude.{◌≡◌, ℕ, MatchOption, ◌⊎◌, ◌==◌, ◌++◌, List, position};
+ghost use Rattle.std.specs.Prelude.{◌≡◌, ◌<◌, ◌↔◌, ℕ, IsTrue, MatchOption, ◌⊎◌, ◌==◌, ◌++◌, List, length, position};
 ghost use Rattle.cert_text.specs.Reading.{Lacks, IsCut, IsNumber, IsPlace, IsPosition, NumberBefore, PositionBefore};
+ghost use Rattle.cert_text.specs.ReadingParts as spec;
+ghost use Rattle.cert_text.specs.ReadingParts.{PartAt, NumberAt, MarkedNumbers, NumbersLine};
 ghost use Rattle.cert_text.specs.Answers.{Answers};
 
 use crate::CertError;
@@ -12,6 +14,13 @@ pub fn behind<'a>(bytes: &'a [u8], word: &[u8]) -> Option<&'a [u8]>
     ensures { MatchOption result ((rest : List ℕ) → bytes.now ≡ word.now ++ rest → ⊥) (λ rest. bytes.now ≡ word.now ++ rest.now) }
 {
     bytes.strip_prefix(word)
+}
+
+/// Whether the bytes are the word.
+pub fn is_word(bytes: &[u8], word: &[u8]) -> bool
+    ensures { IsTrue result ↔ bytes.now ≡ word.now }
+{
+    bytes == word
 }
 
 // The place of the first such byte.
@@ -105,4 +114,64 @@ pub fn position_before(alloc: Global, bytes: &[u8], end: u8) -> Result<(Vec<u32>
         return Err(CertError::NotBuilt);
     };
     Ok((position_of(alloc, word)?, rest))
+}
+
+// Whether the byte ends a number or a name.
+fn ends_part(b: u8) -> bool
+    ensures { result ≡ spec.ends_part b }
+{
+    b == b'\n' || b == b' ' || b == b')' || b == b','
+}
+
+/// The number or name at the front, and what is behind it.
+pub fn part_of(bytes: &[u8]) -> (&[u8], &[u8])
+    ensures { PartAt bytes.now result.0.now result.1.now }
+{
+    'bytes: for (at, b) in bytes.iter().enumerate() {
+        if ends_part(*b) {
+            return bytes.split_at(at);
+        }
+    }
+    bytes.split_at(bytes.len())
+}
+
+/// The number at the front, and what is behind it.
+pub fn number_at(bytes: &[u8]) -> Result<(u32, &[u8]), CertError>
+    ensures { Answers (NumberAt bytes.now) (λ x. (x.0, x.1.now)) result }
+{
+    let (part, rest) = part_of(bytes);
+    match number(part) {
+        Some(n) => Ok((n, rest)),
+        None => Err(CertError::NotBuilt),
+    }
+}
+
+/// The numbers at the front, each behind a mark, and what is behind them.
+pub fn marked<'a>(
+    alloc: Global,
+    bytes: &'a [u8],
+    mark: &[u8],
+) -> Result<(Vec<u32>, &'a [u8]), CertError>
+    requires { 0 < length mark.now }
+    ensures { Answers (MarkedNumbers mark.now bytes.now) (λ x. (x.0.items, x.1.now)) result }
+{
+    let mut numbers = Vec::new(alloc);
+    let mut left = bytes;
+    'numbers: while let Some(inner) = behind(left, mark) {
+        let (next, rest) = number_at(inner)?;
+        numbers.push(next)?;
+        left = rest;
+    }
+    Ok((numbers, left))
+}
+
+/// The numbers up to the line's end, each behind a space, and what is behind the line.
+pub fn numbers_line(alloc: Global, bytes: &[u8]) -> Result<(Vec<u32>, &[u8]), CertError>
+    ensures { Answers (NumbersLine bytes.now) (λ x. (x.0.items, x.1.now)) result }
+{
+    let (numbers, rest) = marked(alloc, bytes, b" ")?;
+    match behind(rest, b"\n") {
+        Some(rest) => Ok((numbers, rest)),
+        None => Err(CertError::NotBuilt),
+    }
 }
