@@ -4,11 +4,12 @@ use Rattle.std.specs.Prelude.{Result, Ok, Err}
 use Rattle.cc_io.specs.Errors.{IsBegunIfAny}
 use Rattle.concon.specs.Words.{IsCheck}
 use Rattle.concon.specs.Said.{Said}
+use Rattle.concon.specs.FileRefusals.{too_long, no_text}
 use Rattle.concon.specs.Outcomes.{no_system, no_certificate, rejected, refuted}
 use Rattle.concon.specs.Causes.{run_of, Answer, checked, file_fault, cert_fault, no_memory, said_of, IsCaused, IsRight, IsLeft}
 use Rattle.concon.specs.Judging.{Judged, WhereFileIsRefused, Says}
 use Rattle.concon.specs.declared.judge.Refusal.{Refusal}
-use Rattle.concon.specs.declared.judge.Refusal.TheVariants.{FileFault, FileNotBuilt, CertFault, CertNotBuilt, Rejected, NoMemory}
+use Rattle.concon.specs.declared.judge.Refusal.TheVariants.{FileFault, FileTooLong, FileRefused, CertFault, CertNotBuilt, Rejected, NoMemory}
 
 module _ (words : List (List ℕ)) (contents : List ℕ → Option (List ℕ)) (before now : List ℕ → ℕ) (begun_before begun_now : Option (List ℕ)) (given_before given_now : ℕ)
     (file cert : List ℕ) (form : IsCheck words file cert) (said : Said) where
@@ -23,8 +24,10 @@ module _ (words : List (List ℕ)) (contents : List ℕ → Option (List ℕ)) (
   answered (Ok u) h b s = (checked file cert refuted, (form, h.0), h.1, tt, s)
   answered (Err FileFault) h b (inl s) = (file_fault file cert, (form, h), tt, b, s)
   answered (Err FileFault) h b (inr s) = wanting s
-  answered (Err FileNotBuilt) h b (inl s) = (checked file cert no_system, (form, h), tt, b, s)
-  answered (Err FileNotBuilt) h b (inr s) = wanting s
+  answered (Err FileTooLong) h b (inl s) = (checked file cert (no_system too_long), (form, h), tt, b, s)
+  answered (Err FileTooLong) h b (inr s) = wanting s
+  answered (Err (FileRefused e)) h b (inl s) = (checked file cert (no_system (no_text e)), (form, h), tt, b, s)
+  answered (Err (FileRefused e)) h b (inr s) = wanting s
   answered (Err CertFault) h b (inl s) = (cert_fault file cert, (form, h.0, h.1), tt, tt, s)
   answered (Err CertFault) h b (inr s) = wanting s
   answered (Err CertNotBuilt) h b (inl s) = (checked file cert no_certificate, (form, h), tt, tt, s)

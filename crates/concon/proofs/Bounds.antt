@@ -2,7 +2,7 @@
 use Rattle.std.proofs.Common.{◌≡◌, ℕ, suc, ◌-◌, List, map, refl, subst, ap, ◌∙◌, arith}
 use Rattle.std.specs.Prelude.{slice_get}
 use Rattle.std.proofs.lemmas.Option.{slice_get-map}
-use Rattle.rewriting.specs.Terms.{Term, Terms, var, app, nil, cons}
+use Rattle.rewriting.specs.Terms.{Term, Terms, var, app, nil, cons, Fits}
 use Rattle.rewriting.specs.Signatures.{IsOver, AreOver}
 use Rattle.rewriting.specs.Rules.{System}
 use Rattle.certificates.specs.Derivations.{Derivation, no_steps, first_step, Step, by_rule, by_hypothesis, Derivations, no_derivations, first_derivation}
@@ -14,7 +14,7 @@ use Rattle.cops_read.specs.File.{IsFile}
 use Rattle.cert_text.specs.Words.{IsSpelt, AreSpelt}
 use Rattle.cert_text.specs.Steps as steps
 use Rattle.cert_text.specs.Limits.{AreSteps, IsStep, AreDerivations, IsDerivation}
-use Rattle.cert_text.specs.Certificate.{IsCertificate}
+use Rattle.cert_text.specs.CertificateText.{IsCertificateText}
 
 -- terms that the names spell are over the arities of the names
 mutual
@@ -47,11 +47,14 @@ mutual
 pub short : (d : Derivation) → IsDerivation 50 d → IsShort d
 short d h = record { few_steps = omega (arith, same_count d, h.1); inner = steps_short 49 d h.2 }
 
-pub start_over : (file cert : List ℕ) (sys : System) (names : NameTable) (peak : Peak) → IsFile file sys names → IsCertificate names cert (peak_certificate peak) → IsOver sys.arities peak.start
-start_over file cert sys names peak f c = let same : c.start ≡ peak.start = cc (c.peak) in subst (λ t. IsOver sys.arities t) same (spelt_over names sys.arities f.meant.arities c.start c.spelt)
+pub start_over : (file cert : List ℕ) (sys : System) (names : NameTable) (peak : Peak) → IsFile file sys names → IsCertificateText names cert (peak_certificate peak) → IsOver sys.arities peak.start
+start_over file cert sys names peak f c = spelt_over names sys.arities f.meant.arities peak.start c.spelt.0
 
-pub first_short : (names : NameTable) (cert : List ℕ) (peak : Peak) → IsCertificate names cert (peak_certificate peak) → IsShort peak.first
-first_short names cert peak c = let same : c.first ≡ peak.first = cc (c.peak) in subst IsShort same (short c.first c.first_meets)
+pub start_fits : (names : NameTable) (cert : List ℕ) (peak : Peak) → IsCertificateText names cert (peak_certificate peak) → Fits peak.start
+start_fits names cert peak c = c.spelt.1
 
-pub second_short : (names : NameTable) (cert : List ℕ) (peak : Peak) → IsCertificate names cert (peak_certificate peak) → IsShort peak.second
-second_short names cert peak c = let same : c.second ≡ peak.second = cc (c.peak) in subst IsShort same (short c.second c.second_meets)
+pub first_short : (names : NameTable) (cert : List ℕ) (peak : Peak) → IsCertificateText names cert (peak_certificate peak) → IsShort peak.first
+first_short names cert peak c = short peak.first c.spelt.2
+
+pub second_short : (names : NameTable) (cert : List ℕ) (peak : Peak) → IsCertificateText names cert (peak_certificate peak) → IsShort peak.second
+second_short names cert peak c = short peak.second c.spelt.3

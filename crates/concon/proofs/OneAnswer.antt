@@ -1,5 +1,5 @@
 -- Two texts come to one outcome, and where nothing fails that is the answer.
-use Rattle.std.proofs.Common.{◌≡◌, ◌⊎◌, ℕ, List, [], ◌∷◌, Option, Some, None, refl, sym, ap, ap₂, ◌∙◌, subst, subst₂, inl, inr}
+use Rattle.std.proofs.Common.{◌≡◌, ◌⊎◌, ◌≤◌, ℕ, List, [], ◌∷◌, length, Option, Some, None, refl, sym, ap, ap₂, ◌∙◌, subst, subst₂, inl, inr, arith}
 use Rattle.std.specs.Prelude.{codes}
 use Rattle.rewriting.specs.Rules.{System}
 use Rattle.certificates.specs.Certificates.{Certificate, Peak, peak_certificate}
@@ -7,12 +7,14 @@ use Rattle.certificates.specs.Reasons.{Rejection}
 use Rattle.validity.specs.Peaks.{IsPeakRejected, IsValidPeak}
 use Rattle.cops_read.specs.NameTable.{NameTable}
 use Rattle.cops_read.specs.File.{IsFile}
-use Rattle.cops_read.proofs.Readings.{one_reading}
-use Rattle.cert_text.specs.Certificate.{IsCertificate}
+use Rattle.cops_read.specs.Answers.{OneSystem, OneRefusal, NeverSystemAndRefusal}
+use Rattle.concon.specs.FileRefusals.{FileRefusal, too_long, no_text, IsFileRefused, most_file_bytes}
+use Rattle.cert_text.specs.CertificateText.{IsCertificateText}
+use Rattle.validity.specs.Peaks.{ClaimsNormalForms}
 use Rattle.cert_text.proofs.Whole.{same_certificate}
 use Rattle.concon.specs.Words.{IsCheck}
 use Rattle.concon.specs.Said.{Said, IsTold}
-use Rattle.concon.specs.Outcomes.{Bytes, Outcome, no_system, no_certificate, rejected, refuted, SpellsSystem, SpellsNoSystem, SpellsPeak, SpellsNoCertificate, ComesTo, said_of_outcome}
+use Rattle.concon.specs.Outcomes.{Bytes, Outcome, no_system, no_certificate, rejected, refuted, SpellsSystem, IsRefusedFile, SpellsPeak, SpellsNoCertificate, IsNoPeakText, most_cert_bytes, ComesTo, said_of_outcome}
 use Rattle.concon.specs.Causes.{Run, Answer, usage, checked, file_fault, cert_fault, no_memory, said_of, told_or_any, told_bytes, bytes_of, Failed, IsCaused}
 use Rattle.concon.specs.Rows.{CalmlyComesTo, IsUnlessHindered}
 use Rattle.concon.specs.declared.status.Status.{Status}
@@ -23,29 +25,53 @@ same_bytes : (told : Option (List ℕ)) (a b : List ℕ) → told ≡ Some a →
 same_bytes None a b e h = absurd cc
 same_bytes (Some c) a b e h = (let f : c ≡ a = cc in h ∙ f)
 
-module _ (file cert : Option (List ℕ)) where
+-- what is known of the texts of systems
+pub record Known : Type 0 where
+  pub one : OneSystem
+  pub once : OneRefusal
+  pub never : NeverSystemAndRefusal
+
+pub known : OneSystem → OneRefusal → NeverSystemAndRefusal → Known
+known one once never = record { one = one; once = once; never = never }
+
+module _ (k : Known) (file cert : Option (List ℕ)) where
   abbrev pub Told : Option (List ℕ) → Bytes
   Told told bytes = told ≡ Some bytes
 
   file_bytes : (a b : List ℕ) (sys : System) (names : NameTable) → file ≡ Some a → told_or_any file b → IsFile b sys names → IsFile a sys names
   file_bytes a b sys names e h f = subst (λ x. IsFile x sys names) (same_bytes file a b e h) f
 
-  cert_bytes : (a b : List ℕ) (names : NameTable) (c : Certificate) → cert ≡ Some a → told_or_any cert b → IsCertificate names b c → IsCertificate names a c
-  cert_bytes a b names c e h f = subst (λ x. IsCertificate names x c) (same_bytes cert a b e h) f
+  cert_bytes : (a b : List ℕ) (names : NameTable) (c : Certificate) → cert ≡ Some a → told_or_any cert b → IsCertificateText names b c → IsCertificateText names a c
+  cert_bytes a b names c e h f = subst (λ x. IsCertificateText names x c) (same_bytes cert a b e h) f
 
   one_pair : (sys other : System) (names others : NameTable) → SpellsSystem (Told file) sys names → SpellsSystem (told_or_any file) other others → (sys ≡ other) × (names ≡ others)
-  one_pair sys other names others x y = one_reading x.0 sys other names others x.2 (file_bytes x.0 y.0 other others x.1 y.1 y.2)
+  one_pair sys other names others x y = k.one x.0 sys other names others x.3 (file_bytes x.0 y.0 other others x.1 y.1 y.3)
 
-  spells_or_none : (sys : System) (names : NameTable) → SpellsSystem (Told file) sys names → SpellsNoSystem (told_or_any file) → ⊥
-  spells_or_none sys names x y = y.2 sys names (subst (λ b. IsFile b sys names) (sym (same_bytes file x.0 y.0 x.1 y.1)) x.2)
+  -- a text that spells a system is not refused
+  read_or_refused : (bytes : List ℕ) (sys : System) (names : NameTable) (r : FileRefusal) → length bytes ≤ most_file_bytes → IsFile bytes sys names → IsFileRefused bytes r → ⊥
+  read_or_refused bytes sys names too_long short f h = absurd (omega arith)
+  read_or_refused bytes sys names (no_text e) short f h = k.never bytes sys names e h.2 f h.1
 
-  none_or_spells : (sys : System) (names : NameTable) → SpellsNoSystem (Told file) → SpellsSystem (told_or_any file) sys names → ⊥
-  none_or_spells sys names x y = x.2 sys names (file_bytes x.0 y.0 sys names x.1 y.1 y.2)
+  refused_once : (bytes : List ℕ) (r s : FileRefusal) → IsFileRefused bytes r → IsFileRefused bytes s → r ≡ s
+  refused_once bytes too_long too_long h g = refl
+  refused_once bytes too_long (no_text d) h g = absurd (omega (arith, g.0))
+  refused_once bytes (no_text e) too_long h g = absurd (omega (arith, h.0))
+  refused_once bytes (no_text e) (no_text d) h g = ap no_text (k.once bytes e d h.2 g.2 h.1 g.1)
+
+  spells_or_none : (sys : System) (names : NameTable) (r : FileRefusal) → SpellsSystem (Told file) sys names → IsRefusedFile (told_or_any file) r → ⊥
+  spells_or_none sys names r x y = read_or_refused x.0 sys names r x.2 x.3 (subst (λ b. IsFileRefused b r) (same_bytes file x.0 y.0 x.1 y.1) y.2)
+
+  none_or_spells : (sys : System) (names : NameTable) (r : FileRefusal) → IsRefusedFile (Told file) r → SpellsSystem (told_or_any file) sys names → ⊥
+  none_or_spells sys names r x y =
+      read_or_refused y.0 sys names r y.2 y.3 (subst (λ b. IsFileRefused b r) (sym (same_bytes file x.0 y.0 x.1 y.1)) x.2)
+
+  one_refused : (r s : FileRefusal) → IsRefusedFile (Told file) r → IsRefusedFile (told_or_any file) s → r ≡ s
+  one_refused r s x y = refused_once x.0 r s x.2 (subst (λ b. IsFileRefused b s) (same_bytes file x.0 y.0 x.1 y.1) y.2)
 
   one_peak : (names others : NameTable) (peak other : Peak) → names ≡ others → SpellsPeak (Told cert) names peak → SpellsPeak (told_or_any cert) others other → peak ≡ other
   one_peak names others peak other e x y =
-      let there : IsCertificate names x.0 (peak_certificate other) = cert_bytes x.0 y.0 names (peak_certificate other) x.1 y.1 (subst (λ n. IsCertificate n y.0 (peak_certificate other)) (sym e) y.2) in
-      let same : peak_certificate peak ≡ peak_certificate other = same_certificate names x.0 (peak_certificate peak) (peak_certificate other) x.2 there in
+      let there : IsCertificateText names x.0 (peak_certificate other) = cert_bytes x.0 y.0 names (peak_certificate other) x.1 y.1 (subst (λ n. IsCertificateText n y.0 (peak_certificate other)) (sym e) y.3) in
+      let same : peak_certificate peak ≡ peak_certificate other = same_certificate names x.0 (peak_certificate peak) (peak_certificate other) x.3 there in
       same_inside peak other same
     where
       same_inside : (a b : Peak) → peak_certificate a ≡ peak_certificate b → a ≡ b
@@ -53,11 +79,13 @@ module _ (file cert : Option (List ℕ)) where
 
   peak_or_none : (names others : NameTable) (peak : Peak) → names ≡ others → SpellsPeak (Told cert) names peak → SpellsNoCertificate (told_or_any cert) others → ⊥
   peak_or_none names others peak e x y =
-      y.2 (peak_certificate peak) (subst₂ (λ n b. IsCertificate n b (peak_certificate peak)) e (sym (same_bytes cert x.0 y.0 x.1 y.1)) x.2)
+      y.2 (subst (λ b. length b ≤ most_cert_bytes) (sym (same_bytes cert x.0 y.0 x.1 y.1)) x.2) peak
+      (subst₂ (λ n b. IsCertificateText n b (peak_certificate peak)) e (sym (same_bytes cert x.0 y.0 x.1 y.1)) x.3) x.4
 
   none_or_peak : (names others : NameTable) (peak : Peak) → names ≡ others → SpellsNoCertificate (Told cert) names → SpellsPeak (told_or_any cert) others peak → ⊥
   none_or_peak names others peak e x y =
-      x.2 (peak_certificate peak) (cert_bytes x.0 y.0 names (peak_certificate peak) x.1 y.1 (subst (λ n. IsCertificate n y.0 (peak_certificate peak)) (sym e) y.2))
+      x.2 (subst (λ b. length b ≤ most_cert_bytes) (same_bytes cert x.0 y.0 x.1 y.1) y.2) peak
+      (cert_bytes x.0 y.0 names (peak_certificate peak) x.1 y.1 (subst (λ n. IsCertificateText n y.0 (peak_certificate peak)) (sym e) y.3)) y.4
 
   same_rejection : (names others : NameTable) (reason other : Rejection) (sys third : System) (peak fourth : Peak) → names ≡ others → sys ≡ third → peak ≡ fourth
       → IsPeakRejected sys peak reason → IsPeakRejected third fourth other → rejected names reason ≡ rejected others other
@@ -65,16 +93,16 @@ module _ (file cert : Option (List ℕ)) where
       ap₂ rejected e (one_rejection third fourth reason other (subst₂ (λ s p. IsPeakRejected s p reason) f g x) y)
 
   pub one_outcome : (o p : Outcome) → ComesTo (Told file) (Told cert) o → ComesTo (told_or_any file) (told_or_any cert) p → o ≡ p
-  one_outcome no_system no_system x y = refl
-  one_outcome no_system no_certificate x y = absurd (none_or_spells y.0 y.1 x y.2)
-  one_outcome no_system (rejected others other) x y = absurd (none_or_spells y.0 others x y.2)
-  one_outcome no_system refuted x y = absurd (none_or_spells y.0 y.1 x y.3)
-  one_outcome no_certificate no_system x y = absurd (spells_or_none x.0 x.1 x.2 y)
+  one_outcome (no_system r) (no_system s) x y = ap no_system (one_refused r s x y)
+  one_outcome (no_system r) no_certificate x y = absurd (none_or_spells y.0 y.1 r x y.2)
+  one_outcome (no_system r) (rejected others other) x y = absurd (none_or_spells y.0 others r x y.2)
+  one_outcome (no_system r) refuted x y = absurd (none_or_spells y.0 y.1 r x y.3)
+  one_outcome no_certificate (no_system r) x y = absurd (spells_or_none x.0 x.1 r x.2 y)
   one_outcome no_certificate no_certificate x y = refl
   one_outcome no_certificate (rejected others other) x y =
       let same = one_pair x.0 y.0 x.1 others x.2 y.2 in absurd (none_or_peak x.1 others y.1 same.1 x.3 y.3)
   one_outcome no_certificate refuted x y = let same = one_pair x.0 y.0 x.1 y.1 x.2 y.3 in absurd (none_or_peak x.1 y.1 y.2 same.1 x.3 y.4)
-  one_outcome (rejected names reason) no_system x y = absurd (spells_or_none x.0 names x.2 y)
+  one_outcome (rejected names reason) (no_system r) x y = absurd (spells_or_none x.0 names r x.2 y)
   one_outcome (rejected names reason) no_certificate x y = let same = one_pair x.0 y.0 names y.1 x.2 y.2 in absurd (peak_or_none names y.1 x.1 same.1 x.3 y.3)
   one_outcome (rejected names reason) (rejected others other) x y =
       let same = one_pair x.0 y.0 names others x.2 y.2 in
@@ -83,7 +111,7 @@ module _ (file cert : Option (List ℕ)) where
       let same = one_pair x.0 y.0 names y.1 x.2 y.3 in
       let peaks = one_peak names y.1 x.1 y.2 same.1 x.3 y.4 in
       absurd (valid_or_rejected y.0 y.2 reason y.5 (subst₂ (λ s p. IsPeakRejected s p reason) same.0 peaks x.4))
-  one_outcome refuted no_system x y = absurd (spells_or_none x.0 x.1 x.3 y)
+  one_outcome refuted (no_system r) x y = absurd (spells_or_none x.0 x.1 r x.3 y)
   one_outcome refuted no_certificate x y = let same = one_pair x.0 y.0 x.1 y.1 x.3 y.2 in absurd (peak_or_none x.1 y.1 x.2 same.1 x.4 y.3)
   one_outcome refuted (rejected others other) x y =
       let same = one_pair x.0 y.0 x.1 others x.3 y.2 in
@@ -97,7 +125,7 @@ same_file words file cert other others e f = cc
 same_cert : (words : List (List ℕ)) (file cert other others : List ℕ) → IsCheck words file cert → IsCheck words other others → others ≡ cert
 same_cert words file cert other others e f = cc
 
-module _ (run : Run) (status : Status) (out_old out_new err_old err_new : Option (List ℕ)) (out_before out_now err_before err_now : ℕ) where
+module _ (k : Known) (run : Run) (status : Status) (out_old out_new err_old err_new : Option (List ℕ)) (out_before out_now err_before err_now : ℕ) where
   abbrev pub Tells : Said → Type 0
   Tells said = IsTold said status out_old out_new err_old err_new out_before out_now err_before err_now
 
@@ -108,7 +136,7 @@ module _ (run : Run) (status : Status) (out_old out_new err_old err_new : Option
       let files = same_file run.words file cert f c calm.0 caused.0 in
       let certs = same_cert run.words file cert f c calm.0 caused.0 in
       let here : ComesTo (bytes_of run file) (bytes_of run cert) o = subst₂ (λ x y. ComesTo (bytes_of run x) (bytes_of run y) o) files certs caused.1 in
-      let same = one_outcome (run.contents file) (run.contents cert) outcome o calm.1 here in
+      let same = one_outcome k (run.contents file) (run.contents cert) outcome o calm.1 here in
       inl (subst (λ p. Tells (said_of_outcome file cert p)) (sym same) (subst₂ (λ x y. Tells (said_of_outcome x y o)) files certs told))
   exactly (file_fault f c) caused told file cert outcome calm =
       absurd (calm.2 (subst (Failed run) (same_file run.words file cert f c calm.0 caused.0) caused.1))

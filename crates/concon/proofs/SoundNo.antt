@@ -23,7 +23,7 @@ r_is_no_n xs rest e = let h = same_head 82 78 xs rest e in omega arith
 -- an answer whose text for out begins with N
 by_text : (run : Run) (answer : Answer) → IsCaused run answer → IsRight run answer → (rest : List ℕ) → (said_of answer).out ≡ 78 ∷ rest → IsNotConfluent run
 by_text run usage caused right rest e = absurd cc
-by_text run (checked file cert no_system) caused right rest e = absurd cc
+by_text run (checked file cert (no_system refusal)) caused right rest e = absurd cc
 by_text run (checked file cert no_certificate) caused right rest e = absurd cc
 by_text run (checked file cert (rejected names reason)) caused right rest e = absurd (r_is_no_n _ rest e)
 by_text run (checked file cert refuted) caused right rest e = (file, cert, caused.0, right)

@@ -70,6 +70,6 @@ IsRight run _ = Unit {0}
 -- What the shelf was asked: nothing, where the words are no command; no other file than FILE, where the answer is about FILE.
 abbrev pub IsLeft : Answer → Option (List ℕ) → Option (List ℕ) → ℕ → ℕ → Type 0
 IsLeft usage begun_before begun_now given_before given_now = (begun_now ≡ begun_before) × (given_now ≡ given_before)
-IsLeft (checked file cert no_system) begun_before begun_now given_before given_now = IsBegunIfAny file begun_now
+IsLeft (checked file cert (no_system refusal)) begun_before begun_now given_before given_now = IsBegunIfAny file begun_now
 IsLeft (file_fault file cert) begun_before begun_now given_before given_now = IsBegunIfAny file begun_now
 IsLeft _ begun_before begun_now given_before given_now = Unit {0}

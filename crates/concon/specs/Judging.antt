@@ -12,17 +12,25 @@ use Rattle.cert_model.specs.declared.model.Peak.{Peak}
 use Rattle.cc_io.specs.declared.shelf.ReadAllError.{ReadAllError}
 use Rattle.cc_io.specs.declared.shelf.ReadAllError.TheVariants as reading
 use Rattle.concon.specs.Rejections.{rejection_text}
+use Rattle.cops_read.specs.declared.reader.ReadError.{ReadError}
+use Rattle.cops_read.specs.declared.reader.ReadError.TheVariants as causes
+use Rattle.concon.specs.FileRefusals.{too_long, no_text}
 use Rattle.concon.specs.Said.{Said}
-use Rattle.concon.specs.Outcomes.{Bytes, no_system, no_certificate, rejected, refuted, SpellsSystem, SpellsNoSystem, SpellsPeak, SpellsNoCertificate, ComesTo, IsRefuted, said_of_outcome}
+use Rattle.concon.specs.Outcomes.{Bytes, no_system, no_certificate, rejected, refuted, SpellsSystem, IsRefusedFile, SpellsPeak, SpellsNoCertificate, ComesTo, IsRefuted, said_of_outcome}
 use Rattle.concon.specs.Causes.{Run, bytes_of, Failed, said_of, file_fault, cert_fault, no_memory}
 use Rattle.concon.specs.declared.judge.Refusal.{Refusal}
 use Rattle.concon.specs.declared.judge.Refusal.TheVariants as refusal
 use Rattle.concon.specs.declared.status.Status.TheVariants as status
 
+-- a text that was not read to a system is refused, unless memory was
+abbrev pub text_refusal : ReadError → Refusal
+text_refusal causes.NoMemory = refusal.NoMemory
+text_refusal e = refusal.FileRefused e
+
 -- a text that is not read whole is a refusal of the file, or of the certificate
 abbrev pub file_refusal : ReadAllError → Refusal
 file_refusal reading.ReadFault = refusal.FileFault
-file_refusal (reading.TooLong n) = refusal.FileNotBuilt
+file_refusal (reading.TooLong n) = refusal.FileTooLong
 file_refusal reading.NoMemory = refusal.NoMemory
 
 abbrev pub cert_refusal : ReadAllError → Refusal
@@ -33,7 +41,8 @@ cert_refusal reading.NoMemory = refusal.NoMemory
 abbrev pub SystemAnswers : Bytes → Type 0 → Result (System × NameTable) Refusal → Type 0
 SystemAnswers file failed (Ok found) = SpellsSystem file found.0 found.1
 SystemAnswers file failed (Err refusal.FileFault) = failed
-SystemAnswers file failed (Err refusal.FileNotBuilt) = SpellsNoSystem file
+SystemAnswers file failed (Err refusal.FileTooLong) = IsRefusedFile file too_long
+SystemAnswers file failed (Err (refusal.FileRefused e)) = IsRefusedFile file (no_text e)
 SystemAnswers file failed (Err refusal.NoMemory) = Unit {0}
 SystemAnswers file failed (Err _) = ⊥
 
@@ -58,7 +67,8 @@ CheckAnswers sys names peak (Err _) = ⊥
 abbrev pub Judged : Run → List ℕ → List ℕ → Result (Unit {0}) Refusal → Type 0
 Judged run file cert (Ok u) = ComesTo (bytes_of run file) (bytes_of run cert) refuted × IsRefuted (bytes_of run file) (bytes_of run cert)
 Judged run file cert (Err refusal.FileFault) = Failed run file
-Judged run file cert (Err refusal.FileNotBuilt) = ComesTo (bytes_of run file) (bytes_of run cert) no_system
+Judged run file cert (Err refusal.FileTooLong) = ComesTo (bytes_of run file) (bytes_of run cert) (no_system too_long)
+Judged run file cert (Err (refusal.FileRefused e)) = ComesTo (bytes_of run file) (bytes_of run cert) (no_system (no_text e))
 Judged run file cert (Err refusal.CertFault) = Failed run cert × ((sys : System) × (names : NameTable) × SpellsSystem (bytes_of run file) sys names)
 Judged run file cert (Err refusal.CertNotBuilt) = ComesTo (bytes_of run file) (bytes_of run cert) no_certificate
 Judged run file cert (Err (refusal.Rejected line)) =
@@ -70,7 +80,8 @@ Judged run file cert (Err refusal.NoMemory) = Unit {0}
 abbrev pub WhereFileIsRefused : Result (Unit {0}) Refusal → Type 0 → Type 0
 WhereFileIsRefused (Ok u) P = Unit {0}
 WhereFileIsRefused (Err refusal.FileFault) P = P
-WhereFileIsRefused (Err refusal.FileNotBuilt) P = P
+WhereFileIsRefused (Err refusal.FileTooLong) P = P
+WhereFileIsRefused (Err (refusal.FileRefused e)) P = P
 WhereFileIsRefused (Err _) P = Unit {0}
 
 -- this is said, or that memory was refused
@@ -81,7 +92,8 @@ SaysUnlessNoMemory said wanted = (said ≡ wanted) ⊎ (said ≡ said_of no_memo
 abbrev pub Says : List ℕ → List ℕ → Result (Unit {0}) Refusal → Said → Type 0
 Says file cert (Ok u) said = said ≡ said_of_outcome file cert refuted
 Says file cert (Err refusal.FileFault) said = SaysUnlessNoMemory said (said_of (file_fault file cert))
-Says file cert (Err refusal.FileNotBuilt) said = SaysUnlessNoMemory said (said_of_outcome file cert no_system)
+Says file cert (Err refusal.FileTooLong) said = SaysUnlessNoMemory said (said_of_outcome file cert (no_system too_long))
+Says file cert (Err (refusal.FileRefused e)) said = SaysUnlessNoMemory said (said_of_outcome file cert (no_system (no_text e)))
 Says file cert (Err refusal.CertFault) said = SaysUnlessNoMemory said (said_of (cert_fault file cert))
 Says file cert (Err refusal.CertNotBuilt) said = SaysUnlessNoMemory said (said_of_outcome file cert no_certificate)
 Says file cert (Err (refusal.Rejected line)) said = said ≡ record { status = status.Rejected; out = line.items; err = [] }

@@ -4,6 +4,7 @@ pub mod Pieces
 pub mod Rejections
 pub mod Words
 pub mod Said
+pub mod FileRefusals
 pub mod Outcomes
 pub mod Causes
 pub mod Replies

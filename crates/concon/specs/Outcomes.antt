@@ -1,14 +1,15 @@
 -- What the check of two texts comes to.
-use Rattle.std.specs.Prelude.{◌++◌, ℕ, List, [], codes}
+use Rattle.std.specs.Prelude.{◌++◌, ◌≤◌, ℕ, List, [], length, codes}
 use Rattle.rewriting.specs.Rules.{System}
-use Rattle.certificates.specs.Certificates.{Certificate, Peak, peak_certificate}
+use Rattle.certificates.specs.Certificates.{Peak, peak_certificate}
 use Rattle.certificates.specs.Reasons.{Rejection}
-use Rattle.validity.specs.Peaks.{IsValidPeak, IsPeakRejected}
+use Rattle.validity.specs.Peaks.{ClaimsNormalForms, IsValidPeak, IsPeakRejected}
 use Rattle.validity.specs.Laws.{ReachesApart}
 use Rattle.cops_read.specs.NameTable.{NameTable}
 use Rattle.cops_read.specs.File.{IsFile}
-use Rattle.cert_text.specs.Certificate.{IsCertificate}
+use Rattle.cert_text.specs.CertificateText.{IsCertificateText}
 use Rattle.concon.specs.Rejections.{rejection_text}
+use Rattle.concon.specs.FileRefusals.{FileRefusal, most_file_bytes, IsFileRefused, file_refused_line}
 use Rattle.concon.specs.Said.{Said}
 use Rattle.concon.specs.declared.status.Status.TheVariants as status
 
@@ -16,22 +17,30 @@ use Rattle.concon.specs.declared.status.Status.TheVariants as status
 abbrev pub Bytes : Type 1
 Bytes = List ℕ → Type 0
 
--- the file spells the system with these names, or no system
+-- the file spells the system with these names, or is refused
 abbrev pub SpellsSystem : Bytes → System → NameTable → Type 0
-SpellsSystem file sys names = (bytes : List ℕ) × file bytes × IsFile bytes sys names
+SpellsSystem file sys names = (bytes : List ℕ) × file bytes × (length bytes ≤ most_file_bytes) × IsFile bytes sys names
 
-abbrev pub SpellsNoSystem : Bytes → Type 0
-SpellsNoSystem file = (bytes : List ℕ) × file bytes × ((sys : System) (names : NameTable) → IsFile bytes sys names → ⊥)
+abbrev pub IsRefusedFile : Bytes → FileRefusal → Type 0
+IsRefusedFile file refusal = (bytes : List ℕ) × file bytes × IsFileRefused bytes refusal
 
--- with these names the certificate's text is that of the peak, or of no certificate
+-- no certificate is longer
+abbrev pub most_cert_bytes : ℕ
+most_cert_bytes = 16777216
+
+-- with these names the certificate's text is that of a peak whose ends are said to be normal forms, or of no such peak
+abbrev pub IsNoPeakText : NameTable → List ℕ → Type 0
+IsNoPeakText names bytes = (peak : Peak) → IsCertificateText names bytes (peak_certificate peak) → ClaimsNormalForms peak → ⊥
+
 abbrev pub SpellsPeak : Bytes → NameTable → Peak → Type 0
-SpellsPeak cert names peak = (bytes : List ℕ) × cert bytes × IsCertificate names bytes (peak_certificate peak)
+SpellsPeak cert names peak =
+    (bytes : List ℕ) × cert bytes × (length bytes ≤ most_cert_bytes) × IsCertificateText names bytes (peak_certificate peak) × ClaimsNormalForms peak
 
 abbrev pub SpellsNoCertificate : Bytes → NameTable → Type 0
-SpellsNoCertificate cert names = (bytes : List ℕ) × cert bytes × ((c : Certificate) → IsCertificate names bytes c → ⊥)
+SpellsNoCertificate cert names = (bytes : List ℕ) × cert bytes × (length bytes ≤ most_cert_bytes → IsNoPeakText names bytes)
 
 pub data Outcome : Type 0 where
-  no_system : Outcome
+  no_system : FileRefusal → Outcome
   no_certificate : Outcome
   -- the certificate is rejected; the names are those of the file
   rejected : NameTable → Rejection → Outcome
@@ -39,7 +48,7 @@ pub data Outcome : Type 0 where
   refuted : Outcome
 
 abbrev pub ComesTo : Bytes → Bytes → Outcome → Type 0
-ComesTo file cert no_system = SpellsNoSystem file
+ComesTo file cert (no_system refusal) = IsRefusedFile file refusal
 ComesTo file cert no_certificate = (sys : System) × (names : NameTable) × SpellsSystem file sys names × SpellsNoCertificate cert names
 ComesTo file cert (rejected names reason) =
     (sys : System) × (peak : Peak) × SpellsSystem file sys names × SpellsPeak cert names peak × IsPeakRejected sys peak reason
@@ -53,7 +62,7 @@ IsRefuted file cert =
 
 -- what is said of it, with the words for the file and for the certificate
 abbrev pub said_of_outcome : List ℕ → List ℕ → Outcome → Said
-said_of_outcome file cert no_system = record { status = status.NotBuilt; out = []; err = file ++ codes ": not built\n" }
+said_of_outcome file cert (no_system refusal) = record { status = status.FileRefused; out = []; err = file_refused_line file refusal }
 said_of_outcome file cert no_certificate = record { status = status.NotBuilt; out = []; err = cert ++ codes ": not built\n" }
 said_of_outcome file cert (rejected names reason) = record { status = status.Rejected; out = codes "REJECTED " ++ (rejection_text names reason ++ codes "\n"); err = [] }
 said_of_outcome file cert refuted = record { status = status.No; out = codes "NO\n"; err = [] }

@@ -5,6 +5,7 @@ use Rattle.cops_read.specs.NameTable.{NameTable}
 use Rattle.cc_io.specs.Bytes.{appended}
 use Rattle.concon.specs.Words.{IsCheck}
 use Rattle.concon.specs.Said.{TakesPart}
+use Rattle.concon.specs.FileRefusals.{FileRefusal}
 use Rattle.concon.specs.Outcomes.{Outcome, no_system, no_certificate, rejected, ComesTo, IsRefuted}
 use Rattle.concon.specs.Causes.{Run, bytes_of, told_bytes, Failed, Answer, said_of, IsCaused}
 use Rattle.concon.specs.declared.status.Status.{Status}
@@ -15,7 +16,10 @@ abbrev pub CheckComesTo : Run → Outcome → Type 0
 CheckComesTo run outcome = (file : List ℕ) × (cert : List ℕ) × IsCheck run.words file cert × ComesTo (bytes_of run file) (bytes_of run cert) outcome
 
 abbrev pub IsNotBuilt : Run → Type 0
-IsNotBuilt run = CheckComesTo run no_system ⊎ CheckComesTo run no_certificate
+IsNotBuilt run = CheckComesTo run no_certificate
+
+abbrev pub IsFileRefusal : Run → Type 0
+IsFileRefusal run = (refusal : FileRefusal) × CheckComesTo run (no_system refusal)
 
 abbrev pub IsRejected : Run → Type 0
 IsRejected run = (names : NameTable) × (reason : Rejection) × CheckComesTo run (rejected names reason)
@@ -38,7 +42,6 @@ IsWriteFault run out_old out_new err_old err_new out_before out_now err_before e
 abbrev pub IsPossible : Status → Type 0
 IsPossible status.Yes = ⊥
 IsPossible status.Maybe = ⊥
-IsPossible status.FileRefused = ⊥
 IsPossible status.CertRefused = ⊥
 IsPossible _ = Unit {0}
 

@@ -1,7 +1,7 @@
 //! The real files and streams. They tell nothing of their contents, and keep one count of faults for every name.
-ghost use Rattle.std.specs.Prelude.{◌≡◌, None, Some, IfSome, option_map};
+ghost use Rattle.std.specs.Prelude.{◌≡◌, List, ℕ, None, Some, IfSome, option_map};
 
-use cc_io::{Failed, Shelf, Sink};
+use cc_io::{Count, Failed, Shelf, Sink};
 use std::fs;
 use std::io::Read;
 use std::rt::Files;
@@ -15,10 +15,16 @@ pub struct DiskShelf<'a, R: Files> {
     file: Option<R::File>,
     faults: u64,
     given: u64,
+    reads: Count,
 }
 
 impl<'a, R: Files> DiskShelf<'a, R> {
-    pub fn new(rt: &'a R, words: &'a [&'a str]) -> Self {
+    pub fn new(rt: &'a R, words: &'a [&'a str]) -> Self
+        ensures begun { ⟦<DiskShelf<'a, R> as Shelf>⟧.begun result ≡ None }
+        ensures faults { (name : List ℕ) → ⟦<DiskShelf<'a, R> as Shelf>⟧.faults result name ≡ 0 }
+        ensures given { ⟦<DiskShelf<'a, R> as Shelf>⟧.given result ≡ 0 }
+        ensures reads { ⟦<DiskShelf<'a, R> as Shelf>⟧.reads result ≡ 0 }
+    {
         DiskShelf {
             rt,
             words,
@@ -26,6 +32,7 @@ impl<'a, R: Files> DiskShelf<'a, R> {
             file: None,
             faults: 0,
             given: 0,
+            reads: Count::new(),
         }
     }
 }
@@ -55,6 +62,8 @@ impl<'a, R: Files> Shelf for DiskShelf<'a, R> {
 
     ghost given = { λ s. s.given };
 
+    ghost reads = { λ s. s.reads.number };
+
     ghost none_unread = { λ s. Prim.search rules };
 
     fn begin(&mut self, name: &str) -> Result<(), Failed> {
@@ -74,6 +83,7 @@ impl<'a, R: Files> Shelf for DiskShelf<'a, R> {
 
     fn read(&mut self, buf: &mut [u8]) -> Result<usize, Failed> {
         let _given = self.given;
+        self.reads = self.reads.next();
         if buf.is_empty() {
             return Ok(0);
         }
@@ -101,11 +111,19 @@ impl<'a, R: Files> Shelf for DiskShelf<'a, R> {
 pub struct StreamSink<P> {
     to: P,
     faults: u64,
+    writes: Count,
 }
 
 impl<P: Print> StreamSink<P> {
-    pub fn new(to: P) -> Self {
-        StreamSink { to, faults: 0 }
+    pub fn new(to: P) -> Self
+        ensures faults { ⟦<StreamSink<P> as Sink>⟧.faults result ≡ 0 }
+        ensures writes { ⟦<StreamSink<P> as Sink>⟧.writes result ≡ 0 }
+    {
+        StreamSink {
+            to,
+            faults: 0,
+            writes: Count::new(),
+        }
     }
 }
 
@@ -114,7 +132,10 @@ impl<P: Print> Sink for StreamSink<P> {
 
     ghost faults = { λ s. s.faults };
 
+    ghost writes = { λ s. s.writes.number };
+
     fn write(&mut self, bytes: &[u8]) -> Result<usize, Failed> {
+        self.writes = self.writes.next();
         if bytes.is_empty() {
             return Ok(0);
         }

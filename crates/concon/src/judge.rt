@@ -1,17 +1,18 @@
 //! Reads the two texts, and judges the certificate.
-ghost use Rattle.std.specs.Prelude.{◌≡◌, ◌≤◌, ◌++◌, ℕ, List, []};
+ghost use Rattle.std.specs.Prelude.{◌≡◌, ◌≤◌, ◌++◌, ◌↔◌, ℕ, List, [], IsTrue};
 ghost use Rattle.cc_io.specs.Errors.{IsBegunIfAny};
 ghost use Rattle.cc_io.specs.Faults.{Rose};
 ghost use Rattle.certificates.specs.Certificates.{peak_certificate};
 ghost use Rattle.cops_read.specs.File.{IsFile};
-ghost use Rattle.cert_text.specs.Certificate.{IsCertificate};
+ghost use Rattle.cert_text.specs.CertificateText.{IsCertificateText};
+ghost use Rattle.validity.specs.Peaks.{ClaimsNormalForms};
 ghost use Rattle.cert_model.specs.CertificateView.{peak_view};
 ghost use Rattle.concon.specs.Causes.{run_of, told_or_any};
-ghost use Rattle.concon.specs.Judging.{file_refusal, cert_refusal, SystemAnswers, PeakAnswers, CheckAnswers, Judged, WhereFileIsRefused};
+ghost use Rattle.concon.specs.Judging.{file_refusal, text_refusal, cert_refusal, SystemAnswers, PeakAnswers, CheckAnswers, Judged, WhereFileIsRefused};
 
 use crate::texts::rejection_line;
 use cc_io::{ReadAllError, Shelf, read_all};
-use cert_model::{Certificate, Peak};
+use cert_model::{Certificate, NonJoin, Peak};
 use cert_text::{CertError, read_cert};
 use cops_read::{Names, ReadError, read_system};
 use noncon_check::{CheckError, check_peak};
@@ -22,7 +23,10 @@ use term_core::System;
 #[derive(Drop)]
 pub enum Refusal {
     FileFault,
-    FileNotBuilt,
+    /// The file is too long.
+    FileTooLong,
+    /// The file is no text of a system.
+    FileRefused(ReadError),
     CertFault,
     CertNotBuilt,
     /// The certificate is rejected: the line that says why.
@@ -50,7 +54,7 @@ fn refusal_of_file(error: ReadAllError) -> Refusal
 {
     match error {
         ReadAllError::ReadFault => Refusal::FileFault,
-        ReadAllError::TooLong { limit: _ } => Refusal::FileNotBuilt,
+        ReadAllError::TooLong { limit: _ } => Refusal::FileTooLong,
         ReadAllError::NoMemory => Refusal::NoMemory,
     }
 }
@@ -62,6 +66,15 @@ fn refusal_of_cert(error: ReadAllError) -> Refusal
         ReadAllError::ReadFault => Refusal::CertFault,
         ReadAllError::TooLong { limit: _ } => Refusal::CertNotBuilt,
         ReadAllError::NoMemory => Refusal::NoMemory,
+    }
+}
+
+fn refusal_of_text(error: ReadError) -> Refusal
+    ensures { result ≡ text_refusal error }
+{
+    match error {
+        ReadError::NoMemory => Refusal::NoMemory,
+        error => Refusal::FileRefused(error),
     }
 }
 
@@ -77,8 +90,17 @@ fn system_of<S: Shelf>(alloc: Global, shelf: &mut S, file: &str) -> Result<(Syst
     };
     match read_system(alloc, &bytes) {
         Ok(found) => Ok(found),
-        Err(ReadError::NotBuilt) => Err(Refusal::FileNotBuilt),
-        Err(ReadError::NoMemory) => Err(Refusal::NoMemory),
+        Err(error) => Err(refusal_of_text(error)),
+    }
+}
+
+// Whether the peak's ends are said to be normal forms, with no redex to be explained.
+fn claims_normal_forms(peak: &Peak) -> bool
+    ensures { IsTrue result ↔ ClaimsNormalForms (peak_view peak.now) }
+{
+    match &peak.apart {
+        NonJoin::Normal(redexes) => redexes.is_empty(),
+        NonJoin::Caps => false,
     }
 }
 
@@ -95,7 +117,11 @@ fn peak_of<S: Shelf>(
         Err(error) => return Err(refusal_of_cert(error)),
     };
     match read_cert(alloc, names, &bytes) {
-        Ok(Certificate::Peak(peak)) => Ok(peak),
+        Ok(Certificate::Peak(peak)) => if claims_normal_forms(&peak) {
+            Ok(peak)
+        } else {
+            Err(Refusal::CertNotBuilt)
+        },
         Ok(_) => Err(Refusal::CertNotBuilt),
         Err(CertError::NotBuilt) => Err(Refusal::CertNotBuilt),
         Err(CertError::NoMemory) => Err(Refusal::NoMemory),
@@ -103,7 +129,7 @@ fn peak_of<S: Shelf>(
 }
 
 fn check(alloc: Global, sys: &System, names: &Names, peak: &Peak) -> Result<(), Refusal>
-    requires read { (file : List ℕ) × (cert : List ℕ) × IsFile file sys.now names.now × IsCertificate names.now cert (peak_certificate (peak_view peak.now)) }
+    requires read { (file : List ℕ) × (cert : List ℕ) × IsFile file sys.now names.now × IsCertificateText names.now cert (peak_certificate (peak_view peak.now)) × ClaimsNormalForms (peak_view peak.now) }
     ensures { CheckAnswers sys.now names.now (peak_view peak.now) result }
 {
     match check_peak(alloc, sys, peak) {

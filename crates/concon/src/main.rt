@@ -4,6 +4,7 @@
 mod adapters;
 mod judge;
 mod pieces;
+mod refusals;
 mod reply;
 mod status;
 #[cfg(test)]

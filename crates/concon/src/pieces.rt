@@ -11,6 +11,8 @@ use std::alloc::AllocError;
 pub enum Piece<'a> {
     Text(&'static [u8]),
     Number(u32),
+    /// The number of a byte.
+    Place(usize),
     /// Numbers with dots between them.
     Path(&'a [u32]),
     /// The same, and `e` for the root.
@@ -25,6 +27,13 @@ fn put_number(out: &mut Vec<u8>, n: u32) -> Result<(), AllocError>
 {
     let mut buffer = Buffer::new();
     out.extend_from_slice(buffer.format(n).as_bytes())
+}
+
+fn put_place(out: &mut Vec<u8>, at: usize) -> Result<(), AllocError>
+    ensures { OnOk result (out.new.items ≡ out.old.items ++ decimal at) }
+{
+    let mut buffer = Buffer::new();
+    out.extend_from_slice(buffer.format(at).as_bytes())
 }
 
 fn put_each(out: &mut Vec<u8>, byte: u8, numbers: &[u32]) -> Result<(), AllocError>
@@ -66,6 +75,7 @@ fn put(out: &mut Vec<u8>, piece: Piece) -> Result<(), AllocError>
     match piece {
         Piece::Text(bytes) => out.extend_from_slice(bytes),
         Piece::Number(n) => put_number(out, n),
+        Piece::Place(at) => put_place(out, at),
         Piece::Path(numbers) => put_dotted(out, numbers),
         Piece::Position(numbers) => put_position(out, numbers),
         Piece::States(numbers) => put_each(out, b' ', numbers),

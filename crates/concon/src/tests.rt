@@ -98,9 +98,9 @@ fn each_check_writes_its_answer(rt: HostRuntime) -> Result<(), Fail> {
         (
             "(RULES a -> ",
             PEAK,
-            Status::NotBuilt,
+            Status::FileRefused,
             "",
-            "x.trs: not built\n",
+            "x.trs:12: syntax\n",
         ),
     ] {
         let mut files = shelf(alloc, system, certificate, None)?;
@@ -115,6 +115,60 @@ fn each_check_writes_its_answer(rt: HostRuntime) -> Result<(), Fail> {
         );
         assert_eq!(rt; answer, status, "{certificate}");
         assert_eq!(rt; told.written(), out.as_bytes());
+        assert_eq!(rt; said.written(), err.as_bytes());
+    }
+    Ok(())
+}
+
+// an identifier of 256 bytes
+const LONG: &str =
+    "(RULES xxxxxxxxxxxxxxxxxxxxxxxxxxxxxxxxxxxxxxxxxxxxxxxxxxxxxxxxxxxxxxxxxxxxxxxxxxxxxxxxxxxxxxxxxxxxxxxxxxxxxxxxxxxxxxxxxxxxxxxxxxxxxxxxxxxxxxxxxxxxxxxxxxxxxxxxxxxxxxxxxxxxxxxxxxxxxxxxxxxxxxxxxxxxxxxxxxxxxxxxxxxxxxxxxxxxxxxxxxxxxxxxxxxxxxxxxxxxxxxxxxxxxxxxxxxxxxxx -> a)";
+
+#[test]
+fn a_file_is_refused_at_its_place(rt: HostRuntime) -> Result<(), Fail> {
+    let alloc = rt.alloc();
+    for (system, err) in [
+        ("(RULES a -> \"b)", "x.trs:12: bad byte\n"),
+        (LONG, "x.trs:7: identifier too long\n"),
+        ("(COMMENT (a) (RULES )", "x.trs:21: comment not closed\n"),
+        ("(RULES a -> ", "x.trs:12: syntax\n"),
+        ("(THEORY )(RULES )", "x.trs:1: unknown block\n"),
+        ("(RULES )(VAR x)(VAR y)", "x.trs:16: repeated block\n"),
+        (
+            "(COMMENT see (a) and (b (c)))(CONDITIONTYPE SEMI-EQUATIONAL)(RULES )",
+            "x.trs:44: condition type other\n",
+        ),
+        ("(VAR x)", "x.trs:7: missing rules\n"),
+        (
+            "(RULES a -> b | a == b)",
+            "x.trs:14: conditions without type\n",
+        ),
+        (
+            "(VAR x)(RULES f(x()) -> a)",
+            "x.trs:16: variable with arguments\n",
+        ),
+        (
+            "(VAR x)(RULES xxxxxxxxxxxxxxxxxxxxxxxxxxxxxxxxxxxxxxxxxxxxxxxxxxxxxxxxxxxxxxxxxxxxxxxxxxxxxxxxxxxxxxxxxxxxxxxxxxxxxxxxxxxxxxxxxxxxxxxxxxxxxxxxxxxxxxxxxxxxxxxxxxxxxxxxxxxxxxxxxxxxxxxxxxxxxxxxxxxxxxxxxxxxxxxxxxxxxxxxxxxxxxxxxxxxxxxxxxxxxxxxxxxxxxxxxxxxxxxxxxxxxxxxxxxxxxxx -> a)",
+            "x.trs:14: left side is a variable\n",
+        ),
+        ("(RULES f(a) -> a f(a,b) -> a)", "x.trs:17: arity differs\n"),
+        (
+            "(RULES f(a,a,a,a,a,a,a,a,a,a,a,a,a,a,a,a,a,a,a,a,a) -> a)",
+            "x.trs:49: too many arguments\n",
+        ),
+    ] {
+        let mut files = shelf(alloc, system, PEAK, None)?;
+        let mut told = MemorySink::new(alloc, 100, 100, Vec::new(alloc))?;
+        let mut said = MemorySink::new(alloc, 100, 100, Vec::new(alloc))?;
+        let answer = run(
+            alloc,
+            &["check", "x.trs", "c.crt"],
+            &mut files,
+            &mut told,
+            &mut said,
+        );
+        assert_eq!(rt; answer, Status::FileRefused, "{system}");
+        assert_eq!(rt; told.written(), b"".as_slice());
         assert_eq!(rt; said.written(), err.as_bytes());
     }
     Ok(())

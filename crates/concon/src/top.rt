@@ -9,13 +9,15 @@ ghost use Rattle.concon.specs.Replies as reply;
 ghost use Rattle.concon.specs.Outcomes.{Outcome, ComesTo, IsRefuted, said_of_outcome};
 ghost use Rattle.concon.specs.Causes.{run_of, Answer, said_of, IsCaused, IsRight, IsLeft};
 ghost use Rattle.concon.specs.Judging.{Says};
-ghost use Rattle.concon.specs.Rows.{CheckComesTo, IsNotBuilt, IsRejected, IsNotConfluent, IsReadFault, IsWriteFault, IsPossible, CalmlyComesTo, IsUnlessHindered};
+ghost use Rattle.concon.specs.Rows.{CheckComesTo, IsFileRefusal, IsNotBuilt, IsRejected, IsNotConfluent, IsReadFault, IsWriteFault, IsPossible, CalmlyComesTo, IsUnlessHindered};
 
 use crate::judge::{Refusal, judge};
+use crate::refusals::{place_of, refused, words_of};
 use crate::reply::{Reply, Text, about, deliver, no_memory};
 use crate::status::Status;
 use crate::words::{Check, command_of};
 use cc_io::{Shelf, Sink};
+use cops_read::one_reading;
 use std::alloc::Global;
 
 /// Says how the program is used.
@@ -29,6 +31,9 @@ pub fn usage() -> Reply
     }
 }
 
+// The place at which a file is refused that is too long.
+const LONGEST_FILE: usize = 1048576;
+
 // What is said of a check.
 fn reply_to(alloc: Global, check: Check, judged: Result<(), Refusal>) -> Reply
     ensures { Says check.entry.file.now check.entry.cert.now judged (reply.said_of result) }
@@ -40,7 +45,20 @@ fn reply_to(alloc: Global, check: Check, judged: Result<(), Refusal>) -> Reply
             text: Text::Fixed(b"NO\n"),
         },
         Err(Refusal::FileFault) => about(alloc, Status::ReadFault, check.file, b": read fault\n"),
-        Err(Refusal::FileNotBuilt) => about(alloc, Status::NotBuilt, check.file, b": not built\n"),
+        Err(Refusal::FileTooLong) => refused(
+            alloc,
+            Status::FileRefused,
+            check.file,
+            LONGEST_FILE,
+            b"too long",
+        ),
+        Err(Refusal::FileRefused(error)) => refused(
+            alloc,
+            Status::FileRefused,
+            check.file,
+            place_of(&error),
+            words_of(&error),
+        ),
         Err(Refusal::CertFault) => about(alloc, Status::ReadFault, check.cert, b": read fault\n"),
         Err(Refusal::CertNotBuilt) => about(alloc, Status::NotBuilt, check.cert, b": not built\n"),
         Err(Refusal::Rejected(line)) => Reply {
@@ -118,6 +136,7 @@ pub fn run<S: Shelf, K: Sink, E: Sink>(
     ensures usage_exactly { IsNoCommand (texts words.now) → (result ≡ Status.Usage) ⊎ (result ≡ Status.WriteFault) }
     ensures nothing_begun { IsNoCommand (texts words.now) → S.begun shelf.new ≡ S.begun shelf.old }
     ensures nothing_given { IsNoCommand (texts words.now) → S.given shelf.new ≡ S.given shelf.old }
+    ensures file_refused { result ≡ Status.FileRefused → IsFileRefusal (run_of (texts words.now) (S.contents shelf.old) (S.faults shelf.old) (S.faults shelf.new)) }
     ensures not_built { result ≡ Status.NotBuilt → IsNotBuilt (run_of (texts words.now) (S.contents shelf.old) (S.faults shelf.old) (S.faults shelf.new)) }
     ensures rejected { result ≡ Status.Rejected → IsRejected (run_of (texts words.now) (S.contents shelf.old) (S.faults shelf.old) (S.faults shelf.new)) }
     ensures no { result ≡ Status.No → CheckComesTo (run_of (texts words.now) (S.contents shelf.old) (S.faults shelf.old) (S.faults shelf.new)) Outcome.refuted }
@@ -127,5 +146,6 @@ pub fn run<S: Shelf, K: Sink, E: Sink>(
     ensures no_memory { result ≡ Status.NoMemory → (K.written out.new ≡ K.written out.old) × (E.written err.new ≡ appended (E.written err.old) (codes "no memory\n")) }
     ensures possible { IsPossible result }
 {
+    one_reading();
     run_all(alloc, words, shelf, out, err)
 }

@@ -1,5 +1,8 @@
-use Rattle.concon.proofs.Bounds.{start_over, first_short, second_short}
+use Rattle.concon.proofs.Bounds.{start_over, start_fits, first_short, second_short}
 use Rattle.concon.proofs.judge.check.Goals as goal
+
+pub check_peak-requires-clause-start : goal.check_peak-requires-clause-start
+check_peak-requires-clause-start c = start_fits _ _ _ c.requires.read.3
 
 pub check_peak-requires-clause-over : goal.check_peak-requires-clause-over
 check_peak-requires-clause-over c = start_over _ _ _ _ _ c.requires.read.2 c.requires.read.3
