@@ -1,6 +1,6 @@
 -- What it means that a text is too long, or not read.
-use Rattle.std.proofs.Common.{◌≡◌, ℕ, ◌+◌, ◌<◌, ◌≤◌, List, length, replicate, Option, None, Some, refl, arith}
-use Rattle.std.specs.Prelude.{IfSome}
+use Rattle.std.proofs.Common.{◌≡◌, ℕ, ◌+◌, ◌<◌, ◌≤◌, Bool, false, List, length, replicate, Option, None, Some, refl, sym, subst, arith}
+use Rattle.std.specs.Prelude.{IfSome, IsTrue}
 use Rattle.std.proofs.lemmas.List.{length-replicate}
 use Rattle.cops_read.specs.NameTable.{NameTable}
 use Rattle.cc_io.specs.Errors.{IsTooLong}
@@ -63,3 +63,13 @@ file_refused file failed bytes causes.NoMemory f short h = tt
 -- the text of another certificate is that of no such peak
 pub other_certificate : (names : NameTable) (bytes : List ℕ) (c : Certificate) → IsCertificateText names bytes c → ((peak : Peak) → c ≡ peak_certificate peak → ClaimsNormalForms peak → ⊥) → IsNoPeakText names bytes
 other_certificate names bytes c h other peak text claims = other peak (same_certificate names bytes c (peak_certificate peak) h text) claims
+
+same_peak : (a b : Peak) → peak_certificate a ≡ peak_certificate b → a ≡ b
+same_peak a b e = cc
+
+-- nor is the text of a peak that does not claim so
+pub unclaimed : (names : NameTable) (bytes : List ℕ) (p : Peak) (r : Bool) → IsCertificateText names bytes (peak_certificate p) → (ClaimsNormalForms p → IsTrue r) → r ≡ false → IsNoPeakText names bytes
+unclaimed names bytes p r text told e = other_certificate names bytes (peak_certificate p) text (λ q same claims. no_claim q same claims)
+  where
+    no_claim : (q : Peak) → peak_certificate p ≡ peak_certificate q → ClaimsNormalForms q → ⊥
+    no_claim q same claims = let yes_told : IsTrue r = told (subst ClaimsNormalForms (sym (same_peak p q same)) claims) in absurd cc
