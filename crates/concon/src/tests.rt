@@ -148,7 +148,7 @@ fn a_file_is_refused_at_its_place(rt: HostRuntime) -> Result<(), Fail> {
             "x.trs:16: variable with arguments\n",
         ),
         (
-            "(VAR x)(RULES xxxxxxxxxxxxxxxxxxxxxxxxxxxxxxxxxxxxxxxxxxxxxxxxxxxxxxxxxxxxxxxxxxxxxxxxxxxxxxxxxxxxxxxxxxxxxxxxxxxxxxxxxxxxxxxxxxxxxxxxxxxxxxxxxxxxxxxxxxxxxxxxxxxxxxxxxxxxxxxxxxxxxxxxxxxxxxxxxxxxxxxxxxxxxxxxxxxxxxxxxxxxxxxxxxxxxxxxxxxxxxxxxxxxxxxxxxxxxxxxxxxxxxxxxxxxxxxx -> a)",
+            "(VAR x)(RULES x -> a)",
             "x.trs:14: left side is a variable\n",
         ),
         ("(RULES f(a) -> a f(a,b) -> a)", "x.trs:17: arity differs\n"),
