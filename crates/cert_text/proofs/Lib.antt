@@ -19,6 +19,11 @@ pub mod PairLines
 pub mod MeasureLines
 pub mod PeakLines
 pub mod Whole
+pub mod Scanning
+pub mod Leads
+pub mod Judging
+pub mod Taken
+pub mod OpenSymbols
 pub mod Writing
 pub mod WritingSteps
 pub mod Runs
@@ -32,6 +37,7 @@ pub mod Spelt
 pub mod SpeltTerms
 pub mod ScanLaws
 pub mod ScanWords
+pub mod BadParts
 pub mod LeadTables
 pub mod Paths
 pub mod Moves
@@ -60,3 +66,4 @@ pub mod FirstRefusals
 pub mod StuckReaders
 pub mod ExactReader
 pub mod EndRow
+pub mod StepByStep

@@ -352,7 +352,7 @@ dot_is b n e = by (b == 46) refl e
     by true p e = (p, cc)
     by false p e = absurd cc
 
-not_dot : (b : ℕ) → is_digit b ≡ true → (b == 46) ≡ false
+pub not_dot : (b : ℕ) → is_digit b ≡ true → (b == 46) ≡ false
 not_dot b d = by_test (b == 46) (λ e. let same : b ≡ 46 = eqb-true b 46 e in let low = digit_least b d in absurd (omega arith))
 
 -- the numbers that are read are those that are spelt

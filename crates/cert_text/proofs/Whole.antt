@@ -3,7 +3,7 @@ use Rattle.std.proofs.Common.{◌≡◌, ◌⊎◌, inl, inr, ℕ, Bool, true, f
 use Rattle.std.specs.Result.{IfOk, IfErr}
 use Rattle.certificates.specs.Certificates.{PairEntry, LinearEntry, MeasureCertificate, linear_measure, Peak, Certificate, ortho_certificate, quasi_certificate, peak_certificate}
 use Rattle.cops_read.specs.NameTable.{NameTable}
-use Rattle.cert_text.specs.declared.error.CertError.{CertError}
+use Rattle.cert_text.specs.declared.error.Unread.{Unread}
 use Rattle.cert_text.specs.EvidenceText.{pairs_text}
 use Rattle.cert_text.specs.CertificateText.{entries_text, measure_text, peak_text, body_text, certificate_text, answer_line, CanBeSpelt, IsCertificateText}
 use Rattle.cert_text.specs.ReadingEvidence.{IsPairsText}
@@ -215,10 +215,10 @@ same_certificate names bytes c d h k = by c h.text h.spelt
     by (peak_certificate p) (inr t) s = plain_one names _ (peak_certificate p) d (refl, s) (no_there names bytes _ t d k).0
 
 -- what a result says by its cases
-pub found_by : {A B : Type 0} (P : B → Type 0) (value : A → B) (r : Result A CertError) → Answers P value r → IfOk r (λ x. P (value x))
+pub found_by : {A B : Type 0} (P : B → Type 0) (value : A → B) (r : Result A Unread) → Answers P value r → IfOk r (λ x. P (value x))
 found_by P value (Ok x) h = h
 found_by P value (Err e) h = tt
 
-pub refused_by : {A B : Type 0} (P : B → Type 0) (value : A → B) (r : Result A CertError) → Answers P value r → IfErr r (IsRefused P)
+pub refused_by : {A B : Type 0} (P : B → Type 0) (value : A → B) (r : Result A Unread) → Answers P value r → IfErr r (IsRefused P)
 refused_by P value (Ok x) h = tt
 refused_by P value (Err e) h = h

@@ -19,7 +19,9 @@ pub mod Refusals
 pub mod Scans
 pub mod Items
 pub mod FirstRefusal
+pub mod ReaderView
 pub mod FirstRefusalLaws
+pub mod CertRefusals
 pub mod MarkLaws
 pub mod RefusalRows
 pub mod RefusedAmong

@@ -5,7 +5,7 @@ ghost use Rattle.cert_text.specs.ReadingParts.{IsStatesText};
 ghost use Rattle.cert_text.specs.ReadingEvidence.{IsHeadText, TransitionAt, TransitionsAt, StatesLine, AcceptingLine, TransitionLines, AutomatonAt};
 ghost use Rattle.cert_text.specs.Answers.{Answers};
 
-use crate::error::CertError;
+use crate::error::Unread;
 use crate::terms::{symbol, word_of};
 use crate::words::{behind, cut, is_word, marked, number_at, number_before, numbers_line};
 use cert_model::{Automaton, Transition};
@@ -24,26 +24,26 @@ fn are_states(numbers: &[u32], states: u32) -> bool
 }
 
 // The states in brackets that the bytes are, or none.
-fn states_of(alloc: Global, bytes: &[u8]) -> Result<Vec<u32>, CertError>
+fn states_of(alloc: Global, bytes: &[u8]) -> Result<Vec<u32>, Unread>
     ensures { Answers (IsStatesText bytes.now) (λ states. states.items) result }
 {
     if is_word(bytes, b"") {
         return Ok(Vec::new(alloc));
     }
     let Some(inner) = behind(bytes, b"(") else {
-        return Err(CertError::NotBuilt);
+        return Err(Unread::NoText);
     };
     let (first, rest) = number_at(inner)?;
     let (mut states, rest) = marked(alloc, rest, b",")?;
     if !is_word(rest, b")") {
-        return Err(CertError::NotBuilt);
+        return Err(Unread::NoText);
     }
     states.insert(0, first)?;
     Ok(states)
 }
 
 // The symbol and the states of its arguments that the bytes are, or the bar of variables.
-fn head(alloc: Global, names: &Names, bytes: &[u8]) -> Result<(Option<u32>, Vec<u32>), CertError>
+fn head(alloc: Global, names: &Names, bytes: &[u8]) -> Result<(Option<u32>, Vec<u32>), Unread>
     ensures { Answers (IsHeadText names.now bytes.now) (λ x. (x.0, x.1.items)) result }
 {
     if is_word(bytes, b"|") {
@@ -51,11 +51,11 @@ fn head(alloc: Global, names: &Names, bytes: &[u8]) -> Result<(Option<u32>, Vec<
     }
     let (word, rest) = word_of(bytes);
     let Some((f, arity)) = symbol(names, word) else {
-        return Err(CertError::NotBuilt);
+        return Err(Unread::NoText);
     };
     let states = states_of(alloc, rest)?;
     if states.len() != arity as usize {
-        return Err(CertError::NotBuilt);
+        return Err(Unread::NoText);
     }
     Ok((Some(f), states))
 }
@@ -66,19 +66,19 @@ fn transition<'a>(
     names: &Names,
     bytes: &'a [u8],
     states: u32,
-) -> Result<(Transition, &'a [u8]), CertError>
+) -> Result<(Transition, &'a [u8]), Unread>
     ensures { Answers (TransitionAt names.now states bytes.now) (λ x. (transition_view x.0, x.1.now)) result }
 {
     let Some((word, rest)) = cut(bytes, b' ') else {
-        return Err(CertError::NotBuilt);
+        return Err(Unread::NoText);
     };
     let (symbol, args) = head(alloc, names, word)?;
     let (target, rest) = number_before(rest, b'\n')?;
     if target >= states {
-        return Err(CertError::NotBuilt);
+        return Err(Unread::NoText);
     }
     if !are_states(&args, states) {
-        return Err(CertError::NotBuilt);
+        return Err(Unread::NoText);
     }
     Ok((
         Transition {
@@ -97,7 +97,7 @@ fn transitions<'a>(
     bytes: &'a [u8],
     states: u32,
     count: u32,
-) -> Result<(Vec<Transition>, &'a [u8]), CertError>
+) -> Result<(Vec<Transition>, &'a [u8]), Unread>
     ensures { Answers (TransitionsAt names.now states count bytes.now) (λ x. (map transition_view x.0.items, x.1.now)) result }
 {
     let mut transitions = Vec::new(alloc);
@@ -111,32 +111,32 @@ fn transitions<'a>(
 }
 
 // How many states there are, and what is behind the line.
-fn states_line(bytes: &[u8]) -> Result<(u32, &[u8]), CertError>
+fn states_line(bytes: &[u8]) -> Result<(u32, &[u8]), Unread>
     ensures { Answers (StatesLine bytes.now) (λ x. (x.0, x.1.now)) result }
 {
     let Some(line) = behind(bytes, b"states ") else {
-        return Err(CertError::NotBuilt);
+        return Err(Unread::NoText);
     };
     let (states, rest) = number_before(line, b'\n')?;
     if states == 0 {
-        return Err(CertError::NotBuilt);
+        return Err(Unread::NoText);
     }
     if states > MOST_STATES {
-        return Err(CertError::NotBuilt);
+        return Err(Unread::NoText);
     }
     Ok((states, rest))
 }
 
 // The accepting states, and what is behind the line.
-fn accepting_line(alloc: Global, bytes: &[u8], states: u32) -> Result<(Vec<u32>, &[u8]), CertError>
+fn accepting_line(alloc: Global, bytes: &[u8], states: u32) -> Result<(Vec<u32>, &[u8]), Unread>
     ensures { Answers (AcceptingLine states bytes.now) (λ x. (x.0.items, x.1.now)) result }
 {
     let Some(line) = behind(bytes, b"accepting") else {
-        return Err(CertError::NotBuilt);
+        return Err(Unread::NoText);
     };
     let (accepting, rest) = numbers_line(alloc, line)?;
     if !are_states(&accepting, states) {
-        return Err(CertError::NotBuilt);
+        return Err(Unread::NoText);
     }
     Ok((accepting, rest))
 }
@@ -147,15 +147,15 @@ fn transition_lines<'a>(
     names: &Names,
     bytes: &'a [u8],
     states: u32,
-) -> Result<(Vec<Transition>, &'a [u8]), CertError>
+) -> Result<(Vec<Transition>, &'a [u8]), Unread>
     ensures { Answers (TransitionLines names.now states bytes.now) (λ x. (map transition_view x.0.items, x.1.now)) result }
 {
     let Some(line) = behind(bytes, b"transitions ") else {
-        return Err(CertError::NotBuilt);
+        return Err(Unread::NoText);
     };
     let (count, rest) = number_before(line, b'\n')?;
     if count > MOST_TRANSITIONS {
-        return Err(CertError::NotBuilt);
+        return Err(Unread::NoText);
     }
     transitions(alloc, names, rest, states, count)
 }
@@ -165,7 +165,7 @@ pub fn automaton<'a>(
     alloc: Global,
     names: &Names,
     bytes: &'a [u8],
-) -> Result<(Automaton, &'a [u8]), CertError>
+) -> Result<(Automaton, &'a [u8]), Unread>
     ensures { Answers (AutomatonAt names.now bytes.now) (λ x. (automaton_view x.0, x.1.now)) result }
 {
     let (states, rest) = states_line(bytes)?;

@@ -1,22 +1,51 @@
 ghost use Rattle.std.specs.Prelude.{◌≡◌};
-ghost use Rattle.cert_text.specs.declared.error.CertError.TheVariants.{NoMemory};
+ghost use Rattle.cert_text.specs.declared.error.Unread.TheVariants as unread;
+ghost use Rattle.cert_text.specs.declared.error.CertError.TheVariants as refused;
 
 use std::alloc::{AllocError, AllocFailed};
 use thiserror::Error;
 
-/// Why a text is not read.
+/// What is counted in a certificate, and has a limit.
+#[derive(Clone, Copy, Debug, Drop, PartialEq, Eq)]
+pub enum CertCount {
+    Pairs,
+    Entries,
+    Numbers,
+    Steps,
+    Redexes,
+    States,
+    Transitions,
+    Nodes,
+}
+
+/// Why a text is no certificate. A place is a byte number from 0.
 #[derive(Debug, Drop, Error)]
 pub enum CertError {
-    /// The bytes are the text of no certificate of the form that is read.
-    #[error("not built")]
-    NotBuilt,
+    /// The first byte, or the length, that continues no text of the grammar.
+    #[error("syntax at {at}")]
+    CertSyntax { at: usize },
+    /// A name that no symbol has.
+    #[error("unknown name at {at}")]
+    UnknownName { at: usize },
+    /// The byte behind a term, or a transition's head, whose symbol has another arity.
+    #[error("wrong arity at {at}")]
+    WrongArity { at: usize },
+    /// A number that is too great, no state of the automaton, or no part of a position.
+    #[error("bad number at {at}")]
+    BadNumber { at: usize },
+    /// A node of a term, or derivations, at too great a depth.
+    #[error("too deep at {at}")]
+    CertTooDeep { at: usize },
+    /// The word that passes a limit.
+    #[error("too many at {at}")]
+    TooMany { what: CertCount, at: usize },
     /// Memory was refused.
     #[error("no memory")]
     NoMemory,
 }
 
 impl From<AllocError> for CertError {
-    ghost from_gives = { λ _ e. e ≡ NoMemory };
+    ghost from_gives = { λ _ e. e ≡ refused.NoMemory };
 
     fn from(_: AllocError) -> Self {
         CertError::NoMemory
@@ -24,9 +53,36 @@ impl From<AllocError> for CertError {
 }
 
 impl<T: Drop> From<AllocFailed<T>> for CertError {
-    ghost from_gives = { λ _ e. e ≡ NoMemory };
+    ghost from_gives = { λ _ e. e ≡ refused.NoMemory };
 
     fn from(_: AllocFailed<T>) -> Self {
         CertError::NoMemory
+    }
+}
+
+/// Why a part of the exact reader finds nothing.
+#[derive(Debug, Drop, Error)]
+pub enum Unread {
+    /// The bytes are no text of the part.
+    #[error("no text")]
+    NoText,
+    /// Memory was refused.
+    #[error("no memory")]
+    NoMemory,
+}
+
+impl From<AllocError> for Unread {
+    ghost from_gives = { λ _ e. e ≡ unread.NoMemory };
+
+    fn from(_: AllocError) -> Self {
+        Unread::NoMemory
+    }
+}
+
+impl<T: Drop> From<AllocFailed<T>> for Unread {
+    ghost from_gives = { λ _ e. e ≡ unread.NoMemory };
+
+    fn from(_: AllocFailed<T>) -> Self {
+        Unread::NoMemory
     }
 }

@@ -6,7 +6,7 @@ ghost use Rattle.cert_text.specs.ReadingEvidence.{InfeasibilityAt, TwoNumbers, T
 ghost use Rattle.cert_text.specs.Answers.{Answers};
 
 use crate::automata::automaton;
-use crate::error::CertError;
+use crate::error::Unread;
 use crate::steps::derivation;
 use crate::words::{behind, is_word, number_before, position_before};
 use cert_model::{Derivation, InfEvidence, PairEntry, PairEvidence};
@@ -23,14 +23,14 @@ pub fn infeasibility<'a>(
     alloc: Global,
     names: &Names,
     bytes: &'a [u8],
-) -> Result<(InfEvidence, &'a [u8]), CertError>
+) -> Result<(InfEvidence, &'a [u8]), Unread>
     ensures { Answers (InfeasibilityAt names.now bytes.now) (λ x. (inf_evidence_view x.0, x.1.now)) result }
 {
     if let Some(rest) = behind(bytes, b"tcap\n") {
         return Ok((InfEvidence::Tcap, rest));
     }
     let Some(line) = behind(bytes, b"auto ") else {
-        return Err(CertError::NotBuilt);
+        return Err(Unread::NoText);
     };
     let (cond, rest) = number_before(line, b'\n')?;
     let (automaton, rest) = automaton(alloc, names, rest)?;
@@ -38,7 +38,7 @@ pub fn infeasibility<'a>(
 }
 
 // Two numbers in a line, and what is behind it.
-fn two_numbers(bytes: &[u8]) -> Result<(u32, u32, &[u8]), CertError>
+fn two_numbers(bytes: &[u8]) -> Result<(u32, u32, &[u8]), Unread>
     ensures { Answers (TwoNumbers bytes.now) (λ x. ((x.0, x.1), x.2.now)) result }
 {
     let (first, rest) = number_before(bytes, b' ')?;
@@ -50,7 +50,7 @@ fn two_numbers(bytes: &[u8]) -> Result<(u32, u32, &[u8]), CertError>
 pub fn two_derivations(
     alloc: Global,
     bytes: &[u8],
-) -> Result<(Derivation, Derivation, &[u8]), CertError>
+) -> Result<(Derivation, Derivation, &[u8]), Unread>
     ensures { Answers (TwoDerivations bytes.now) (λ x. ((derivation_view x.0, derivation_view x.1), x.2.now)) result }
 {
     let (first, rest) = derivation(alloc, bytes, MOST_NESTING)?;
@@ -63,7 +63,7 @@ fn evidence<'a>(
     alloc: Global,
     names: &Names,
     bytes: &'a [u8],
-) -> Result<(PairEvidence, &'a [u8]), CertError>
+) -> Result<(PairEvidence, &'a [u8]), Unread>
     ensures { Answers (EvidenceAt names.now bytes.now) (λ x. (pair_evidence_view x.0, x.1.now)) result }
 {
     if let Some(rest) = behind(bytes, b"trivial\n") {
@@ -85,7 +85,7 @@ fn evidence<'a>(
 }
 
 // The number of a condition and two derivations, as evidence of an overlap, and what is behind them.
-fn unfeasible(alloc: Global, bytes: &[u8]) -> Result<(PairEvidence, &[u8]), CertError>
+fn unfeasible(alloc: Global, bytes: &[u8]) -> Result<(PairEvidence, &[u8]), Unread>
     ensures { Answers (UnfeasibleAt bytes.now) (λ x. (pair_evidence_view x.0, x.1.now)) result }
 {
     let (cond, rest) = number_before(bytes, b'\n')?;
@@ -101,7 +101,7 @@ fn unfeasible(alloc: Global, bytes: &[u8]) -> Result<(PairEvidence, &[u8]), Cert
 }
 
 /// A number, a position and a number, and what is behind them.
-pub fn place(alloc: Global, bytes: &[u8]) -> Result<(u32, Vec<u32>, u32, &[u8]), CertError>
+pub fn place(alloc: Global, bytes: &[u8]) -> Result<(u32, Vec<u32>, u32, &[u8]), Unread>
     ensures { Answers (PlaceAt bytes.now) (λ x. ((x.0, (x.1.items, x.2)), x.3.now)) result }
 {
     let (first, rest) = number_before(bytes, b' ')?;
@@ -111,15 +111,11 @@ pub fn place(alloc: Global, bytes: &[u8]) -> Result<(u32, Vec<u32>, u32, &[u8]),
 }
 
 // The overlap at the front, and what is behind it.
-fn pair<'a>(
-    alloc: Global,
-    names: &Names,
-    bytes: &'a [u8],
-) -> Result<(PairEntry, &'a [u8]), CertError>
+fn pair<'a>(alloc: Global, names: &Names, bytes: &'a [u8]) -> Result<(PairEntry, &'a [u8]), Unread>
     ensures { Answers (PairAt names.now bytes.now) (λ x. (pair_entry_view x.0, x.1.now)) result }
 {
     let Some(line) = behind(bytes, b"pair ") else {
-        return Err(CertError::NotBuilt);
+        return Err(Unread::NoText);
     };
     let (inner, pos, outer, rest) = place(alloc, line)?;
     let (evidence, rest) = evidence(alloc, names, rest)?;
@@ -135,7 +131,7 @@ fn pair<'a>(
 }
 
 /// The overlaps up to the last line.
-pub fn pairs(alloc: Global, names: &Names, bytes: &[u8]) -> Result<Vec<PairEntry>, CertError>
+pub fn pairs(alloc: Global, names: &Names, bytes: &[u8]) -> Result<Vec<PairEntry>, Unread>
     ensures { Answers (IsPairsText names.now bytes.now) (λ pairs. map pair_entry_view pairs.items) result }
 {
     let mut pairs = Vec::new(alloc);
@@ -151,6 +147,6 @@ pub fn pairs(alloc: Global, names: &Names, bytes: &[u8]) -> Result<Vec<PairEntry
     if is_word(left, b"end\n") {
         Ok(pairs)
     } else {
-        Err(CertError::NotBuilt)
+        Err(Unread::NoText)
     }
 }

@@ -3,7 +3,7 @@ ghost use Rattle.cert_model.specs.CertificateView.{head_view, linear_entry_view}
 ghost use Rattle.cert_text.specs.ReadingCertificates.{MeasuredAt, EntryAt, EntriesAt, BeginsNoEntry};
 ghost use Rattle.cert_text.specs.Answers.{Answers};
 
-use crate::error::CertError;
+use crate::error::Unread;
 use crate::terms::named;
 use crate::words::{behind, number_at, number_before, numbers_line, part_of};
 use cert_model::{Head, LinearEntry};
@@ -16,18 +16,18 @@ const MOST_NUMBERS: usize = 200;
 const MOST_ENTRIES: u32 = 25_000;
 
 // The symbol at the front that is measured, and what is behind it.
-fn measured<'a>(names: &Names, bytes: &'a [u8]) -> Result<(Head, &'a [u8]), CertError>
+fn measured<'a>(names: &Names, bytes: &'a [u8]) -> Result<(Head, &'a [u8]), Unread>
     ensures { Answers (MeasuredAt names.now bytes.now) (λ x. (head_view x.0, x.1.now)) result }
 {
     if let Some(line) = behind(bytes, b"fun ") {
         let (name, rest) = part_of(line);
         return match named(names, name) {
             Some(f) => Ok((Head::File(f), rest)),
-            None => Err(CertError::NotBuilt),
+            None => Err(Unread::NoText),
         };
     }
     let Some(line) = behind(bytes, b"aux ") else {
-        return Err(CertError::NotBuilt);
+        return Err(Unread::NoText);
     };
     let (rule, rest) = number_before(line, b' ')?;
     let (cond, rest) = number_at(rest)?;
@@ -39,13 +39,13 @@ fn entry<'a>(
     alloc: Global,
     names: &Names,
     bytes: &'a [u8],
-) -> Result<(LinearEntry, &'a [u8]), CertError>
+) -> Result<(LinearEntry, &'a [u8]), Unread>
     ensures { Answers (EntryAt names.now bytes.now) (λ x. (linear_entry_view x.0, x.1.now)) result }
 {
     let (head, rest) = measured(names, bytes)?;
     let (coeffs, rest) = numbers_line(alloc, rest)?;
     if coeffs.len() > MOST_NUMBERS {
-        return Err(CertError::NotBuilt);
+        return Err(Unread::NoText);
     }
     Ok((LinearEntry { head, coeffs }, rest))
 }
@@ -62,7 +62,7 @@ pub fn entries<'a>(
     alloc: Global,
     names: &Names,
     bytes: &'a [u8],
-) -> Result<(Vec<LinearEntry>, &'a [u8]), CertError>
+) -> Result<(Vec<LinearEntry>, &'a [u8]), Unread>
     ensures { Answers (EntriesAt names.now bytes.now) (λ x. (map linear_entry_view x.0.items, x.1.now)) result }
 {
     let mut entries = Vec::new(alloc);
@@ -78,6 +78,6 @@ pub fn entries<'a>(
     if begins_no_entry(left) {
         Ok((entries, left))
     } else {
-        Err(CertError::NotBuilt)
+        Err(Unread::NoText)
     }
 }

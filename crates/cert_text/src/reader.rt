@@ -5,11 +5,13 @@ ghost use Rattle.cert_model.specs.CertificateView.{pair_entry_view, measure_view
 ghost use Rattle.cert_text.specs.CertificateText.{IsCertificateText};
 ghost use Rattle.cert_text.specs.ReadingCertificates.{IsQuasiText, IsBodyText, IsPlainText, IsAnsweredText, HasAnswer};
 ghost use Rattle.cert_text.specs.Answers.{Answers, IsRefused};
+ghost use Rattle.cert_text.specs.CertRefusals.{IsRefusedAs};
 
-use crate::error::CertError;
+use crate::error::{CertError, Unread};
 use crate::evidence::pairs;
 use crate::measures::entries;
 use crate::peaks::peak;
+use crate::refusal::first_refusal;
 use crate::words::behind;
 use cert_model::{Certificate, Linear, MeasureCert, PairEntry};
 use cops_read::Names;
@@ -20,11 +22,11 @@ fn quasi(
     alloc: Global,
     names: &Names,
     bytes: &[u8],
-) -> Result<(MeasureCert, Vec<PairEntry>), CertError>
+) -> Result<(MeasureCert, Vec<PairEntry>), Unread>
     ensures { Answers (IsQuasiText names.now bytes.now) (λ x. (measure_view x.0, map pair_entry_view x.1.items)) result }
 {
     let Some(lines) = behind(bytes, b"linear\n") else {
-        return Err(CertError::NotBuilt);
+        return Err(Unread::NoText);
     };
     let (entries, rest) = entries(alloc, names, lines)?;
     let pairs = pairs(alloc, names, rest)?;
@@ -32,7 +34,7 @@ fn quasi(
 }
 
 // The certificate behind its first line, up to the last line.
-fn body(alloc: Global, names: &Names, bytes: &[u8]) -> Result<Certificate, CertError>
+fn body(alloc: Global, names: &Names, bytes: &[u8]) -> Result<Certificate, Unread>
     ensures { Answers (IsBodyText names.now bytes.now) certificate_view result }
 {
     if let Some(rest) = behind(bytes, b"ortho\n") {
@@ -44,19 +46,19 @@ fn body(alloc: Global, names: &Names, bytes: &[u8]) -> Result<Certificate, CertE
         return Ok(Certificate::Quasi(measure, pairs));
     }
     let Some(rest) = behind(bytes, b"peak\n") else {
-        return Err(CertError::NotBuilt);
+        return Err(Unread::NoText);
     };
     let peak = peak(alloc, names, rest)?;
     Ok(Certificate::Peak(peak))
 }
 
 // The certificate without an answer line.
-fn plain(alloc: Global, names: &Names, bytes: &[u8]) -> Result<Certificate, CertError>
+fn plain(alloc: Global, names: &Names, bytes: &[u8]) -> Result<Certificate, Unread>
     ensures { Answers (IsPlainText names.now bytes.now) certificate_view result }
 {
     match behind(bytes, b"concon 1\n") {
         Some(rest) => body(alloc, names, rest),
-        None => Err(CertError::NotBuilt),
+        None => Err(Unread::NoText),
     }
 }
 
@@ -71,19 +73,19 @@ fn is_for_yes(cert: &Certificate) -> bool
 }
 
 // The certificate behind an answer line.
-fn answered(alloc: Global, names: &Names, bytes: &[u8], yes: bool) -> Result<Certificate, CertError>
+fn answered(alloc: Global, names: &Names, bytes: &[u8], yes: bool) -> Result<Certificate, Unread>
     ensures { Answers (IsAnsweredText names.now bytes.now yes) certificate_view result }
 {
     let found = plain(alloc, names, bytes)?;
     if is_for_yes(&found) == yes {
         Ok(found)
     } else {
-        Err(CertError::NotBuilt)
+        Err(Unread::NoText)
     }
 }
 
 // The certificate, by one definition for all answers.
-fn certificate(alloc: Global, names: &Names, bytes: &[u8]) -> Result<Certificate, CertError>
+fn certificate(alloc: Global, names: &Names, bytes: &[u8]) -> Result<Certificate, Unread>
     ensures { Answers (IsCertificateText names.now bytes.now) certificate_view result }
 {
     if let Some(text) = behind(bytes, b"YES\n") {
@@ -95,13 +97,20 @@ fn certificate(alloc: Global, names: &Names, bytes: &[u8]) -> Result<Certificate
     plain(alloc, names, bytes)
 }
 
-/// The certificate that the bytes are the text of, with its answer line or without one. `NotBuilt` where
-/// there is none.
+/// The certificate that the bytes are the text of, with its answer line or without one; else why there is
+/// none, and at which place.
 pub fn read_cert(alloc: Global, names: &Names, bytes: &[u8]) -> Result<Certificate, CertError>
     ensures found { IfOk result (λ c. IsCertificateText names.now bytes.now (certificate_view c)) }
-    ensures refused { IfErr result (IsRefused (IsCertificateText names.now bytes.now)) }
+    ensures refused { IfErr result (λ e. IsRefusedAs names.now bytes.now e) }
 {
-    certificate(alloc, names, bytes)
+    match certificate(alloc, names, bytes) {
+        Ok(found) => Ok(found),
+        Err(Unread::NoMemory) => Err(CertError::NoMemory),
+        Err(Unread::NoText) => {
+            first_refusal(alloc, names, bytes)?;
+            Err(CertError::CertSyntax { at: bytes.len() })
+        }
+    }
 }
 
 /// Bytes are the text of one certificate at most.

@@ -4,7 +4,7 @@ ghost use Rattle.certificates.specs.Derivations.{derivations_of};
 ghost use Rattle.cert_text.specs.Reading.{RuleAt, HypothesisAt, StepsAt, StepAt, DerivationsAt, DerivationAt};
 ghost use Rattle.cert_text.specs.Answers.{Answers};
 
-use crate::error::CertError;
+use crate::error::Unread;
 use crate::words::{behind, number_before, position_before};
 use cert_model::{Derivation, Step};
 use std::alloc::Global;
@@ -13,7 +13,7 @@ use std::alloc::Global;
 const MOST_STEPS: u32 = 10_000;
 
 // The rule, the position and the number of derivations that follow, and what is behind the line.
-fn rule_line(alloc: Global, bytes: &[u8]) -> Result<(u32, Vec<u32>, u32, &[u8]), CertError>
+fn rule_line(alloc: Global, bytes: &[u8]) -> Result<(u32, Vec<u32>, u32, &[u8]), Unread>
     ensures { Answers (RuleAt bytes.now) (λ x. (x.0, x.1.items, x.2, x.3.now)) result }
 {
     let (rule, rest) = number_before(bytes, b' ')?;
@@ -23,7 +23,7 @@ fn rule_line(alloc: Global, bytes: &[u8]) -> Result<(u32, Vec<u32>, u32, &[u8]),
 }
 
 // The hypothesis and the position, and what is behind the line.
-fn hypothesis_line(alloc: Global, bytes: &[u8]) -> Result<(u32, Vec<u32>, &[u8]), CertError>
+fn hypothesis_line(alloc: Global, bytes: &[u8]) -> Result<(u32, Vec<u32>, &[u8]), Unread>
     ensures { Answers (HypothesisAt bytes.now) (λ x. (x.0, x.1.items, x.2.now)) result }
 {
     let (number, rest) = number_before(bytes, b' ')?;
@@ -34,19 +34,15 @@ fn hypothesis_line(alloc: Global, bytes: &[u8]) -> Result<(u32, Vec<u32>, &[u8])
 /// The derivation at the front, with derivations in it nested at most `levels` deep, itself counted,
 /// and what is behind it.
 #[cycle(derivation)]
-pub fn derivation(
-    alloc: Global,
-    bytes: &[u8],
-    levels: u32,
-) -> Result<(Derivation, &[u8]), CertError>
+pub fn derivation(alloc: Global, bytes: &[u8], levels: u32) -> Result<(Derivation, &[u8]), Unread>
     ensures { Answers (DerivationAt levels bytes.now) (λ x. (derivation_view x.0, x.1.now)) result }
 {
     let Some(line) = behind(bytes, b"steps ") else {
-        return Err(CertError::NotBuilt);
+        return Err(Unread::NoText);
     };
     let (count, rest) = number_before(line, b'\n')?;
     if levels == 0 || count > MOST_STEPS {
-        return Err(CertError::NotBuilt);
+        return Err(Unread::NoText);
     }
     steps(alloc, rest, count, levels - 1)
 }
@@ -58,7 +54,7 @@ fn steps(
     bytes: &[u8],
     count: u32,
     levels: u32,
-) -> Result<(Derivation, &[u8]), CertError>
+) -> Result<(Derivation, &[u8]), Unread>
     ensures { Answers (StepsAt levels count bytes.now) (λ x. (derivation_view x.0, x.1.now)) result }
 {
     let mut steps = Vec::new(alloc);
@@ -73,7 +69,7 @@ fn steps(
 
 // One step, and what is behind it.
 #[cycle(derivation)]
-fn step(alloc: Global, bytes: &[u8], levels: u32) -> Result<(Step, &[u8]), CertError>
+fn step(alloc: Global, bytes: &[u8], levels: u32) -> Result<(Step, &[u8]), Unread>
     ensures { Answers (StepAt levels bytes.now) (λ x. (step_view x.0, x.1.now)) result }
 {
     if let Some(line) = behind(bytes, b"rule ") {
@@ -82,7 +78,7 @@ fn step(alloc: Global, bytes: &[u8], levels: u32) -> Result<(Step, &[u8]), CertE
         return Ok((Step::Rule { rule, pos, conds }, rest));
     }
     let Some(line) = behind(bytes, b"hyp ") else {
-        return Err(CertError::NotBuilt);
+        return Err(Unread::NoText);
     };
     let (number, pos, rest) = hypothesis_line(alloc, line)?;
     Ok((Step::Hyp { number, pos }, rest))
@@ -95,7 +91,7 @@ fn derivations(
     bytes: &[u8],
     count: u32,
     levels: u32,
-) -> Result<(Vec<Derivation>, &[u8]), CertError>
+) -> Result<(Vec<Derivation>, &[u8]), Unread>
     ensures { Answers (DerivationsAt levels count bytes.now) (λ x. (derivations_of (map derivation_view x.0.items), x.1.now)) result }
 {
     let mut derivations = Vec::new(alloc);

@@ -7,7 +7,7 @@ ghost use Rattle.cert_text.specs.ReadingTerms as spec;
 ghost use Rattle.cert_text.specs.ReadingTerms.{WordAt, TermAt, TermBehind, ArgumentsAt, IsTermText};
 ghost use Rattle.cert_text.specs.Answers.{Answers};
 
-use crate::error::CertError;
+use crate::error::Unread;
 use crate::words::{behind, number};
 use cops_read::Names;
 use std::alloc::Global;
@@ -19,8 +19,8 @@ const MOST_LEVELS: u32 = 400;
 
 const MOST_NODES: u32 = 10_000;
 
-// Whether the byte is one of identifiers.
-fn is_id(b: u8) -> bool
+/// Whether the byte is one of identifiers.
+pub fn is_id(b: u8) -> bool
     ensures { result ≡ text.is_id b }
 {
     b > 32
@@ -28,8 +28,8 @@ fn is_id(b: u8) -> bool
         && !(b == b'(' || b == b')' || b == b',' || b == b'|' || b == b'"' || b == b'\\')
 }
 
-// Whether an identifier goes on with the first byte.
-fn goes_on(bytes: &[u8]) -> bool
+/// Whether an identifier goes on with the first byte.
+pub fn goes_on(bytes: &[u8]) -> bool
     ensures { result ≡ spec.goes_on bytes.now }
 {
     match bytes {
@@ -106,21 +106,21 @@ fn term<'a>(
     bytes: &'a [u8],
     levels: u32,
     nodes: u32,
-) -> Result<(Term, &'a [u8], u32), CertError>
+) -> Result<(Term, &'a [u8], u32), Unread>
     ensures { Answers (TermAt names.now levels nodes bytes.now) (λ x. (view x.0, x.1.now, x.2)) result }
 {
     if levels == 0 || nodes == 0 {
-        return Err(CertError::NotBuilt);
+        return Err(Unread::NoText);
     }
     let (word, rest) = word_of(bytes);
     if let Some(digits) = behind(word, b"|") {
         return match number(digits) {
             Some(x) => Ok((Term::Var(x), rest, nodes - 1)),
-            None => Err(CertError::NotBuilt),
+            None => Err(Unread::NoText),
         };
     }
     let Some((f, arity)) = symbol(names, word) else {
-        return Err(CertError::NotBuilt);
+        return Err(Unread::NoText);
     };
     let (args, rest, spare) = arguments(alloc, names, rest, arity, levels - 1, nodes - 1)?;
     Ok((Term::Fun(f, args), rest, spare))
@@ -135,11 +135,11 @@ fn term_behind<'a>(
     mark: &[u8],
     levels: u32,
     nodes: u32,
-) -> Result<(Term, &'a [u8], u32), CertError>
+) -> Result<(Term, &'a [u8], u32), Unread>
     ensures { Answers (TermBehind mark.now names.now levels nodes bytes.now) (λ x. (view x.0, x.1.now, x.2)) result }
 {
     let Some(inner) = behind(bytes, mark) else {
-        return Err(CertError::NotBuilt);
+        return Err(Unread::NoText);
     };
     term(alloc, names, inner, levels, nodes)
 }
@@ -153,7 +153,7 @@ fn arguments<'a>(
     count: u32,
     levels: u32,
     nodes: u32,
-) -> Result<(Vec<Term>, &'a [u8], u32), CertError>
+) -> Result<(Vec<Term>, &'a [u8], u32), Unread>
     ensures { Answers (ArgumentsAt names.now levels count nodes bytes.now) (λ x. (views x.0.items, x.1.now, x.2)) result }
 {
     let mut args = Vec::new(alloc);
@@ -172,18 +172,18 @@ fn arguments<'a>(
     }
     match behind(left, b")") {
         Some(rest) => Ok((args, rest, nodes_left)),
-        None => Err(CertError::NotBuilt),
+        None => Err(Unread::NoText),
     }
 }
 
 /// The term that the bytes are the text of, if it fits.
-pub fn whole_term(alloc: Global, names: &Names, bytes: &[u8]) -> Result<Term, CertError>
+pub fn whole_term(alloc: Global, names: &Names, bytes: &[u8]) -> Result<Term, Unread>
     ensures { Answers (IsTermText names.now bytes.now) view result }
 {
     let (found, rest, _) = term(alloc, names, bytes, MOST_LEVELS, MOST_NODES)?;
     if rest.is_empty() {
         Ok(found)
     } else {
-        Err(CertError::NotBuilt)
+        Err(Unread::NoText)
     }
 }

@@ -4,7 +4,7 @@ ghost use Rattle.cert_text.specs.ReadingParts as spec;
 ghost use Rattle.cert_text.specs.ReadingParts.{PartAt, NumberAt, MarkedNumbers, NumbersLine};
 ghost use Rattle.cert_text.specs.Answers.{Answers};
 
-use crate::CertError;
+use crate::error::Unread;
 use itoa::Buffer;
 use std::alloc::Global;
 use std::str;
@@ -61,21 +61,17 @@ pub fn number(word: &[u8]) -> Option<u32>
 }
 
 // The same of a number that is not 0.
-fn place(word: &[u8]) -> Result<u32, CertError>
+fn place(word: &[u8]) -> Result<u32, Unread>
     ensures { Answers (IsPlace word.now) (λ n. n) result }
 {
     match number(word) {
-        Some(n) => if n > 0 {
-            Ok(n)
-        } else {
-            Err(CertError::NotBuilt)
-        },
-        None => Err(CertError::NotBuilt),
+        Some(n) => if n > 0 { Ok(n) } else { Err(Unread::NoText) },
+        None => Err(Unread::NoText),
     }
 }
 
 // The position that the word is.
-fn position_of(alloc: Global, word: &[u8]) -> Result<Vec<u32>, CertError>
+fn position_of(alloc: Global, word: &[u8]) -> Result<Vec<u32>, Unread>
     ensures { Answers (IsPosition word.now) (λ places. places.items) result }
 {
     let mut places = Vec::new(alloc);
@@ -92,26 +88,26 @@ fn position_of(alloc: Global, word: &[u8]) -> Result<Vec<u32>, CertError>
 }
 
 /// The number in front of a byte that is no digit, and what is behind that.
-pub fn number_before(bytes: &[u8], end: u8) -> Result<(u32, &[u8]), CertError>
+pub fn number_before(bytes: &[u8], end: u8) -> Result<(u32, &[u8]), Unread>
     requires { (end ≡ 10) ⊎ (end ≡ 32) }
     ensures { Answers (NumberBefore end bytes.now) (λ x. (x.0, x.1.now)) result }
 {
     let Some((word, rest)) = cut(bytes, end) else {
-        return Err(CertError::NotBuilt);
+        return Err(Unread::NoText);
     };
     match number(word) {
         Some(n) => Ok((n, rest)),
-        None => Err(CertError::NotBuilt),
+        None => Err(Unread::NoText),
     }
 }
 
 /// The position in front of a line's end or a space, and what is behind that.
-pub fn position_before(alloc: Global, bytes: &[u8], end: u8) -> Result<(Vec<u32>, &[u8]), CertError>
+pub fn position_before(alloc: Global, bytes: &[u8], end: u8) -> Result<(Vec<u32>, &[u8]), Unread>
     requires { (end ≡ 10) ⊎ (end ≡ 32) }
     ensures { Answers (PositionBefore end bytes.now) (λ x. (x.0.items, x.1.now)) result }
 {
     let Some((word, rest)) = cut(bytes, end) else {
-        return Err(CertError::NotBuilt);
+        return Err(Unread::NoText);
     };
     Ok((position_of(alloc, word)?, rest))
 }
@@ -136,13 +132,13 @@ pub fn part_of(bytes: &[u8]) -> (&[u8], &[u8])
 }
 
 /// The number at the front, and what is behind it.
-pub fn number_at(bytes: &[u8]) -> Result<(u32, &[u8]), CertError>
+pub fn number_at(bytes: &[u8]) -> Result<(u32, &[u8]), Unread>
     ensures { Answers (NumberAt bytes.now) (λ x. (x.0, x.1.now)) result }
 {
     let (part, rest) = part_of(bytes);
     match number(part) {
         Some(n) => Ok((n, rest)),
-        None => Err(CertError::NotBuilt),
+        None => Err(Unread::NoText),
     }
 }
 
@@ -151,7 +147,7 @@ pub fn marked<'a>(
     alloc: Global,
     bytes: &'a [u8],
     mark: &[u8],
-) -> Result<(Vec<u32>, &'a [u8]), CertError>
+) -> Result<(Vec<u32>, &'a [u8]), Unread>
     requires { 0 < length mark.now }
     ensures { Answers (MarkedNumbers mark.now bytes.now) (λ x. (x.0.items, x.1.now)) result }
 {
@@ -166,12 +162,12 @@ pub fn marked<'a>(
 }
 
 /// The numbers up to the line's end, each behind a space, and what is behind the line.
-pub fn numbers_line(alloc: Global, bytes: &[u8]) -> Result<(Vec<u32>, &[u8]), CertError>
+pub fn numbers_line(alloc: Global, bytes: &[u8]) -> Result<(Vec<u32>, &[u8]), Unread>
     ensures { Answers (NumbersLine bytes.now) (λ x. (x.0.items, x.1.now)) result }
 {
     let (numbers, rest) = marked(alloc, bytes, b" ")?;
     match behind(rest, b"\n") {
         Some(rest) => Ok((numbers, rest)),
-        None => Err(CertError::NotBuilt),
+        None => Err(Unread::NoText),
     }
 }
