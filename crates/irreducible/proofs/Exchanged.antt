@@ -1,21 +1,21 @@
 -- Where two variables change places in a term, the runs by which it is judged have the same outcomes, renamed.
-use Rattle.std.proofs.Common.{ℕ, zero, suc, ◌≡◌, ◌⊎◌, inl, inr, ◌<◌, ◌+◌, ◌*◌, ◌/◌, ◌%◌, Bool, true, false, nat_eq, if◌then◌else◌, List, [], ◌≢◌, Some, Result, Ok, Err, refl, sym, ap, ap₂, ◌∙◌, subst, subst₂, arith, eqb-true, eq-eqb}
+use Rattle.std.proofs.Common.{ℕ, ◌≡◌, ◌+◌, ◌*◌, ◌/◌, ◌%◌, Bool, true, false, nat_eq, if◌then◌else◌, [], ◌≢◌, Result, Ok, Err, refl, sym, ap, ap₂, ◌∙◌, subst, subst₂, arith, eqb-true, eq-eqb}
 use Rattle.std.proofs.lemmas.Bool.{false≢true}
 use Rattle.rewriting.specs.Terms.{Term, Terms, var, app, nil, cons, IsVariable}
-use Rattle.rewriting.specs.Positions.{Position, subterm}
-use Rattle.rewriting.specs.Substitutions.{Substitution, apply, apply_all}
+use Rattle.rewriting.specs.Positions.{Position}
+use Rattle.rewriting.specs.Substitutions.{apply, apply_all}
 use Rattle.rewriting.specs.Unifiers.{even, odd}
 use Rattle.rewriting.specs.Rules.{Rule, System}
 use Rattle.rewriting.proofs.Places.{subterm-apply}
-use Rattle.unifier_run.specs.Run.{Outcome, Binding, unifier, clash, too_large, Runs}
+use Rattle.unifier_run.specs.Run.{Outcome, unifier, clash, too_large, Runs}
 use Rattle.unifier_run.specs.Overlaps.{IsOutcomeOf}
-use Rattle.unifier_run.specs.Irreducible.{IsTrial, IsEarlierTrial, DoAllClash, IsFirstOutcome}
+use Rattle.unifier_run.specs.Irreducible.{IsTrial, DoAllClash, IsFirstOutcome}
 use Rattle.term_core.specs.declared.terms.NoMemory.{NoMemory}
 use Rattle.irreducible.specs.declared.Irreducible.{Irreducible}
 use Rattle.irreducible.specs.declared.Irreducible.TheVariants.{Yes, No, TooLarge}
 use Rattle.irreducible.specs.Judging.{JudgeAnswers}
 use Rattle.irreducible.specs.Exchange.{exchange, exchanged}
-use Rattle.irreducible.proofs.Renamed as under
+use Rattle.unifier_run.proofs.Renamed.{names, stays, renamed_outcome as outcome_under, runs_with_names}
 
 exchange_twice : (a b x : ℕ) → exchange a b (exchange a b x) ≡ x
 exchange_twice a b x = go (nat_eq x a) refl (nat_eq x b) refl (nat_eq b a) refl
@@ -71,20 +71,20 @@ module _ (a b : ℕ) where
   one_to_one x y e = sym (woven_twice x) ∙ ap woven e ∙ woven_twice y
 
   mutual
-    even_stays : (t : Term) → under.renamed woven one_to_one (apply even t) ≡ apply even t
+    even_stays : (t : Term) → apply (names woven) (apply even t) ≡ apply even t
     even_stays (var x) = ap var (woven_even x)
     even_stays (app f ts) = ap (app f) (evens_stay ts)
 
-    evens_stay : (ts : Terms) → apply_all (under.names woven one_to_one) (apply_all even ts) ≡ apply_all even ts
+    evens_stay : (ts : Terms) → apply_all (names woven) (apply_all even ts) ≡ apply_all even ts
     evens_stay nil = refl
     evens_stay (cons t ts) = ap₂ cons (even_stays t) (evens_stay ts)
 
   mutual
-    odd_moves : (t : Term) → under.renamed woven one_to_one (apply odd t) ≡ apply odd (exchanged a b t)
+    odd_moves : (t : Term) → apply (names woven) (apply odd t) ≡ apply odd (exchanged a b t)
     odd_moves (var x) = ap var (woven_odd x)
     odd_moves (app f ts) = ap (app f) (odds_move ts)
 
-    odds_move : (ts : Terms) → apply_all (under.names woven one_to_one) (apply_all odd ts) ≡ apply_all odd (apply_all (λ x. var (exchange a b x)) ts)
+    odds_move : (ts : Terms) → apply_all (names woven) (apply_all odd ts) ≡ apply_all odd (apply_all (λ x. var (exchange a b x)) ts)
     odds_move nil = refl
     odds_move (cons t ts) = ap₂ cons (odd_moves t) (odds_move ts)
 
@@ -98,12 +98,12 @@ module _ (a b : ℕ) where
     all_back (cons t ts) = ap₂ cons (back t) (all_back ts)
 
   abbrev renamed_outcome : Outcome → Outcome
-  renamed_outcome o = under.renamed_outcome woven one_to_one o
+  renamed_outcome o = outcome_under woven stays o
 
   -- the outcome for a part in which the variables have changed places, for the part itself
   outcome_back : (l u : Term) (o : Outcome) → IsOutcomeOf l (exchanged a b u) o → IsOutcomeOf l u (renamed_outcome o)
   outcome_back l u o h =
-      subst₂ (λ p q. Runs [] (cons p nil) (cons q nil) (renamed_outcome o)) (even_stays l) (odd_moves (exchanged a b u) ∙ ap (apply odd) (back u)) (under.runs_to woven one_to_one h)
+      subst₂ (λ p q. Runs [] (cons p nil) (cons q nil) (renamed_outcome o)) (even_stays l) (odd_moves (exchanged a b u) ∙ ap (apply odd) (back u)) (runs_with_names woven one_to_one h)
 
   no_variable_to : (u : Term) → IsVariable (exchanged a b u) → IsVariable u
   no_variable_to (var x) h = tt

@@ -1,13 +1,12 @@
 -- Judging the whole from its parts.
-use Rattle.std.proofs.Common.{ℕ, zero, suc, ◌≡◌, ◌+◌, ◌<◌, ◌≤◌, ◌⊎◌, inl, inr, List, [], ◌∷◌, Some, None, refl, sym, ap, ap₂, ◌∙◌, subst, subst₂, arith}
-use Rattle.rewriting.specs.Terms.{Term, Terms, var, app, nil, cons, IsVariable}
+use Rattle.std.proofs.Common.{ℕ, suc, ◌≡◌, ◌<◌, ◌≤◌, ◌⊎◌, inl, inr, [], ◌∷◌, Some, refl, sym, ap, ◌∙◌, subst, arith}
+use Rattle.rewriting.specs.Terms.{Term, Terms, var, app, IsVariable}
 use Rattle.rewriting.specs.Positions.{Position, subterm, argument, IsBefore}
-use Rattle.rewriting.specs.Rules.{Rule, System, rule_at}
+use Rattle.rewriting.specs.Rules.{Rule, System}
 use Rattle.rewriting.proofs.Positions.{within}
 use Rattle.unifier_run.specs.Run.{Outcome, clash}
 use Rattle.unifier_run.specs.Overlaps.{IsOutcomeOf}
-use Rattle.unifier_run.specs.Irreducible.{IsTrial, DoAllClash, IsFirstOutcome}
-use Rattle.irreducible.specs.Judging.{DoRulesClash, IsFirstRule}
+use Rattle.unifier_run.specs.Irreducible.{IsTrial, DoAllClash, IsFirstOutcome, DoRulesClash, IsFirstRule}
 
 same_some : (a b : Term) → Some a ≡ Some b → a ≡ b
 same_some a b e = cc

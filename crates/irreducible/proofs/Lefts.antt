@@ -1,9 +1,9 @@
 -- The left sides of rules with other variables.
-use Rattle.std.proofs.Common.{ℕ, zero, suc, ◌≡◌, ◌+◌, ◌*◌, ◌^◌, ◌<◌, ◌≤◌, ◌⊎◌, inl, inr, true, List, [], ◌∷◌, ◌++◌, map, length, take, get_or, Some, refl, sym, ap, ap₂, ◌∙◌, subst, subst₂, arith, slice_get, add-one}
-use Rattle.rewriting.specs.Terms.{Term, var, nil, cons}
+use Rattle.std.proofs.Common.{ℕ, zero, suc, ◌≡◌, ◌+◌, ◌*◌, ◌^◌, ◌<◌, inl, inr, true, List, [], ◌∷◌, ◌++◌, map, length, take, get_or, Some, refl, sym, ap, ap₂, ◌∙◌, subst, arith, slice_get, add-one}
+use Rattle.rewriting.specs.Terms.{Term, var}
 use Rattle.rewriting.specs.Substitutions.{Substitution, apply}
 use Rattle.rewriting.specs.Unifiers.{even, odd}
-use Rattle.rewriting.specs.Variables.{occurs, occurs_in}
+use Rattle.rewriting.specs.Variables.{occurs}
 use Rattle.rewriting.specs.Signatures.{Signature}
 use Rattle.rewriting.specs.Rules as math
 use Rattle.rewriting.specs.Rules.{rule_at}
@@ -15,7 +15,7 @@ use Rattle.term_core.specs.RuleView.{rule_view}
 use Rattle.term_core.specs.declared.systems.Rule as Program
 use Rattle.term_core.specs.declared.terms.Term as T
 use Rattle.unification.specs.Answers.{renaming}
-use Rattle.irreducible.specs.Judging.{lefts_under, AreLefts}
+use Rattle.irreducible.specs.Judging.{lefts_under}
 
 counted_below : (n : ℕ) (xs : List ℕ) (x : ℕ) → CountsFrom n xs → IsAmong x xs → x < n + length xs
 counted_below n [] x h m = absurd m

@@ -1,5 +1,4 @@
 pub mod Lefts
 pub mod Judge
 pub mod Parts
-pub mod Renamed
 pub mod Exchanged

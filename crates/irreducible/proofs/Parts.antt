@@ -1,17 +1,17 @@
 -- Parts of a term of the program, and the answers for it.
-use Rattle.std.proofs.Common.{ℕ, zero, suc, ◌≡◌, ◌+◌, ◌<◌, ◌≤◌, ◌⊎◌, inl, inr, ◌^◌, true, List, [], ◌∷◌, map, length, drop, get_or, Some, None, Vec, Global, Result, Ok, Err, refl, sym, ap, ap₂, ◌∙◌, subst, subst₂, arith, slice_get, add-one}
+use Rattle.std.proofs.Common.{ℕ, zero, suc, ◌≡◌, ◌+◌, ◌<◌, ◌≤◌, ◌⊎◌, inl, inr, ◌^◌, true, List, [], ◌∷◌, map, length, drop, get_or, Some, Vec, Global, Result, Ok, Err, refl, sym, ap, ◌∙◌, subst, subst₂, arith, add-one}
 use Rattle.rewriting.specs.Terms as math
 use Rattle.rewriting.specs.Terms.{Terms, var, app, nil, cons, size}
 use Rattle.rewriting.specs.Positions.{argument}
 use Rattle.rewriting.specs.Substitutions.{apply, apply_all}
-use Rattle.rewriting.specs.Unifiers.{even, odd}
+use Rattle.rewriting.specs.Unifiers.{odd}
 use Rattle.rewriting.specs.Variables.{occurs, occurs_in}
 use Rattle.rewriting.specs.Rules.{Rule, System, rule_at}
 use Rattle.rewriting.specs.NormalForms.{IsAbsolutelyIrreducible}
 use Rattle.rewriting.proofs.Instances.{or_cases}
 use Rattle.unifier_run.specs.Run.{Binding, value, Outcome, unifier, clash, too_large, IsOutcome}
 use Rattle.unifier_run.specs.Overlaps.{IsOutcomeOf}
-use Rattle.unifier_run.specs.Irreducible.{IsTrial, DoAllClash, IsFirstOutcome}
+use Rattle.unifier_run.specs.Irreducible.{DoAllClash, IsFirstOutcome, DoRulesClash, IsFirstRule}
 use Rattle.unifier_run.proofs.General.{most_general, no_unifier}
 use Rattle.term_core.specs.View.{view, views}
 use Rattle.term_core.specs.declared.terms.Term.{Term, Var, Fun}
@@ -21,7 +21,7 @@ use Rattle.unification.proofs.Terms.{views-drop, views-drop_all}
 use Rattle.irreducible.specs.declared.Irreducible.{Irreducible}
 use Rattle.irreducible.specs.declared.Irreducible.TheVariants.{Yes, No, TooLarge}
 use Rattle.irreducible.specs.Answers.{IrreducibleAnswers}
-use Rattle.irreducible.specs.Judging.{DoRulesClash, IsFirstRule, AreLefts, RootAnswers, JudgeAnswers}
+use Rattle.irreducible.specs.Judging.{AreLefts, RootAnswers, JudgeAnswers}
 use Rattle.irreducible.proofs.Lefts.{left_at, rule_there, rule_within}
 use Rattle.irreducible.proofs.Judge.{DoArgumentsClash, variable_clash, whole_clash, first_root, first_part}
 

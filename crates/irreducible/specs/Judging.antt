@@ -1,27 +1,14 @@
 -- What judging a part of a term answers, all of whose variables are odd numbers.
-use Rattle.std.specs.Prelude.{ℕ, ◌≡◌, ◌<◌, List, [], ◌∷◌, Some, Result, Ok, Err}
+use Rattle.std.specs.Prelude.{◌≡◌, List, [], ◌∷◌, Result, Ok, Err}
 use Rattle.rewriting.specs.Terms as math
 use Rattle.rewriting.specs.Substitutions.{Substitution, apply}
 use Rattle.rewriting.specs.Unifiers.{even}
-use Rattle.rewriting.specs.Rules.{Rule, System, rule_at}
-use Rattle.unifier_run.specs.Run.{Binding, Outcome, unifier, clash, too_large}
-use Rattle.unifier_run.specs.Overlaps.{IsOutcomeOf}
-use Rattle.unifier_run.specs.Irreducible.{DoAllClash, IsFirstOutcome}
+use Rattle.rewriting.specs.Rules.{Rule, System}
+use Rattle.unifier_run.specs.Run.{Binding, unifier, too_large}
+use Rattle.unifier_run.specs.Irreducible.{DoAllClash, IsFirstOutcome, IsFirstRule, DoRulesClash}
 use Rattle.term_core.specs.declared.terms.NoMemory.{NoMemory}
 use Rattle.irreducible.specs.declared.Irreducible.{Irreducible}
 use Rattle.irreducible.specs.declared.Irreducible.TheVariants.{Yes, No, TooLarge}
-
--- the first rule whose run on the whole term does not clash has this outcome
-pub record IsFirstRule (sys : System) (t : math.Term) (o : Outcome) : Type 0 where
-  pub number : ℕ
-  pub rule : Rule
-  pub is_rule : rule_at sys number ≡ Some rule
-  pub outcome : IsOutcomeOf rule.left t o
-  pub before : (i : ℕ) (r : Rule) → rule_at sys i ≡ Some r → i < number → IsOutcomeOf r.left t clash
-
--- every rule's run on the whole term clashes
-abbrev pub DoRulesClash : System → math.Term → Type 0
-DoRulesClash sys t = (i : ℕ) (r : Rule) → rule_at sys i ≡ Some r → IsOutcomeOf r.left t clash
 
 abbrev pub RootAnswers : System → math.Term → Result Irreducible NoMemory → Type 0
 RootAnswers sys t (Ok Yes) = DoRulesClash sys t

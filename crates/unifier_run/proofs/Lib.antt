@@ -7,3 +7,4 @@ pub mod Equal
 pub mod Maps
 pub mod Triples
 pub mod Spots
+pub mod Renamed

@@ -1,5 +1,5 @@
 -- All triples of a system in order: by the outer rule, the positions of its left side that are no variables, and the inner rule.
-use Rattle.std.proofs.Common.{ℕ, zero, suc, ◌≡◌, ◌≢◌, ◌+◌, ◌<◌, ◌≤◌, ◌⊎◌, inl, inr, List, [], ◌∷◌, ◌++◌, length, Option, Some, None, refl, sym, ap, ap₂, ◌∙◌, subst, arith, slice_get, append_assoc}
+use Rattle.std.proofs.Common.{ℕ, zero, suc, ◌≡◌, ◌≢◌, ◌+◌, ◌<◌, ◌≤◌, ◌⊎◌, inl, inr, List, [], ◌∷◌, ◌++◌, length, Some, refl, sym, ap, ◌∙◌, subst, arith, slice_get, append_assoc}
 use Rattle.rewriting.specs.Terms.{Term, var, app, Terms, nil, cons, IsVariable}
 use Rattle.rewriting.specs.Positions.{Position, IsBefore, subterm, argument}
 use Rattle.rewriting.specs.Rules.{Rule, System, rule_at}

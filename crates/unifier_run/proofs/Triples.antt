@@ -1,10 +1,9 @@
 -- The triples of two rules and a position in order, and the overlaps at a list of triples.
-use Rattle.std.proofs.Common.{ℕ, zero, suc, ◌≡◌, ◌≢◌, ◌+◌, ◌<◌, ◌≤◌, ◌⊎◌, inl, inr, List, [], ◌∷◌, ◌++◌, length, Option, Some, None, refl, sym, ap, ap₂, ◌∙◌, subst, arith, slice_get, append_assoc}
-use Rattle.rewriting.specs.Terms.{Term, var, app, Terms, nil, cons, IsVariable}
-use Rattle.rewriting.specs.Positions.{Position, IsBefore, subterm, argument}
-use Rattle.rewriting.specs.Rules.{Rule, System, rule_at}
+use Rattle.std.proofs.Common.{ℕ, ◌≡◌, ◌⊎◌, inl, inr, List, [], ◌∷◌, ◌++◌, refl, sym, ap, ◌∙◌, subst, arith}
+use Rattle.rewriting.specs.Terms.{Term}
+use Rattle.rewriting.specs.Positions.{Position, IsBefore}
+use Rattle.rewriting.specs.Rules.{Rule, System}
 use Rattle.rewriting.specs.Overlaps.{IsPlace, IsEarlier}
-use Rattle.rewriting.proofs.Positions.{within}
 use Rattle.unifier_run.specs.Run.{clash}
 use Rattle.unifier_run.specs.Overlaps.{Triple, Overlap, triple, IsOutcomeOf, IsOverlapOf, IsListed, IsBeforeAll, IsSorted, AreOverlapsAt}
 

@@ -30,3 +30,15 @@ pub record IsFirstOutcome (sys : System) (t : Term) (o : Outcome) : Type 0 where
   pub trial : IsTrial sys t position number part rule
   pub outcome : IsOutcomeOf rule.left part o
   pub before : (p : Position) (i : ℕ) (u : Term) (r : Rule) → IsTrial sys t p i u r → IsEarlierTrial (p, i) (position, number) → IsOutcomeOf r.left u clash
+
+-- the first rule whose run on the whole term does not clash has this outcome
+pub record IsFirstRule (sys : System) (t : Term) (o : Outcome) : Type 0 where
+  pub number : ℕ
+  pub rule : Rule
+  pub is_rule : rule_at sys number ≡ Some rule
+  pub outcome : IsOutcomeOf rule.left t o
+  pub before : (i : ℕ) (r : Rule) → rule_at sys i ≡ Some r → i < number → IsOutcomeOf r.left t clash
+
+-- every rule's run on the whole term clashes
+abbrev pub DoRulesClash : System → Term → Type 0
+DoRulesClash sys t = (i : ℕ) (r : Rule) → rule_at sys i ≡ Some r → IsOutcomeOf r.left t clash

@@ -1,8 +1,4 @@
-use Rattle.std.proofs.Common.{◌≡◌, ◌<◌, ◌≤◌, subst, sym, ap, length, get_or, Ok}
-use Rattle.rewriting.specs.Terms as math
-use Rattle.rewriting.specs.Substitutions.{apply}
-use Rattle.rewriting.specs.Unifiers.{odd}
-use Rattle.term_core.specs.View.{view}
+use Rattle.std.proofs.Common.{◌≡◌, ◌<◌, ◌≤◌, subst, length, get_or, Ok}
 use Rattle.irreducible.specs.Judging.{RootAnswers, JudgeAnswers}
 use Rattle.irreducible.proofs.Parts.{Judged, judged_none, judged_next, judge_whole, judge_variable, judge_root_other, judge_part_other}
 use Rattle.irreducible.proofs.judging.+judge.Goals as goal

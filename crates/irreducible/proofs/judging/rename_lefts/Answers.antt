@@ -1,4 +1,4 @@
-use Rattle.std.proofs.Common.{◌≡◌, ◌∙◌, ◌++◌, ◌∷◌, [], sym, ap, ap₂, map}
+use Rattle.std.proofs.Common.{◌∙◌, ◌++◌, ◌∷◌, [], sym, ap, ap₂, map}
 use Rattle.term_core.specs.View.{view}
 use Rattle.unification.specs.Answers.{renaming}
 use Rattle.irreducible.proofs.Lefts.{room_at, lefts_take, map-append}
