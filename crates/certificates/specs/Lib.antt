@@ -5,3 +5,4 @@ pub mod Reasons
 pub mod Judging
 pub mod Soundness
 pub mod Sizes
+pub mod Automata

@@ -1,0 +1,5 @@
+pub mod Unique
+pub mod Instances
+pub mod Steps
+pub mod Reducts
+pub mod Rigid

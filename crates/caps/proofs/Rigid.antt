@@ -1,0 +1,48 @@
+-- The laws of rigid caps, where no left side is a variable.
+use Rattle.std.proofs.Common.{ℕ, ◌≡◌, ◌<◌, true, refl, sym, ap, ◌∙◌, subst}
+use Rattle.rewriting.specs.Terms.{Term, var, app, nil, cons, IsVariable}
+use Rattle.rewriting.specs.Substitutions.{Substitution, apply}
+use Rattle.rewriting.specs.Variables.{occurs}
+use Rattle.rewriting.specs.Unifiers.{even, odd}
+use Rattle.rewriting.specs.Rules.{System}
+use Rattle.rewriting.specs.Systems.{IsWellFormed}
+use Rattle.rewriting.specs.Reduction.{Reaches}
+use Rattle.rewriting.specs.Confluence.{AreApart}
+use Rattle.rewriting.proofs.Unifiers.{both, apply-even, apply-odd}
+use Rattle.unifier_run.specs.Run.{clash}
+use Rattle.unifier_run.proofs.General.{no_unifier}
+use Rattle.caps.specs.Caps.{Cap, kept, filled, frozen, IsCapOf}
+use Rattle.caps.specs.Evidence.{IsRigidOutcome}
+use Rattle.caps.specs.Laws.{IsReductOf}
+use Rattle.caps.proofs.Instances.{IsInstance, filling, apply-filled}
+use Rattle.caps.proofs.Steps.{HasNoRedex, freezing, cap_safe, cap_instance, cap_keeps, reaches_keeps}
+use Rattle.caps.proofs.Reducts.{apply-var}
+
+variable_pattern : (s : Substitution) (l : Term) (x : ℕ) → apply s l ≡ var x → IsVariable l
+variable_pattern s (var y) x e = tt
+variable_pattern s (app f ts) x e = cc
+
+-- a variable that stays is no instance of a left side
+variable_safe : (sys : System) → IsWellFormed sys → (x : ℕ) → HasNoRedex sys (kept x)
+variable_safe sys well x q s is e = (well is.0 q is.1).left (variable_pattern s q.left x e)
+
+-- what a term reaches
+rigid_instance : (sys : System) → IsWellFormed sys → (t : Term) (c : Cap) (w : Term) → IsCapOf sys kept t c → Reaches sys t w → IsInstance c w
+rigid_instance sys well t c w is p = reaches_keeps sys c (cap_safe sys kept (variable_safe sys well) t c is) (subst (IsInstance c) (apply-var t) (cap_instance sys kept var (λ x. refl) t c is)) p
+
+pub rigid_reducts : (sys : System) (t : Term) (c : Cap) (n : ℕ) (w : Term) → IsWellFormed sys → IsCapOf sys kept t c → ((x : ℕ) → occurs x t ≡ true → x < n) → Reaches sys t w → IsReductOf n (filled var n c) w
+rigid_reducts sys t c n w well is below p =
+    let f = filling n c w (rigid_instance sys well t c w is p) in
+    record {
+      by = f.by;
+      leaves = f.leaves;
+      instance = apply-filled var var f.by f.by (λ x. x < n) f.leaves (λ x. sym (apply-var (f.by x))) n c w (cap_keeps sys kept (λ x. x < n) t c below is) f.fills ∙ apply-var w;
+    }
+
+-- a common reduct, its variables as constants, is an instance of both caps
+pub rigid_apart : (sys : System) (u v : Term) → IsWellFormed sys → IsRigidOutcome sys u v clash → AreApart sys u v
+rigid_apart sys u v well o w p q =
+    let f = freezing sys o.first w (rigid_instance sys well u o.first w o.is_first p) in
+    let g = freezing sys o.second w (rigid_instance sys well v o.second w o.is_second q) in
+    no_unifier (cons (apply even (frozen sys o.first)) nil) (cons (apply odd (frozen sys o.second)) nil) o.outcome (both f.by g.by)
+    (ap (λ z. cons z nil) (apply-even f.by g.by (frozen sys o.first) ∙ (f.freezes ∙ (sym g.freezes ∙ sym (apply-odd f.by g.by (frozen sys o.second))))))

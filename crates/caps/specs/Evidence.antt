@@ -1,0 +1,35 @@
+-- What caps show: that conditions are never met, and that two terms have no common reduct.
+use Rattle.std.specs.Prelude.{◌⊎◌, List, Option, None, Some}
+use Rattle.rewriting.specs.Terms.{Term, var, nil, cons}
+use Rattle.rewriting.specs.Substitutions.{apply, apply_all}
+use Rattle.rewriting.specs.Unifiers.{even, odd}
+use Rattle.rewriting.specs.Rules.{Condition, System, left_sides, right_sides}
+use Rattle.unifier_run.specs.Run.{Binding, Outcome, unifier, clash, too_large, IsOutcome}
+use Rattle.certificates.specs.Reasons.{EvidenceReason, tcap_unifies, tcap_large}
+use Rattle.caps.specs.Caps.{Cap, Caps, kept, any, all_filled, frozen, IsCapOf, AreCapsOf, IsCapLarge, AreCapsLarge}
+
+-- the outcome of the run for the caps of the conditions' left sides and their right sides, which share no variable
+pub record IsCapOutcome (sys : System) (cs : List Condition) (o : Outcome) : Type 0 where
+  pub lefts : Caps
+  pub are : AreCapsOf sys any (left_sides cs) lefts
+  pub outcome : IsOutcome (apply_all even (all_filled var 0 lefts)) (apply_all odd (right_sides cs)) o
+
+-- conditions are judged by caps: with no reason, they are never met; else the reason why that is not shown
+abbrev pub JudgedByCaps : System → List Condition → Option EvidenceReason → Type 0
+JudgedByCaps sys cs None = IsCapOutcome sys cs clash
+JudgedByCaps sys cs (Some tcap_unifies) = (b : List Binding) × IsCapOutcome sys cs (unifier b)
+JudgedByCaps sys cs (Some tcap_large) = AreCapsLarge sys any (left_sides cs) ⊎ IsCapOutcome sys cs too_large
+JudgedByCaps sys cs (Some _) = ⊥
+
+-- the outcome of the run for the rigid caps of two terms: the variables of both terms are the same constants, and no hole
+-- of the one is a hole of the other
+pub record IsRigidOutcome (sys : System) (u v : Term) (o : Outcome) : Type 0 where
+  pub first : Cap
+  pub second : Cap
+  pub is_first : IsCapOf sys kept u first
+  pub is_second : IsCapOf sys kept v second
+  pub outcome : IsOutcome (cons (apply even (frozen sys first)) nil) (cons (apply odd (frozen sys second)) nil) o
+
+-- there is no outcome, since a term has no rigid cap, or the run passes the size
+abbrev pub AreRigidCapsLarge : System → Term → Term → Type 0
+AreRigidCapsLarge sys u v = (IsCapLarge sys kept u ⊎ IsCapLarge sys kept v) ⊎ IsRigidOutcome sys u v too_large
