@@ -1,0 +1,3 @@
+pub mod Rows
+pub mod Spreads
+pub mod Numbered

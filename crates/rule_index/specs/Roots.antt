@@ -1,0 +1,18 @@
+-- The rules of a system by the root symbol of their left sides.
+use Rattle.std.specs.Prelude.{ℕ, suc, Bool, false, nat_eq, if◌then◌else◌, List, [], ◌∷◌}
+use Rattle.rewriting.specs.Terms.{Term, var, app}
+use Rattle.rewriting.specs.Rules.{Rule, System}
+
+-- whether the symbol is the term's root
+abbrev pub has_root : ℕ → Term → Bool
+has_root f (var x) = false
+has_root f (app g ts) = nat_eq f g
+
+-- the numbers of the rules, counted from n, whose left side has the root f
+abbrev pub numbers_with_root : ℕ → ℕ → List Rule → List ℕ
+numbers_with_root f n [] = []
+numbers_with_root f n (r ∷ rs) = if has_root f r.left then n ∷ numbers_with_root f (suc n) rs else numbers_with_root f (suc n) rs
+
+-- the numbers of the system's rules, from 1, whose left side has the root f, in order
+abbrev pub rules_with_root : System → ℕ → List ℕ
+rules_with_root sys f = numbers_with_root f 1 sys.rules
