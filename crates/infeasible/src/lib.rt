@@ -1,0 +1,55 @@
+//! Evidence that conditions are never met, by its kind.
+#![tactic(auto)]
+
+ghost use Rattle.std.specs.Prelude.{◌≤◌, OnOk, length, map};
+ghost use Rattle.rewriting.specs.Infeasibility.{IsInfeasible};
+ghost use Rattle.certificates.specs.Sizes.{DoConditionsFit};
+ghost use Rattle.term_core.specs.RuleView.{condition_view};
+ghost use Rattle.cert_model.specs.EvidenceView.{inf_evidence_view};
+ghost use Rattle.refuter.specs.Answers.{RefutesAnswers};
+ghost use Rattle.validity.specs.Evidence.{IsJudged, IsByCaps};
+
+use cert_model::InfEvidence;
+pub use refuter::Refusal;
+use refuter::Refuter;
+use std::alloc::Global;
+use tcap_infeasible::TcapEvidence;
+use term_core::{Cond, System};
+
+#[cfg(test)]
+mod tests;
+
+// What a refuter answers; where that is Ok, the conditions are never met.
+fn refuted<R: Refuter>(
+    alloc: Global,
+    sys: &System,
+    conds: &[Cond],
+    refuter: &R,
+) -> Result<(), Refusal>
+    requires few { length conds.now ≤ 200 }
+    requires fit { DoConditionsFit (map condition_view conds.now) }
+    ensures judged { RefutesAnswers (R.judged refuter.now sys.now (map condition_view conds.now)) result }
+    ensures sound { OnOk result (IsInfeasible sys.now (map condition_view conds.now)) }
+{
+    let _rules = sys.rules();
+    refuter.refutes(alloc, sys, conds)
+}
+
+/// Judges evidence by caps for conditions of a system. Where it is valid, no level and no substitution meet all of them.
+pub fn check_infeasible(
+    alloc: Global,
+    sys: &System,
+    conds: &[Cond],
+    evidence: &InfEvidence,
+) -> Result<(), Refusal>
+    requires few { length conds.now ≤ 200 }
+    requires fit { DoConditionsFit (map condition_view conds.now) }
+    requires caps { IsByCaps (inf_evidence_view evidence.now) }
+    ensures judged { RefutesAnswers (IsJudged sys.now (map condition_view conds.now) (inf_evidence_view evidence.now)) result }
+    ensures sound { OnOk result (IsInfeasible sys.now (map condition_view conds.now)) }
+{
+    match evidence {
+        InfEvidence::Tcap => refuted(alloc, sys, conds, &TcapEvidence),
+        InfEvidence::Auto { .. } => unreachable!(),
+    }
+}

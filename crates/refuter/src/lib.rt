@@ -1,0 +1,48 @@
+// Evidence that conditions are never met.
+#![tactic(auto)]
+
+ghost use Rattle.std.specs.Prelude.{◌≡◌, ◌≤◌, Option, None, List, length, map};
+ghost use Rattle.rewriting.specs.Rules as math;
+ghost use Rattle.rewriting.specs.Systems.{IsWellFormed};
+ghost use Rattle.rewriting.specs.Infeasibility.{IsInfeasible};
+ghost use Rattle.certificates.specs.Reasons as reasons;
+ghost use Rattle.certificates.specs.Sizes.{DoConditionsFit};
+ghost use Rattle.term_core.specs.RuleView.{condition_view};
+ghost use Rattle.refuter.specs.Answers.{RefutesAnswers};
+
+use cert_model::EvidenceReason;
+use std::alloc::Global;
+use term_core::{Cond, NoMemory, System};
+
+/// Why evidence does not show that conditions are never met.
+#[derive(Debug, Drop)]
+pub enum Refusal {
+    /// The first reason, in the order of judging.
+    Reason(EvidenceReason),
+    NoMemory,
+}
+
+impl From<NoMemory> for Refusal {
+    ghost use Rattle.refuter.specs.declared.Refusal.TheVariants.{NoMemory as no_memory};
+
+    ghost from_gives = { λ _ e. e ≡ no_memory };
+
+    fn from(_e: NoMemory) -> Refusal {
+        Refusal::NoMemory
+    }
+}
+
+/// Evidence that conditions are never met.
+pub trait Refuter {
+    /// What the evidence is judged to be for conditions of a system: valid, with no reason, or the first reason why not.
+    ghost judged: { Self → math.System → List math.Condition → Option reasons.EvidenceReason → Type 0 };
+
+    /// Judges the evidence for conditions of a system.
+    fn refutes(&self, alloc: Global, sys: &System, conds: &[Cond]) -> Result<(), Refusal>
+        requires few { length conds.now ≤ 200 }
+        requires fit { DoConditionsFit (map condition_view conds.now) }
+        ensures { RefutesAnswers (judged self.now sys.now (map condition_view conds.now)) result };
+
+    /// Where the evidence is valid, no level and no substitution meet all conditions.
+    ghost law: { (e : Self) (s : math.System) (cs : List math.Condition) → IsWellFormed s → judged e s cs None → IsInfeasible s cs };
+}

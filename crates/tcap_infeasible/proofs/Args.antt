@@ -1,0 +1,156 @@
+-- The caps of a symbol's arguments, one after the other.
+use Rattle.std.proofs.Common.{ℕ, zero, suc, ◌≡◌, ◌+◌, ◌^◌, ◌<◌, ◌≤◌, inl, inr, List, [], ◌∷◌, ◌++◌, length, take, get_or, Vec, Global, Result, Ok, Err, refl, sym, ap, ap₂, ◌∙◌, subst, arith, add-one, eq-eqb}
+use Rattle.rewriting.specs.Terms as math
+use Rattle.rewriting.specs.Terms.{Terms, app, nil, cons, size, size_all, depth, depth_all, Fits}
+use Rattle.rewriting.specs.Substitutions.{Substitution}
+use Rattle.rewriting.specs.Rules.{System}
+use Rattle.unifier_run.specs.Run.{append}
+use Rattle.caps.specs.Caps.{Cap as MathCap, Caps, node, no_caps, caps, holes, holes_in, filled, all_filled, constants, IsCapOf, AreCapsOf, IsCapLarge, AreCapsLarge}
+use Rattle.term_core.specs.View.{view, views}
+use Rattle.term_core.specs.declared.terms.Term.{Term, Fun}
+use Rattle.term_core.specs.declared.terms.NoMemory.{NoMemory}
+use Rattle.term_core.proofs.Views.{view-Fun}
+use Rattle.term_core.proofs.Instances.{take_all}
+use Rattle.unification.proofs.Terms.{occurs_inside, size_inside}
+use Rattle.tcap_infeasible.specs.declared.Cap.{Cap}
+use Rattle.tcap_infeasible.specs.declared.Cap.TheVariants.{Capped, TooLarge}
+use Rattle.tcap_infeasible.specs.declared.capping.Leaf.{Leaf}
+use Rattle.tcap_infeasible.specs.declared.capping.Leaf.TheVariants.{Hole, Kept}
+use Rattle.tcap_infeasible.specs.Frozen.{leaf_of, HasConstants, IsHeld, TopAnswers, FrozenAnswers}
+use Rattle.tcap_infeasible.proofs.Sizes.{AreSmall, caps_small}
+
+-- one more at the end
+abbrev pub with_cap : Caps → MathCap → Caps
+with_cap no_caps c = caps c no_caps
+with_cap (caps d ds) c = caps d (with_cap ds c)
+
+with_are : (sys : System) (leaf : ℕ → MathCap) (ts : Terms) (cs : Caps) (t : math.Term) (c : MathCap) → AreCapsOf sys leaf ts cs → IsCapOf sys leaf t c → AreCapsOf sys leaf (append ts (cons t nil)) (with_cap cs c)
+with_are sys leaf nil cs t c e is = subst (λ z. AreCapsOf sys leaf (cons t nil) (with_cap z c)) (sym e) (c, no_caps, refl, is, refl)
+with_are sys leaf (cons u us) cs t c (d, ds, e, first, rest) is =
+    subst (λ z. AreCapsOf sys leaf (cons u (append us (cons t nil))) (with_cap z c)) (sym e) (d, with_cap ds c, refl, first, with_are sys leaf us ds t c rest is)
+
+with_filled : (s : Substitution) (n : ℕ) (cs : Caps) (c : MathCap) → all_filled s n (with_cap cs c) ≡ append (all_filled s n cs) (cons (filled s (n + holes_in cs) c) nil)
+with_filled s n no_caps c = (let e : n ≡ n + 0 = omega arith in ap (λ z. cons (filled s z c) nil) e)
+with_filled s n (caps d ds) c =
+    (let e : n + holes d + holes_in ds ≡ n + (holes d + holes_in ds) = omega arith in
+    ap (cons (filled s n d)) (with_filled s (n + holes d) ds c ∙ ap (λ z. append (all_filled s (n + holes d) ds) (cons (filled s z c) nil)) e))
+
+with_holes : (cs : Caps) (c : MathCap) → holes_in (with_cap cs c) ≡ holes_in cs + holes c
+with_holes no_caps c = omega arith
+with_holes (caps d ds) c = let e = with_holes ds c in omega (arith, e)
+
+pub views_with : (us : List Term) (u : Term) → views (us ++ u ∷ []) ≡ append (views us) (cons (view u) nil)
+views_with [] u = refl
+views_with (x ∷ us) u = ap (cons (view x)) (views_with us u)
+
+pub take_suc : (ts : List Term) (k : ℕ) (t : Term) → k < length ts → t ≡ get_or ts k t → take (suc k) ts ≡ take k ts ++ t ∷ []
+take_suc [] k t h e = absurd (omega (arith, h))
+take_suc (x ∷ ts) zero t h e = ap (λ z. z ∷ []) (sym e)
+take_suc (x ∷ ts) (suc k) t h e = ap (λ z. x ∷ z) (take_suc ts k t (omega (arith, h)) e)
+
+pub size_take : (ts : List Term) (k : ℕ) (t : Term) → k < length ts → t ≡ get_or ts k t → size_all (views (take k ts)) + size (view t) ≤ size_all (views ts)
+size_take [] k t h e = absurd (omega (arith, h))
+size_take (x ∷ ts) zero t h e = (let same : size (view t) ≡ size (view x) = ap (λ z. size (view z)) e in omega (arith, same))
+size_take (x ∷ ts) (suc k) t h e = let r = size_take ts k t (omega (arith, h)) e in omega (arith, r)
+
+depth_at : (ts : List Term) (k : ℕ) (t : Term) → k < length ts → t ≡ get_or ts k t → depth (view t) ≤ depth_all (views ts)
+depth_at [] k t h e = absurd (omega (arith, h))
+depth_at (x ∷ ts) zero t h e = (let same : depth (view t) ≡ depth (view x) = ap (λ z. depth (view z)) e in omega (arith, same))
+depth_at (x ∷ ts) (suc k) t h e = let r = depth_at ts k t (omega (arith, h)) e in omega (arith, r)
+
+pub large_at : (sys : System) (leaf : ℕ → MathCap) (ts : List Term) (k : ℕ) (t : Term) → k < length ts → t ≡ get_or ts k t → IsCapLarge sys leaf (view t) → AreCapsLarge sys leaf (views ts)
+large_at sys leaf [] k t h e large = absurd (omega (arith, h))
+large_at sys leaf (x ∷ ts) zero t h e large = inl (subst (λ z. IsCapLarge sys leaf (view z)) e large)
+large_at sys leaf (x ∷ ts) (suc k) t h e large = inr (large_at sys leaf ts k t (omega (arith, h)) e large)
+
+-- the caps of the first k terms are held from the number `start` on, before the number `next`
+pub record AreCapped (sys : System) (leaf : Leaf) (ts : List Term) (k : ℕ) (us : List Term) (start next : ℕ) : Type 0 where
+  pub shapes : Caps
+  pub are : AreCapsOf sys (leaf_of leaf) (views (take k ts)) shapes
+  pub shown : views us ≡ all_filled (constants sys) start shapes
+  pub counted : next ≡ start + holes_in shapes
+
+pub capped_none : (sys : System) (leaf : Leaf) (ts : List Term) (start : ℕ) → AreCapped sys leaf ts 0 [] start start
+capped_none sys leaf ts start = record { shapes = no_caps; are = refl; shown = refl; counted = omega arith }
+
+pub capped_next : (sys : System) (leaf : Leaf) (ts : List Term) (k : ℕ) (us : List Term) (start next more : ℕ) (t u : Term) → k < length ts → t ≡ get_or ts k t → AreCapped sys leaf ts k us start next
+    → FrozenAnswers sys (leaf_of leaf) (view t) next more (Ok (Capped u)) → AreCapped sys leaf ts (k + 1) (us ++ u ∷ []) start more
+capped_next sys leaf ts k us start next more t u h e before (c, is, shown, counted) =
+    record {
+      shapes = with_cap before.shapes c;
+      are = subst (λ z. AreCapsOf sys (leaf_of leaf) (views z) (with_cap before.shapes c)) (sym (ap (λ z. take z ts) (add-one k) ∙ take_suc ts k t h e))
+          (subst (λ z. AreCapsOf sys (leaf_of leaf) z (with_cap before.shapes c)) (sym (views_with (take k ts) t)) (with_are sys (leaf_of leaf) (views (take k ts)) before.shapes (view t) c before.are is));
+      shown = views_with us u ∙ (ap₂ (λ x y. append x (cons y nil)) before.shown (shown ∙ ap (λ z. filled (constants sys) z c) before.counted) ∙ sym (with_filled (constants sys) start before.shapes c));
+      counted = (let a = with_holes before.shapes c in let b = before.counted in omega (arith, a, b, counted));
+    }
+
+-- no more numbers are taken than the terms have nodes
+pub capped_room : (sys : System) (leaf : Leaf) (ts : List Term) (k : ℕ) (us : List Term) (start next : ℕ) → AreCapped sys leaf ts k us start next → next ≤ start + size_all (views (take k ts))
+capped_room sys leaf ts k us start next capped =
+    let s = (caps_small sys leaf (views (take k ts)) capped.shapes start capped.are).few in let c = capped.counted in omega (arith, s, c)
+
+module _ (t : Term) (f : ℕ) (v : Vec Term Global) (items : List Term) (k : ℕ) (arg : Term) (is : t ≡ Fun f v) (same : items ≡ v.items) (h : k < length items) (at : arg ≡ get_or items k arg) where
+  shape : view t ≡ app f (views items)
+  shape = ap view is ∙ (view-Fun f v ∙ ap (λ z. app f (views z)) (sym same))
+
+  pub arg_room : (sys : System) (leaf : Leaf) (us : List Term) (start next : ℕ) → AreCapped sys leaf items k us start next → start + size (view t) < 2 ^ 32 → next + size (view arg) < 2 ^ 32
+  arg_room sys leaf us start next capped room =
+      let whole : size (view t) ≡ suc (size_all (views items)) = ap size shape in
+      let part = size_take items k arg h at in
+      let taken = capped_room sys leaf items k us start next capped in
+      omega (arith, whole, part, taken, room)
+
+  pub arg_fits : Fits (view t) → Fits (view arg)
+  arg_fits fit =
+      let smaller = size_inside t f v items k arg is same h at in
+      let whole : depth (view t) ≡ suc (depth_all (views items)) = ap depth shape in
+      let part = depth_at items k arg h at in
+      let a = fit.nodes in
+      let b = fit.levels in
+      record { nodes = omega (arith, smaller, a); levels = omega (arith, whole, part, b) }
+
+  pub arg_constants : (sys : System) (leaf : Leaf) → HasConstants sys leaf (view t) → HasConstants sys leaf (view arg)
+  arg_constants sys Hole c = tt
+  arg_constants sys Kept c = λ x o. c x (occurs_inside x t f v items k arg is same h at o)
+
+  pub arg_large : (sys : System) (leaf : Leaf) → IsCapLarge sys (leaf_of leaf) (view arg) → IsCapLarge sys (leaf_of leaf) (view t)
+  arg_large sys leaf large = subst (IsCapLarge sys (leaf_of leaf)) (sym shape) (inl (large_at sys (leaf_of leaf) items k arg h at large))
+
+pub start_low : (sys : System) (leaf : Leaf) (ts : List Term) (k : ℕ) (us : List Term) (start next : ℕ) → AreCapped sys leaf ts k us start next → 2 ^ 31 ≤ start → 2 ^ 31 ≤ next
+start_low sys leaf ts k us start next capped low = let c = capped.counted in omega (arith, c, low)
+
+pub whole_cap : (sys : System) (leaf : Leaf) (t : Term) (f : ℕ) (v : Vec Term Global) (items : List Term) (k : ℕ) (us : List Term) (start next more : ℕ) (r : Result Cap NoMemory) → t ≡ Fun f v → items ≡ v.items → length items ≤ k
+    → AreCapped sys leaf items k us start next → Fits (view t) → 2 ^ 31 ≤ start
+    → ((c : MathCap) → IsHeld sys f (app f (views us)) start c → next ≡ start + holes c → TopAnswers sys c start more r) → FrozenAnswers sys (leaf_of leaf) (view t) start more r
+whole_cap sys leaf t f v items k us start next more r is same h capped fit low top = subst (λ z. FrozenAnswers sys (leaf_of leaf) z start more r) (sym shape) (go r (top (node f capped.shapes) held capped.counted))
+  where
+    shape : view t ≡ app f (views items)
+    shape = ap view is ∙ (view-Fun f v ∙ ap (λ z. app f (views z)) (sym same))
+
+    are : AreCapsOf sys (leaf_of leaf) (views items) capped.shapes
+    are = subst (λ z. AreCapsOf sys (leaf_of leaf) (views z) capped.shapes) (take_all items k h) capped.are
+
+    small : AreSmall sys (views items) capped.shapes start
+    small = caps_small sys leaf (views items) capped.shapes start are
+
+    held : IsHeld sys f (app f (views us)) start (node f capped.shapes)
+    held =
+        (let nodes : size (view t) ≡ suc (size_all (views items)) = ap size shape in
+        let levels : depth (view t) ≡ suc (depth_all (views items)) = ap depth shape in
+        let a = small.nodes in
+        let b = small.levels in
+        let p = fit.nodes in
+        let q = fit.levels in
+        let few : size_all (views us) ≡ size_all (all_filled (constants sys) start capped.shapes) = ap size_all capped.shown in
+        let flat : depth_all (views us) ≡ depth_all (all_filled (constants sys) start capped.shapes) = ap depth_all capped.shown in
+        record {
+          shown = ap (app f) capped.shown;
+          root = eq-eqb f f refl;
+          fits = record { nodes = omega (arith, nodes, a, p, few); levels = omega (arith, levels, b, q, flat) };
+          low = low;
+        })
+
+    go : (r : Result Cap NoMemory) → TopAnswers sys (node f capped.shapes) start more r → FrozenAnswers sys (leaf_of leaf) (app f (views items)) start more r
+    go (Ok (Capped u)) (d, top, shown, counted) = (d, (capped.shapes, are, top), shown, counted)
+    go (Ok TooLarge) first = inr (capped.shapes, are, first)
+    go (Err e) a = tt

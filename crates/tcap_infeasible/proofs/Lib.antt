@@ -1,0 +1,13 @@
+pub mod Tried
+pub mod Roots
+pub mod Sizes
+pub mod Args
+pub mod Sides
+pub mod Filling
+pub mod Apart
+pub mod Keyed
+pub mod Named
+pub mod Places
+pub mod Pairs
+pub mod Lying
+pub mod Thawed

@@ -1,0 +1,82 @@
+-- The tries of a root's rules, as the program makes them.
+use Rattle.std.proofs.Common.{ℕ, zero, suc, ◌≡◌, ◌+◌, ◌-◌, ◌<◌, ◌≤◌, List, [], ◌∷◌, map, length, drop, get_or, Some, refl, sym, ap, ◌∙◌, subst, arith, slice_get, add-one}
+use Rattle.std.proofs.Math.Seq.{drop-cons}
+use Rattle.std.proofs.lemmas.List.{length-map}
+use Rattle.rewriting.specs.Terms.{Term, cons, nil}
+use Rattle.rewriting.specs.Rules as math
+use Rattle.rewriting.specs.Rules.{System, rule_at}
+use Rattle.rewriting.specs.Systems.{IsSystem}
+use Rattle.unifier_run.specs.Run.{Outcome, clash, IsOutcome}
+use Rattle.unifier_run.specs.Overlaps.{IsOutcomeOf}
+use Rattle.unifier_run.specs.Irreducible.{IsFirstRule}
+use Rattle.unifier_run.proofs.Renamed.{renamed_outcome, stays}
+use Rattle.caps.specs.Caps.{Cap, frozen}
+use Rattle.term_core.specs.View.{view}
+use Rattle.term_core.specs.RuleView.{rule_view}
+use Rattle.term_core.specs.declared.systems.Rule.{Rule}
+use Rattle.tcap_infeasible.specs.Frozen.{IsHeld}
+use Rattle.tcap_infeasible.proofs.Tried.{split, rule_of, outcome_of, AreBefore, one_more, Tried, Next, tried_next}
+
+within : (rs : List math.Rule) (i : ℕ) (r : math.Rule) → slice_get rs i ≡ Some r → i < length rs
+within [] i r e = absurd (cc)
+within (q ∷ rs) zero r e = omega arith
+within (q ∷ rs) (suc i) r e = let k = within rs i r e in omega (arith, k)
+
+rule_there : (rs : List Rule) (i : ℕ) (d : Rule) → i < length rs → slice_get (map rule_view rs) i ≡ Some (rule_view (get_or rs i d))
+rule_there [] i d h = absurd (omega (arith, h))
+rule_there (q ∷ rs) zero d h = refl
+rule_there (q ∷ rs) (suc i) d h = rule_there rs i d (omega (arith, h))
+
+module _ (sys : System) (f : ℕ) (t : Term) (numbers : List ℕ) (k : ℕ) (sound : IsSystem sys) where
+  pub following : Tried sys f t numbers k → k < length numbers → Next sys f t (get_or numbers k 0) (drop (suc k) numbers)
+  following tried h = tried_next sys f t numbers k (get_or numbers k 0) sound tried (drop-cons numbers k 0 h)
+
+  pub number_low : Tried sys f t numbers k → k < length numbers → 1 ≤ get_or numbers k 0
+  number_low tried h = let e = (following tried h).number_is in omega (arith, e)
+
+  pub number_high : (rules : List Rule) → map rule_view rules ≡ sys.rules → Tried sys f t numbers k → k < length numbers → get_or numbers k 0 - 1 < length rules
+  number_high rules same tried h =
+      let n = following tried h in
+      let e = n.number_is in
+      let w = within sys.rules n.passed n.rule n.is_rule in
+      let l : length sys.rules ≡ length rules = ap length (sym same) ∙ simp length-map in
+      omega (arith, e, w, l)
+
+  at_place : (rules : List Rule) (d : Rule) → map rule_view rules ≡ sys.rules → (n : Next sys f t (get_or numbers k 0) (drop (suc k) numbers)) → n.rule ≡ rule_view (get_or rules (get_or numbers k 0 - 1) d)
+  at_place rules d same n =
+      let before : n.passed ≡ get_or numbers k 0 - 1 = (let i = n.number_is in omega (arith, i)) in
+      let w = within sys.rules n.passed n.rule n.is_rule in
+      let l : length sys.rules ≡ length rules = ap length (sym same) ∙ simp length-map in
+      let there = rule_there rules n.passed d (omega (arith, w, l)) in
+      same_rule (sym n.is_rule ∙ (ap (λ z. slice_get z n.passed) (sym same) ∙ (there ∙ ap (λ z. Some (rule_view (get_or rules z d))) before)))
+    where
+      same_rule : {p q : math.Rule} → Some p ≡ Some q → p ≡ q
+      same_rule h = cc
+
+  outcome_at : (rules : List Rule) (d : Rule) (o : Outcome) → map rule_view rules ≡ sys.rules → (next : Next sys f t (get_or numbers k 0) (drop (suc k) numbers))
+      → IsOutcome (cons (view (get_or rules (get_or numbers k 0 - 1) d).left) nil) (cons t nil) o → (n : ℕ) (c : Cap) → IsHeld sys f t n c → IsOutcomeOf next.rule.left (frozen sys c) (renamed_outcome (split n) stays o)
+  outcome_at rules d o same next run n c held =
+      outcome_of sys next.rule f t n c o (rule_of sys.arities sys.rules next.passed next.rule sound.rules next.is_rule) held
+      (subst (λ z. IsOutcome (cons z.left nil) (cons t nil) o) (sym (at_place rules d same next)) run)
+
+  pub first_at : (rules : List Rule) (d : Rule) (o : Outcome) → map rule_view rules ≡ sys.rules → Tried sys f t numbers k → k < length numbers
+      → IsOutcome (cons (view (get_or rules (get_or numbers k 0 - 1) d).left) nil) (cons t nil) o → (n : ℕ) (c : Cap) → IsHeld sys f t n c → IsFirstRule sys (frozen sys c) (renamed_outcome (split n) stays o)
+  first_at rules d o same tried h run n c held =
+      let next = following tried h in
+      record {
+        number = get_or numbers k 0;
+        rule = next.rule;
+        is_rule = subst (λ z. rule_at sys z ≡ Some next.rule) (sym next.number_is) next.is_rule;
+        outcome = outcome_at rules d o same next run n c held;
+        before = λ i q at less. next.clash n c held i q at (let m = next.number_is in omega (arith, m, less));
+      }
+
+  pub one_tried : (rules : List Rule) (d : Rule) → map rule_view rules ≡ sys.rules → Tried sys f t numbers k → k < length numbers
+      → IsOutcome (cons (view (get_or rules (get_or numbers k 0 - 1) d).left) nil) (cons t nil) clash → Tried sys f t numbers (k + 1)
+  one_tried rules d same tried h run =
+      let next = following tried h in
+      record {
+        passed = get_or numbers k 0;
+        rest = rw add-one next.rest_is;
+        clash = λ n c held. subst (AreBefore sys (frozen sys c)) (sym next.number_is) (one_more sys (frozen sys c) next.passed next.rule next.is_rule (outcome_at rules d clash same next run n c held) (next.clash n c held));
+      }

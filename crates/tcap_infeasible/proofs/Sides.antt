@@ -1,0 +1,125 @@
+-- The sides of conditions as lists of terms of the program.
+use Rattle.std.proofs.Common.{ℕ, zero, suc, ◌≡◌, ◌+◌, ◌*◌, ◌^◌, ◌<◌, ◌≤◌, nat_eq, Bool, true, false, if◌then◌else◌, List, [], ◌∷◌, ◌++◌, map, length, take, get_or, refl, sym, ap, ◌∙◌, subst, arith, length-append}
+use Rattle.std.specs.List.{list_any}
+use Rattle.std.proofs.lemmas.List.{length-map}
+use Rattle.rewriting.specs.Terms as math
+use Rattle.rewriting.specs.Terms.{Terms, var, app, nil, cons, size, size_all, Fits}
+use Rattle.rewriting.specs.Variables.{with_new, with_variables, with_variables_of}
+use Rattle.rewriting.specs.Rules.{System, left_sides, right_sides}
+use Rattle.certificates.specs.Sizes.{DoConditionsFit}
+use Rattle.renumbering.specs.Rows.{AreDistinct, IsFront, IsNumbered}
+use Rattle.renumbering.proofs.Numbered.{AreNumbered, numbered_none, numbered_more}
+use Rattle.caps.specs.Caps.{any, AreCapsOf, AreCapsLarge, IsCapLarge}
+use Rattle.term_core.specs.View.{view, views}
+use Rattle.term_core.specs.RuleView.{condition_view}
+use Rattle.term_core.specs.declared.systems.Cond.{Cond}
+use Rattle.term_core.specs.declared.terms.Term.{Term}
+use Rattle.term_core.proofs.Instances.{take_all}
+use Rattle.tcap_infeasible.specs.declared.capping.Leaf.TheVariants.{Hole}
+use Rattle.tcap_infeasible.specs.Comparing.{HaveRow}
+use Rattle.tcap_infeasible.proofs.Args.{AreCapped, capped_room, large_at}
+
+abbrev pub lefts : List Cond → List Term
+lefts cs = map (λ c. c.left) cs
+
+abbrev pub rights : List Cond → List Term
+rights cs = map (λ c. c.right) cs
+
+pub views_lefts : (cs : List Cond) → views (lefts cs) ≡ left_sides (map condition_view cs)
+views_lefts [] = refl
+views_lefts (c ∷ cs) = ap (cons (view c.left)) (views_lefts cs)
+
+pub views_rights : (cs : List Cond) → views (rights cs) ≡ right_sides (map condition_view cs)
+views_rights [] = refl
+views_rights (c ∷ cs) = ap (cons (view c.right)) (views_rights cs)
+
+pub left_at : (cs : List Cond) (k : ℕ) (c : Cond) → k < length cs → c ≡ get_or cs k c → c.left ≡ get_or (lefts cs) k c.left
+left_at [] k c h e = absurd (omega (arith, h))
+left_at (d ∷ cs) zero c h e = ap (λ z. z.left) e
+left_at (d ∷ cs) (suc k) c h e = left_at cs k c (omega (arith, h)) e
+
+pub right_at : (cs : List Cond) (k : ℕ) (c : Cond) → k < length cs → c ≡ get_or cs k c → c.right ≡ get_or (rights cs) k c.right
+right_at [] k c h e = absurd (omega (arith, h))
+right_at (d ∷ cs) zero c h e = ap (λ z. z.right) e
+right_at (d ∷ cs) (suc k) c h e = right_at cs k c (omega (arith, h)) e
+
+pub left_fits : (cs : List Cond) (k : ℕ) (c : Cond) → k < length cs → c ≡ get_or cs k c → DoConditionsFit (map condition_view cs) → Fits (view c.left)
+left_fits [] k c h e fit = absurd (omega (arith, h))
+left_fits (d ∷ cs) zero c h e fit = subst (λ z. Fits (view z.left)) (sym e) fit.0
+left_fits (d ∷ cs) (suc k) c h e fit = left_fits cs k c (omega (arith, h)) e fit.2
+
+pub right_fits : (cs : List Cond) (k : ℕ) (c : Cond) → k < length cs → c ≡ get_or cs k c → DoConditionsFit (map condition_view cs) → Fits (view c.right)
+right_fits [] k c h e fit = absurd (omega (arith, h))
+right_fits (d ∷ cs) zero c h e fit = subst (λ z. Fits (view z.right)) (sym e) fit.1
+right_fits (d ∷ cs) (suc k) c h e fit = right_fits cs k c (omega (arith, h)) e fit.2
+
+taken_lefts : (cs : List Cond) (k : ℕ) → DoConditionsFit (map condition_view cs) → size_all (views (take k (lefts cs))) ≤ 10000 * k
+taken_lefts [] zero fit = omega arith
+taken_lefts [] (suc k) fit = omega arith
+taken_lefts (c ∷ cs) zero fit = omega arith
+taken_lefts (c ∷ cs) (suc k) fit = let one = fit.0.nodes in let rest = taken_lefts cs k fit.2 in omega (arith, one, rest)
+
+-- there are numbers for the holes of one more left side
+pub left_room : (sys : System) (cs : List Cond) (k : ℕ) (c : Cond) (us : List Term) (next : ℕ) → length cs ≤ 200 → k < length cs → c ≡ get_or cs k c → DoConditionsFit (map condition_view cs) → AreCapped sys Hole (lefts cs) k us (2 ^ 31) next
+    → next + size (view c.left) < 2 ^ 32
+left_room sys cs k c us next few h e fit capped =
+    let taken = capped_room sys Hole (lefts cs) k us (2 ^ 31) next capped in
+    let all = taken_lefts cs k fit in
+    let one = (left_fits cs k c h e fit).nodes in
+    omega (arith, taken, all, one, few, h)
+
+pub place : (cs : List Cond) (k : ℕ) → k < length cs → k < length (lefts cs)
+place cs k h = let e : length (lefts cs) ≡ length cs = simp length-map in omega (arith, e, h)
+
+pub right_place : (cs : List Cond) (k : ℕ) → k < length cs → k < length (rights cs)
+right_place cs k h = let e : length (rights cs) ≡ length cs = simp length-map in omega (arith, e, h)
+
+pub left_large : (sys : System) (cs : List Cond) (k : ℕ) (c : Cond) → k < length cs → c ≡ get_or cs k c → IsCapLarge sys any (view c.left) → AreCapsLarge sys any (left_sides (map condition_view cs))
+left_large sys cs k c h e large = subst (AreCapsLarge sys any) (views_lefts cs) (large_at sys any (lefts cs) k c.left (place cs k h) (left_at cs k c h e) large)
+
+pub lefts_are : (sys : System) (cs : List Cond) (k : ℕ) (us : List Term) (next : ℕ) → length cs ≤ k → (capped : AreCapped sys Hole (lefts cs) k us (2 ^ 31) next) → AreCapsOf sys any (left_sides (map condition_view cs)) capped.shapes
+lefts_are sys cs k us next h capped =
+    let e : length (lefts cs) ≡ length cs = simp length-map in
+    subst (λ z. AreCapsOf sys any z capped.shapes) (ap views (take_all (lefts cs) k (omega (arith, e, h))) ∙ views_lefts cs) capped.are
+
+-- a row grows by no more variables than a term has nodes
+new_length : (xs : List ℕ) (y : ℕ) → length (with_new xs y) ≤ length xs + 1
+new_length xs y = go (list_any (nat_eq y) xs)
+  where
+    go : (b : Bool) → length (if b then xs else (xs ++ y ∷ [])) ≤ length xs + 1
+    go true = omega arith
+    go false = (let e : length (xs ++ y ∷ []) ≡ length xs + 1 = length-append xs (y ∷ []) in omega (arith, e))
+
+mutual
+  pub variables_length : (xs : List ℕ) (t : math.Term) → length (with_variables xs t) ≤ length xs + size t
+  variables_length xs (var y) = new_length xs y
+  variables_length xs (app f ts) = let k = all_variables_length xs ts in omega (arith, k)
+
+  all_variables_length : (xs : List ℕ) (ts : Terms) → length (with_variables_of xs ts) ≤ length xs + size_all ts
+  all_variables_length xs nil = omega arith
+  all_variables_length xs (cons t ts) =
+      let first = variables_length xs t in let rest = all_variables_length (with_variables xs t) ts in omega (arith, first, rest)
+
+-- the right sides that have got their numbers
+pub record Numbered (cs : List Cond) (k : ℕ) (row : List ℕ) (us : List Term) : Type 0 where
+  pub distinct : AreDistinct row
+  pub few : length row ≤ 10000 * k
+  pub are : AreNumbered row (views (take k (rights cs))) (views us)
+
+pub none_numbered : (cs : List Cond) (row : List ℕ) → row ≡ [] → Numbered cs 0 row []
+none_numbered cs row e = subst (λ z. Numbered cs 0 z []) (sym e) (record { distinct = λ i j h. absurd (omega (arith, h)); few = omega arith; are = numbered_none [] })
+
+pub one_numbered : (cs : List Cond) (k : ℕ) (row more : List ℕ) (us vs : List Term) (c : Cond) (u : Term) → k < length cs → c ≡ get_or cs k c → DoConditionsFit (map condition_view cs) → Numbered cs k row us
+    → more ≡ with_variables row (view c.right) → IsFront row more → AreDistinct more → IsNumbered more (view c.right) (view u) → vs ≡ us ++ u ∷ [] → Numbered cs (k + 1) more vs
+one_numbered cs k row more us vs c u h e fit before grown front distinct one pushed =
+    record {
+      distinct = distinct;
+      few = (let size_one = (right_fits cs k c h e fit).nodes in let old = before.few in let l : length more ≡ length (with_variables row (view c.right)) = ap length grown in let g = variables_length row (view c.right) in omega (arith, size_one, old, l, g));
+      are = numbered_more row more (rights cs) us vs k c.right u (right_place cs k h) (right_at cs k c h e) front before.are one pushed;
+    }
+
+pub all_numbered : (cs : List Cond) (k : ℕ) (row : List ℕ) (us : List Term) → length cs ≤ 200 → k ≤ length cs → length cs ≤ k → Numbered cs k row us → HaveRow (right_sides (map condition_view cs)) (views us)
+all_numbered cs k row us few within h n =
+    let e : length (rights cs) ≡ length cs = simp length-map in
+    let whole : views (take k (rights cs)) ≡ right_sides (map condition_view cs) = ap views (take_all (rights cs) k (omega (arith, e, h))) ∙ views_rights cs in
+    record { row = row; distinct = n.distinct; few = (let l = n.few in omega (arith, l, few, within)); names = sym whole ∙ n.are.names; below = n.are.below }

@@ -1,0 +1,150 @@
+-- The arguments of a frozen cap, thawed one after the other.
+use Rattle.std.proofs.Common.{ℕ, zero, suc, ◌≡◌, ◌+◌, ◌^◌, ◌<◌, ◌≤◌, ◌⊎◌, inl, inr, true, List, [], ◌∷◌, ◌++◌, length, drop, get_or, Vec, Global, Result, Ok, Err, refl, sym, ap, ap₂, ◌∙◌, subst, subst₂, arith}
+use Rattle.rewriting.specs.Terms as math
+use Rattle.rewriting.specs.Terms.{Terms, var, app, nil, cons, size, Fits}
+use Rattle.rewriting.specs.Variables.{occurs}
+use Rattle.rewriting.specs.Rules.{System}
+use Rattle.rewriting.specs.Systems.{IsSystem}
+use Rattle.unifier_run.specs.Run.{append}
+use Rattle.rewriting.specs.Substitutions.{apply}
+use Rattle.caps.specs.Laws.{IsReductOf}
+use Rattle.caps.specs.Caps.{Cap as MathCap, any, kept, filled, constants, IsCapOf, IsCapLarge}
+use Rattle.caps.proofs.Reducts.{reducts_match}
+use Rattle.caps.proofs.Rigid.{rigid_reducts}
+use Rattle.term_core.specs.View.{view, views}
+use Rattle.term_core.specs.declared.terms.Term.{Term, Fun}
+use Rattle.term_core.specs.declared.terms.NoMemory.{NoMemory}
+use Rattle.term_core.proofs.Views.{view-Fun}
+use Rattle.unification.proofs.Terms.{views-drop, views-drop_all}
+use Rattle.tcap_infeasible.specs.declared.Cap.{Cap}
+use Rattle.tcap_infeasible.specs.declared.Cap.TheVariants.{Capped, TooLarge}
+use Rattle.tcap_infeasible.specs.declared.capping.Leaf.TheVariants.{Hole, Kept}
+use Rattle.tcap_infeasible.specs.Answers.{CapAnswers}
+use Rattle.tcap_infeasible.specs.Frozen.{FrozenAnswers}
+use Rattle.tcap_infeasible.specs.Keys.{HavePlacesFor}
+use Rattle.tcap_infeasible.specs.Reducts.{KeepsReducts, KeepsOwnReducts}
+use Rattle.tcap_infeasible.specs.Thawing.{LiesOn, LieOn, thawed, all_thawed}
+use Rattle.tcap_infeasible.proofs.Args.{views_with}
+use Rattle.tcap_infeasible.proofs.Sizes.{cap_small}
+use Rattle.tcap_infeasible.proofs.Filling.{filling}
+use Rattle.tcap_infeasible.proofs.Keyed.{shifted, keyed_renamed, keyed_size}
+use Rattle.tcap_infeasible.proofs.Named.{named, cap_named, large_named}
+use Rattle.tcap_infeasible.proofs.Pairs.{well_formed}
+use Rattle.tcap_infeasible.proofs.Lying.{any_thaws, kept_thaws}
+
+-- what is left lies on the arguments that are left, and behind the thawed ones it gives the whole
+pub record AreThawed (fresh : ℕ) (ts us : List Term) (k : ℕ) (out : List Term) : Type 0 where
+  pub lie : LieOn fresh (views (drop k ts)) (views (drop k us))
+  pub value : append (views out) (all_thawed fresh (views (drop k ts)) (views (drop k us))) ≡ all_thawed fresh (views ts) (views us)
+
+append_assoc : (xs : Terms) (y : math.Term) (ys : Terms) → append (append xs (cons y nil)) ys ≡ append xs (cons y ys)
+append_assoc nil y ys = refl
+append_assoc (cons x xs) y ys = ap (cons x) (append_assoc xs y ys)
+
+append_nil : (xs : Terms) → append xs nil ≡ xs
+append_nil nil = refl
+append_nil (cons x xs) = ap (cons x) (append_nil xs)
+
+no_term_lies : (fresh : ℕ) (t : math.Term) (ts us : Terms) → us ≡ nil → LieOn fresh (cons t ts) us → ⊥
+no_term_lies fresh t ts nil e h = h
+no_term_lies fresh t ts (cons u us) e h = cc
+
+compare : (a b : ℕ) → (a < b) ⊎ (b ≤ a)
+compare zero zero = inr (omega arith)
+compare zero (suc b) = inl (omega arith)
+compare (suc a) zero = inr (omega arith)
+compare (suc a) (suc b) = up (compare a b)
+  where
+    up : (a < b) ⊎ (b ≤ a) → (suc a < suc b) ⊎ (suc b ≤ suc a)
+    up (inl h) = inl (omega (arith, h))
+    up (inr h) = inr (omega (arith, h))
+
+module _ (fresh : ℕ) (ts us : List Term) (k : ℕ) (out : List Term) where
+  pub place_below : (t : Term) → k < length ts → t ≡ get_or ts k t → AreThawed fresh ts us k out → k < length us
+  place_below t h e all = go (compare k (length us))
+    where
+      go : (k < length us) ⊎ (length us ≤ k) → k < length us
+      go (inl l) = l
+      go (inr l) = absurd (no_term_lies fresh (view t) (views (drop (k + 1) ts)) (views (drop k us)) (views-drop_all us k l) (subst (λ z. LieOn fresh z (views (drop k us))) (views-drop ts k t h e) all.lie))
+
+  module _ (t u : Term) (h : k < length ts) (e : t ≡ get_or ts k t) (l : k < length us) (d : u ≡ get_or us k u) (all : AreThawed fresh ts us k out) where
+    both : LiesOn fresh (view t) (view u) × LieOn fresh (views (drop (k + 1) ts)) (views (drop (k + 1) us))
+    both = subst₂ (LieOn fresh) (views-drop ts k t h e) (views-drop us k u l d) all.lie
+
+    pub one_lies : LiesOn fresh (view t) (view u)
+    one_lies = both.0
+
+    pub one_thawed : (v : Term) (more : List Term) → view v ≡ thawed fresh (view t) (view u) → more ≡ out ++ v ∷ [] → AreThawed fresh ts us (k + 1) more
+    one_thawed v more is pushed =
+        record {
+          lie = both.1;
+          value = ap (λ z. append z (all_thawed fresh (views (drop (k + 1) ts)) (views (drop (k + 1) us)))) (ap views pushed ∙ views_with out v)
+              ∙ (append_assoc (views out) (view v) (all_thawed fresh (views (drop (k + 1) ts)) (views (drop (k + 1) us)))
+              ∙ (ap (λ z. append (views out) (cons z (all_thawed fresh (views (drop (k + 1) ts)) (views (drop (k + 1) us))))) is
+              ∙ (sym (ap₂ (λ x y. append (views out) (all_thawed fresh x y)) (views-drop ts k t h e) (views-drop us k u l d)) ∙ all.value)));
+        }
+
+pub none_thawed : (fresh : ℕ) (ts us : List Term) → LieOn fresh (views ts) (views us) → AreThawed fresh ts us 0 []
+none_thawed fresh ts us h = record { lie = h; value = refl }
+
+pub whole_thawed : (fresh : ℕ) (t u : Term) (f g : ℕ) (v w : Vec Term Global) (k : ℕ) (out : Vec Term Global) → t ≡ Fun f v → u ≡ Fun g w → length v.items ≤ k → AreThawed fresh v.items w.items k out.items → view (Fun f out) ≡ thawed fresh (view t) (view u)
+whole_thawed fresh t u f g v w k out is at h all =
+    let left : append (views out.items) nil ≡ all_thawed fresh (views v.items) (views w.items) = sym (ap (λ z. append (views out.items) (all_thawed fresh z (views (drop k w.items)))) (views-drop_all v.items k h)) ∙ all.value in
+    view-Fun f out ∙ (ap (app f) (sym (append_nil (views out.items)) ∙ left) ∙ sym (ap₂ (thawed fresh) (ap view is ∙ view-Fun f v) (ap view at ∙ view-Fun g w)))
+
+pub args_lie : (fresh : ℕ) (t u : Term) (f g : ℕ) (v w : Vec Term Global) → t ≡ Fun f v → u ≡ Fun g w → LiesOn fresh (view t) (view u) → LieOn fresh (views v.items) (views w.items)
+args_lie fresh t u f g v w is at h = subst₂ (LiesOn fresh) (ap view is ∙ view-Fun f v) (ap view at ∙ view-Fun g w) h
+
+-- the whole cap, thawed
+start : 2 ^ 31 ≡ 2 ^ 31 + 0
+start = omega arith
+
+pub cap_thaws : (sys : System) (fresh : ℕ) (t u : math.Term) (n m : ℕ) (w : Term) → n ≡ 2 ^ 31 → fresh + size t ≤ 2 ^ 32 → FrozenAnswers sys any t n m (Ok (Capped w)) → u ≡ view w → LiesOn fresh t u
+cap_thaws sys fresh t u n m w e room (c, is, shown, counted) same =
+    let few = (cap_small sys Hole t c 0 is).few in
+    let thaws = any_thaws sys fresh (size t) room t c 0 is (omega (arith, few)) in
+    subst (LiesOn fresh t) (sym (same ∙ (shown ∙ ap (λ z. filled (constants sys) z c) (e ∙ start)))) thaws.lies
+
+pub cap_answers : (sys : System) (fresh : ℕ) (t : math.Term) (n m : ℕ) (w v : Term) → n ≡ 2 ^ 31 → fresh + size t ≤ 2 ^ 32 → FrozenAnswers sys any t n m (Ok (Capped w)) → view v ≡ thawed fresh t (view w) → CapAnswers sys any var t fresh (Ok (Capped v))
+cap_answers sys fresh t n m w v e room (c, is, shown, counted) value =
+    let few = (cap_small sys Hole t c 0 is).few in
+    let thaws = any_thaws sys fresh (size t) room t c 0 is (omega (arith, few)) in
+    let zero_more : fresh + 0 ≡ fresh = omega arith in
+    (c, is, value ∙ (ap (thawed fresh t) (shown ∙ ap (λ z. filled (constants sys) z c) (e ∙ start)) ∙ (thaws.value ∙ ap (λ z. filled var z c) zero_more)))
+
+pub keeps_reducts : (sys : System) (t : math.Term) (fresh : ℕ) (r : Result Cap NoMemory) → CapAnswers sys any var t fresh r → KeepsReducts sys t r
+keeps_reducts sys t fresh (Ok (Capped u)) (c, is, shown) = λ s w reaches. (let m = reducts_match sys t c fresh s w is reaches in (m.0, ap (λ z. apply m.0 z) shown ∙ m.1))
+keeps_reducts sys t fresh (Ok TooLarge) h = tt
+keeps_reducts sys t fresh (Err e) h = tt
+
+pub keeps_own_reducts : (sys : System) (t : math.Term) (fresh : ℕ) (r : Result Cap NoMemory) → IsSystem sys → ((x : ℕ) → occurs x t ≡ true → x < fresh) → CapAnswers sys kept var t fresh r → KeepsOwnReducts sys t fresh r
+keeps_own_reducts sys t fresh (Ok (Capped u)) sound below (c, is, shown) = λ w reaches. subst (λ z. IsReductOf fresh z w) (sym shown) (rigid_reducts sys t c fresh w (well_formed sys sound) is below reaches)
+keeps_own_reducts sys t fresh (Ok TooLarge) sound below h = tt
+keeps_own_reducts sys t fresh (Err e) sound below h = tt
+
+-- the whole rigid cap, thawed
+module _ (sys : System) (fresh : ℕ) (t p : math.Term) (sound : IsSystem sys) (places : HavePlacesFor sys t p) (room : fresh + size t ≤ 2 ^ 32) where
+  few_places : size p ≡ size t
+  few_places = (keyed_size (length sys.arities) places.row t p places.keyed).0
+
+  pub rigid_thaws : (n m : ℕ) (u : math.Term) (w : Term) → n ≡ 2 ^ 31 → FrozenAnswers sys kept p n m (Ok (Capped w)) → u ≡ view w → LiesOn fresh t u
+  rigid_thaws n m u w e (c, is, shown, counted) same =
+      let few = (cap_small sys Kept p c 0 is).few in
+      let sized = few_places in
+      let thaws = kept_thaws sys fresh (size t) room places.row t p c 0 places.keyed is (omega (arith, few, sized)) in
+      subst (LiesOn fresh t) (sym (same ∙ (shown ∙ ap (λ z. filled (constants sys) z c) (e ∙ start)))) thaws.lies
+
+  pub rigid_answers : (n m : ℕ) (w v : Term) → n ≡ 2 ^ 31 → FrozenAnswers sys kept p n m (Ok (Capped w)) → view v ≡ thawed fresh t (view w) → CapAnswers sys kept var t fresh (Ok (Capped v))
+  rigid_answers n m w v e (c, is, shown, counted) value =
+      let few = (cap_small sys Kept p c 0 is).few in
+      let sized = few_places in
+      let thaws = kept_thaws sys fresh (size t) room places.row t p c 0 places.keyed is (omega (arith, few, sized)) in
+      let zero_more : fresh + 0 ≡ fresh = omega arith in
+      let name : MathCap = named (filling places.row) (λ f. shifted (length sys.arities) places.row f) c in (
+        name,
+        subst (λ z. IsCapOf sys kept z name) (sym (keyed_renamed (length sys.arities) places.row t p places.keyed)) (cap_named sys places.row sound places.distinct p c is),
+        value ∙ (ap (thawed fresh t) (shown ∙ ap (λ z. filled (constants sys) z c) (e ∙ start)) ∙ (thaws.value ∙ ap (λ z. filled var z name) zero_more)),
+      )
+
+  pub rigid_large : IsCapLarge sys kept p → IsCapLarge sys kept t
+  rigid_large h = subst (IsCapLarge sys kept) (sym (keyed_renamed (length sys.arities) places.row t p places.keyed)) (large_named sys places.row sound places.distinct p h)

@@ -1,0 +1,239 @@
+-- The rules tried on a term: those of its root symbol in order; all others clash at once.
+use Rattle.std.proofs.Common.{ℕ, zero, suc, ◌≡◌, ◌+◌, ◌-◌, ◌*◌, ◌^◌, ◌<◌, ◌≤◌, ◌⊎◌, inl, inr, Bool, true, false, nat_lt, if◌then◌else◌, List, [], ◌∷◌, length, drop, Some, refl, sym, ap, ap₂, ◌∙◌, subst, subst₂, arith, slice_get, eq-eqb, eqb-true}
+use Rattle.std.proofs.lemmas.Bool.{false≢true, ltb-true, lt-ltb}
+use Rattle.rewriting.specs.Terms.{Term, Terms, var, app, nil, cons, IsVariable, Fits}
+use Rattle.rewriting.specs.Substitutions.{apply, apply_all}
+use Rattle.rewriting.specs.Unifiers.{even, odd}
+use Rattle.rewriting.specs.Variables.{occurs}
+use Rattle.rewriting.specs.Signatures.{Signature}
+use Rattle.rewriting.specs.Rules.{Rule, System, rule_at}
+use Rattle.rewriting.specs.Systems.{CountsFrom, terms_of_rule, rule_variables, IsRule, AreRules, IsSystem}
+use Rattle.rewriting.proofs.Variables.{IsAmong, variables_have_all}
+use Rattle.rewriting.proofs.Instances.{or_left, apply-agree}
+use Rattle.unifier_run.specs.Run.{value, Outcome, clash, Takes, roots_differ, ends, last_equation, IsOutcome}
+use Rattle.unifier_run.specs.Overlaps.{IsOutcomeOf}
+use Rattle.unifier_run.specs.Irreducible.{DoRulesClash}
+use Rattle.unifier_run.proofs.Renamed.{renamed_outcome, stays, names, runs_with_names}
+use Rattle.rule_index.specs.Roots.{has_root, numbers_with_root, rules_with_root}
+use Rattle.caps.specs.Caps.{Cap, Caps, hole, kept, node, no_caps, caps, holes, filled, all_filled, constants, frozen}
+use Rattle.tcap_infeasible.specs.Frozen.{IsHeld}
+
+-- numbers below n become even, those from n on odd
+abbrev pub split : ℕ → ℕ → ℕ
+split n k = if nat_lt k n then 2 * k else 2 * (k - n) + 1
+
+pub split_below : (n k : ℕ) → k < n → split n k ≡ 2 * k
+split_below n k h = let t : nat_lt k n ≡ true = lt-ltb k n h in rw t refl
+
+pub split_from : (n k : ℕ) → split n (n + k) ≡ 2 * k + 1
+split_from n k = go (nat_lt (n + k) n) refl
+  where
+    go : (b : Bool) → nat_lt (n + k) n ≡ b → split n (n + k) ≡ 2 * k + 1
+    go true e = absurd (let l = ltb-true (n + k) n e in omega (arith, l))
+    go false e = (let d : n + k - n ≡ k = omega arith in rw e (ap (λ z. 2 * z + 1) d))
+
+pub not_lt : (a b : ℕ) → nat_lt a b ≡ false → b ≤ a
+not_lt a b e = go (lem b a)
+  where
+    lem : (x y : ℕ) → (x ≤ y) ⊎ (y < x)
+    lem zero y = inl (omega arith)
+    lem (suc x) zero = inr (omega arith)
+    lem (suc x) (suc y) = up (lem x y)
+      where
+        up : (x ≤ y) ⊎ (y < x) → (suc x ≤ suc y) ⊎ (suc y < suc x)
+        up (inl h) = inl (omega (arith, h))
+        up (inr h) = inr (omega (arith, h))
+
+    go : (b ≤ a) ⊎ (a < b) → b ≤ a
+    go (inl h) = h
+    go (inr h) = absurd (false≢true (sym e ∙ lt-ltb a b h))
+
+pub split_one : (n x y : ℕ) → split n x ≡ split n y → x ≡ y
+split_one n x y e = go (nat_lt x n) refl (nat_lt y n) refl
+  where
+    go : (a : Bool) → nat_lt x n ≡ a → (b : Bool) → nat_lt y n ≡ b → x ≡ y
+    go true p true q = (let s : 2 * x ≡ 2 * y = rw (p, q) at e in omega (arith, s))
+    go true p false q = (let s : 2 * x ≡ 2 * (y - n) + 1 = rw (p, q) at e in absurd (omega (arith, s)))
+    go false p true q = (let s : 2 * (x - n) + 1 ≡ 2 * y = rw (p, q) at e in absurd (omega (arith, s)))
+    go false p false q = (let s : 2 * (x - n) + 1 ≡ 2 * (y - n) + 1 = rw (p, q) at e in let l = not_lt x n p in let m = not_lt y n q in omega (arith, s, l, m))
+
+-- a rule of a system, its left side with other variables
+pub rule_of : (arities : Signature) (rs : List Rule) (i : ℕ) (r : Rule) → AreRules arities rs → slice_get rs i ≡ Some r → IsRule arities r
+rule_of arities [] i r h e = absurd (cc)
+rule_of arities (q ∷ rs) zero r h e = (let same : q ≡ r = cc in subst (IsRule arities) same h.0)
+rule_of arities (q ∷ rs) (suc i) r h e = rule_of arities rs i r h.1 e
+
+counted_below : (n : ℕ) (xs : List ℕ) (x : ℕ) → CountsFrom n xs → IsAmong x xs → x < n + length xs
+counted_below n [] x h m = absurd m
+counted_below n (y ∷ ys) x h (inl e) = let k = h.0 in omega (arith, k, e)
+counted_below n (y ∷ ys) x h (inr m) = let k = counted_below (suc n) ys x h.1 m in omega (arith, k)
+
+pub left_small : (arities : Signature) (r : Rule) → IsRule arities r → (k : ℕ) → occurs k r.left ≡ true → k < 2 ^ 31
+left_small arities r h k o =
+    let below = counted_below 0 (rule_variables r) k h.numbered (variables_have_all k [] (terms_of_rule r) (or_left _ _ o)) in
+    let few = h.few_variables in
+    omega (arith, below, few)
+
+left_split : (arities : Signature) (r : Rule) (n : ℕ) → IsRule arities r → 2 ^ 31 ≤ n → apply (names (split n)) r.left ≡ apply even r.left
+left_split arities r n h low = apply-agree (names (split n)) even r.left (λ k o. ap var (split_below n k (let s = left_small arities r h k o in omega (arith, s, low))))
+
+mutual
+  pub held_split : (sys : System) (n j : ℕ) (c : Cap) → apply (names (split n)) (filled (constants sys) (n + j) c) ≡ apply odd (filled (constants sys) j c)
+  held_split sys n j hole = ap var (split_from n j)
+  held_split sys n j (kept x) = refl
+  held_split sys n j (node f cs) = ap (app f) (all_held_split sys n j cs)
+
+  pub all_held_split : (sys : System) (n j : ℕ) (cs : Caps) → apply_all (names (split n)) (all_filled (constants sys) (n + j) cs) ≡ apply_all odd (all_filled (constants sys) j cs)
+  all_held_split sys n j no_caps = refl
+  all_held_split sys n j (caps c cs) =
+      (let e : n + j + holes c ≡ n + (j + holes c) = omega arith in
+      ap₂ cons (held_split sys n j c) (ap (λ z. apply_all (names (split n)) (all_filled (constants sys) z cs)) e ∙ all_held_split sys n (j + holes c) cs))
+
+-- the outcome of a run on a held cap is one on the frozen cap
+pub outcome_of : (sys : System) (r : Rule) (f : ℕ) (t : Term) (n : ℕ) (c : Cap) (o : Outcome) → IsRule sys.arities r → IsHeld sys f t n c → IsOutcome (cons r.left nil) (cons t nil) o → IsOutcomeOf r.left (frozen sys c) (renamed_outcome (split n) stays o)
+outcome_of sys r f t n c o is held run =
+    let zero_more : n ≡ n + 0 = omega arith in
+    let shown : apply (names (split n)) t ≡ apply odd (frozen sys c) = ap (apply (names (split n))) (held.shown ∙ ap (λ z. filled (constants sys) z c) zero_more) ∙ held_split sys n 0 c in
+    subst₂ (λ x y. IsOutcome (cons x nil) (cons y nil) (renamed_outcome (split n) stays o)) (left_split sys.arities r n is held.low) shown
+    (runs_with_names (split n) (split_one n) run)
+
+mutual
+  same-nothing : (t : Term) → apply (value []) t ≡ t
+  same-nothing (var x) = refl
+  same-nothing (app f ts) = ap (app f) (all_same-nothing ts)
+
+  all_same-nothing : (ts : Terms) → apply_all (value []) ts ≡ ts
+  all_same-nothing nil = refl
+  all_same-nothing (cons t ts) = ap₂ cons (same-nothing t) (all_same-nothing ts)
+
+other_run : (f : ℕ) (l t : Term) → (IsVariable l → ⊥) → has_root f l ≡ false → has_root f t ≡ true → Fits l → Fits t → IsOutcome (cons l nil) (cons t nil) clash
+other_run f (var x) t v a b p q = absurd (v tt)
+other_run f (app g ts) (var x) v a b p q = absurd (false≢true b)
+other_run f (app g ts) (app h us) v a b p q =
+    last_equation (subst₂ (λ x y. Takes [] x y (ends clash)) (sym (same-nothing (app g ts))) (sym (same-nothing (app h us)))
+    (roots_differ (p, q) (inl (λ e. false≢true (sym a ∙ eq-eqb f g (eqb-true f h b ∙ sym e))))))
+
+other_clash : (sys : System) (r : Rule) (f : ℕ) (t : Term) (n : ℕ) (c : Cap) → IsRule sys.arities r → IsHeld sys f t n c → has_root f r.left ≡ false → IsOutcomeOf r.left (frozen sys c) clash
+other_clash sys r f t n c is held root = outcome_of sys r f t n c clash is held (other_run f r.left t is.is_over.left root held.root is.fits.0 held.fits)
+
+-- the first n rules clash
+abbrev pub AreBefore : System → Term → ℕ → Type 0
+AreBefore sys t n = (i : ℕ) (r : Rule) → rule_at sys i ≡ Some r → i ≤ n → IsOutcomeOf r.left t clash
+
+no_rule : (sys : System) (r : Rule) → rule_at sys 0 ≡ Some r → ⊥
+no_rule sys r e = cc
+
+none_before : (sys : System) (t : Term) → AreBefore sys t 0
+none_before sys t zero r e l = absurd (no_rule sys r e)
+none_before sys t (suc i) r e l = absurd (omega (arith, l))
+
+le_or_same : (k n : ℕ) → k ≤ suc n → (k ≤ n) ⊎ (k ≡ suc n)
+le_or_same zero n h = inl (omega arith)
+le_or_same (suc k) zero h = inr (omega (arith, h))
+le_or_same (suc k) (suc n) h = up (le_or_same k n (omega (arith, h)))
+  where
+    up : (k ≤ n) ⊎ (k ≡ suc n) → (suc k ≤ suc n) ⊎ (suc k ≡ suc (suc n))
+    up (inl a) = inl (omega (arith, a))
+    up (inr e) = inr (ap suc e)
+
+pub one_more : (sys : System) (t : Term) (n : ℕ) (q : Rule) → slice_get sys.rules n ≡ Some q → IsOutcomeOf q.left t clash → AreBefore sys t n → AreBefore sys t (suc n)
+one_more sys t n q at run before i r e l = go (le_or_same i n l)
+  where
+    same_rule : Some q ≡ Some r → q ≡ r
+    same_rule h = cc
+
+    go : (i ≤ n) ⊎ (i ≡ suc n) → IsOutcomeOf r.left t clash
+    go (inl a) = before i r e a
+    go (inr k) = subst (λ z. IsOutcomeOf z.left t clash) (same_rule (sym at ∙ subst (λ z. rule_at sys z ≡ Some r) k e)) run
+
+past_all : (rs : List Rule) (n i : ℕ) (r : Rule) → length rs ≤ n → slice_get rs i ≡ Some r → i < n
+past_all [] n i r h e = absurd (cc)
+past_all (q ∷ rs) n zero r h e = omega (arith, h)
+past_all (q ∷ rs) zero (suc i) r h e = absurd (omega (arith, h))
+past_all (q ∷ rs) (suc n) (suc i) r h e = let k = past_all rs n i r (omega (arith, h)) e in omega (arith, k)
+
+all_before : (sys : System) (t : Term) (n : ℕ) → length sys.rules ≤ n → AreBefore sys t n → DoRulesClash sys t
+all_before sys t n h before zero r e = absurd (no_rule sys r e)
+all_before sys t n h before (suc i) r e = before (suc i) r e (let k = past_all sys.rules n i r h e in omega (arith, k))
+
+-- how far the rules with root f have come: before the numbers from place k on, the first n rules clash
+pub record Tried (sys : System) (f : ℕ) (t : Term) (numbers : List ℕ) (k : ℕ) : Type 0 where
+  pub passed : ℕ
+  pub rest : drop k numbers ≡ numbers_with_root f (suc passed) (drop passed sys.rules)
+  pub clash : (n : ℕ) (c : Cap) → IsHeld sys f t n c → AreBefore sys (frozen sys c) passed
+
+-- the next rule with root f
+pub record Next (sys : System) (f : ℕ) (t : Term) (number : ℕ) (rest : List ℕ) : Type 0 where
+  pub passed : ℕ
+  pub rule : Rule
+  pub number_is : number ≡ suc passed
+  pub is_rule : slice_get sys.rules passed ≡ Some rule
+  pub rest_is : rest ≡ numbers_with_root f (suc number) (drop number sys.rules)
+  pub clash : (n : ℕ) (c : Cap) → IsHeld sys f t n c → AreBefore sys (frozen sys c) passed
+
+drop_next : (rs : List Rule) (n : ℕ) (q : Rule) (qs : List Rule) → drop n rs ≡ q ∷ qs → (slice_get rs n ≡ Some q) × (drop (suc n) rs ≡ qs)
+drop_next [] zero q qs e = absurd (cc)
+drop_next [] (suc n) q qs e = absurd (cc)
+drop_next (r ∷ rs) zero q qs e = (cc, cc)
+drop_next (r ∷ rs) (suc n) q qs e = drop_next rs n q qs e
+
+pub next : (sys : System) (f : ℕ) (t : Term) (number : ℕ) (rest : List ℕ) → IsSystem sys → (qs : List Rule) (n : ℕ) → drop n sys.rules ≡ qs → number ∷ rest ≡ numbers_with_root f (suc n) qs
+    → ((m : ℕ) (c : Cap) → IsHeld sys f t m c → AreBefore sys (frozen sys c) n) → Next sys f t number rest
+next sys f t number rest sound [] n left e before = absurd (cc)
+next sys f t number rest sound (q ∷ qs) n left e before =
+    go (has_root f q.left) refl (next sys f t number rest sound qs (suc n))
+  where
+    at : slice_get sys.rules n ≡ Some q
+    at = (drop_next sys.rules n q qs left).0
+
+    after : drop (suc n) sys.rules ≡ qs
+    after = (drop_next sys.rules n q qs left).1
+
+    go : (b : Bool) → has_root f q.left ≡ b
+        → (drop (suc n) sys.rules ≡ qs → number ∷ rest ≡ numbers_with_root f (suc (suc n)) qs → ((m : ℕ) (c : Cap) → IsHeld sys f t m c → AreBefore sys (frozen sys c) (suc n)) → Next sys f t number rest)
+        → Next sys f t number rest
+    go true h later =
+        (let whole : number ∷ rest ≡ suc n ∷ numbers_with_root f (suc (suc n)) qs = rw h at e in
+        let first : number ≡ suc n = cc in
+        let tail : rest ≡ numbers_with_root f (suc (suc n)) qs = cc in
+        record {
+          passed = n;
+          rule = q;
+          number_is = first;
+          is_rule = at;
+          rest_is = subst (λ z. rest ≡ numbers_with_root f (suc z) (drop z sys.rules)) (sym first) (tail ∙ ap (numbers_with_root f (suc (suc n))) (sym after));
+          clash = before;
+        })
+    go false h later =
+        (let whole : number ∷ rest ≡ numbers_with_root f (suc (suc n)) qs = rw h at e in
+        later after whole (λ m c held. one_more sys (frozen sys c) n q at (other_clash sys q f t m c (rule_of sys.arities sys.rules n q sound.rules at) held h) (before m c held)))
+
+none_left : (sys : System) (f : ℕ) (t : Term) → IsSystem sys → (qs : List Rule) (n : ℕ) → drop n sys.rules ≡ qs → [] ≡ numbers_with_root f (suc n) qs → (m : ℕ) (c : Cap) → IsHeld sys f t m c → AreBefore sys (frozen sys c) n → DoRulesClash sys (frozen sys c)
+none_left sys f t sound [] n left e m c held before = all_before sys (frozen sys c) n (past sys.rules n left) before
+  where
+    past : (rs : List Rule) (k : ℕ) → drop k rs ≡ [] → length rs ≤ k
+    past [] k e = omega arith
+    past (r ∷ rs) zero e = absurd (cc)
+    past (r ∷ rs) (suc k) e = let h = past rs k e in omega (arith, h)
+none_left sys f t sound (q ∷ qs) n left e m c held before =
+    go (has_root f q.left) refl (none_left sys f t sound qs (suc n))
+  where
+    at : slice_get sys.rules n ≡ Some q
+    at = (drop_next sys.rules n q qs left).0
+
+    go : (b : Bool) → has_root f q.left ≡ b
+        → (drop (suc n) sys.rules ≡ qs → [] ≡ numbers_with_root f (suc (suc n)) qs → (m : ℕ) (c : Cap) → IsHeld sys f t m c → AreBefore sys (frozen sys c) (suc n) → DoRulesClash sys (frozen sys c))
+        → DoRulesClash sys (frozen sys c)
+    go true h later = (let whole : [] ≡ suc n ∷ numbers_with_root f (suc (suc n)) qs = rw h at e in absurd (cc))
+    go false h later =
+        (let whole : [] ≡ numbers_with_root f (suc (suc n)) qs = rw h at e in
+        later (drop_next sys.rules n q qs left).1 whole m c held (one_more sys (frozen sys c) n q at (other_clash sys q f t m c (rule_of sys.arities sys.rules n q sound.rules at) held h) before))
+
+pub tried_none : (sys : System) (f : ℕ) (t : Term) (numbers : List ℕ) → numbers ≡ rules_with_root sys f → Tried sys f t numbers 0
+tried_none sys f t numbers e = record { passed = 0; rest = e; clash = λ n c held. none_before sys (frozen sys c) }
+
+pub tried_next : (sys : System) (f : ℕ) (t : Term) (numbers : List ℕ) (k number : ℕ) → IsSystem sys → Tried sys f t numbers k → drop k numbers ≡ number ∷ drop (suc k) numbers → Next sys f t number (drop (suc k) numbers)
+tried_next sys f t numbers k number sound tried e = next sys f t number (drop (suc k) numbers) sound (drop tried.passed sys.rules) tried.passed refl (sym e ∙ tried.rest) tried.clash
+
+pub tried_all : (sys : System) (f : ℕ) (t : Term) (numbers : List ℕ) (k : ℕ) → IsSystem sys → Tried sys f t numbers k → drop k numbers ≡ [] → (n : ℕ) (c : Cap) → IsHeld sys f t n c → DoRulesClash sys (frozen sys c)
+tried_all sys f t numbers k sound tried e n c held = none_left sys f t sound (drop tried.passed sys.rules) tried.passed refl (sym e ∙ tried.rest) n c held (tried.clash n c held)

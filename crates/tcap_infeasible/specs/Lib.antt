@@ -1,0 +1,7 @@
+pub mod Answers
+pub mod Frozen
+pub mod Comparing
+pub mod Keys
+pub mod Rigid
+pub mod Thawing
+pub mod Reducts

@@ -1,0 +1,74 @@
+// Conditions judged by the caps of their left sides.
+ghost use Rattle.std.specs.Prelude.{◌≡◌, ◌≤◌, ◌<◌, ◌+◌, ◌^◌, IfOk, length, map};
+ghost use Rattle.rewriting.specs.Rules.{right_sides};
+ghost use Rattle.certificates.specs.Sizes.{DoConditionsFit};
+ghost use Rattle.term_core.specs.View.{view, views};
+ghost use Rattle.term_core.specs.RuleView.{condition_view};
+ghost use Rattle.tcap_infeasible.specs.Comparing.{LeftsAnswer, HaveRow};
+
+use crate::Cap;
+use crate::capping::{FIRST_HOLE, Leaf, frozen_cap};
+use cert_model::EvidenceReason;
+use refuter::{Refusal, Refuter};
+use renumbering::Numbering;
+use rule_index::RuleIndex;
+use std::alloc::Global;
+use term_core::{Cond, NoMemory, System, Term};
+use unification::{Unified, unify};
+
+/// Evidence that conditions are never met: the caps of their left sides do not unify with their right sides.
+#[derive(Clone, Copy, Debug)]
+pub struct TcapEvidence;
+
+// The caps of the left sides, whose holes are numbered one after the other.
+fn left_caps(alloc: Global, sys: &System, conds: &[Cond]) -> Result<Option<Vec<Term>>, NoMemory>
+    requires few { length conds.now ≤ 200 }
+    requires fit { DoConditionsFit (map condition_view conds.now) }
+    ensures { LeftsAnswer sys.now (map condition_view conds.now) result }
+{
+    let index = RuleIndex::new(alloc, sys)?;
+    let mut next = FIRST_HOLE;
+    let mut lefts = Vec::with_capacity(alloc, conds.len())?;
+    for cond in conds {
+        match frozen_cap(alloc, sys, &index, &cond.left, Leaf::Hole, &mut next)? {
+            Cap::Capped(u) => lefts.push(u)?,
+            Cap::TooLarge => return Ok(None),
+        }
+    }
+    Ok(Some(lefts))
+}
+
+// The right sides with numbers in place of their variables.
+fn numbered_rights(alloc: Global, conds: &[Cond]) -> Result<Vec<Term>, NoMemory>
+    requires few { length conds.now ≤ 200 }
+    requires fit { DoConditionsFit (map condition_view conds.now) }
+    ensures { IfOk result (λ us. HaveRow (right_sides (map condition_view conds.now)) (views us.items)) }
+{
+    let mut numbering = Numbering::new(alloc);
+    let mut rights = Vec::with_capacity(alloc, conds.len())?;
+    for cond in conds {
+        rights.push(numbering.numbered(alloc, &cond.right)?)?;
+    }
+    Ok(rights)
+}
+
+impl Refuter for TcapEvidence {
+    ghost use Rattle.caps.specs.Evidence.{JudgedByCaps};
+    ghost use Rattle.caps.proofs.Reducts.{never_met};
+
+    ghost judged = { λ _ s cs. JudgedByCaps s cs };
+
+    fn refutes(&self, alloc: Global, sys: &System, conds: &[Cond]) -> Result<(), Refusal> {
+        let Some(lefts) = left_caps(alloc, sys, conds)? else {
+            return Err(Refusal::Reason(EvidenceReason::TcapLarge));
+        };
+        let rights = numbered_rights(alloc, conds)?;
+        match unify(alloc, &lefts, &rights)? {
+            Unified::Clash => Ok(()),
+            Unified::Mgu(_) => Err(Refusal::Reason(EvidenceReason::TcapUnifies)),
+            Unified::TooLarge => Err(Refusal::Reason(EvidenceReason::TcapLarge)),
+        }
+    }
+
+    ghost law = { λ _ s cs well h. never_met s cs h };
+}
