@@ -1,8 +1,14 @@
--- What a valid peak shows.
+-- What a valid peak shows, and that a peak is either valid or rejected for one reason.
+use Rattle.std.specs.Prelude.{◌≡◌}
 use Rattle.rewriting.specs.Terms.{Term}
+use Rattle.rewriting.specs.Signatures.{IsOver}
 use Rattle.rewriting.specs.Rules.{System}
+use Rattle.rewriting.specs.Systems.{IsWellFormed}
 use Rattle.rewriting.specs.Reduction.{Reaches}
 use Rattle.rewriting.specs.Confluence.{AreApart}
+use Rattle.certificates.specs.Certificates.{Peak}
+use Rattle.certificates.specs.Reasons.{Rejection}
+use Rattle.validity.specs.Peaks.{IsValidPeak, IsPeakRejected}
 
 -- the term reaches two terms that have no common reduct
 pub record ReachesApart (sys : System) (t : Term) : Type 0 where
@@ -11,3 +17,15 @@ pub record ReachesApart (sys : System) (t : Term) : Type 0 where
   pub one : Reaches sys t u
   pub other : Reaches sys t v
   pub apart : AreApart sys u v
+
+-- the start of a valid peak, where it is a term over the symbols, reaches two terms that have no common reduct
+abbrev pub ValidPeaksReachApart : Type 0
+ValidPeaksReachApart = (sys : System) (peak : Peak) → IsWellFormed sys → IsOver sys.arities peak.start → IsValidPeak sys peak → ReachesApart sys peak.start
+
+-- a peak is rejected for one reason, and then it is not valid
+pub record IsOneAnswer (sys : System) (peak : Peak) : Type 0 where
+  pub one_reason : (r s : Rejection) → IsPeakRejected sys peak r → IsPeakRejected sys peak s → r ≡ s
+  pub never_both : (r : Rejection) → IsPeakRejected sys peak r → IsValidPeak sys peak → ⊥
+
+abbrev pub PeaksHaveOneAnswer : Type 0
+PeaksHaveOneAnswer = (sys : System) (peak : Peak) → IsOneAnswer sys peak

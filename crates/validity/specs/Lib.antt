@@ -1,3 +1,4 @@
+pub mod Evidence
 pub mod Peaks
 pub mod Laws
 pub mod Answers

@@ -1,12 +1,8 @@
 //! What makes a certificate valid, and why one is rejected.
 #![tactic(auto)]
 
-ghost use Rattle.std.specs.Prelude.{◌≢◌, ◌≡◌, ℕ};
-ghost use Rattle.rewriting.specs.Terms.{Term};
-ghost use Rattle.rewriting.specs.Positions.{Position};
-ghost use Rattle.rewriting.specs.Rules.{System};
-ghost use Rattle.rewriting.specs.Confluence.{AreApart};
-ghost use Rattle.validity.specs.Peaks.{IsRedex};
+ghost use Rattle.std.specs.Prelude.{◌≡◌};
+ghost use Rattle.validity.specs.Laws.{ValidPeaksReachApart, PeaksHaveOneAnswer};
 ghost use Rattle.validity.specs.declared.CheckError.TheVariants.{NoMemory as no_memory};
 
 use cert_model::Rejected;
@@ -28,7 +24,12 @@ impl From<NoMemory> for CheckError {
     }
 }
 
-/// Two different terms without a redex have no common reduct.
-pub fn normal_forms_are_apart()
-    ensures { (sys : System) (u v : Term) → u ≢ v → ((which : ℕ) (p : Position) (i : ℕ) → IsRedex sys u v which p i → ⊥) → AreApart sys u v }
+/// The start of a valid peak reaches two terms that have no common reduct.
+pub fn valid_peaks_reach_apart()
+    ensures { ValidPeaksReachApart }
+{}
+
+/// A peak is rejected for one reason, and then it is not valid.
+pub fn peaks_have_one_answer()
+    ensures { PeaksHaveOneAnswer }
 {}
