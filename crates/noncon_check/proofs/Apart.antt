@@ -1,64 +1,225 @@
--- From the steps of the check to its answer.
-use Rattle.std.proofs.Common.{◌≡◌, ◌≢◌, inl, inr, ℕ, [], refl, sym, ap, ap₂, subst, subst₂, arith, Result, Ok, Err, OnOk}
+-- From the redexes of both ends to the answer.
+use Rattle.std.proofs.Common.{◌≡◌, ◌≢◌, ◌⊎◌, inl, inr, ℕ, zero, suc, ◌+◌, ◌<◌, ◌≤◌, Bool, true, false, if◌then◌else◌, List, [], ◌∷◌, ◌++◌, map, length, drop, get_or, slice_get, Option, None, Some, Result, Ok, Err, OnOk, refl, sym, ap, ap₂, ◌∙◌, subst, arith}
+use Rattle.std.proofs.lemmas.Option.{slice_get_within, get_or_from_slice_get}
+use Rattle.std.proofs.lemmas.List.{drop_more, length-append}
+use Rattle.std.specs.List.{list_any}
+use Rattle.std.specs.Prelude.{nat_eq}
 use Rattle.rewriting.specs.Signatures.{IsOver}
-use Rattle.rewriting.proofs.Common.{Term, Terms, var, app, nil, cons, Position, System, Reaches, apply, apply_all}
-use Rattle.certificates.specs.Certificates.{Peak}
-use Rattle.certificates.specs.Soundness.{ReachesUnder}
+use Rattle.rewriting.specs.Systems.{IsSystem, IsWellFormed, AreRules}
+use Rattle.rewriting.specs.Terms.{size, size_all}
+use Rattle.rewriting.proofs.Common.{Term, Terms, var, app, nil, cons, Position, System, apply, with_new, with_variables, with_variables_of}
+use Rattle.rewriting.proofs.Laws.{well_formed}
+use Rattle.certificates.specs.Certificates.{Redex, Peak, by_normal_forms}
+use Rattle.certificates.specs.Evidence.{InfeasibilityEvidence}
+use Rattle.certificates.specs.Judging.{Derives}
+use Rattle.certificates.specs.Reasons.{EvidenceReason, Rejection, redex_extra}
+use Rattle.cert_model.specs.ReasonView.{rejected_view}
+use Rattle.renumbering.specs.Rows.{AreDistinct, naming}
+use Rattle.term_core.specs.RuleView.{rule_view, AreCounted}
+use Rattle.term_core.specs.SystemView.{AreSound}
+use Rattle.term_core.specs.declared.systems.Rule as program
 use Rattle.validity.specs.declared.CheckError.{CheckError}
 use Rattle.validity.specs.declared.CheckError.TheVariants.{Rejected, NoMemory}
-use Rattle.validity.specs.Peaks.{IsRedex, IsEarlierRedex, IsFirstRedex}
-use Rattle.validity.specs.Laws.{ReachesApart}
-use Rattle.validity.proofs.Apart.{ends_apart}
-use Rattle.noncon_check.specs.Redexes.{IsFree, IsFirstMatch}
-use Rattle.noncon_check.specs.Ends.{IsEnd, NormalAnswers, EndsRejected, EndsAnswers}
+use Rattle.validity.specs.Peaks.{Place, IsRedex, IsEarlier, IsListed, AreRedexes, chosen, IsRedexJudged, AreRefuted, AreNotRefuted, IsMissed, AreNotShownApart, LeadsTo, IsPeakRejected, first_fails, second_fails, not_apart}
+use Rattle.validity.specs.Laws.{ReachesApart, ValidPeaksReachApart}
+use Rattle.validity.specs.Answers.{PeakAnswers}
+use Rattle.noncon_check.specs.Judged.{IsJudgedAt}
+use Rattle.noncon_check.specs.Redexes.{redexes, AreRedexesOf}
+use Rattle.noncon_check.specs.Walks.{Judgement, IsEntry, IsAbsent, Pass, Fail, PlacesAnswer}
+use Rattle.noncon_check.specs.Ends.{FirstAnswers, SecondAnswers, ApartAnswers, AreJudgedFrom, EndAnswers}
+use Rattle.noncon_check.proofs.Listed.{listed_left, listed_right, listed_either, sorted_append}
+use Rattle.noncon_check.proofs.Numbers.{AreBelow, redex_judged, same_redexes}
+use Rattle.noncon_check.proofs.Places.{redexes_are}
+use Rattle.noncon_check.proofs.Renaming.{size-renamed}
+use Rattle.noncon_check.proofs.Walks.{pass_append, pass_fail, fail_append, pass_to, fail_to, answers_to}
 
--- the substitution that leaves each variable leaves each term
+-- a row is no longer than its term
+length-with_new : (xs : List ℕ) (y : ℕ) → length (with_new xs y) ≤ length xs + 1
+length-with_new xs y = go (list_any (nat_eq y) xs)
+  where
+    go : (b : Bool) → length (if b then xs else (xs ++ y ∷ [])) ≤ length xs + 1
+    go true = omega arith
+    go false = let h = length-append xs (y ∷ []) in omega (arith, h)
+
 mutual
-  unmoved : (t : Term) → apply (λ x. var x) t ≡ t
-  unmoved (var x) = refl
-  unmoved (app f ts) = ap (app f) (all_unmoved ts)
+  length-with_variables : (xs : List ℕ) (t : Term) → length (with_variables xs t) ≤ length xs + size t
+  length-with_variables xs (var y) = length-with_new xs y
+  length-with_variables xs (app f ts) = let h = length-with_variables_of xs ts in omega (arith, h)
 
-  all_unmoved : (ts : Terms) → apply_all (λ x. var x) ts ≡ ts
-  all_unmoved nil = refl
-  all_unmoved (cons t ts) = ap₂ cons (unmoved t) (all_unmoved ts)
+  length-with_variables_of : (xs : List ℕ) (ts : Terms) → length (with_variables_of xs ts) ≤ length xs + size_all ts
+  length-with_variables_of xs nil = omega arith
+  length-with_variables_of xs (cons t ts) = let h = length-with_variables xs t in let k = length-with_variables_of (with_variables xs t) ts in omega (arith, h, k)
 
--- without hypotheses the terms themselves reach one another
-pub reached_alone : (sys : System) (t u : Term) → ReachesUnder sys [] t u → Reaches sys t u
-reached_alone sys t u h = subst₂ (λ a b. Reaches sys a b) (unmoved t) (unmoved u) (h (λ x. var x) 0 (λ x. tt) tt)
+pub few_names : (t : Term) (before row : List ℕ) (n : ℕ) → before ≡ [] → row ≡ with_variables before t → size t ≤ 10000 → n ≡ length row → n ≤ 10000
+few_names t before row n none is fits e =
+    let bound = length-with_variables before t in
+    let zero_long : length before ≡ 0 = ap length none in
+    let long = e ∙ ap length is in
+    omega (arith, bound, zero_long, long, fits)
+
+pub numbered_size : (t n : Term) (row : List ℕ) → t ≡ apply (naming row) n → size t ≤ 10000 → size n ≤ 10000
+numbered_size t n row is fits = let same = ap size is ∙ size-renamed (λ m. get_or row m 0) n in omega (arith, same, fits)
+
+-- the redexes of an end, judged by those of the numbered end
+module _ (sys : System) (good : IsSystem sys) (row : List ℕ) (own : ℕ) (long : own ≡ length row) (distinct : AreDistinct row) (t n : Term) (is : t ≡ apply (naming row) n) (below : AreBelow (length row) n) where
+  judged_from : (w at : ℕ) (p : Position) (none : p ≡ []) (es : List Redex) (a : Result ℕ CheckError) → PlacesAnswer (IsJudgedAt sys own n) p es at (redexes sys w n) a → AreJudgedFrom sys w t es at a
+  judged_from w at p none es a h =
+      record {
+        places = redexes sys w n;
+        are = same_redexes row distinct t n is below sys w (redexes sys w n) (redexes_are sys w n (well_formed sys good));
+        answer = answers_to (IsJudgedAt sys (length row) n) (IsRedexJudged sys t) [] es at (redexes sys w n) a (λ r l e o j. redex_judged row distinct t n is below sys r e o j)
+            (subst (λ q. PlacesAnswer (IsJudgedAt sys (length row) n) q es at (redexes sys w n) a) none (subst (λ k. PlacesAnswer (IsJudgedAt sys k n) p es at (redexes sys w n) a) long h));
+      }
+
+  pub end_answers : (w at : ℕ) (p : Position) → p ≡ [] → (es : List Redex) (a : Result ℕ CheckError) → PlacesAnswer (IsJudgedAt sys own n) p es at (redexes sys w n) a → EndAnswers sys w t es at a
+  end_answers w at p none es (Ok after) h = judged_from w at p none es (Ok after) h
+  end_answers w at p none es (Err (Rejected reason)) h = judged_from w at p none es (Err (Rejected reason)) h
+  end_answers w at p none es (Err NoMemory) h = tt
+
+are_sound : (arities : _) (rs : List program.Rule) → AreRules arities (map rule_view rs) → AreCounted rs → AreSound arities rs
+are_sound arities [] h k = tt
+are_sound arities (r ∷ rs) (h, hs) (k, ks) = (record { rule = h; counted = k }, are_sound arities rs hs ks)
+
+pub rules_sound : (sys : System) (rs : List program.Rule) → IsSystem sys → map rule_view rs ≡ sys.rules → AreCounted rs → AreSound sys.arities rs
+rules_sound sys rs good same counted = are_sound sys.arities rs (subst (AreRules sys.arities) (sym same) good.rules) counted
+
+-- entries from a number on
+drop_some : (es : List Redex) (at : ℕ) (e : Redex) → slice_get es at ≡ Some e → drop at es ≡ e ∷ drop (suc at) es
+drop_some es at e h =
+    let one : at + 1 ≡ suc at = omega arith in
+    drop_more es at e (slice_get_within es at e h) ∙ ap₂ (λ (x : Redex) (xs : List Redex). x ∷ xs) (get_or_from_slice_get es at e e h) (ap (λ k. drop k es) one)
+
+drop_past : (es : List Redex) (at : ℕ) → length es ≤ at → drop at es ≡ []
+drop_past [] zero h = refl
+drop_past [] (suc at) h = refl
+drop_past (e ∷ es) zero h = absurd (omega (arith, h))
+drop_past (e ∷ es) (suc at) h = drop_past es at (omega (arith, h))
+
+none_past : (es : List Redex) (at : ℕ) → slice_get es at ≡ None → length es ≤ at
+none_past [] at e = omega arith
+none_past (d ∷ es) zero e = cc
+none_past (d ∷ es) (suc at) e = let h = none_past es at e in omega (arith, h)
 
 module _ (sys : System) (u v : Term) where
-  pub first_in_first : (p : Position) (i : ℕ) → IsFirstMatch sys u p i → IsFirstRedex sys u v 1 p i
-  first_in_first p i m = record { is_redex = inl (refl, m.matches); first = go }
+  -- what is judged at a place of one of both ends
+  abbrev J : Judgement
+  J r e o = IsRedexJudged sys (chosen u v r.which) r e o
+
+  -- both lists of redexes make the list of both ends
+  pub both : (rs ss : List Place) → AreRedexesOf sys 1 u rs → AreRedexesOf sys 2 v ss → AreRedexes sys u v (rs ++ ss)
+  both rs ss a b = record { each = each; whole = whole; sorted = sorted_append rs ss a.sorted b.sorted earlier }
     where
-      go : (w : ℕ) (q : Position) (k : ℕ) → IsRedex sys u v w q k → IsEarlierRedex w q k 1 p i → ⊥
-      go w q k (inl (e, n)) (inl less) = omega (arith, e, less)
-      go w q k (inl (e, n)) (inr (_, before)) = m.first q k n before
-      go w q k (inr (e, n)) (inl less) = omega (arith, e, less)
-      go w q k (inr (e, n)) (inr (d, before)) = omega (arith, e, d)
+      each : (r : Place) → IsListed r (rs ++ ss) → IsRedex sys u v r
+      each r l = go (listed_either r rs ss l)
+        where
+          go : IsListed r rs ⊎ IsListed r ss → IsRedex sys u v r
+          go (inl k) = inl (a.each r k)
+          go (inr k) = inr (b.each r k)
 
-  pub first_in_second : (p : Position) (i : ℕ) → IsFree sys u → IsFirstMatch sys v p i → IsFirstRedex sys u v 2 p i
-  first_in_second p i free m = record { is_redex = inr (refl, m.matches); first = go }
+      whole : (r : Place) → IsRedex sys u v r → IsListed r (rs ++ ss)
+      whole r (inl (w, m)) =
+          listed_left r rs ss
+          (subst (λ (k : ℕ). IsListed (record { which = k; position = r.position; rule = r.rule }) rs) (sym w) (a.whole r.position r.rule m))
+      whole r (inr (w, m)) =
+          listed_right r rs ss
+          (subst (λ (k : ℕ). IsListed (record { which = k; position = r.position; rule = r.rule }) ss) (sym w) (b.whole r.position r.rule m))
+
+      earlier : (x y : Place) → IsListed x rs → IsListed y ss → IsEarlier x y
+      earlier x y l k = let one = (a.each x l).0 in let two = (b.each y k).0 in inl (omega (arith, one, two))
+
+  first_own : (rs : List Place) → AreRedexesOf sys 1 u rs → (r : Place) → IsListed r rs → (e : InfeasibilityEvidence) (o : Option EvidenceReason) → IsRedexJudged sys u r e o → J r e o
+  first_own rs a r l e o h = subst (λ k. IsRedexJudged sys (chosen u v k) r e o) (sym (a.each r l).0) h
+
+  second_own : (ss : List Place) → AreRedexesOf sys 2 v ss → (r : Place) → IsListed r ss → (e : InfeasibilityEvidence) (o : Option EvidenceReason) → IsRedexJudged sys v r e o → J r e o
+  second_own ss b r l e o h = subst (λ k. IsRedexJudged sys (chosen u v k) r e o) (sym (b.each r l).0) h
+
+  refuted_step : (es : List Redex) (at : ℕ) (r : Place) (rs : List Place) → IsEntry J [] es at r None → AreRefuted sys u v rs (drop (suc at) es) → AreRefuted sys u v (r ∷ rs) (drop at es)
+  refuted_step es at r rs h k = subst (AreRefuted sys u v (r ∷ rs)) (sym (drop_some es at h.entry h.stands)) (h.place, h.judged, k)
+
+  pub all_refuted : (es : List Redex) (at : ℕ) (rs : List Place) (after : ℕ) → Pass J [] es at rs after → length es ≤ after → AreRefuted sys u v rs (drop at es)
+  all_refuted es at [] after h long = subst (AreRefuted sys u v []) (sym (drop_past es at (omega (arith, h, long)))) tt
+  all_refuted es at (r ∷ rs) after (e, h) long = refuted_step es at r rs e (all_refuted es (suc at) rs after h long)
+
+  next_fails : (es : List Redex) (at : ℕ) (r : Place) (rs : List Place) (reason : Rejection) → IsEntry J [] es at r None → AreNotRefuted sys u v (suc (suc at)) rs (drop (suc at) es) reason
+      → AreNotRefuted sys u v (suc at) (r ∷ rs) (drop at es) reason
+  next_fails es at r rs reason h k = subst (λ z. AreNotRefuted sys u v (suc at) (r ∷ rs) z reason) (sym (drop_some es at h.entry h.stands)) (inr (inr (h.place, h.judged, k)))
+
+  pub one_extra : (es : List Redex) (at : ℕ) (rs : List Place) (after : ℕ) → Pass J [] es at rs after → after < length es → AreNotRefuted sys u v (suc at) rs (drop at es) (redex_extra (suc after))
+  one_extra es at [] after h less = go (slice_get es at) refl
     where
-      go : (w : ℕ) (q : Position) (k : ℕ) → IsRedex sys u v w q k → IsEarlierRedex w q k 2 p i → ⊥
-      go w q k (inl (e, n)) _ = free q k n
-      go w q k (inr (e, n)) (inl less) = omega (arith, e, less)
-      go w q k (inr (e, n)) (inr (_, before)) = m.first q k n before
+      go : (o : Option Redex) → slice_get es at ≡ o → AreNotRefuted sys u v (suc at) [] (drop at es) (redex_extra (suc after))
+      go None e = absurd (let high = none_past es at e in omega (arith, high, h, less))
+      go (Some d) e = subst (λ z. AreNotRefuted sys u v (suc at) [] z (redex_extra (suc after))) (sym (drop_some es at d e)) (ap (λ n. redex_extra (suc n)) (sym h))
+  one_extra es at (r ∷ rs) after (e, h) less = next_fails es at r rs (redex_extra (suc after)) e (one_extra es (suc at) rs after h less)
 
-  pub rejected_first : (e : CheckError) → u ≢ v → NormalAnswers sys u 1 (Err e) → EndsAnswers sys u v (Err e)
-  rejected_first (Rejected reason) differ (p, i, is, first) = subst (λ r. EndsRejected sys u v r) (sym is) (differ, first_in_first p i first)
-  rejected_first NoMemory differ h = tt
+  missed : (es : List Redex) (at : ℕ) (r : Place) (rs : List Place) (reason : Rejection) → IsAbsent es at r → IsMissed r reason → (o : Option Redex) → slice_get es at ≡ o → AreNotRefuted sys u v (suc at) (r ∷ rs) (drop at es) reason
+  missed es at r rs reason none h None e = subst (λ z. AreNotRefuted sys u v (suc at) (r ∷ rs) z reason) (sym (drop_past es at (none_past es at e))) h
+  missed es at r rs reason none h (Some d) e = subst (λ z. AreNotRefuted sys u v (suc at) (r ∷ rs) z reason) (sym (drop_some es at d e)) (inl (none d e, h))
 
-  pub judged_second : (r : Result (Unit {0}) CheckError) → u ≢ v → IsFree sys u → NormalAnswers sys v 2 r → EndsAnswers sys u v r
-  judged_second (Ok _) differ free h = (differ, go)
-    where
-      go : (which : ℕ) (p : Position) (i : ℕ) → IsRedex sys u v which p i → ⊥
-      go which p i (inl (e, n)) = free p i n
-      go which p i (inr (e, n)) = h p i n
-  judged_second (Err (Rejected reason)) differ free (p, i, is, first) = subst (λ r. EndsRejected sys u v r) (sym is) (differ, first_in_second p i free first)
-  judged_second (Err NoMemory) differ free h = tt
+  pub one_fails : (es : List Redex) (at : ℕ) (rs : List Place) (reason : Rejection) → Fail J [] es at rs reason → AreNotRefuted sys u v (suc at) rs (drop at es) reason
+  one_fails es at [] reason h = absurd h
+  one_fails es at (r ∷ rs) reason (inl (none, h)) = missed es at r rs reason none h (slice_get es at) refl
+  one_fails es at (r ∷ rs) reason (inr (inl (why, h, is))) =
+      subst (λ z. AreNotRefuted sys u v (suc at) (r ∷ rs) z reason) (sym (drop_some es at h.entry h.stands)) (inr (inl (h.place, (why, h.judged, is))))
+  one_fails es at (r ∷ rs) reason (inr (inr (h, k))) = next_fails es at r rs reason h (one_fails es (suc at) rs reason k)
 
-pub shown : (sys : System) (peak : Peak) (one two : Term → Type 0) (u v : Term) (r : Result (Unit {0}) CheckError) → IsOver sys.arities peak.start
-    → IsEnd sys peak one u → IsEnd sys peak two v → EndsAnswers sys u v r → OnOk r (ReachesApart sys peak.start)
-shown sys peak one two u v (Ok _) over first second (differ, normal) =
-    record { u = u; v = v; one = first.reached over; other = second.reached over; apart = ends_apart sys u v differ normal }
-shown sys peak one two u v (Err e) over first second h = tt
+  module _ (es : List Redex) (differ : u ≢ v) where
+    -- the first end's entries fail
+    pub first_fails_so : IsWellFormed sys → (e : CheckError) → EndAnswers sys 1 u es 0 (Err e) → ApartAnswers sys u v (by_normal_forms es) (Err e)
+    first_fails_so good NoMemory h = tt
+    first_fails_so good (Rejected reason) h =
+        let ss = redexes sys 2 v in
+        inr (
+          differ,
+          (
+            h.places ++ ss,
+            both h.places ss h.are (redexes_are sys 2 v good),
+            one_fails es 0 (h.places ++ ss) (rejected_view reason)
+                (fail_append J [] es 0 h.places ss (rejected_view reason) (fail_to (IsRedexJudged sys u) J [] es 0 h.places (rejected_view reason) (first_own h.places h.are) h.answer)),
+          ),
+        )
+
+    module _ (mid : ℕ) (a : EndAnswers sys 1 u es 0 (Ok mid)) where
+      first_passes : Pass J [] es 0 a.places mid
+      first_passes = pass_to (IsRedexJudged sys u) J [] es 0 a.places mid (first_own a.places a.are) a.answer
+
+      pub second_fails_so : (e : CheckError) → EndAnswers sys 2 v es mid (Err e) → ApartAnswers sys u v (by_normal_forms es) (Err e)
+      second_fails_so NoMemory h = tt
+      second_fails_so (Rejected reason) h =
+          inr (
+            differ,
+            (
+              a.places ++ h.places,
+              both a.places h.places a.are h.are,
+              one_fails es 0 (a.places ++ h.places) (rejected_view reason)
+                  (pass_fail J [] es 0 a.places mid h.places (rejected_view reason) first_passes (fail_to (IsRedexJudged sys v) J [] es mid h.places (rejected_view reason) (second_own h.places h.are) h.answer)),
+            ),
+          )
+
+      module _ (after : ℕ) (b : EndAnswers sys 2 v es mid (Ok after)) where
+        all_pass : Pass J [] es 0 (a.places ++ b.places) after
+        all_pass = pass_append J [] es 0 a.places mid b.places after first_passes (pass_to (IsRedexJudged sys v) J [] es mid b.places after (second_own b.places b.are) b.answer)
+
+        pub extra : (n : ℕ) → n ≡ suc after → after < length es → AreNotShownApart sys u v (by_normal_forms es) (redex_extra n)
+        extra n e less = subst (λ k. AreNotShownApart sys u v (by_normal_forms es) (redex_extra k)) (sym e) (inr (differ, (a.places ++ b.places, both a.places b.places a.are b.are, one_extra es 0 (a.places ++ b.places) after all_pass less)))
+
+        pub shown : length es ≤ after → ApartAnswers sys u v (by_normal_forms es) (Ok tt)
+        shown long = (differ, (a.places ++ b.places, both a.places b.places a.are b.are, all_refuted es 0 (a.places ++ b.places) after all_pass long))
+
+-- the answer for a peak
+pub first_rejected : (sys : System) (peak : Peak) (e : CheckError) → FirstAnswers sys peak (Err e) → PeakAnswers sys peak (Err e)
+first_rejected sys peak (Rejected reason) (bad, is, h) = subst (IsPeakRejected sys peak) (sym is) (first_fails bad h)
+first_rejected sys peak NoMemory h = tt
+
+pub second_rejected : (sys : System) (peak : Peak) (u : Term) (e : CheckError) → Derives sys [] peak.start peak.first u → SecondAnswers sys peak (Err e) → PeakAnswers sys peak (Err e)
+second_rejected sys peak u (Rejected reason) first (bad, is, h) = subst (IsPeakRejected sys peak) (sym is) (second_fails u bad first h)
+second_rejected sys peak u NoMemory first h = tt
+
+pub ends_judged : (sys : System) (peak : Peak) (u v : Term) (a : Result (Unit {0}) CheckError) → LeadsTo sys peak u v → ApartAnswers sys u v peak.apart a → PeakAnswers sys peak a
+ends_judged sys peak u v (Ok _) ends h = record { u = u; v = v; ends = ends; apart = h }
+ends_judged sys peak u v (Err (Rejected reason)) ends h = not_apart u v (rejected_view reason) ends h
+ends_judged sys peak u v (Err NoMemory) ends h = tt
+
+pub peak_sound : ValidPeaksReachApart → (sys : System) (peak : Peak) → IsSystem sys → IsOver sys.arities peak.start → (a : Result (Unit {0}) CheckError) → PeakAnswers sys peak a → OnOk a (ReachesApart sys peak.start)
+peak_sound law sys peak good over (Ok _) h = law sys peak (well_formed sys good) over h
+peak_sound law sys peak good over (Err e) h = tt

@@ -1,4 +1,12 @@
-pub mod FirstRedex
-pub mod Searching
+pub mod Deciding
+pub mod Hits
+pub mod Listed
+pub mod Completing
+pub mod Walks
+pub mod Bound
 pub mod Rules
+pub mod Parts
+pub mod Places
+pub mod Renaming
+pub mod Numbers
 pub mod Apart

@@ -1,58 +1,108 @@
--- The rules of a system, one after another.
-use Rattle.std.proofs.Common.{◌≡◌, ℕ, zero, suc, ◌+◌, ◌<◌, ◌≤◌, List, [], length, get_or, map, Some, refl, sym, ap, ◌∙◌, subst, arith, option_map, ◌⊎◌, inl, inr, true, false}
-use Rattle.std.proofs.lemmas.Option.{slice_get-get_or, slice_get-map, slice_get_past}
-use Rattle.std.proofs.lemmas.Bool.Decides.{leb_tells}
-use Rattle.std.proofs.Math.Dec.{leb}
-use Rattle.std.specs.Prelude.{slice_get}
-use Rattle.rewriting.specs.Terms as math
-use Rattle.rewriting.specs.Rules as rules
-use Rattle.rewriting.specs.Rules.{rule_at}
-use Rattle.rewriting.specs.Substitutions.{Matches}
+-- Rules of a system, and entries of a certificate, by their numbers.
+use Rattle.std.proofs.Common.{◌≡◌, ℕ, zero, suc, ◌-◌, ◌<◌, ◌≤◌, List, [], ◌∷◌, length, get_or, map, Option, None, Some, IsSome, is_some, slice_get, refl, sym, ap, ◌∙◌, subst, arith, option_map, ◌⊎◌, inl, inr, Bool, true, false, if◌then◌else◌, nat_cmp, Result}
+use Rattle.std.proofs.lemmas.Option.{slice_get-get_or, slice_get-map, slice_get_past, slice_get_within}
+use Rattle.std.proofs.lemmas.Bool.{cases_lt, false≢true}
+use Rattle.std.proofs.lemmas.List.{length-map}
+use Rattle.std.specs.FinMap.{empty, get-empty}
+use Rattle.rewriting.specs.Matching.{Solves, IsLeastMatch, HasNoMatch}
+use Rattle.rewriting.proofs.Common.{Term, Bindings, values_of, Rule, System, rule_at, Signature}
+use Rattle.rewriting.proofs.Matching.{solved_instance}
+use Rattle.certificates.specs.Certificates as math
 use Rattle.term_core.specs.RuleView.{rule_view}
-use Rattle.term_core.specs.declared.systems.Rule.{Rule}
-use Rattle.validity.specs.Peaks.{MatchesAt}
+use Rattle.term_core.specs.SystemView.{IsSound, AreSound}
+use Rattle.term_core.specs.declared.systems.Rule as program
+use Rattle.cert_model.specs.CertificateView.{redex_view}
+use Rattle.cert_model.specs.declared.model.Redex as program_redex
+use Rattle.validity.specs.Evidence.{IsByCaps}
+use Rattle.validity.specs.Peaks.{AreByCaps}
+use Rattle.rule_index.specs.Roots.{rules_with_root}
+use Rattle.rule_index.proofs.Walks.{listed_rule}
+use Rattle.rewriting.specs.Positions.{Position}
+use Rattle.rewriting.specs.Overlaps.{conditions_under}
+use Rattle.certificates.specs.Evidence.{InfeasibilityEvidence}
+use Rattle.certificates.specs.Reasons.{EvidenceReason}
+use Rattle.validity.specs.declared.CheckError.{CheckError}
+use Rattle.validity.specs.Peaks.{Place, IsListed}
+use Rattle.noncon_check.specs.Judged.{with_new, AreJudged, IsJudgedAt}
+use Rattle.noncon_check.specs.Walks.{Judgement, Pass, PlacesAnswer}
+use Rattle.noncon_check.proofs.Walks.{answers_to}
+use Rattle.noncon_check.specs.Redexes.{hits, is_hit, at_root}
+use Rattle.noncon_check.proofs.Bound.{bound, bound_solves}
+use Rattle.noncon_check.proofs.Deciding.{match_decided, match_found}
 
-abbrev NoneUpTo : rules.System → math.Term → ℕ → Type 0
-NoneUpTo sys t n = (k : ℕ) → k ≤ n → MatchesAt sys t [] k → ⊥
+sound_at : (arities : Signature) (rs : List program.Rule) (i : ℕ) (d : program.Rule) → AreSound arities rs → i < length rs → IsSound arities (get_or rs i d)
+sound_at arities [] i d h l = absurd (omega (arith, l))
+sound_at arities (q ∷ rs) zero d h l = h.0
+sound_at arities (q ∷ rs) (suc i) d h l = sound_at arities rs i d h.1 (omega (arith, l))
 
-module _ (sys : rules.System) (rs : List Rule) (same : map rule_view rs ≡ sys.rules) where
-  pub rule_here : (i : ℕ) (r : Rule) → i < length rs → r ≡ get_or rs i r → rule_at sys (suc i) ≡ Some (rule_view r)
-  rule_here i r low here =
-      let there : slice_get rs i ≡ Some r = slice_get-get_or rs i r low ∙ ap Some (sym here) in
-      sym (ap (λ z. slice_get z i) same) ∙ slice_get-map rule_view rs i ∙ ap (option_map rule_view) there
+-- a rule's number, from 1
+module _ (sys : System) (rs : List program.Rule) (same : map rule_view rs ≡ sys.rules) where
+  within : (i : ℕ) → IsSome (rule_at sys (suc i)) → i < length rs
+  within i h = go (cases_lt i (length rs))
+    where
+      go : (i < length rs) ⊎ (length rs ≤ i) → i < length rs
+      go (inl l) = l
+      go (inr m) =
+          absurd (let none : rule_at sys (suc i) ≡ None = sym (ap (λ z. slice_get z i) same) ∙ slice_get-map rule_view rs i ∙ ap (option_map rule_view) (slice_get_past rs i m) in false≢true (sym (ap is_some none) ∙ h))
 
-  pub rule_past : (i : ℕ) (r : rules.Rule) → length rs ≤ i → rule_at sys (suc i) ≡ Some r → ⊥
-  rule_past i r high e =
-      let none = slice_get-map rule_view rs i ∙ ap (option_map rule_view) (slice_get_past rs i high) in
-      let there = ap (λ z. slice_get z i) same in
-      cc
+  pub number_low : (n : ℕ) → IsSome (rule_at sys n) → (1 ≤ n) × (n - 1 < length rs)
+  number_low zero h = absurd (false≢true h)
+  number_low (suc i) h = let l = within i h in (omega arith, omega (arith, l))
 
-  module _ (t : math.Term) where
-    pub match_here : (i : ℕ) (r : Rule) → i < length rs → r ≡ get_or rs i r → Matches (rule_view r).left t → MatchesAt sys t [] (i + 1)
-    match_here i r low here m =
-        let one : suc i ≡ i + 1 = omega arith in
-        subst (λ n. MatchesAt sys t [] n) one record { rule = rule_view r; part = t; is_rule = rule_here i r low here; stands = refl; matches = m }
+  pub rule_is : (n : ℕ) → IsSome (rule_at sys n) → (d : program.Rule) → rule_at sys n ≡ Some (rule_view (get_or rs (n - 1) d))
+  rule_is zero h d = absurd (false≢true h)
+  rule_is (suc i) h d =
+      let one : i ≡ suc i - 1 = omega arith in
+      sym (ap (λ z. slice_get z i) same) ∙ slice_get-map rule_view rs i ∙ ap (option_map rule_view) (slice_get-get_or rs i d (within i h)) ∙ ap (λ k. Some (rule_view (get_or rs k d))) one
 
-    pub none_next : (i : ℕ) (r : Rule) → i < length rs → r ≡ get_or rs i r → (Matches (rule_view r).left t → ⊥) → NoneUpTo sys t i → NoneUpTo sys t (i + 1)
-    none_next i r low here differs before k le m = go (leb_tells k i)
-      where
-        go : ((leb k i ≡ true) × (k ≤ i)) ⊎ ((leb k i ≡ false) × (i < k)) → ⊥
-        go (inl (_, w)) = before k w m
-        go (inr (_, w)) =
-            let at : k ≡ suc i = omega (arith, w, le) in
-            let there : rule_at sys (suc i) ≡ Some m.rule = subst (λ n. rule_at sys n ≡ Some m.rule) at m.is_rule in
-            let rule : rule_view r ≡ m.rule = (let h = rule_here i r low here in cc) in
-            let part : m.part ≡ t = (let h = m.stands in cc) in
-            differs (subst (λ z. Matches z.left t) (sym rule) (subst (λ z. Matches m.rule.left z) part m.matches))
+  pub sound_is : AreSound sys.arities rs → (n : ℕ) → IsSome (rule_at sys n) → (d : program.Rule) → IsSound sys.arities (get_or rs (n - 1) d)
+  sound_is sound n h d = sound_at sys.arities rs (n - 1) d sound (number_low n h).1
 
-    pub none_at_all : (i : ℕ) → length rs ≤ i → NoneUpTo sys t i → (k : ℕ) → MatchesAt sys t [] k → ⊥
-    none_at_all i high before k m = go k refl (leb_tells k i)
-      where
-        go : (n : ℕ) → k ≡ n → ((leb k i ≡ true) × (k ≤ i)) ⊎ ((leb k i ≡ false) × (i < k)) → ⊥
-        go n e (inl (_, w)) = before k w m
-        go zero e (inr (_, w)) = omega (arith, w, e)
-        go (suc n) e (inr (_, w)) = rule_past n m.rule (omega (arith, w, high, e)) (subst (λ z. rule_at sys z ≡ Some m.rule) e m.is_rule)
+-- the numbers of rules with a root are numbers of rules
+pub listed_some : (sys : System) (f : ℕ) (ns : List ℕ) (i : ℕ) → ns ≡ rules_with_root sys f → i < length ns → IsSome (rule_at sys (get_or ns i 0))
+listed_some sys f ns i same l =
+    let r = listed_rule sys f i (subst (λ z. i < length z) same l) in
+    subst (λ z. IsSome (rule_at sys (get_or z i 0))) (sym same) (ap is_some r.1)
 
-pub none_yet : (sys : rules.System) (t : math.Term) → NoneUpTo sys t 0
-none_yet sys t zero le m = absurd (let h = m.is_rule in cc)
-none_yet sys t (suc k) le m = omega (arith, le)
+-- entries
+pub entry_low : (es : List program_redex.Redex) (at : ℕ) (e : math.Redex) → slice_get (map redex_view es) at ≡ Some e → at < length es
+entry_low es at e h = let low = slice_get_within (map redex_view es) at e h in let long = length-map es redex_view in omega (arith, low, long)
+
+pub by_caps_at : (es : List math.Redex) (at : ℕ) (e : math.Redex) → AreByCaps es → slice_get es at ≡ Some e → IsByCaps e.evidence
+by_caps_at [] at e h is = absurd (cc)
+by_caps_at (d ∷ es) zero e h is = subst (λ (z : math.Redex). IsByCaps z.evidence) (let same : d ≡ e = cc in same) h.0
+by_caps_at (d ∷ es) (suc at) e h is = by_caps_at es at e h.1 is
+
+-- a rule that matches is hit
+module _ (sys : System) (t : Term) (n : ℕ) (r : Rule) (is : rule_at sys n ≡ Some r) where
+  pub hit_yes : (m : Bindings) → IsLeastMatch empty m r.left t → hits sys t (n ∷ []) ≡ n ∷ []
+  hit_yes m h =
+      let yes : is_hit (rule_at sys n) t ≡ true = ap (λ o. is_hit o t) is ∙ match_decided r.left t (values_of m, solved_instance m r.left t h.solves) in
+      ap (λ (b : Bool). if b then n ∷ [] else []) yes
+
+  pub hit_no : HasNoMatch empty r.left t → hits sys t (n ∷ []) ≡ []
+  hit_no none = go (is_hit (rule_at sys n) t) refl
+    where
+      go : (b : Bool) → is_hit (rule_at sys n) t ≡ b → (if b then n ∷ [] else []) ≡ []
+      go false e = refl
+      go true e =
+          let matches = match_found r.left t (sym (ap (λ o. is_hit o t) is) ∙ e) in
+          absurd (none (bound matches.0 r.left) (λ x u h. absurd (let n : None ≡ Some u = sym (get-empty nat_cmp x) ∙ h in cc)) (subst (Solves (bound matches.0 r.left) r.left) matches.1 (bound_solves matches.0 r.left)))
+
+  -- nothing is asked where the rule does not match
+  pub unmatched_pass : (J : Judgement) (p : Position) (es : List math.Redex) (w at : ℕ) → HasNoMatch empty r.left t → Pass J p es at (map (at_root w) (hits sys t (n ∷ []))) at
+  unmatched_pass J p es w at none = subst (λ is. Pass J p es at (map (at_root w) is) at) (sym (hit_no none)) refl
+
+  judged_here : (own w : ℕ) (m : Bindings) → IsLeastMatch empty m r.left t → (q : Place) → IsListed q (at_root w n ∷ []) → (e : InfeasibilityEvidence) (o : Option EvidenceReason)
+      → AreJudged sys (conditions_under (with_new own m) r.conditions) e o → IsJudgedAt sys own t q e o
+  judged_here own w m h q (inl s) e o j =
+      subst (λ z. IsJudgedAt sys own t z e o) (sym s) (record { rule = r; match = m; matches = record { is_rule = is; redex = t; stands = refl; matches = h }; judged = j })
+  judged_here own w m h q (inr l) e o j = absurd l
+
+  -- where it matches, the next entry is judged
+  pub matched_answers : (p : Position) (es : List math.Redex) (own w at : ℕ) (m : Bindings) (a : Result ℕ CheckError) → IsLeastMatch empty m r.left t
+      → PlacesAnswer (λ q e o. AreJudged sys (conditions_under (with_new own m) r.conditions) e o) p es at (at_root w n ∷ []) a
+      → PlacesAnswer (IsJudgedAt sys own t) p es at (map (at_root w) (hits sys t (n ∷ []))) a
+  matched_answers p es own w at m a h k =
+      subst (λ is. PlacesAnswer (IsJudgedAt sys own t) p es at (map (at_root w) is) a) (sym (hit_yes m h))
+      (answers_to (λ q e o. AreJudged sys (conditions_under (with_new own m) r.conditions) e o) (IsJudgedAt sys own t) p es at (at_root w n ∷ []) a (judged_here own w m h) k)

@@ -1,2 +1,6 @@
+pub mod Deciding
 pub mod Redexes
+pub mod Judged
+pub mod Walks
+pub mod Judges
 pub mod Ends

@@ -1,20 +1,46 @@
--- The first place in a term at which a rule matches.
-use Rattle.std.specs.Prelude.{ℕ, ◌≡◌, ◌⊎◌, ◌<◌, List, ◌++◌, Option, None, Some}
-use Rattle.rewriting.specs.Terms.{Term}
-use Rattle.rewriting.specs.Positions.{Position, IsBefore}
-use Rattle.rewriting.specs.Rules.{System}
-use Rattle.validity.specs.Peaks.{MatchesAt}
+-- The redexes of a term, in order.
+use Rattle.std.specs.Prelude.{ℕ, suc, ◌≡◌, Bool, false, if◌then◌else◌, List, [], ◌∷◌, ◌++◌, map, Option, None, Some}
+use Rattle.rewriting.specs.Terms.{Term, Terms, var, app, nil, cons}
+use Rattle.rewriting.specs.Positions.{Position}
+use Rattle.rewriting.specs.Rules.{Rule, System, rule_at}
+use Rattle.rule_index.specs.Roots.{rules_with_root}
+use Rattle.validity.specs.Peaks.{Place, MatchesAt, IsListed, IsSorted}
+use Rattle.noncon_check.specs.Deciding.{is_match}
 
--- no rule matches anywhere
-abbrev pub IsFree : System → Term → Type 0
-IsFree sys t = (p : Position) (i : ℕ) → MatchesAt sys t p i → ⊥
+-- whether there is a rule, and its left side matches the term
+abbrev pub is_hit : Option Rule → Term → Bool
+is_hit None t = false
+is_hit (Some r) t = is_match r.left t
 
--- the rule matches at the position, none at a position before it, and no earlier rule there
-pub record IsFirstMatch (sys : System) (t : Term) (p : Position) (i : ℕ) : Type 0 where
-  pub matches : MatchesAt sys t p i
-  pub first : (q : Position) (k : ℕ) → MatchesAt sys t q k → IsBefore q p ⊎ ((q ≡ p) × (k < i)) → ⊥
+-- the numbers among these of the rules that match the term
+abbrev pub hits : System → Term → List ℕ → List ℕ
+hits sys t [] = []
+hits sys t (i ∷ is) = if is_hit (rule_at sys i) t then i ∷ hits sys t is else hits sys t is
 
--- the number of the rule that matches first, its position behind the path; or no rule matches anywhere, and the path is as before
-abbrev pub Searched : System → Term → List ℕ → List ℕ → Option ℕ → Type 0
-Searched sys t before after (Some i) = (p : Position) × (after ≡ before ++ p) × IsFirstMatch sys t p i
-Searched sys t before after None = (after ≡ before) × IsFree sys t
+-- a rule at the root of a term with this number
+abbrev pub at_root : ℕ → ℕ → Place
+at_root which i = record { which = which; position = []; rule = i }
+
+-- a place of the k-th argument, as one of the whole term
+abbrev pub below : ℕ → Place → Place
+below k r = record { which = r.which; position = k ∷ r.position; rule = r.rule }
+
+-- a place of the term at a position, as one of the whole term
+abbrev pub behind : Position → Place → Place
+behind p r = record { which = r.which; position = p ++ r.position; rule = r.rule }
+
+-- the places where rules match in a term with this number, and in its arguments from the k-th on
+abbrev mutual
+  pub redexes : System → ℕ → Term → List Place
+  redexes sys which (var x) = []
+  redexes sys which (app f ts) = map (at_root which) (hits sys (app f ts) (rules_with_root sys f)) ++ redexes_from sys which 1 ts
+
+  pub redexes_from : System → ℕ → ℕ → Terms → List Place
+  redexes_from sys which k nil = []
+  redexes_from sys which k (cons t ts) = map (below k) (redexes sys which t) ++ redexes_from sys which (suc k) ts
+
+-- the list has exactly the places where rules match in a term with this number, in order
+pub record AreRedexesOf (sys : System) (which : ℕ) (t : Term) (rs : List Place) : Type 0 where
+  pub each : (r : Place) → IsListed r rs → (r.which ≡ which) × MatchesAt sys t r.position r.rule
+  pub whole : (p : Position) (i : ℕ) → MatchesAt sys t p i → IsListed (record { which = which; position = p; rule = i }) rs
+  pub sorted : IsSorted rs

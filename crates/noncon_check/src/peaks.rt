@@ -1,21 +1,22 @@
-ghost use Rattle.std.specs.Prelude.{◌≡◌, ℕ, IfOk, OnOk, map};
+ghost use Rattle.std.specs.Prelude.{◌≡◌, OnOk};
 ghost use Rattle.rewriting.specs.Terms as math;
 ghost use Rattle.rewriting.specs.Signatures.{IsOver};
 ghost use Rattle.certificates.specs.Sizes.{IsShort};
 ghost use Rattle.term_core.specs.View.{view};
 ghost use Rattle.cert_model.specs.DerivationView.{derivation_view};
 ghost use Rattle.cert_model.specs.CertificateView.{peak_view};
-ghost use Rattle.validity.specs.Peaks.{ClaimsNormalForms};
+ghost use Rattle.validity.specs.Peaks.{UsesNoAutomaton};
 ghost use Rattle.validity.specs.Laws.{ReachesApart};
 ghost use Rattle.validity.specs.Answers.{PeakAnswers};
-ghost use Rattle.noncon_check.specs.Ends.{FirstAnswers, SecondAnswers, NormalAnswers, EndsAnswers};
+ghost use Rattle.noncon_check.specs.Ends.{FirstAnswers, SecondAnswers};
+ghost use Rattle.noncon_check.specs.Judges.{AreFew};
 
-use crate::redexes::search;
+use crate::ends::check_apart;
 use cert_model::{Peak, Rejected};
 use derivation::{ReplayError, replay};
 use std::alloc::Global;
-use term_core::{System, Term, equal};
-use validity::CheckError;
+use term_core::{System, Term};
+use validity::{CheckError, valid_peaks_reach_apart};
 
 // The end of the first derivation.
 fn first_end(alloc: Global, sys: &System, peak: &Peak) -> Result<Term, CheckError>
@@ -43,47 +44,33 @@ fn second_end(alloc: Global, sys: &System, peak: &Peak) -> Result<Term, CheckErr
     }
 }
 
-// That no rule matches in one of the ends, the first or the second.
-fn has_no_redex(alloc: Global, sys: &System, which: u32, end: &Term) -> Result<(), CheckError>
-    requires { math.Fits (view end.now) }
-    ensures { NormalAnswers sys.now (view end.now) which result }
-{
-    let mut path = Vec::new(alloc);
-    match search(alloc, sys, end, &mut path)? {
-        Some(rule) => Err(CheckError::Rejected(Rejected::NotNormal {
-            which,
-            pos: path,
-            rule,
-        })),
-        None => Ok(()),
-    }
-}
-
-// That the ends differ, and that no rule matches in either.
-fn are_apart(alloc: Global, sys: &System, first: &Term, second: &Term) -> Result<(), CheckError>
-    requires first { math.Fits (view first.now) }
-    requires second { math.Fits (view second.now) }
-    ensures { EndsAnswers sys.now (view first.now) (view second.now) result }
-{
-    if equal(first, second) {
-        return Err(CheckError::Rejected(Rejected::SameTerm));
-    }
-    has_no_redex(alloc, sys, 1, first)?;
-    has_no_redex(alloc, sys, 2, second)
-}
-
-/// Whether a peak shows that the system is not confluent: its derivations have no bad step, and lead to
-/// two different terms in which no rule matches.
-pub fn check_peak(alloc: Global, sys: &System, peak: &Peak) -> Result<(), CheckError>
+// Whether the peak is valid, or the first reason why it is not.
+fn judge_peak(alloc: Global, sys: &System, peak: &Peak) -> Result<(), CheckError>
     requires start { math.Fits (view peak.now.start) }
-    requires over { IsOver sys.now.arities (view peak.now.start) }
-    requires claim { ClaimsNormalForms (peak_view peak.now) }
+    requires caps { UsesNoAutomaton (peak_view peak.now).apart }
     requires first_short { IsShort (derivation_view peak.now.first) }
     requires second_short { IsShort (derivation_view peak.now.second) }
-    ensures judged { PeakAnswers sys.now (peak_view peak.now) result }
-    ensures sound { OnOk result (ReachesApart sys.now (view peak.now.start)) }
+    requires few { AreFew (peak_view peak.now).apart }
+    ensures { PeakAnswers sys.now (peak_view peak.now) result }
 {
     let first = first_end(alloc, sys, peak)?;
     let second = second_end(alloc, sys, peak)?;
-    are_apart(alloc, sys, &first, &second)
+    check_apart(alloc, sys, &first, &second, &peak.apart)
+}
+
+/// Whether a peak shows that the system is not confluent: its derivations have no bad step, and its ends are shown to
+/// have no common reduct, by evidence for each redex of theirs or by their rigid caps.
+pub fn check_peak(alloc: Global, sys: &System, peak: &Peak) -> Result<(), CheckError>
+    requires start { math.Fits (view peak.now.start) }
+    requires over { IsOver sys.now.arities (view peak.now.start) }
+    requires caps { UsesNoAutomaton (peak_view peak.now).apart }
+    requires first_short { IsShort (derivation_view peak.now.first) }
+    requires second_short { IsShort (derivation_view peak.now.second) }
+    requires few { AreFew (peak_view peak.now).apart }
+    ensures judged { PeakAnswers sys.now (peak_view peak.now) result }
+    ensures sound { OnOk result (ReachesApart sys.now (view peak.now.start)) }
+{
+    valid_peaks_reach_apart();
+    let _rules = sys.rules();
+    judge_peak(alloc, sys, peak)
 }

@@ -1,51 +1,175 @@
-ghost use Rattle.std.specs.Prelude.{◌≡◌, ◌<◌, ◌≤◌, ℕ, [], IfOk, IfSome, IfNone};
+ghost use Rattle.std.specs.Prelude.{◌≡◌, ◌≢◌, ◌≤◌, ◌<◌, ◌++◌, ◌∷◌, ◌↔◌, [], Some, OnOk, IfOk, IsTrue, MatchOption, IsSome, map, slice_get};
 ghost use Rattle.rewriting.specs.Terms.{size};
+ghost use Rattle.rewriting.specs.Rules.{rule_at};
+ghost use Rattle.rewriting.specs.Overlaps.{conditions_under};
+ghost use Rattle.rule_index.specs.Roots.{rules_with_root};
 ghost use Rattle.term_core.specs.View.{view};
-ghost use Rattle.validity.specs.Peaks.{MatchesAt};
-ghost use Rattle.noncon_check.specs.Redexes.{Searched};
+ghost use Rattle.term_core.specs.RuleView.{rule_view, condition_view};
+ghost use Rattle.term_core.specs.SystemView.{IsSound};
+ghost use Rattle.cert_model.specs.CertificateView.{redex_view};
+ghost use Rattle.validity.specs.Peaks.{place_of};
+ghost use Rattle.noncon_check.specs.Redexes.{hits, at_root, behind, redexes};
+ghost use Rattle.noncon_check.specs.Judged.{with_new, AreJudged, IsJudgedAt};
+ghost use Rattle.noncon_check.specs.Walks.{IsAbsent, PlacesAnswer, MissedAnswers};
+ghost use Rattle.noncon_check.specs.Judges.{IsReady};
 
-use matching::matches;
+use crate::conditions::judge_conditions;
+use cert_model::{Redex, Rejected};
+use infeasible::Refusal;
+use matching::{Match, match_term};
+use rule_index::RuleIndex;
 use std::alloc::Global;
-use term_core::{NoMemory, System, Term};
+use term_core::{NoMemory, Rule, Subst, System, Term};
+use validity::CheckError;
 
-/// The number of the first rule that matches the term itself.
-fn rule_at_root(sys: &System, t: &Term) -> Option<u32>
-    ensures found { IfSome result (λ i. MatchesAt sys.now (view t.now) [] i) }
-    ensures first { IfSome result (λ i. (k : ℕ) → k < i → MatchesAt sys.now (view t.now) [] k → ⊥) }
-    ensures none { IfNone result ((k : ℕ) → MatchesAt sys.now (view t.now) [] k → ⊥) }
-{
-    for (i, rule) in sys.rules().iter().enumerate() {
-        if matches(&rule.left, t) {
-            return Some(i as u32 + 1);
-        }
-    }
-    None
+/// What the redexes of an end are judged by: the end's number, the certificate's entries, and how many variables the
+/// end has, which are the least numbers.
+#[derive(Clone, Copy)]
+pub(crate) struct Judge<'a> {
+    pub(crate) sys: &'a System,
+    pub(crate) rules: &'a [Rule],
+    pub(crate) index: &'a RuleIndex,
+    pub(crate) entries: &'a [Redex],
+    pub(crate) which: u32,
+    pub(crate) own: u32,
 }
 
-// Where a rule matches first in the term, its number, and behind `path` the position.
-pub(crate) fn search(
-    alloc: Global,
-    sys: &System,
-    t: &Term,
-    path: &mut Vec<u32>,
-) -> Result<Option<u32>, NoMemory>
-    requires { size (view t.now) ≤ 10000 }
-    ensures { IfOk result (λ o. Searched sys.now (view t.now) path.old.items path.new.items o) }
+// The path to an argument.
+fn enter(path: &mut Vec<u32>, k: u32) -> Result<(), NoMemory>
+    ensures { OnOk result (path.new.items ≡ path.old.items ++ k ∷ []) }
 {
-    if let Some(rule) = rule_at_root(sys, t) {
-        return Ok(Some(rule));
+    path.push(k)?;
+    Ok(())
+}
+
+fn copied(alloc: Global, path: &[u32]) -> Result<Vec<u32>, NoMemory>
+    ensures { IfOk result (λ copy. copy.items ≡ path.now) }
+{
+    let mut copy = Vec::with_capacity(alloc, path.len())?;
+    copy.extend_from_slice(path)?;
+    Ok(copy)
+}
+
+// A redex that has no entry where one should stand.
+fn missed(alloc: Global, which: u32, path: &[u32], rule: u32) -> CheckError
+    ensures { MissedAnswers (behind path.now (at_root which rule)) result }
+{
+    match copied(alloc, path) {
+        Ok(pos) => CheckError::Rejected(Rejected::NotNormal { which, pos, rule }),
+        Err(_) => CheckError::NoMemory,
     }
-    match t {
-        Term::Var(_) => Ok(None),
-        Term::Fun(_, args) => {
-            for (i, arg) in args.iter().enumerate() {
-                path.push(i as u32 + 1)?;
-                if let Some(rule) = search(alloc, sys, arg, path)? {
-                    return Ok(Some(rule));
-                }
-                path.pop();
-            }
-            Ok(None)
+}
+
+// Whether the entry is for this redex.
+fn is_for(entry: &Redex, which: u32, path: &[u32], rule: u32) -> bool
+    ensures { IsTrue result ↔ (place_of (redex_view entry.now) ≡ behind path.now (at_root which rule)) }
+{
+    entry.which == which && entry.rule == rule && entry.pos.as_slice() == path
+}
+
+impl<'a> Judge<'a> {
+    // The entry with this number, from 0, where it is for the redex.
+    fn entry_for(&self, at: usize, path: &[u32], rule: u32) -> Option<&'a Redex>
+        ensures { MatchOption result (IsAbsent (map redex_view self.now.entries.now) at (behind path.now (at_root self.now.which rule))) (λ e. (slice_get (map redex_view self.now.entries.now) at ≡ Some (redex_view e.now)) × (place_of (redex_view e.now) ≡ behind path.now (at_root self.now.which rule))) }
+    {
+        let entry = self.entries.get(at)?;
+        if is_for(entry, self.which, path, rule) {
+            Some(entry)
+        } else {
+            None
         }
+    }
+
+    // Judges the entry for a rule that matches, with the values of the match.
+    fn judge_entry(
+        &self,
+        alloc: Global,
+        rule: &Rule,
+        number: u32,
+        values: Subst,
+        path: &[u32],
+        at: usize,
+    ) -> Result<usize, CheckError>
+        requires ready { IsReady self.now.sys.now self.now.rules.now self.now.index.now self.now.entries.now self.now.own }
+        requires sound { IsSound self.now.sys.now.arities rule.now }
+        ensures { PlacesAnswer (λ r evidence o. AreJudged self.now.sys.now (conditions_under (with_new self.now.own values) (map condition_view rule.now.conds.items)) evidence o) path.now (map redex_view self.now.entries.now) at (at_root self.now.which number ∷ []) result }
+    {
+        let Some(entry) = self.entry_for(at, path, number) else {
+            return Err(missed(alloc, self.which, path, number));
+        };
+        match judge_conditions(alloc, self.sys, rule, values, self.own, &entry.evidence) {
+            Ok(()) => Ok(at + 1),
+            Err(Refusal::Reason(reason)) => Err(CheckError::Rejected(Rejected::RedexFails {
+                entry: at as u32 + 1,
+                reason,
+            })),
+            Err(Refusal::NoMemory) => Err(CheckError::NoMemory),
+        }
+    }
+
+    // Judges the next entry where the rule matches the part.
+    fn judge_rule(
+        &self,
+        alloc: Global,
+        part: &Term,
+        number: u32,
+        path: &[u32],
+        at: usize,
+    ) -> Result<usize, CheckError>
+        requires ready { IsReady self.now.sys.now self.now.rules.now self.now.index.now self.now.entries.now self.now.own }
+        requires number { IsSome (rule_at self.now.sys.now number) }
+        ensures { PlacesAnswer (IsJudgedAt self.now.sys.now self.now.own (view part.now)) path.now (map redex_view self.now.entries.now) at (map (at_root self.now.which) (hits self.now.sys.now (view part.now) (number ∷ []))) result }
+    {
+        let rule = &self.rules[number as usize - 1];
+        match match_term(alloc, &rule.left, part)? {
+            Match::Unmatched => Ok(at),
+            Match::Bound(values) => self.judge_entry(alloc, rule, number, values, path, at),
+        }
+    }
+
+    // Judges the entries for the rules that match the part, whose root is `f`.
+    fn judge_root(
+        &self,
+        alloc: Global,
+        f: u32,
+        part: &Term,
+        path: &[u32],
+        at: usize,
+    ) -> Result<usize, CheckError>
+        requires ready { IsReady self.now.sys.now self.now.rules.now self.now.index.now self.now.entries.now self.now.own }
+        ensures { PlacesAnswer (IsJudgedAt self.now.sys.now self.now.own (view part.now)) path.now (map redex_view self.now.entries.now) at (map (at_root self.now.which) (hits self.now.sys.now (view part.now) (rules_with_root self.now.sys.now f))) result }
+    {
+        let mut next = at;
+        let numbers = self.index.with_root(f);
+        for number in numbers {
+            next = self.judge_rule(alloc, part, *number, path, next)?;
+        }
+        Ok(next)
+    }
+
+    /// Judges the entries from a number, from 0, on, for the redexes of a part of the end at a position; the number
+    /// behind them. The first that is wrong or missing ends the walk.
+    pub(crate) fn judge_part(
+        &self,
+        alloc: Global,
+        part: &Term,
+        path: &mut Vec<u32>,
+        at: usize,
+    ) -> Result<usize, CheckError>
+        requires ready { IsReady self.now.sys.now self.now.rules.now self.now.index.now self.now.entries.now self.now.own }
+        requires size { size (view part.now) ≤ 10000 }
+        ensures answer { PlacesAnswer (IsJudgedAt self.now.sys.now self.now.own (view part.now)) path.old.items (map redex_view self.now.entries.now) at (redexes self.now.sys.now self.now.which (view part.now)) result }
+        ensures path { OnOk result (path.new.items ≡ path.old.items) }
+    {
+        let Term::Fun(f, args) = part else {
+            return Ok(at);
+        };
+        let mut next = self.judge_root(alloc, *f, part, path, at)?;
+        for (i, arg) in args.iter().enumerate() {
+            enter(path, i as u32 + 1)?;
+            next = self.judge_part(alloc, arg, path, next)?;
+            path.pop();
+        }
+        Ok(next)
     }
 }

@@ -1,5 +1,7 @@
-use Rattle.noncon_check.proofs.Apart.{shown}
+use Rattle.cert_model.specs.CertificateView.{peak_view}
+use Rattle.noncon_check.proofs.Apart.{peak_sound}
 use Rattle.noncon_check.proofs.peaks.check_peak.Goals as goal
 
 pub returns-clause-sound : goal.returns-clause-sound
-returns-clause-sound c = shown _ _ _ _ _ _ _ c.requires.over c.in_ok-first.ensures c.in_ok-second.ensures c.are_apart.ensures
+returns-clause-sound c =
+    peak_sound c.valid_peaks_reach_apart.ensures c.args.sys.now (peak_view c.args.peak.now) c.rules-rules.ensures.sound c.requires.over c.judge_peak.result c.judge_peak.ensures

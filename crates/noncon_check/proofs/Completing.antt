@@ -1,0 +1,176 @@
+-- Values for the variables without one, and the instances of conditions.
+use Rattle.std.proofs.Common.{ℕ, zero, suc, ◌≡◌, ◌⊎◌, inl, inr, ◌↔◌, ◌+◌, ◌<◌, ◌≤◌, ◌^◌, Bool, true, false, cond, Option, None, Some, unwrap_or, option_map, List, [], ◌∷◌, ◌++◌, map, length, drop, get_or, nat_cmp, refl, sym, ap, ap₂, ◌∙◌, subst, arith, Equal, append_assoc, Result, Ok, Err, OnOk}
+use Rattle.std.specs.Ordering.{eq_by_cmp}
+use Rattle.std.proofs.lemmas.Bool.{cases_lt}
+use Rattle.std.proofs.lemmas.List.{drop_more, map-append, length-map}
+use Rattle.std.specs.Cmp.{nat_cmp_total, nat_cmp_is, Equal-is}
+use Rattle.std.specs.FinMap.{get, insert, get-insert, nat_cmp-IsAntisymmetric}
+use Rattle.rewriting.specs.Systems.{CountsFrom, Each, terms_of_rule, rule_variables}
+use Rattle.rewriting.specs.Terms.{Fits}
+use Rattle.rewriting.specs.Overlaps.{condition_under, conditions_under}
+use Rattle.rewriting.proofs.Common.{Term, var, Substitution, Bindings, values_of, occurs, occurs_in, Condition, System, sides, Signature}
+use Rattle.rewriting.proofs.Instances.{apply-agree, or_left, or_right}
+use Rattle.rewriting.proofs.Variables.{IsAmong, variables_have_all}
+use Rattle.certificates.specs.Sizes.{DoConditionsFit}
+use Rattle.term_core.specs.RuleView.{condition_view, rule_view}
+use Rattle.term_core.specs.SystemView.{IsSound}
+use Rattle.term_core.specs.View.{view}
+use Rattle.term_core.specs.declared.systems.Cond as program_cond
+use Rattle.term_core.specs.declared.systems.Rule as program
+use Rattle.certificates.specs.Evidence.{InfeasibilityEvidence}
+use Rattle.cert_model.specs.ReasonView.{evidence_reason_view}
+use Rattle.refuter.specs.Answers.{RefutesAnswers}
+use Rattle.refuter.specs.declared.Refusal.{Refusal}
+use Rattle.refuter.specs.declared.Refusal.TheVariants.{Reason, NoMemory}
+use Rattle.validity.specs.Evidence.{IsJudged}
+use Rattle.noncon_check.specs.Judged.{value_or_new, with_new, AreJudged}
+
+same_key : (x y : ℕ) → x ≡ y → eq_by_cmp nat_cmp x y ≡ true
+same_key x y e = (Equal-is (nat_cmp x y)).1 (sym (nat_cmp_is x y Equal e))
+
+key_is : (x y : ℕ) → eq_by_cmp nat_cmp x y ≡ true → x ≡ y
+key_is x y e = nat_cmp-IsAntisymmetric x y ((Equal-is (nat_cmp x y)).0 e)
+
+other_key : (x y : ℕ) → (x ≡ y → ⊥) → eq_by_cmp nat_cmp x y ≡ false
+other_key x y h = go (eq_by_cmp nat_cmp x y) refl
+  where
+    go : (b : Bool) → eq_by_cmp nat_cmp x y ≡ b → eq_by_cmp nat_cmp x y ≡ false
+    go true e = absurd (h (key_is x y e))
+    go false e = e
+
+-- the variables below k have values, the others are as before
+pub record IsCompleted (n : ℕ) (before after : Bindings) (k : ℕ) : Type 0 where
+  pub done : (x : ℕ) → x < k → get after x ≡ Some (value_or_new n x (get before x))
+  pub behind : (x : ℕ) → k ≤ x → get after x ≡ get before x
+
+pub completed_none : (n : ℕ) (a : Bindings) → IsCompleted n a a 0
+completed_none n a = record { done = λ x l. absurd (omega (arith, l)); behind = λ x l. refl }
+
+module _ (n : ℕ) (a b : Bindings) (k : ℕ) (h : IsCompleted n a b k) where
+  -- one more
+  pub completed_more : (c : Bindings) → get c k ≡ Some (value_or_new n k (get b k)) → ((x : ℕ) → (x ≡ k → ⊥) → get c x ≡ get b x) → IsCompleted n a c (k + 1)
+  completed_more c here others = record { done = done; behind = λ x l. others x (λ e. omega (arith, l, e)) ∙ h.behind x (omega (arith, l)) }
+    where
+      at_k : get c k ≡ Some (value_or_new n k (get a k))
+      at_k = here ∙ ap (λ o. Some (value_or_new n k o)) (h.behind k (omega arith))
+
+      done : (x : ℕ) → x < k + 1 → get c x ≡ Some (value_or_new n x (get a x))
+      done x l = go (cases_lt x k)
+        where
+          go : (x < k) ⊎ (k ≤ x) → get c x ≡ Some (value_or_new n x (get a x))
+          go (inl less) = others x (λ e. omega (arith, less, e)) ∙ h.done x less
+          go (inr more) = let same : k ≡ x = omega (arith, l, more) in subst (λ y. get c y ≡ Some (value_or_new n y (get a y))) same at_k
+
+pub kept_here : {X : Type 0} (f : X → Term) (o : Option X) (x : X) (b : Bindings) (n k : ℕ) → option_map f o ≡ get b k → o ≡ Some x → get b k ≡ Some (value_or_new n k (get b k))
+kept_here f o x b n k e is = let there : get b k ≡ Some (f x) = sym e ∙ ap (option_map f) is in there ∙ ap (λ q. Some (value_or_new n k q)) (sym there)
+
+pub new_here : {T E X : Type 0} (r : Result T E) (f : X → Term) (o : Option X) (b c : Bindings) (n k : ℕ) (u : Term) → u ≡ var (n + k) → option_map f o ≡ get b k → o ≡ None → OnOk r (c ≡ insert b k u)
+    → OnOk r (get c k ≡ Some (value_or_new n k (get b k)))
+new_here (Err e) f o b c n k u new same none is = is
+new_here (Ok x) f o b c n k u new same none is =
+    let free : get b k ≡ None = sym same ∙ ap (option_map f) none in
+    ap (λ m. get m k) is ∙ get-insert nat_cmp_total b k u k ∙ ap (λ q. cond q (Some u) (get b k)) (same_key k k refl) ∙ ap Some new
+    ∙ ap (λ q. Some (value_or_new n k q)) (sym free)
+
+others_kept : (b c : Bindings) (k : ℕ) (u : Term) → c ≡ insert b k u → (x : ℕ) → (x ≡ k → ⊥) → get c x ≡ get b x
+others_kept b c k u is x d = ap (λ m. get m x) is ∙ get-insert nat_cmp_total b k u x ∙ ap (λ q. cond q (Some u) (get b x)) (other_key x k d)
+
+pub new_others : {T E : Type 0} (r : Result T E) (b c : Bindings) (k : ℕ) (u : Term) → OnOk r (c ≡ insert b k u) → OnOk r ((x : ℕ) → (x ≡ k → ⊥) → get c x ≡ get b x)
+new_others (Err e) b c k u is = is
+new_others (Ok y) b c k u is = others_kept b c k u is
+
+-- one more of a list
+pub drop_first : {A : Type 0} (xs : List A) (i : ℕ) (x : A) → i < length xs → x ≡ get_or xs i x → drop i xs ≡ x ∷ drop (i + 1) xs
+drop_first xs i x l e = drop_more xs i x l ∙ ap (λ z. z ∷ drop (i + 1) xs) (sym e)
+
+pub drop_end : {A : Type 0} (xs : List A) (i : ℕ) → length xs ≤ i → drop i xs ≡ []
+drop_end [] zero l = refl
+drop_end [] (suc i) l = refl
+drop_end (x ∷ xs) zero l = absurd (omega (arith, l))
+drop_end (x ∷ xs) (suc i) l = drop_end xs i (omega (arith, l))
+
+-- conditions under substitutions that agree on their variables
+pub conditions_agree : (s t : Substitution) (cs : List Condition) → ((x : ℕ) → occurs_in x (sides cs) ≡ true → s x ≡ t x) → conditions_under s cs ≡ conditions_under t cs
+conditions_agree s t [] h = refl
+conditions_agree s t (c ∷ cs) h =
+    ap₂ (λ (d : Condition) (ds : List Condition). d ∷ ds)
+    (ap₂ (λ (l r : Term). record { left = l; right = r }) (apply-agree s t c.left (λ x o. h x (or_left _ _ o))) (apply-agree s t c.right (λ x o. h x (or_right (occurs x c.left) _ (or_left _ _ o)))))
+    (conditions_agree s t cs (λ x o. h x (or_right (occurs x c.left) _ (or_right (occurs x c.right) _ o))))
+
+pub length-conditions_under : (s : Substitution) (cs : List Condition) → length (conditions_under s cs) ≡ length cs
+length-conditions_under s [] = refl
+length-conditions_under s (c ∷ cs) = ap suc (length-conditions_under s cs)
+
+conditions_fit : (cs : List Condition) → Each Fits (sides cs) → DoConditionsFit cs
+conditions_fit [] h = tt
+conditions_fit (c ∷ cs) (l, (r, h)) = (l, r, conditions_fit cs h)
+
+counted_below : (n : ℕ) (xs : List ℕ) (x : ℕ) → CountsFrom n xs → IsAmong x xs → x < n + length xs
+counted_below n [] x h m = absurd m
+counted_below n (y ∷ ys) x h (inl e) = let k = h.0 in omega (arith, k, e)
+counted_below n (y ∷ ys) x h (inr m) = let k = counted_below (suc n) ys x h.1 m in omega (arith, k)
+
+module _ (arities : Signature) (r : program.Rule) (sound : IsSound arities r) where
+  pub rule_fits : DoConditionsFit (map condition_view r.conds.items)
+  rule_fits = conditions_fit (map condition_view r.conds.items) sound.rule.fits.1.1
+
+  pub few_vars : (n : ℕ) → n ≤ 10000 → n + r.vars ≤ 2 ^ 32
+  few_vars n l = let few = sound.rule.few_variables in let is = sound.counted in omega (arith, few, is, l)
+
+  pub side_below : (x : ℕ) → occurs_in x (sides (map condition_view r.conds.items)) ≡ true → x < r.vars
+  side_below x o =
+      let in_rule = or_right (occurs x (rule_view r).left) _ (or_right (occurs x (rule_view r).right) _ o) in
+      let low = counted_below 0 (rule_variables (rule_view r)) x sound.rule.numbered (variables_have_all x [] (terms_of_rule (rule_view r)) in_rule) in
+      let is = sound.counted in
+      omega (arith, low, is)
+
+  pub few_instances : (s : Substitution) (ds items : List program_cond.Cond) → items ≡ r.conds.items → map condition_view ds ≡ conditions_under s (map condition_view items) → length ds ≤ 200
+  few_instances s ds items value is =
+      let one = sym (length-map ds condition_view) ∙ ap length is ∙ length-conditions_under s (map condition_view items) ∙ ap (λ z. length (map condition_view z)) value in
+      let few = sound.rule.few_conditions in
+      omega (arith, one, few)
+
+  -- completed values are those of the match, and new variables
+  pub completed_conditions : (n : ℕ) (before after : Bindings) → ((k : ℕ) → k < r.vars → get after k ≡ Some (value_or_new n k (get before k)))
+      → conditions_under (values_of after) (map condition_view r.conds.items) ≡ conditions_under (with_new n before) (map condition_view r.conds.items)
+  completed_conditions n before after h =
+      conditions_agree (values_of after) (with_new n before) (map condition_view r.conds.items) (λ x o. ap (λ q. unwrap_or q (var x)) (h x (side_below x o)))
+
+-- one condition more, of which the instance is d
+module _ (s : Substitution) (conds : List program_cond.Cond) (i : ℕ) (c : program_cond.Cond) (low : i < length conds) (here : c ≡ get_or conds i c) where
+  abbrev rest : ℕ → List Condition
+  rest k = conditions_under s (map condition_view (drop k conds))
+
+  split : map condition_view (drop i conds) ≡ condition_view c ∷ map condition_view (drop (i + 1) conds)
+  split = ap (map condition_view) (drop_first conds i c low here)
+
+  rest_split : rest i ≡ condition_under s (condition_view c) ∷ rest (i + 1)
+  rest_split = ap (conditions_under s) split
+
+  pub side_fits : DoConditionsFit (map condition_view (drop i conds)) → Fits (view c.left) × Fits (view c.right) × DoConditionsFit (map condition_view (drop (i + 1) conds))
+  side_fits h = subst DoConditionsFit split h
+
+  pub out_more : (out : List program_cond.Cond) (d : program_cond.Cond) (whole : List Condition) → map condition_view out ++ rest i ≡ whole → condition_view d ≡ condition_under s (condition_view c)
+      → map condition_view (out ++ d ∷ []) ++ rest (i + 1) ≡ whole
+  out_more out d whole e is =
+      ap (λ z. z ++ rest (i + 1)) (map-append condition_view out (d ∷ [])) ∙ append_assoc (map condition_view out) (condition_view d ∷ []) (rest (i + 1))
+      ∙ ap (λ z. map condition_view out ++ z) (ap (λ z. z ∷ rest (i + 1)) is ∙ sym rest_split) ∙ e
+
+  rest_fit : Fits (condition_under s (condition_view c)).left × Fits (condition_under s (condition_view c)).right × DoConditionsFit (rest (i + 1)) → DoConditionsFit (rest (i + 1))
+  rest_fit (l, r, h) = h
+
+  pub fit_more : (whole : Type 0) → DoConditionsFit (rest i) ↔ whole → Fits (condition_under s (condition_view c)).left → Fits (condition_under s (condition_view c)).right → DoConditionsFit (rest (i + 1)) ↔ whole
+  fit_more whole (to, from) l r = (λ h. to (subst DoConditionsFit (sym rest_split) (l, r, h)), λ w. rest_fit (subst DoConditionsFit rest_split (from w)))
+
+  pub too_large : (whole : Type 0) → DoConditionsFit (rest i) ↔ whole → (Fits (condition_under s (condition_view c)).left → Fits (condition_under s (condition_view c)).right → ⊥) → whole → ⊥
+  too_large whole (to, from) large w = go (subst DoConditionsFit rest_split (from w))
+    where
+      go : Fits (condition_under s (condition_view c)).left × Fits (condition_under s (condition_view c)).right × DoConditionsFit (rest (i + 1)) → ⊥
+      go (l, r, k) = large l r
+
+-- what is answered for conditions that fit
+pub judged_fitting : (sys : System) (ds : List program_cond.Cond) (cs : List Condition) (e : InfeasibilityEvidence) (a : Result (Unit {0}) Refusal) → map condition_view ds ≡ cs → DoConditionsFit cs
+    → RefutesAnswers (IsJudged sys (map condition_view ds) e) a → RefutesAnswers (AreJudged sys cs e) a
+judged_fitting sys ds cs e (Ok u) is fit h = inl (fit, subst (λ z. IsJudged sys z e None) is h)
+judged_fitting sys ds cs e (Err (Reason reason)) is fit h = inl (fit, subst (λ z. IsJudged sys z e (Some (evidence_reason_view reason))) is h)
+judged_fitting sys ds cs e (Err NoMemory) is fit h = tt

@@ -1,0 +1,209 @@
+-- Evidence judged for a redex of a numbered end is judged for the redex of the end.
+use Rattle.std.proofs.Common.{ℕ, suc, ◌≡◌, ◌⊎◌, inl, inr, ◌+◌, ◌-◌, ◌*◌, ◌<◌, true, List, [], ◌∷◌, map, length, Option, None, Some, option_map, cond, Bool, false, nat_cmp, refl, sym, ap, ap₂, ◌∙◌, subst, arith, eqb-true, eq-eqb, nat_eq, if◌then◌else◌, zero, get_or}
+use Rattle.std.specs.Ordering.{eq_by_cmp}
+use Rattle.std.specs.Cmp.{nat_cmp_total}
+use Rattle.std.specs.FinMap.{get, empty, entries, find, from_entries, get-entries, get-from_entries, get-empty}
+use Rattle.rewriting.specs.Matching.{Solves, SolvesAll, IsLeastMatch}
+use Rattle.rewriting.specs.Overlaps.{conditions_under}
+use Rattle.rewriting.proofs.Common.{Term, Terms, var, app, nil, cons, Position, argument, subterm, Substitution, Bindings, apply, apply_all, compose, occurs, occurs_in, Condition, Rule, System}
+use Rattle.rewriting.proofs.Instances.{apply-apply, apply-agree, or_left, or_right, or_cases}
+use Rattle.rewriting.proofs.Positions.{within}
+use Rattle.rewriting.proofs.Places.{subterm-apply}
+use Rattle.certificates.specs.Evidence.{InfeasibilityEvidence}
+use Rattle.certificates.specs.Judging.{RuleMatches}
+use Rattle.certificates.specs.Reasons.{EvidenceReason}
+use Rattle.matching.proofs.Least.{least_needs, values_have, Inherits}
+use Rattle.renumbering.specs.Spread.{spread, spreading}
+use Rattle.renumbering.specs.Rows.{AreDistinct, naming}
+use Rattle.renumbering.proofs.Spreads.{spread_past, spread_one_to_one, odd_is_spread}
+use Rattle.validity.proofs.Ends.{unmoved}
+use Rattle.validity.specs.Peaks.{Place, MatchesAt, value_or_own, at_redex, IsRedexJudged}
+use Rattle.noncon_check.specs.Judged.{value_or_new, with_new, AreJudged, IsJudgedAt}
+use Rattle.noncon_check.specs.Redexes.{AreRedexesOf}
+use Rattle.noncon_check.proofs.Renaming.{are_judged_to}
+
+nothing_bound : (x : ℕ) (t : Term) → get (empty {R = nat_cmp}) x ≡ Some t → ⊥
+nothing_bound x t e = (let bad : None ≡ Some t = sym (get-empty nat_cmp x) ∙ e in cc)
+
+-- a finite map with the instance of each value
+module _ (s : Substitution) where
+  abbrev entry : ℕ × Term → ℕ × Term
+  entry e = (e.0, apply s e.1)
+
+  abbrev moved : Bindings → Bindings
+  moved m = from_entries (map entry (entries m))
+
+  picked : (b : Bool) (t : Term) (o p : Option Term) → o ≡ option_map (apply s) p → cond b (Some (apply s t)) o ≡ option_map (apply s) (cond b (Some t) p)
+  picked true t o p e = refl
+  picked false t o p e = e
+
+  find-moved : (es : List (ℕ × Term)) (x : ℕ) → find nat_cmp x (map entry es) ≡ option_map (apply s) (find nat_cmp x es)
+  find-moved [] x = refl
+  find-moved (e ∷ es) x = picked (eq_by_cmp nat_cmp x e.0) e.1 _ _ (find-moved es x)
+
+  get-moved : (m : Bindings) (x : ℕ) → get (moved m) x ≡ option_map (apply s) (get m x)
+  get-moved m x = get-from_entries nat_cmp_total (map entry (entries m)) x ∙ find-moved (entries m) x ∙ ap (option_map (apply s)) (sym (get-entries m x))
+
+  moved_value : (m : Bindings) (x : ℕ) (t : Term) → get m x ≡ Some t → get (moved m) x ≡ Some (apply s t)
+  moved_value m x t e = get-moved m x ∙ ap (option_map (apply s)) e
+
+  value_moved : (m : Bindings) (x : ℕ) (u : Term) → get (moved m) x ≡ Some u → (t : Term) × (get m x ≡ Some t) × (u ≡ apply s t)
+  value_moved m x u e = go (get m x) refl
+    where
+      go : (o : Option Term) → get m x ≡ o → (t : Term) × (get m x ≡ Some t) × (u ≡ apply s t)
+      go None q = (let none : get (moved m) x ≡ None = get-moved m x ∙ ap (option_map (apply s)) q in cc)
+      go (Some t) q = (let there : get (moved m) x ≡ Some (apply s t) = moved_value m x t q in (t, q, (let same : u ≡ apply s t = cc in same)))
+
+  mutual
+    moved_solves : (m : Bindings) (p t : Term) → Solves m p t → Solves (moved m) p (apply s t)
+    moved_solves m (var x) t h = moved_value m x t h
+    moved_solves m (app f ps) (var y) h = absurd h
+    moved_solves m (app f ps) (app g ts) (e, h) = (e, moved_solves_all m ps ts h)
+
+    moved_solves_all : (m : Bindings) (ps ts : Terms) → SolvesAll m ps ts → SolvesAll (moved m) ps (apply_all s ts)
+    moved_solves_all m nil nil h = tt
+    moved_solves_all m nil (cons t ts) h = absurd h
+    moved_solves_all m (cons p ps) nil h = absurd h
+    moved_solves_all m (cons p ps) (cons t ts) (h, hs) = (moved_solves m p t h, moved_solves_all m ps ts hs)
+
+-- two solutions have the same values at the variables of the pattern
+module _ (c d : Bindings) (x : ℕ) where
+  mutual
+    solved_same : (p t : Term) → Solves c p t → Solves d p t → occurs x p ≡ true → get c x ≡ get d x
+    solved_same (var y) t h k o = (let same : x ≡ y = eqb-true x y o in ap (get c) same ∙ h ∙ sym k ∙ ap (get d) (sym same))
+    solved_same (app f ps) (var y) h k o = absurd h
+    solved_same (app f ps) (app g ts) (_, h) (_, k) o = solved_all_same ps ts h k o
+
+    solved_all_same : (ps ts : Terms) → SolvesAll c ps ts → SolvesAll d ps ts → occurs_in x ps ≡ true → get c x ≡ get d x
+    solved_all_same nil nil h k o = cc
+    solved_all_same nil (cons t ts) h k o = absurd h
+    solved_all_same (cons p ps) nil h k o = absurd h
+    solved_all_same (cons p ps) (cons t ts) (h, hs) (k, ks) o = or_cases (occurs x p) (occurs_in x ps) o (λ l. solved_same p t h k l) (λ r. solved_all_same ps ts hs ks r)
+
+needed : (m : Bindings) (p t : Term) → IsLeastMatch empty m p t → (x : ℕ) (u : Term) → get m x ≡ Some u → occurs x p ≡ true
+needed m p t least x u e = go (least_needs empty m p t least x u e)
+  where
+    go : (get (empty {R = nat_cmp}) x ≡ Some u) ⊎ (occurs x p ≡ true) → occurs x p ≡ true
+    go (inl h) = absurd (nothing_bound x u h)
+    go (inr o) = o
+
+-- the least match onto an instance of the subject
+moved_least : (s : Substitution) (m : Bindings) (p t : Term) → IsLeastMatch empty m p t → IsLeastMatch empty (moved s m) p (apply s t)
+moved_least s m p t h =
+    let solves = moved_solves s m p t h.solves in
+    record {
+      extends = λ x u e. absurd (nothing_bound x u e);
+      solves = solves;
+      least = λ d f k x u e. let v = value_moved s m x u e in sym (solved_same (moved s m) d x p (apply s t) solves k (needed m p t h x v.0 v.1)) ∙ e;
+    }
+
+moved_matches : (s : Substitution) (sys : System) (t : Term) (i : ℕ) (p : Position) (r : Rule) (m : Bindings) → RuleMatches sys t i p r m → RuleMatches sys (apply s t) i p r (moved s m)
+moved_matches s sys t i p r m h =
+    record { is_rule = h.is_rule; redex = apply s h.redex; stands = subterm-apply s t p h.redex h.stands; matches = moved_least s m r.left h.redex h.matches }
+
+-- a match stays under a substitution
+moved_match : (s : Substitution) (sys : System) (t : Term) (p : Position) (i : ℕ) → MatchesAt sys t p i → MatchesAt sys (apply s t) p i
+moved_match s sys t p i m =
+    record {
+      rule = m.rule;
+      part = apply s m.part;
+      is_rule = m.is_rule;
+      stands = subterm-apply s t p m.part m.stands;
+      matches = (compose m.matches.0 s, sym (apply-apply m.matches.0 s m.rule.left) ∙ ap (apply s) m.matches.1);
+    }
+
+-- every variable of the term is below n
+abbrev pub AreBelow : ℕ → Term → Type 0
+AreBelow n t = (x : ℕ) → occurs x t ≡ true → x < n
+
+argument_occurs : (ts : Terms) (k x : ℕ) (u : Term) → argument ts k ≡ Some u → occurs x u ≡ true → occurs_in x ts ≡ true
+argument_occurs nil k x u e o = cc
+argument_occurs (cons t ts) zero x u e o = cc
+argument_occurs (cons t ts) (suc zero) x u e o = or_left (occurs x t) (occurs_in x ts) (let same : t ≡ u = cc in ap (occurs x) same ∙ o)
+argument_occurs (cons t ts) (suc (suc k)) x u e o = or_right (occurs x t) (occurs_in x ts) (argument_occurs ts (suc k) x u e o)
+
+below_inherits : (n : ℕ) → Inherits (AreBelow n)
+below_inherits n f ts k u h e x o = h x (argument_occurs ts k x u e o)
+
+part_below : (n : ℕ) (t : Term) (p : Position) (u : Term) → subterm t p ≡ Some u → AreBelow n t → AreBelow n u
+part_below n t [] u e h = subst (AreBelow n) (let same : t ≡ u = cc in same) h
+part_below n (var y) (k ∷ p) u e h = cc
+part_below n (app f ts) (k ∷ p) u e h = let w = within (app f ts) k p u e in part_below n w.part p u w.inside (below_inherits n f ts k w.part h w.here)
+
+-- the first place of a number in a row
+abbrev place_in : List ℕ → ℕ → ℕ
+place_in [] x = 0
+place_in (y ∷ ys) x = if nat_eq x y then 0 else suc (place_in ys x)
+
+-- a number that stands in a row stands at its first place
+abbrev StandsFirst : List ℕ → ℕ → Type 0
+StandsFirst ys x = (place_in ys x < length ys) × (get_or ys (place_in ys x) 0 ≡ x)
+
+first_here : (y x : ℕ) (ys : List ℕ) (b : Bool) → nat_eq x y ≡ b → (b ≡ false → StandsFirst ys x) → StandsFirst (y ∷ ys) x
+first_here y x ys true e h =
+    let at : place_in (y ∷ ys) x ≡ 0 = rw e refl in
+    (omega (arith, at), ap (λ k. get_or (y ∷ ys) k 0) at ∙ sym (eqb-true x y e))
+first_here y x ys false e h =
+    let at : place_in (y ∷ ys) x ≡ suc (place_in ys x) = rw e refl in
+    let low = (h refl).0 in
+    (omega (arith, at, low), ap (λ k. get_or (y ∷ ys) k 0) at ∙ (h refl).1)
+
+stands_first : (ys : List ℕ) (x k : ℕ) → k < length ys → get_or ys k 0 ≡ x → StandsFirst ys x
+stands_first [] x k l e = absurd (omega (arith, l))
+stands_first (y ∷ ys) x zero l e = first_here y x ys (nat_eq x y) refl (λ f. absurd (let t : nat_eq x y ≡ true = eq-eqb x y (sym e) in cc))
+stands_first (y ∷ ys) x (suc k) l e = first_here y x ys (nat_eq x y) refl (λ f. stands_first ys x k (omega (arith, l)) e)
+
+module _ (row : List ℕ) (distinct : AreDistinct row) (t n : Term) (is : t ≡ apply (naming row) n) (below : AreBelow (length row) n) where
+  -- the values at the redex are those at the numbered one, spread
+  value_spread : (m : Bindings) (k : ℕ) (o : Option Term) → get m k ≡ o → ((u : Term) → get m k ≡ Some u → AreBelow (length row) u)
+      → value_or_own k (option_map (apply (naming row)) o) ≡ apply (spreading row) (value_or_new (length row) k o)
+  value_spread m k None e h = (let past = spread_past row (length row + k) (omega arith) in let double : 2 * (length row + k - length row) ≡ 2 * k = omega arith in ap var (sym (past ∙ double)))
+  value_spread m k (Some u) e h = odd_is_spread row (apply (naming row) u) u refl (h u e)
+
+  values_spread : (sys : System) (i : ℕ) (p : Position) (r : Rule) (m : Bindings) → RuleMatches sys n i p r m → (k : ℕ)
+      → at_redex (moved (naming row) m) k ≡ apply (spreading row) (with_new (length row) m k)
+  values_spread sys i p r m h k =
+      ap (value_or_own k) (get-moved (naming row) m k)
+      ∙ value_spread m k (get m k) refl
+      (λ u e. values_have (AreBelow (length row)) (below_inherits (length row)) empty m r.left h.redex h.matches (part_below (length row) n p h.redex h.stands below) (λ x v q. absurd (nothing_bound x v q)) k u e)
+
+  spread_conditions : (a b : Substitution) → ((k : ℕ) → a k ≡ apply (spreading row) (b k)) → (cs : List Condition) → conditions_under a cs ≡ conditions_under (spreading row) (conditions_under b cs)
+  spread_conditions a b same [] = refl
+  spread_conditions a b same (c ∷ cs) = ap₂ (λ (d : Condition) (ds : List Condition). d ∷ ds) (ap₂ (λ (l r : Term). record { left = l; right = r }) (side c.left) (side c.right)) (spread_conditions a b same cs)
+    where
+      side : (u : Term) → apply a u ≡ apply (spreading row) (apply b u)
+      side u = apply-agree a (compose b (spreading row)) u (λ x o. same x) ∙ sym (apply-apply b (spreading row) u)
+
+  -- so evidence is judged alike
+  pub redex_judged : (sys : System) (r : Place) (e : InfeasibilityEvidence) (o : Option EvidenceReason) → IsJudgedAt sys (length row) n r e o → IsRedexJudged sys t r e o
+  redex_judged sys r e o h =
+      let m = moved (naming row) h.match in
+      let cs = conditions_under (at_redex m) h.rule.conditions in
+      let there : RuleMatches sys t r.rule r.position h.rule m = subst (λ z. RuleMatches sys z r.rule r.position h.rule m) (sym is) (moved_matches (naming row) sys n r.rule r.position h.rule h.match h.matches) in
+      let judged = are_judged_to (spread row) (spread_one_to_one row distinct) sys (conditions_under (with_new (length row) h.match) h.rule.conditions) e o h.judged in
+      let same : conditions_under (spreading row) (conditions_under (with_new (length row) h.match) h.rule.conditions) ≡ cs = sym (spread_conditions (at_redex m) (with_new (length row) h.match) (values_spread sys r.rule r.position h.rule h.match h.matches) h.rule.conditions) in
+      (cs, record { rule = h.rule; match = m; matches = there; are = refl }, subst (λ z. AreJudged sys z e o) same judged)
+
+  -- matches of the numbered term are those of the term
+  match_back : (sys : System) (p : Position) (i : ℕ) → MatchesAt sys n p i → MatchesAt sys t p i
+  match_back sys p i m = subst (λ z. MatchesAt sys z p i) (sym is) (moved_match (naming row) sys n p i m)
+
+  first_place : (k : ℕ) → k < length row → place_in row (get_or row k 0) ≡ k
+  first_place k l = let f = stands_first row (get_or row k 0) k l refl in distinct (place_in row (get_or row k 0)) k f.0 l f.1
+
+  -- and the other way round, since a renaming can be undone
+  undone : apply (λ x. var (place_in row x)) t ≡ n
+  undone =
+      ap (apply (λ x. var (place_in row x))) is ∙ apply-apply (naming row) (λ x. var (place_in row x)) n
+      ∙ apply-agree (compose (naming row) (λ x. var (place_in row x))) var n (λ x o. ap var (first_place x (below x o))) ∙ unmoved n
+
+  match_there : (sys : System) (p : Position) (i : ℕ) → MatchesAt sys t p i → MatchesAt sys n p i
+  match_there sys p i m = subst (λ z. MatchesAt sys z p i) undone (moved_match (λ x. var (place_in row x)) sys t p i m)
+
+  pub same_redexes : (sys : System) (w : ℕ) (rs : List Place) → AreRedexesOf sys w n rs → AreRedexesOf sys w t rs
+  same_redexes sys w rs h =
+      record {
+        each = λ r l. let e = h.each r l in (e.0, match_back sys r.position r.rule e.1);
+        whole = λ p i m. h.whole p i (match_there sys p i m);
+        sorted = h.sorted;
+      }

@@ -1,0 +1,50 @@
+-- The evidence for a redex of a term whose variables are 0 to n - 1: a rule's variables k without value become n + k.
+use Rattle.std.specs.Prelude.{ℕ, ◌≡◌, ◌+◌, ◌⊎◌, List, Option, Some, unwrap_or, Result, Ok, Err, map}
+use Rattle.std.specs.FinMap.{get}
+use Rattle.std.specs.Global.{Vec}
+use Rattle.rewriting.specs.Terms as math
+use Rattle.rewriting.specs.Terms.{Term, var}
+use Rattle.rewriting.specs.Substitutions.{Bindings, Substitution}
+use Rattle.rewriting.specs.Rules.{Condition, Rule, System}
+use Rattle.rewriting.specs.Overlaps.{conditions_under}
+use Rattle.certificates.specs.Evidence.{InfeasibilityEvidence}
+use Rattle.certificates.specs.Judging.{RuleMatches}
+use Rattle.certificates.specs.Reasons.{EvidenceReason, tcap_large}
+use Rattle.certificates.specs.Sizes.{DoConditionsFit}
+use Rattle.term_core.specs.RuleView.{condition_view}
+use Rattle.term_core.specs.declared.systems.Cond.{Cond}
+use Rattle.term_core.specs.declared.terms.TermError.{TermError}
+use Rattle.term_core.specs.declared.terms.TermError.TheVariants.{NoPosition, TooLarge, NoMemory}
+use Rattle.validity.specs.Evidence.{IsJudged}
+use Rattle.validity.specs.Peaks.{Place}
+
+abbrev pub value_or_new : ℕ → ℕ → Option Term → Term
+value_or_new n k o = unwrap_or o (var (n + k))
+
+-- the values of a match, and new variables
+abbrev pub with_new : ℕ → Bindings → Substitution
+with_new n match k = value_or_new n k (get match k)
+
+-- the evidence is judged; conditions of which a side does not fit count as ones with a large cap
+abbrev pub AreJudged : System → List Condition → InfeasibilityEvidence → Option EvidenceReason → Type 0
+AreJudged sys cs evidence o = (DoConditionsFit cs × IsJudged sys cs evidence o) ⊎ ((DoConditionsFit cs → ⊥) × (o ≡ Some tcap_large))
+
+-- so it is for the conditions of the rule that matches at the place
+pub record IsJudgedAt (sys : System) (n : ℕ) (t : Term) (r : Place) (evidence : InfeasibilityEvidence) (o : Option EvidenceReason) : Type 0 where
+  pub rule : Rule
+  pub match : Bindings
+  pub matches : RuleMatches sys t r.rule r.position rule match
+  pub judged : AreJudged sys (conditions_under (with_new n match) rule.conditions) evidence o
+
+-- the instance of a condition, and of each of some conditions, where both sides fit
+abbrev pub InstanceAnswers : Condition → Result Cond TermError → Type 0
+InstanceAnswers c (Ok d) = (condition_view d ≡ c) × math.Fits c.left × math.Fits c.right
+InstanceAnswers c (Err NoPosition) = ⊥
+InstanceAnswers c (Err TooLarge) = math.Fits c.left → math.Fits c.right → ⊥
+InstanceAnswers c (Err NoMemory) = Unit {0}
+
+abbrev pub InstancesAnswer : List Condition → Result (Vec Cond) TermError → Type 0
+InstancesAnswer cs (Ok ds) = (map condition_view ds.items ≡ cs) × DoConditionsFit cs
+InstancesAnswer cs (Err NoPosition) = ⊥
+InstancesAnswer cs (Err TooLarge) = DoConditionsFit cs → ⊥
+InstancesAnswer cs (Err NoMemory) = Unit {0}
