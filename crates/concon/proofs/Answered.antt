@@ -5,11 +5,12 @@ use Rattle.cc_io.specs.Errors.{IsBegunIfAny}
 use Rattle.concon.specs.Words.{IsCheck}
 use Rattle.concon.specs.Said.{Said}
 use Rattle.concon.specs.FileRefusals.{too_long, no_text}
-use Rattle.concon.specs.Outcomes.{no_system, no_certificate, rejected, refuted}
+use Rattle.concon.specs.CertRefusals as certs
+use Rattle.concon.specs.Outcomes.{no_system, no_certificate, not_judged, rejected, refuted}
 use Rattle.concon.specs.Causes.{run_of, Answer, checked, file_fault, cert_fault, no_memory, said_of, IsCaused, IsRight, IsLeft}
 use Rattle.concon.specs.Judging.{Judged, WhereFileIsRefused, Says}
 use Rattle.concon.specs.declared.judge.Refusal.{Refusal}
-use Rattle.concon.specs.declared.judge.Refusal.TheVariants.{FileFault, FileTooLong, FileRefused, CertFault, CertNotBuilt, Rejected, NoMemory}
+use Rattle.concon.specs.declared.judge.Refusal.TheVariants.{FileFault, FileTooLong, FileRefused, CertFault, CertTooLong, CertRefused, CertNotBuilt, Rejected, NoMemory}
 
 module _ (words : List (List ℕ)) (contents : List ℕ → Option (List ℕ)) (before now : List ℕ → ℕ) (begun_before begun_now : Option (List ℕ)) (given_before given_now : ℕ)
     (file cert : List ℕ) (form : IsCheck words file cert) (said : Said) where
@@ -30,7 +31,11 @@ module _ (words : List (List ℕ)) (contents : List ℕ → Option (List ℕ)) (
   answered (Err (FileRefused e)) h b (inr s) = wanting s
   answered (Err CertFault) h b (inl s) = (cert_fault file cert, (form, h.0, h.1), tt, tt, s)
   answered (Err CertFault) h b (inr s) = wanting s
-  answered (Err CertNotBuilt) h b (inl s) = (checked file cert no_certificate, (form, h), tt, tt, s)
+  answered (Err CertTooLong) h b (inl s) = (checked file cert (no_certificate certs.too_long), (form, h), tt, tt, s)
+  answered (Err CertTooLong) h b (inr s) = wanting s
+  answered (Err (CertRefused e)) h b (inl s) = (checked file cert (no_certificate (certs.cert_refusal_of e)), (form, h), tt, tt, s)
+  answered (Err (CertRefused e)) h b (inr s) = wanting s
+  answered (Err CertNotBuilt) h b (inl s) = (checked file cert not_judged, (form, h), tt, tt, s)
   answered (Err CertNotBuilt) h b (inr s) = wanting s
   answered (Err (Rejected line)) h b s = (checked file cert (rejected h.0 h.1), (form, h.2), tt, tt, rw (← h.3) s)
   answered (Err NoMemory) h b s = wanting s

@@ -1,20 +1,24 @@
--- What the readers promise of a peak is what its check asks.
-use Rattle.std.proofs.Common.{◌≡◌, ℕ, suc, ◌-◌, List, map, refl, subst, ap, ◌∙◌, arith}
+-- What the readers promise of a certificate is what its check asks.
+use Rattle.std.proofs.Common.{◌≡◌, ℕ, suc, ◌-◌, List, map, refl, ap, ◌∙◌, arith}
 use Rattle.std.specs.Prelude.{slice_get}
 use Rattle.std.proofs.lemmas.Option.{slice_get-map}
-use Rattle.rewriting.specs.Terms.{Term, Terms, var, app, nil, cons, Fits}
+use Rattle.rewriting.specs.Terms.{Term, Terms, var, app, nil, cons}
 use Rattle.rewriting.specs.Signatures.{IsOver, AreOver}
 use Rattle.rewriting.specs.Rules.{System}
 use Rattle.certificates.specs.Derivations.{Derivation, no_steps, first_step, Step, by_rule, by_hypothesis, Derivations, no_derivations, first_derivation}
-use Rattle.certificates.specs.Certificates.{Peak, peak_certificate}
+use Rattle.certificates.specs.Certificates.{Apartness, by_normal_forms, by_rigid_caps, Certificate, ortho_certificate, quasi_certificate, peak_certificate}
 use Rattle.certificates.specs.Sizes.{IsShort, AreStepsShort, IsStepShort, AreShort}
 use Rattle.certificates.specs.Sizes as sizes
+use Rattle.validity.proofs.NoAutomaton.{no_automaton}
+use Rattle.noncon_check.specs.Judges.{AreFew}
+use Rattle.cert_check.specs.Kinds.{IsPeakWith, CanBeJudged}
 use Rattle.cops_read.specs.NameTable.{NameTable}
 use Rattle.cops_read.specs.File.{IsFile}
 use Rattle.cert_text.specs.Words.{IsSpelt, AreSpelt}
 use Rattle.cert_text.specs.Steps as steps
 use Rattle.cert_text.specs.Limits.{AreSteps, IsStep, AreDerivations, IsDerivation}
-use Rattle.cert_text.specs.CertificateText.{IsCertificateText}
+use Rattle.cert_text.specs.CertificateText.{IsApart, IsCertificateText}
+use Rattle.concon.specs.Outcomes.{IsNotJudged}
 
 -- terms that the names spell are over the arities of the names
 mutual
@@ -44,17 +48,22 @@ mutual
   all_short levels no_derivations h = tt
   all_short levels (first_derivation d ds) h = (omega (arith, same_count d, h.1), steps_short (levels - 1) d h.2, all_short levels ds h.3)
 
-pub short : (d : Derivation) → IsDerivation 50 d → IsShort d
+short : (d : Derivation) → IsDerivation 50 d → IsShort d
 short d h = record { few_steps = omega (arith, same_count d, h.1); inner = steps_short 49 d h.2 }
 
-pub start_over : (file cert : List ℕ) (sys : System) (names : NameTable) (peak : Peak) → IsFile file sys names → IsCertificateText names cert (peak_certificate peak) → IsOver sys.arities peak.start
-start_over file cert sys names peak f c = spelt_over names sys.arities f.meant.arities peak.start c.spelt.0
+few : (names : NameTable) (a : Apartness) → IsApart names a → AreFew a
+few names (by_normal_forms es) h = let at_most = h.0 in omega arith
+few names by_rigid_caps h = tt
 
-pub start_fits : (names : NameTable) (cert : List ℕ) (peak : Peak) → IsCertificateText names cert (peak_certificate peak) → Fits peak.start
-start_fits names cert peak c = c.spelt.1
-
-pub first_short : (names : NameTable) (cert : List ℕ) (peak : Peak) → IsCertificateText names cert (peak_certificate peak) → IsShort peak.first
-first_short names cert peak c = short peak.first c.spelt.2
-
-pub second_short : (names : NameTable) (cert : List ℕ) (peak : Peak) → IsCertificateText names cert (peak_certificate peak) → IsShort peak.second
-second_short names cert peak c = short peak.second c.spelt.3
+pub can_be_judged : (file text : List ℕ) (sys : System) (names : NameTable) (c : Certificate) → IsFile file sys names → IsCertificateText names text c → (IsNotJudged c → ⊥)
+    → IsPeakWith (CanBeJudged sys) c
+can_be_judged file text sys names (ortho_certificate pairs) f c judged = judged tt
+can_be_judged file text sys names (quasi_certificate measure pairs) f c judged = judged tt
+can_be_judged file text sys names (peak_certificate peak) f c judged = record {
+  fits = c.spelt.1;
+  over = spelt_over names sys.arities f.meant.arities peak.start c.spelt.0;
+  first_short = short peak.first c.spelt.2;
+  second_short = short peak.second c.spelt.3;
+  few = few names peak.apart c.spelt.4;
+  caps = no_automaton peak.apart judged;
+}

@@ -5,6 +5,4 @@ pub mod Bounds
 pub mod Verdicts
 pub mod Answered
 pub mod SoundNo
-pub mod OneOutcome
-pub mod OneVerdict
 pub mod OneAnswer

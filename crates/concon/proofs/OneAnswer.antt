@@ -1,38 +1,42 @@
 -- Two texts come to one outcome, and where nothing fails that is the answer.
-use Rattle.std.proofs.Common.{◌≡◌, ◌⊎◌, ◌≤◌, ℕ, List, [], ◌∷◌, length, Option, Some, None, refl, sym, ap, ap₂, ◌∙◌, subst, subst₂, inl, inr, arith}
-use Rattle.std.specs.Prelude.{codes}
+use Rattle.std.proofs.Common.{◌≡◌, ◌⊎◌, ◌≤◌, ℕ, List, length, Option, Some, None, refl, sym, ap, ap₂, ◌∙◌, subst, subst₂, inl, inr, arith}
 use Rattle.rewriting.specs.Rules.{System}
 use Rattle.certificates.specs.Certificates.{Certificate, Peak, peak_certificate}
 use Rattle.certificates.specs.Reasons.{Rejection}
 use Rattle.validity.specs.Peaks.{IsPeakRejected, IsValidPeak}
+use Rattle.validity.specs.Laws.{PeaksHaveOneAnswer}
 use Rattle.cops_read.specs.NameTable.{NameTable}
 use Rattle.cops_read.specs.File.{IsFile}
 use Rattle.cops_read.specs.Answers.{OneSystem, OneRefusal, NeverSystemAndRefusal}
 use Rattle.concon.specs.FileRefusals.{FileRefusal, too_long, no_text, IsFileRefused, most_file_bytes}
 use Rattle.cert_text.specs.CertificateText.{IsCertificateText}
-use Rattle.validity.specs.Peaks.{ClaimsNormalForms}
+use Rattle.cert_text.specs.MarkLaws as texts
+use Rattle.concon.specs.CertRefusals.{CertRefusal, most_cert_bytes, IsCertRefused}
+use Rattle.concon.specs.CertRefusals as certs
 use Rattle.cert_text.proofs.Whole.{same_certificate}
 use Rattle.concon.specs.Words.{IsCheck}
 use Rattle.concon.specs.Said.{Said, IsTold}
-use Rattle.concon.specs.Outcomes.{Bytes, Outcome, no_system, no_certificate, rejected, refuted, SpellsSystem, IsRefusedFile, SpellsPeak, SpellsNoCertificate, IsNoPeakText, most_cert_bytes, ComesTo, said_of_outcome}
-use Rattle.concon.specs.Causes.{Run, Answer, usage, checked, file_fault, cert_fault, no_memory, said_of, told_or_any, told_bytes, bytes_of, Failed, IsCaused}
+use Rattle.concon.specs.Outcomes.{Bytes, Outcome, no_system, no_certificate, not_judged, rejected, refuted, SpellsSystem, IsRefusedFile, SpellsCertificate, IsRefusedCertificate, SpellsPeak, IsNotJudged, SpellsOther, ComesTo, said_of_outcome}
+use Rattle.concon.specs.Causes.{Run, Answer, usage, checked, file_fault, cert_fault, no_memory, said_of, told_or_any, bytes_of, Failed, IsCaused}
 use Rattle.concon.specs.Rows.{CalmlyComesTo, IsUnlessHindered}
 use Rattle.concon.specs.declared.status.Status.{Status}
 use Rattle.concon.specs.declared.status.Status.TheVariants as statuses
-use Rattle.concon.proofs.OneVerdict.{one_rejection, valid_or_rejected}
 
 same_bytes : (told : Option (List ℕ)) (a b : List ℕ) → told ≡ Some a → told_or_any told b → b ≡ a
 same_bytes None a b e h = absurd cc
 same_bytes (Some c) a b e h = (let f : c ≡ a = cc in h ∙ f)
 
--- what is known of the texts of systems
+-- what is known of the texts of systems and of certificates, and of peaks
 pub record Known : Type 0 where
   pub one : OneSystem
   pub once : OneRefusal
   pub never : NeverSystemAndRefusal
+  pub cert_once : texts.OneRefusal
+  pub cert_never : texts.NeverBoth
+  pub peaks : PeaksHaveOneAnswer
 
-pub known : OneSystem → OneRefusal → NeverSystemAndRefusal → Known
-known one once never = record { one = one; once = once; never = never }
+pub known : OneSystem → OneRefusal → NeverSystemAndRefusal → texts.OneRefusal → texts.NeverBoth → PeaksHaveOneAnswer → Known
+known one once never cert_once cert_never peaks = record { one = one; once = once; never = never; cert_once = cert_once; cert_never = cert_never; peaks = peaks }
 
 module _ (k : Known) (file cert : Option (List ℕ)) where
   abbrev pub Told : Option (List ℕ) → Bytes
@@ -68,55 +72,89 @@ module _ (k : Known) (file cert : Option (List ℕ)) where
   one_refused : (r s : FileRefusal) → IsRefusedFile (Told file) r → IsRefusedFile (told_or_any file) s → r ≡ s
   one_refused r s x y = refused_once x.0 r s x.2 (subst (λ b. IsFileRefused b s) (same_bytes file x.0 y.0 x.1 y.1) y.2)
 
+  -- what two certificates of one text have in common
+  one_text : (names others : NameTable) (c d : Certificate) → names ≡ others → SpellsCertificate (Told cert) names c → SpellsCertificate (told_or_any cert) others d → c ≡ d
+  one_text names others c d e x y =
+      same_certificate names x.0 c d x.3 (cert_bytes x.0 y.0 names d x.1 y.1 (subst (λ n. IsCertificateText n y.0 d) (sym e) y.3))
+
   one_peak : (names others : NameTable) (peak other : Peak) → names ≡ others → SpellsPeak (Told cert) names peak → SpellsPeak (told_or_any cert) others other → peak ≡ other
-  one_peak names others peak other e x y =
-      let there : IsCertificateText names x.0 (peak_certificate other) = cert_bytes x.0 y.0 names (peak_certificate other) x.1 y.1 (subst (λ n. IsCertificateText n y.0 (peak_certificate other)) (sym e) y.3) in
-      let same : peak_certificate peak ≡ peak_certificate other = same_certificate names x.0 (peak_certificate peak) (peak_certificate other) x.3 there in
-      same_inside peak other same
+  one_peak names others peak other e x y = same_inside peak other (one_text names others (peak_certificate peak) (peak_certificate other) e x.0 y.0)
     where
       same_inside : (a b : Peak) → peak_certificate a ≡ peak_certificate b → a ≡ b
       same_inside a b e = cc
 
-  peak_or_none : (names others : NameTable) (peak : Peak) → names ≡ others → SpellsPeak (Told cert) names peak → SpellsNoCertificate (told_or_any cert) others → ⊥
-  peak_or_none names others peak e x y =
-      y.2 (subst (λ b. length b ≤ most_cert_bytes) (sym (same_bytes cert x.0 y.0 x.1 y.1)) x.2) peak
-      (subst₂ (λ n b. IsCertificateText n b (peak_certificate peak)) e (sym (same_bytes cert x.0 y.0 x.1 y.1)) x.3) x.4
+  peak_or_other : (names others : NameTable) (peak : Peak) → names ≡ others → SpellsPeak (Told cert) names peak → SpellsOther (told_or_any cert) others → ⊥
+  peak_or_other names others peak e x y = x.1 (subst IsNotJudged (sym (one_text names others (peak_certificate peak) y.0 e x.0 y.1)) y.2)
 
-  none_or_peak : (names others : NameTable) (peak : Peak) → names ≡ others → SpellsNoCertificate (Told cert) names → SpellsPeak (told_or_any cert) others peak → ⊥
-  none_or_peak names others peak e x y =
-      x.2 (subst (λ b. length b ≤ most_cert_bytes) (same_bytes cert x.0 y.0 x.1 y.1) y.2) peak
-      (cert_bytes x.0 y.0 names (peak_certificate peak) x.1 y.1 (subst (λ n. IsCertificateText n y.0 (peak_certificate peak)) (sym e) y.3)) y.4
+  other_or_peak : (names others : NameTable) (peak : Peak) → names ≡ others → SpellsOther (Told cert) names → SpellsPeak (told_or_any cert) others peak → ⊥
+  other_or_peak names others peak e x y = y.1 (subst IsNotJudged (one_text names others x.0 (peak_certificate peak) e x.1 y.0) x.2)
+
+  -- the text of a certificate is not refused
+  text_or_refused : (names : NameTable) (bytes : List ℕ) (c : Certificate) (r : CertRefusal) → length bytes ≤ most_cert_bytes → IsCertificateText names bytes c → IsCertRefused names bytes r → ⊥
+  text_or_refused names bytes c certs.too_long short f h = absurd (omega arith)
+  text_or_refused names bytes c (certs.no_text cause at) short f h = k.cert_never names bytes c cause at f h.1
+
+  cert_refused_once : (names : NameTable) (bytes : List ℕ) (r s : CertRefusal) → IsCertRefused names bytes r → IsCertRefused names bytes s → r ≡ s
+  cert_refused_once names bytes certs.too_long certs.too_long h g = refl
+  cert_refused_once names bytes certs.too_long (certs.no_text d to) h g = absurd (omega (arith, g.0))
+  cert_refused_once names bytes (certs.no_text e at) certs.too_long h g = absurd (omega (arith, h.0))
+  cert_refused_once names bytes (certs.no_text e at) (certs.no_text d to) h g = let same = k.cert_once names bytes e d at to h.1 g.1 in ap₂ certs.no_text same.0 same.1
+
+  text_or_none : (names others : NameTable) (c : Certificate) (r : CertRefusal) → names ≡ others → SpellsCertificate (Told cert) names c → IsRefusedCertificate (told_or_any cert) others r → ⊥
+  text_or_none names others c r e x y =
+      text_or_refused names x.0 c r x.2 x.3 (subst₂ (λ n b. IsCertRefused n b r) (sym e) (same_bytes cert x.0 y.0 x.1 y.1) y.2)
+
+  none_or_text : (names others : NameTable) (c : Certificate) (r : CertRefusal) → names ≡ others → IsRefusedCertificate (Told cert) names r → SpellsCertificate (told_or_any cert) others c → ⊥
+  none_or_text names others c r e x y =
+      text_or_refused others y.0 c r y.2 y.3 (subst₂ (λ n b. IsCertRefused n b r) e (sym (same_bytes cert x.0 y.0 x.1 y.1)) x.2)
+
+  one_cert_refused : (names others : NameTable) (r s : CertRefusal) → names ≡ others → IsRefusedCertificate (Told cert) names r → IsRefusedCertificate (told_or_any cert) others s → r ≡ s
+  one_cert_refused names others r s e x y =
+      cert_refused_once names x.0 r s x.2 (subst₂ (λ n b. IsCertRefused n b s) (sym e) (same_bytes cert x.0 y.0 x.1 y.1) y.2)
 
   same_rejection : (names others : NameTable) (reason other : Rejection) (sys third : System) (peak fourth : Peak) → names ≡ others → sys ≡ third → peak ≡ fourth
       → IsPeakRejected sys peak reason → IsPeakRejected third fourth other → rejected names reason ≡ rejected others other
   same_rejection names others reason other sys third peak fourth e f g x y =
-      ap₂ rejected e (one_rejection third fourth reason other (subst₂ (λ s p. IsPeakRejected s p reason) f g x) y)
+      ap₂ rejected e ((k.peaks third fourth).one_reason reason other (subst₂ (λ s p. IsPeakRejected s p reason) f g x) y)
 
   pub one_outcome : (o p : Outcome) → ComesTo (Told file) (Told cert) o → ComesTo (told_or_any file) (told_or_any cert) p → o ≡ p
   one_outcome (no_system r) (no_system s) x y = ap no_system (one_refused r s x y)
-  one_outcome (no_system r) no_certificate x y = absurd (none_or_spells y.0 y.1 r x y.2)
+  one_outcome (no_system r) (no_certificate s) x y = absurd (none_or_spells y.0 y.1 r x y.2)
+  one_outcome (no_system r) not_judged x y = absurd (none_or_spells y.0 y.1 r x y.2)
   one_outcome (no_system r) (rejected others other) x y = absurd (none_or_spells y.0 others r x y.2)
   one_outcome (no_system r) refuted x y = absurd (none_or_spells y.0 y.1 r x y.3)
-  one_outcome no_certificate (no_system r) x y = absurd (spells_or_none x.0 x.1 r x.2 y)
-  one_outcome no_certificate no_certificate x y = refl
-  one_outcome no_certificate (rejected others other) x y =
-      let same = one_pair x.0 y.0 x.1 others x.2 y.2 in absurd (none_or_peak x.1 others y.1 same.1 x.3 y.3)
-  one_outcome no_certificate refuted x y = let same = one_pair x.0 y.0 x.1 y.1 x.2 y.3 in absurd (none_or_peak x.1 y.1 y.2 same.1 x.3 y.4)
-  one_outcome (rejected names reason) (no_system r) x y = absurd (spells_or_none x.0 names r x.2 y)
-  one_outcome (rejected names reason) no_certificate x y = let same = one_pair x.0 y.0 names y.1 x.2 y.2 in absurd (peak_or_none names y.1 x.1 same.1 x.3 y.3)
+  one_outcome (no_certificate r) (no_system s) x y = absurd (spells_or_none x.0 x.1 s x.2 y)
+  one_outcome (no_certificate r) (no_certificate s) x y =
+      let same = one_pair x.0 y.0 x.1 y.1 x.2 y.2 in ap no_certificate (one_cert_refused x.1 y.1 r s same.1 x.3 y.3)
+  one_outcome (no_certificate r) not_judged x y = let same = one_pair x.0 y.0 x.1 y.1 x.2 y.2 in absurd (none_or_text x.1 y.1 y.3.0 r same.1 x.3 y.3.1)
+  one_outcome (no_certificate r) (rejected others other) x y =
+      let same = one_pair x.0 y.0 x.1 others x.2 y.2 in absurd (none_or_text x.1 others (peak_certificate y.1) r same.1 x.3 y.3.0)
+  one_outcome (no_certificate r) refuted x y =
+      let same = one_pair x.0 y.0 x.1 y.1 x.2 y.3 in absurd (none_or_text x.1 y.1 (peak_certificate y.2) r same.1 x.3 y.4.0)
+  one_outcome not_judged (no_system s) x y = absurd (spells_or_none x.0 x.1 s x.2 y)
+  one_outcome not_judged (no_certificate s) x y = let same = one_pair x.0 y.0 x.1 y.1 x.2 y.2 in absurd (text_or_none x.1 y.1 x.3.0 s same.1 x.3.1 y.3)
+  one_outcome not_judged not_judged x y = refl
+  one_outcome not_judged (rejected others other) x y = let same = one_pair x.0 y.0 x.1 others x.2 y.2 in absurd (other_or_peak x.1 others y.1 same.1 x.3 y.3)
+  one_outcome not_judged refuted x y = let same = one_pair x.0 y.0 x.1 y.1 x.2 y.3 in absurd (other_or_peak x.1 y.1 y.2 same.1 x.3 y.4)
+  one_outcome (rejected names reason) (no_system s) x y = absurd (spells_or_none x.0 names s x.2 y)
+  one_outcome (rejected names reason) (no_certificate s) x y =
+      let same = one_pair x.0 y.0 names y.1 x.2 y.2 in absurd (text_or_none names y.1 (peak_certificate x.1) s same.1 x.3.0 y.3)
+  one_outcome (rejected names reason) not_judged x y = let same = one_pair x.0 y.0 names y.1 x.2 y.2 in absurd (peak_or_other names y.1 x.1 same.1 x.3 y.3)
   one_outcome (rejected names reason) (rejected others other) x y =
       let same = one_pair x.0 y.0 names others x.2 y.2 in
       same_rejection names others reason other x.0 y.0 x.1 y.1 same.1 same.0 (one_peak names others x.1 y.1 same.1 x.3 y.3) x.4 y.4
   one_outcome (rejected names reason) refuted x y =
       let same = one_pair x.0 y.0 names y.1 x.2 y.3 in
       let peaks = one_peak names y.1 x.1 y.2 same.1 x.3 y.4 in
-      absurd (valid_or_rejected y.0 y.2 reason y.5 (subst₂ (λ s p. IsPeakRejected s p reason) same.0 peaks x.4))
-  one_outcome refuted (no_system r) x y = absurd (spells_or_none x.0 x.1 r x.3 y)
-  one_outcome refuted no_certificate x y = let same = one_pair x.0 y.0 x.1 y.1 x.3 y.2 in absurd (peak_or_none x.1 y.1 x.2 same.1 x.4 y.3)
+      absurd ((k.peaks y.0 y.2).never_both reason (subst₂ (λ s p. IsPeakRejected s p reason) same.0 peaks x.4) y.5)
+  one_outcome refuted (no_system s) x y = absurd (spells_or_none x.0 x.1 s x.3 y)
+  one_outcome refuted (no_certificate s) x y =
+      let same = one_pair x.0 y.0 x.1 y.1 x.3 y.2 in absurd (text_or_none x.1 y.1 (peak_certificate x.2) s same.1 x.4.0 y.3)
+  one_outcome refuted not_judged x y = let same = one_pair x.0 y.0 x.1 y.1 x.3 y.2 in absurd (peak_or_other x.1 y.1 x.2 same.1 x.4 y.3)
   one_outcome refuted (rejected others other) x y =
       let same = one_pair x.0 y.0 x.1 others x.3 y.2 in
       let peaks = one_peak x.1 others x.2 y.1 same.1 x.4 y.3 in
-      absurd (valid_or_rejected y.0 y.1 other (subst₂ IsValidPeak same.0 peaks x.5) y.4)
+      absurd ((k.peaks y.0 y.1).never_both other y.4 (subst₂ IsValidPeak same.0 peaks x.5))
   one_outcome refuted refuted x y = refl
 
 same_file : (words : List (List ℕ)) (file cert other others : List ℕ) → IsCheck words file cert → IsCheck words other others → other ≡ file

@@ -3,7 +3,7 @@ use Rattle.std.proofs.Common.{◌≡◌, ◌⊎◌, ℕ, zero, suc, List, [], �
 use Rattle.std.proofs.lemmas.List.{append-nil, append_cancel_left}
 use Rattle.cc_io.specs.Bytes.{appended}
 use Rattle.concon.specs.Said.{IsTold, TakesPart}
-use Rattle.concon.specs.Outcomes.{no_system, no_certificate, rejected, refuted}
+use Rattle.concon.specs.Outcomes.{no_system, no_certificate, not_judged, rejected, refuted}
 use Rattle.concon.specs.Causes.{Run, Answer, usage, checked, file_fault, cert_fault, no_memory, said_of, IsCaused, IsRight}
 use Rattle.concon.specs.Rows.{IsNotConfluent}
 use Rattle.concon.specs.declared.status.Status.{Status}
@@ -24,7 +24,8 @@ r_is_no_n xs rest e = let h = same_head 82 78 xs rest e in omega arith
 by_text : (run : Run) (answer : Answer) → IsCaused run answer → IsRight run answer → (rest : List ℕ) → (said_of answer).out ≡ 78 ∷ rest → IsNotConfluent run
 by_text run usage caused right rest e = absurd cc
 by_text run (checked file cert (no_system refusal)) caused right rest e = absurd cc
-by_text run (checked file cert no_certificate) caused right rest e = absurd cc
+by_text run (checked file cert (no_certificate refusal)) caused right rest e = absurd cc
+by_text run (checked file cert not_judged) caused right rest e = absurd cc
 by_text run (checked file cert (rejected names reason)) caused right rest e = absurd (r_is_no_n _ rest e)
 by_text run (checked file cert refuted) caused right rest e = (file, cert, caused.0, right)
 by_text run (file_fault file cert) caused right rest e = absurd cc

@@ -2,30 +2,37 @@
 use Rattle.std.specs.Prelude.{◌≡◌, ◌⊎◌, ◌++◌, ℕ, List, [], Result, Ok, Err, codes}
 use Rattle.rewriting.specs.Rules.{System}
 use Rattle.certificates.specs.Certificates as math
-use Rattle.certificates.specs.Certificates.{peak_certificate}
 use Rattle.certificates.specs.Reasons.{Rejection}
 use Rattle.validity.specs.Peaks.{IsValidPeak, IsPeakRejected}
 use Rattle.validity.specs.Laws.{ReachesApart}
 use Rattle.cops_read.specs.NameTable.{NameTable}
-use Rattle.cert_model.specs.CertificateView.{peak_view}
-use Rattle.cert_model.specs.declared.model.Peak.{Peak}
+use Rattle.cert_model.specs.CertificateView.{certificate_view}
+use Rattle.cert_model.specs.declared.model.Certificate.{Certificate}
+use Rattle.cert_check.specs.Kinds.{IsPeakWith}
 use Rattle.cc_io.specs.declared.shelf.ReadAllError.{ReadAllError}
 use Rattle.cc_io.specs.declared.shelf.ReadAllError.TheVariants as reading
 use Rattle.concon.specs.Rejections.{rejection_text}
 use Rattle.cops_read.specs.declared.reader.ReadError.{ReadError}
 use Rattle.cops_read.specs.declared.reader.ReadError.TheVariants as causes
+use Rattle.cert_text.specs.declared.error.CertError.{CertError}
+use Rattle.cert_text.specs.declared.error.CertError.TheVariants as cert_causes
 use Rattle.concon.specs.FileRefusals.{too_long, no_text}
+use Rattle.concon.specs.CertRefusals as certs
 use Rattle.concon.specs.Said.{Said}
-use Rattle.concon.specs.Outcomes.{Bytes, no_system, no_certificate, rejected, refuted, SpellsSystem, IsRefusedFile, SpellsPeak, SpellsNoCertificate, ComesTo, IsRefuted, said_of_outcome}
+use Rattle.concon.specs.Outcomes.{Bytes, no_system, no_certificate, not_judged, rejected, refuted, SpellsSystem, IsRefusedFile, SpellsCertificate, IsRefusedCertificate, IsNotJudged, SpellsOther, ComesTo, IsRefuted, said_of_outcome}
 use Rattle.concon.specs.Causes.{Run, bytes_of, Failed, said_of, file_fault, cert_fault, no_memory}
 use Rattle.concon.specs.declared.judge.Refusal.{Refusal}
 use Rattle.concon.specs.declared.judge.Refusal.TheVariants as refusal
 use Rattle.concon.specs.declared.status.Status.TheVariants as status
 
--- a text that was not read to a system is refused, unless memory was
+-- a text that was not read to a system, or to a certificate, is refused, unless memory was
 abbrev pub text_refusal : ReadError → Refusal
 text_refusal causes.NoMemory = refusal.NoMemory
 text_refusal e = refusal.FileRefused e
+
+abbrev pub cert_text_refusal : CertError → Refusal
+cert_text_refusal cert_causes.NoMemory = refusal.NoMemory
+cert_text_refusal e = refusal.CertRefused e
 
 -- a text that is not read whole is a refusal of the file, or of the certificate
 abbrev pub file_refusal : ReadAllError → Refusal
@@ -35,7 +42,7 @@ file_refusal reading.NoMemory = refusal.NoMemory
 
 abbrev pub cert_refusal : ReadAllError → Refusal
 cert_refusal reading.ReadFault = refusal.CertFault
-cert_refusal (reading.TooLong n) = refusal.CertNotBuilt
+cert_refusal (reading.TooLong n) = refusal.CertTooLong
 cert_refusal reading.NoMemory = refusal.NoMemory
 
 abbrev pub SystemAnswers : Bytes → Type 0 → Result (System × NameTable) Refusal → Type 0
@@ -46,22 +53,36 @@ SystemAnswers file failed (Err (refusal.FileRefused e)) = IsRefusedFile file (no
 SystemAnswers file failed (Err refusal.NoMemory) = Unit {0}
 SystemAnswers file failed (Err _) = ⊥
 
-abbrev pub PeakAnswers : Bytes → Type 0 → NameTable → Result Peak Refusal → Type 0
-PeakAnswers cert failed names (Ok peak) = SpellsPeak cert names (peak_view peak)
-PeakAnswers cert failed names (Err refusal.CertFault) = failed
-PeakAnswers cert failed names (Err refusal.CertNotBuilt) = SpellsNoCertificate cert names
-PeakAnswers cert failed names (Err refusal.NoMemory) = Unit {0}
-PeakAnswers cert failed names (Err _) = ⊥
+-- the text is that of the certificate, and that is judged
+abbrev pub SpellsJudged : Bytes → NameTable → math.Certificate → Type 0
+SpellsJudged cert names c = SpellsCertificate cert names c × (IsNotJudged c → ⊥)
+
+abbrev pub CertificateAnswers : Bytes → Type 0 → NameTable → Result Certificate Refusal → Type 0
+CertificateAnswers cert failed names (Ok c) = SpellsJudged cert names (certificate_view c)
+CertificateAnswers cert failed names (Err refusal.CertFault) = failed
+CertificateAnswers cert failed names (Err refusal.CertTooLong) = IsRefusedCertificate cert names certs.too_long
+CertificateAnswers cert failed names (Err (refusal.CertRefused e)) = IsRefusedCertificate cert names (certs.cert_refusal_of e)
+CertificateAnswers cert failed names (Err refusal.CertNotBuilt) = SpellsOther cert names
+CertificateAnswers cert failed names (Err refusal.NoMemory) = Unit {0}
+CertificateAnswers cert failed names (Err _) = ⊥
 
 -- the line that says why a certificate is rejected
 abbrev pub IsRejectionLine : NameTable → Rejection → List ℕ → Type 0
 IsRejectionLine names reason line = line ≡ codes "REJECTED " ++ (rejection_text names reason ++ codes "\n")
 
-abbrev pub CheckAnswers : System → NameTable → math.Peak → Result (Unit {0}) Refusal → Type 0
-CheckAnswers sys names peak (Ok u) = IsValidPeak sys peak × ReachesApart sys peak.start
-CheckAnswers sys names peak (Err (refusal.Rejected line)) = (reason : Rejection) × IsPeakRejected sys peak reason × IsRejectionLine names reason line.items
-CheckAnswers sys names peak (Err refusal.NoMemory) = Unit {0}
-CheckAnswers sys names peak (Err _) = ⊥
+-- the peak is valid, and its start reaches two terms without a common reduct
+abbrev pub IsShown : System → math.Peak → Type 0
+IsShown sys peak = IsValidPeak sys peak × ReachesApart sys peak.start
+
+-- the peak is rejected for a reason, and the line says so
+abbrev pub IsRejectedBy : System → NameTable → List ℕ → math.Peak → Type 0
+IsRejectedBy sys names line peak = (reason : Rejection) × IsPeakRejected sys peak reason × IsRejectionLine names reason line
+
+abbrev pub CheckAnswers : System → NameTable → math.Certificate → Result (Unit {0}) Refusal → Type 0
+CheckAnswers sys names c (Ok u) = IsPeakWith (IsShown sys) c
+CheckAnswers sys names c (Err (refusal.Rejected line)) = IsPeakWith (IsRejectedBy sys names line.items) c
+CheckAnswers sys names c (Err refusal.NoMemory) = Unit {0}
+CheckAnswers sys names c (Err _) = ⊥
 
 -- the whole check of a file and a certificate, with these words for them
 abbrev pub Judged : Run → List ℕ → List ℕ → Result (Unit {0}) Refusal → Type 0
@@ -70,7 +91,9 @@ Judged run file cert (Err refusal.FileFault) = Failed run file
 Judged run file cert (Err refusal.FileTooLong) = ComesTo (bytes_of run file) (bytes_of run cert) (no_system too_long)
 Judged run file cert (Err (refusal.FileRefused e)) = ComesTo (bytes_of run file) (bytes_of run cert) (no_system (no_text e))
 Judged run file cert (Err refusal.CertFault) = Failed run cert × ((sys : System) × (names : NameTable) × SpellsSystem (bytes_of run file) sys names)
-Judged run file cert (Err refusal.CertNotBuilt) = ComesTo (bytes_of run file) (bytes_of run cert) no_certificate
+Judged run file cert (Err refusal.CertTooLong) = ComesTo (bytes_of run file) (bytes_of run cert) (no_certificate certs.too_long)
+Judged run file cert (Err (refusal.CertRefused e)) = ComesTo (bytes_of run file) (bytes_of run cert) (no_certificate (certs.cert_refusal_of e))
+Judged run file cert (Err refusal.CertNotBuilt) = ComesTo (bytes_of run file) (bytes_of run cert) not_judged
 Judged run file cert (Err (refusal.Rejected line)) =
     (names : NameTable) × (reason : Rejection) × ComesTo (bytes_of run file) (bytes_of run cert) (rejected names reason)
     × IsRejectionLine names reason line.items
@@ -95,6 +118,8 @@ Says file cert (Err refusal.FileFault) said = SaysUnlessNoMemory said (said_of (
 Says file cert (Err refusal.FileTooLong) said = SaysUnlessNoMemory said (said_of_outcome file cert (no_system too_long))
 Says file cert (Err (refusal.FileRefused e)) said = SaysUnlessNoMemory said (said_of_outcome file cert (no_system (no_text e)))
 Says file cert (Err refusal.CertFault) said = SaysUnlessNoMemory said (said_of (cert_fault file cert))
-Says file cert (Err refusal.CertNotBuilt) said = SaysUnlessNoMemory said (said_of_outcome file cert no_certificate)
+Says file cert (Err refusal.CertTooLong) said = SaysUnlessNoMemory said (said_of_outcome file cert (no_certificate certs.too_long))
+Says file cert (Err (refusal.CertRefused e)) said = SaysUnlessNoMemory said (said_of_outcome file cert (no_certificate (certs.cert_refusal_of e)))
+Says file cert (Err refusal.CertNotBuilt) said = SaysUnlessNoMemory said (said_of_outcome file cert not_judged)
 Says file cert (Err (refusal.Rejected line)) said = said ≡ record { status = status.Rejected; out = line.items; err = [] }
 Says file cert (Err refusal.NoMemory) said = said ≡ said_of no_memory

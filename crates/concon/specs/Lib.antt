@@ -5,6 +5,7 @@ pub mod Rejections
 pub mod Words
 pub mod Said
 pub mod FileRefusals
+pub mod CertRefusals
 pub mod Outcomes
 pub mod Causes
 pub mod Replies

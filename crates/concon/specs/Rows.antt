@@ -6,7 +6,8 @@ use Rattle.cc_io.specs.Bytes.{appended}
 use Rattle.concon.specs.Words.{IsCheck}
 use Rattle.concon.specs.Said.{TakesPart}
 use Rattle.concon.specs.FileRefusals.{FileRefusal}
-use Rattle.concon.specs.Outcomes.{Outcome, no_system, no_certificate, rejected, ComesTo, IsRefuted}
+use Rattle.concon.specs.CertRefusals.{CertRefusal}
+use Rattle.concon.specs.Outcomes.{Outcome, no_system, no_certificate, not_judged, rejected, ComesTo, IsRefuted}
 use Rattle.concon.specs.Causes.{Run, bytes_of, told_bytes, Failed, Answer, said_of, IsCaused}
 use Rattle.concon.specs.declared.status.Status.{Status}
 use Rattle.concon.specs.declared.status.Status.TheVariants as status
@@ -16,7 +17,10 @@ abbrev pub CheckComesTo : Run → Outcome → Type 0
 CheckComesTo run outcome = (file : List ℕ) × (cert : List ℕ) × IsCheck run.words file cert × ComesTo (bytes_of run file) (bytes_of run cert) outcome
 
 abbrev pub IsNotBuilt : Run → Type 0
-IsNotBuilt run = CheckComesTo run no_certificate
+IsNotBuilt run = CheckComesTo run not_judged
+
+abbrev pub IsCertificateRefusal : Run → Type 0
+IsCertificateRefusal run = (refusal : CertRefusal) × CheckComesTo run (no_certificate refusal)
 
 abbrev pub IsFileRefusal : Run → Type 0
 IsFileRefusal run = (refusal : FileRefusal) × CheckComesTo run (no_system refusal)
@@ -42,7 +46,6 @@ IsWriteFault run out_old out_new err_old err_new out_before out_now err_before e
 abbrev pub IsPossible : Status → Type 0
 IsPossible status.Yes = ⊥
 IsPossible status.Maybe = ⊥
-IsPossible status.CertRefused = ⊥
 IsPossible _ = Unit {0}
 
 -- this status, or one that takes its place: memory was refused, or a sink failed

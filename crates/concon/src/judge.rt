@@ -2,20 +2,19 @@
 ghost use Rattle.std.specs.Prelude.{◌≡◌, ◌≤◌, ◌++◌, ◌↔◌, ℕ, List, [], IsTrue};
 ghost use Rattle.cc_io.specs.Errors.{IsBegunIfAny};
 ghost use Rattle.cc_io.specs.Faults.{Rose};
-ghost use Rattle.certificates.specs.Certificates.{peak_certificate};
 ghost use Rattle.cops_read.specs.File.{IsFile};
 ghost use Rattle.cert_text.specs.CertificateText.{IsCertificateText};
-ghost use Rattle.validity.specs.Peaks.{ClaimsNormalForms};
-ghost use Rattle.cert_model.specs.CertificateView.{peak_view};
+ghost use Rattle.cert_model.specs.CertificateView.{certificate_view};
+ghost use Rattle.concon.specs.Outcomes.{IsNotJudged};
 ghost use Rattle.concon.specs.Causes.{run_of, told_or_any};
-ghost use Rattle.concon.specs.Judging.{file_refusal, text_refusal, cert_refusal, SystemAnswers, PeakAnswers, CheckAnswers, Judged, WhereFileIsRefused};
+ghost use Rattle.concon.specs.Judging.{file_refusal, text_refusal, cert_refusal, cert_text_refusal, SystemAnswers, CertificateAnswers, CheckAnswers, Judged, WhereFileIsRefused};
 
 use crate::texts::rejection_line;
 use cc_io::{ReadAllError, Shelf, read_all};
-use cert_model::{Certificate, NonJoin, Peak};
+use cert_check::{CheckError, Verdict, check};
+use cert_model::{Certificate, uses_auto};
 use cert_text::{CertError, read_cert};
 use cops_read::{Names, ReadError, read_system};
-use noncon_check::{CheckError, check_peak};
 use std::alloc::{AllocError, Global};
 use term_core::System;
 
@@ -28,6 +27,11 @@ pub enum Refusal {
     /// The file is no text of a system.
     FileRefused(ReadError),
     CertFault,
+    /// The certificate is too long.
+    CertTooLong,
+    /// The certificate is no text of one.
+    CertRefused(CertError),
+    /// The certificate is of a kind that is not judged.
     CertNotBuilt,
     /// The certificate is rejected: the line that says why.
     Rejected(Vec<u8>),
@@ -64,7 +68,7 @@ fn refusal_of_cert(error: ReadAllError) -> Refusal
 {
     match error {
         ReadAllError::ReadFault => Refusal::CertFault,
-        ReadAllError::TooLong { limit: _ } => Refusal::CertNotBuilt,
+        ReadAllError::TooLong { limit: _ } => Refusal::CertTooLong,
         ReadAllError::NoMemory => Refusal::NoMemory,
     }
 }
@@ -94,46 +98,55 @@ fn system_of<S: Shelf>(alloc: Global, shelf: &mut S, file: &str) -> Result<(Syst
     }
 }
 
-// Whether the peak's ends are said to be normal forms, with no redex to be explained.
-fn claims_normal_forms(peak: &Peak) -> bool
-    ensures { IsTrue result ↔ ClaimsNormalForms (peak_view peak.now) }
+fn refusal_of_cert_text(error: CertError) -> Refusal
+    ensures { result ≡ cert_text_refusal error }
 {
-    match &peak.apart {
-        NonJoin::Normal(redexes) => redexes.is_empty(),
-        NonJoin::Caps => false,
+    match error {
+        CertError::NoMemory => Refusal::NoMemory,
+        error => Refusal::CertRefused(error),
     }
 }
 
-fn peak_of<S: Shelf>(
+// Whether the certificate is of a kind that is not judged: it is for confluence, or some evidence in it is an automaton.
+fn is_not_judged(cert: &Certificate) -> bool
+    ensures { IsTrue result ↔ IsNotJudged (certificate_view cert.now) }
+{
+    match cert {
+        Certificate::Ortho(_) => true,
+        Certificate::Quasi(_, _) => true,
+        Certificate::Peak(_) => uses_auto(cert),
+    }
+}
+
+fn certificate_of<S: Shelf>(
     alloc: Global,
     shelf: &mut S,
     cert: &str,
     names: &Names,
-) -> Result<Peak, Refusal>
-    ensures answers { PeakAnswers (told_or_any (S.contents shelf.old cert.now)) (Rose (S.faults shelf.old cert.now) (S.faults shelf.new cert.now)) names.now result }
+) -> Result<Certificate, Refusal>
+    ensures answers { CertificateAnswers (told_or_any (S.contents shelf.old cert.now)) (Rose (S.faults shelf.old cert.now) (S.faults shelf.new cert.now)) names.now result }
 {
     let bytes = match read_all(alloc, shelf, cert, CERT_LIMIT) {
         Ok(bytes) => bytes,
         Err(error) => return Err(refusal_of_cert(error)),
     };
     match read_cert(alloc, names, &bytes) {
-        Ok(Certificate::Peak(peak)) => if claims_normal_forms(&peak) {
-            Ok(peak)
-        } else {
+        Ok(found) => if is_not_judged(&found) {
             Err(Refusal::CertNotBuilt)
+        } else {
+            Ok(found)
         },
-        Ok(_) => Err(Refusal::CertNotBuilt),
-        Err(CertError::NotBuilt) => Err(Refusal::CertNotBuilt),
-        Err(CertError::NoMemory) => Err(Refusal::NoMemory),
+        Err(error) => Err(refusal_of_cert_text(error)),
     }
 }
 
-fn check(alloc: Global, sys: &System, names: &Names, peak: &Peak) -> Result<(), Refusal>
-    requires read { (file : List ℕ) × (cert : List ℕ) × IsFile file sys.now names.now × IsCertificateText names.now cert (peak_certificate (peak_view peak.now)) × ClaimsNormalForms (peak_view peak.now) }
-    ensures { CheckAnswers sys.now names.now (peak_view peak.now) result }
+fn verdict_on(alloc: Global, sys: &System, names: &Names, cert: &Certificate) -> Result<(), Refusal>
+    requires read { (file : List ℕ) × (text : List ℕ) × IsFile file sys.now names.now × IsCertificateText names.now text (certificate_view cert.now) × (IsNotJudged (certificate_view cert.now) → ⊥) }
+    ensures { CheckAnswers sys.now names.now (certificate_view cert.now) result }
 {
-    match check_peak(alloc, sys, peak) {
-        Ok(()) => Ok(()),
+    match check(alloc, sys, cert) {
+        Ok(Verdict::No) => Ok(()),
+        Ok(Verdict::Yes) => unreachable!(),
         Err(CheckError::Rejected(reason)) => Err(Refusal::Rejected(rejection_line(
             alloc, names, &reason,
         )?)),
@@ -147,6 +160,6 @@ pub fn judge<S: Shelf>(alloc: Global, shelf: &mut S, file: &str, cert: &str) -> 
     ensures begun { WhereFileIsRefused result (IsBegunIfAny file.now (S.begun shelf.new)) }
 {
     let (sys, names) = system_of(alloc, shelf, file)?;
-    let peak = peak_of(alloc, shelf, cert, &names)?;
-    check(alloc, &sys, &names, &peak)
+    let found = certificate_of(alloc, shelf, cert, &names)?;
+    verdict_on(alloc, &sys, &names, &found)
 }

@@ -1,5 +1,6 @@
 //! The texts of refusals.
 ghost use Rattle.std.specs.Prelude.{◌≡◌, ◌⊎◌, IfOk, [], codes};
+ghost use Rattle.concon.specs.CertRefusals as certs;
 ghost use Rattle.concon.specs.FileRefusals as spec;
 ghost use Rattle.concon.specs.FileRefusals.{error_place, error_words, count_words};
 ghost use Rattle.concon.specs.Replies.{said_of};
@@ -7,6 +8,7 @@ ghost use Rattle.concon.specs.Replies.{said_of};
 use crate::pieces::{Piece, put_all};
 use crate::reply::{Reply, Text, no_memory};
 use crate::status::Status;
+use cert_text::CertError;
 use cops_read::{Count, ReadError};
 use std::alloc::{AllocError, Global};
 
@@ -66,6 +68,36 @@ pub fn words_of(error: &ReadError) -> &'static [u8]
         ReadError::TooDeep { .. } => b"too deep",
         ReadError::TooMany { what, .. } => words_of_count(*what),
         ReadError::NoMemory => b"no memory",
+    }
+}
+
+/// The byte at which the text of a certificate is refused.
+pub fn place_of_cert(error: &CertError) -> usize
+    ensures { result ≡ certs.error_place error.now }
+{
+    match error {
+        CertError::CertSyntax { at }
+        | CertError::UnknownName { at }
+        | CertError::WrongArity { at }
+        | CertError::BadNumber { at }
+        | CertError::CertTooDeep { at }
+        | CertError::TooMany { at, .. } => *at,
+        CertError::NoMemory => 0,
+    }
+}
+
+/// Why the text of a certificate is refused.
+pub fn words_of_cert(error: &CertError) -> &'static [u8]
+    ensures { result.now ≡ certs.cause_words (certs.error_cause error.now) }
+{
+    match error {
+        CertError::CertSyntax { .. } => b"syntax",
+        CertError::UnknownName { .. } => b"unknown name",
+        CertError::WrongArity { .. } => b"wrong arity",
+        CertError::BadNumber { .. } => b"bad number",
+        CertError::CertTooDeep { .. } => b"too deep",
+        CertError::TooMany { .. } => b"too many",
+        CertError::NoMemory => b"syntax",
     }
 }
 

@@ -12,13 +12,13 @@ pub enum Status {
     Maybe,
     /// The certificate is not valid.
     Rejected,
-    /// The file or the certificate is of a form that is not built, or is too long.
+    /// The certificate is of a kind that is not judged.
     NotBuilt,
     /// The words are no command.
     Usage,
-    /// The file is no text of a system.
+    /// The file is no text of a system, or too long.
     FileRefused,
-    /// The certificate is no text of a certificate.
+    /// The certificate is no text of a certificate, or too long.
     CertRefused,
     /// A file was not read.
     ReadFault,

@@ -9,16 +9,18 @@ ghost use Rattle.concon.specs.Replies as reply;
 ghost use Rattle.concon.specs.Outcomes.{Outcome, ComesTo, IsRefuted, said_of_outcome};
 ghost use Rattle.concon.specs.Causes.{run_of, Answer, said_of, IsCaused, IsRight, IsLeft};
 ghost use Rattle.concon.specs.Judging.{Says};
-ghost use Rattle.concon.specs.Rows.{CheckComesTo, IsFileRefusal, IsNotBuilt, IsRejected, IsNotConfluent, IsReadFault, IsWriteFault, IsPossible, CalmlyComesTo, IsUnlessHindered};
+ghost use Rattle.concon.specs.Rows.{CheckComesTo, IsFileRefusal, IsCertificateRefusal, IsNotBuilt, IsRejected, IsNotConfluent, IsReadFault, IsWriteFault, IsPossible, CalmlyComesTo, IsUnlessHindered};
 
 use crate::judge::{Refusal, judge};
-use crate::refusals::{place_of, refused, words_of};
+use crate::refusals::{place_of, place_of_cert, refused, words_of, words_of_cert};
 use crate::reply::{Reply, Text, about, deliver, no_memory};
 use crate::status::Status;
 use crate::words::{Check, command_of};
 use cc_io::{Shelf, Sink};
+use cert_text::one_answer;
 use cops_read::one_reading;
 use std::alloc::Global;
+use validity::peaks_have_one_answer;
 
 /// Says how the program is used.
 pub fn usage() -> Reply
@@ -31,8 +33,10 @@ pub fn usage() -> Reply
     }
 }
 
-// The place at which a file is refused that is too long.
+// The places at which a file and a certificate are refused that are too long.
 const LONGEST_FILE: usize = 1048576;
+
+const LONGEST_CERT: usize = 16777216;
 
 // What is said of a check.
 fn reply_to(alloc: Global, check: Check, judged: Result<(), Refusal>) -> Reply
@@ -60,6 +64,20 @@ fn reply_to(alloc: Global, check: Check, judged: Result<(), Refusal>) -> Reply
             words_of(&error),
         ),
         Err(Refusal::CertFault) => about(alloc, Status::ReadFault, check.cert, b": read fault\n"),
+        Err(Refusal::CertTooLong) => refused(
+            alloc,
+            Status::CertRefused,
+            check.cert,
+            LONGEST_CERT,
+            b"too long",
+        ),
+        Err(Refusal::CertRefused(error)) => refused(
+            alloc,
+            Status::CertRefused,
+            check.cert,
+            place_of_cert(&error),
+            words_of_cert(&error),
+        ),
         Err(Refusal::CertNotBuilt) => about(alloc, Status::NotBuilt, check.cert, b": not built\n"),
         Err(Refusal::Rejected(line)) => Reply {
             status: Status::Rejected,
@@ -137,6 +155,7 @@ pub fn run<S: Shelf, K: Sink, E: Sink>(
     ensures nothing_begun { IsNoCommand (texts words.now) → S.begun shelf.new ≡ S.begun shelf.old }
     ensures nothing_given { IsNoCommand (texts words.now) → S.given shelf.new ≡ S.given shelf.old }
     ensures file_refused { result ≡ Status.FileRefused → IsFileRefusal (run_of (texts words.now) (S.contents shelf.old) (S.faults shelf.old) (S.faults shelf.new)) }
+    ensures cert_refused { result ≡ Status.CertRefused → IsCertificateRefusal (run_of (texts words.now) (S.contents shelf.old) (S.faults shelf.old) (S.faults shelf.new)) }
     ensures not_built { result ≡ Status.NotBuilt → IsNotBuilt (run_of (texts words.now) (S.contents shelf.old) (S.faults shelf.old) (S.faults shelf.new)) }
     ensures rejected { result ≡ Status.Rejected → IsRejected (run_of (texts words.now) (S.contents shelf.old) (S.faults shelf.old) (S.faults shelf.new)) }
     ensures no { result ≡ Status.No → CheckComesTo (run_of (texts words.now) (S.contents shelf.old) (S.faults shelf.old) (S.faults shelf.new)) Outcome.refuted }
@@ -147,5 +166,7 @@ pub fn run<S: Shelf, K: Sink, E: Sink>(
     ensures possible { IsPossible result }
 {
     one_reading();
+    one_answer();
+    peaks_have_one_answer();
     run_all(alloc, words, shelf, out, err)
 }

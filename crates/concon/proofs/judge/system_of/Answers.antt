@@ -1,4 +1,3 @@
-use Rattle.std.proofs.Common.{subst}
 use Rattle.concon.proofs.TextsRead.{file_unread}
 use Rattle.concon.proofs.judge.system_of.Goals as goal
 
