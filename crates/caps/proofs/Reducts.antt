@@ -33,7 +33,7 @@ apply_all-odd s r nil = refl
 apply_all-odd s r (cons t ts) = ap₂ cons (apply-odd s r t) (apply_all-odd s r ts)
 
 -- what an instance reaches
-reduct_instance : (sys : System) (t : Term) (c : Cap) (s : Substitution) (w : Term) → IsCapOf sys any t c → Reaches sys (apply s t) w → IsInstance c w
+pub reduct_instance : (sys : System) (t : Term) (c : Cap) (s : Substitution) (w : Term) → IsCapOf sys any t c → Reaches sys (apply s t) w → IsInstance c w
 reduct_instance sys t c s w is p = reaches_keeps sys c (cap_safe sys any (λ x. tt) t c is) (cap_instance sys any s (λ x. tt) t c is) p
 
 pub reducts_match : (sys : System) (t : Term) (c : Cap) (n : ℕ) (s : Substitution) (w : Term) → IsCapOf sys any t c → Reaches sys (apply s t) w → Matches (filled var n c) w

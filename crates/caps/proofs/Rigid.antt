@@ -1,4 +1,4 @@
--- The laws of rigid caps, where no left side is a variable.
+-- The laws of rigid caps, where no left side is a variable, and of two caps that clash.
 use Rattle.std.proofs.Common.{ℕ, ◌≡◌, ◌<◌, true, refl, sym, ap, ◌∙◌, subst}
 use Rattle.rewriting.specs.Terms.{Term, var, app, nil, cons, IsVariable}
 use Rattle.rewriting.specs.Substitutions.{Substitution, apply}
@@ -11,12 +11,12 @@ use Rattle.rewriting.specs.Confluence.{AreApart}
 use Rattle.rewriting.proofs.Unifiers.{both, apply-even, apply-odd}
 use Rattle.unifier_run.specs.Run.{clash}
 use Rattle.unifier_run.proofs.General.{no_unifier}
-use Rattle.caps.specs.Caps.{Cap, kept, filled, frozen, IsCapOf}
-use Rattle.caps.specs.Evidence.{IsRigidOutcome}
+use Rattle.caps.specs.Caps.{Cap, any, kept, filled, frozen, IsCapOf}
+use Rattle.caps.specs.Evidence.{IsPairOutcome, IsRigidOutcome}
 use Rattle.caps.specs.Laws.{IsReductOf}
 use Rattle.caps.proofs.Instances.{IsInstance, filling, apply-filled}
 use Rattle.caps.proofs.Steps.{HasNoRedex, freezing, cap_safe, cap_instance, cap_keeps, reaches_keeps}
-use Rattle.caps.proofs.Reducts.{apply-var}
+use Rattle.caps.proofs.Reducts.{apply-var, reduct_instance}
 
 variable_pattern : (s : Substitution) (l : Term) (x : ℕ) → apply s l ≡ var x → IsVariable l
 variable_pattern s (var y) x e = tt
@@ -40,9 +40,17 @@ rigid_reducts sys t c n w well is below p =
     }
 
 -- a common reduct, its variables as constants, is an instance of both caps
-pub rigid_apart : (sys : System) (u v : Term) → IsWellFormed sys → IsRigidOutcome sys u v clash → AreApart sys u v
-rigid_apart sys u v well o w p q =
-    let f = freezing sys o.first w (rigid_instance sys well u o.first w o.is_first p) in
-    let g = freezing sys o.second w (rigid_instance sys well v o.second w o.is_second q) in
+common_instance : (sys : System) (leaf : ℕ → Cap) (u v w : Term) → (o : IsPairOutcome sys leaf u v clash) → IsInstance o.first w → IsInstance o.second w → ⊥
+common_instance sys leaf u v w o p q =
+    let f = freezing sys o.first w p in
+    let g = freezing sys o.second w q in
     no_unifier (cons (apply even (frozen sys o.first)) nil) (cons (apply odd (frozen sys o.second)) nil) o.outcome (both f.by g.by)
     (ap (λ z. cons z nil) (apply-even f.by g.by (frozen sys o.first) ∙ (f.freezes ∙ (sym g.freezes ∙ sym (apply-odd f.by g.by (frozen sys o.second))))))
+
+pub rigid_apart : (sys : System) (u v : Term) → IsWellFormed sys → IsRigidOutcome sys u v clash → AreApart sys u v
+rigid_apart sys u v well o w p q =
+    common_instance sys kept u v w o (rigid_instance sys well u o.first w o.is_first p) (rigid_instance sys well v o.second w o.is_second q)
+
+pub caps_apart : (sys : System) (u v : Term) (s r : Substitution) (w : Term) → IsPairOutcome sys any u v clash → Reaches sys (apply s u) w → Reaches sys (apply r v) w → ⊥
+caps_apart sys u v s r w o p q =
+    common_instance sys any u v w o (reduct_instance sys u o.first s w o.is_first p) (reduct_instance sys v o.second r w o.is_second q)

@@ -10,8 +10,8 @@ use Rattle.unifier_run.specs.Run.{Binding, Outcome, unifier, clash, too_large, I
 use Rattle.unifier_run.specs.Overlaps.{IsOutcomeOf}
 use Rattle.unifier_run.specs.Irreducible.{DoRulesClash, IsFirstRule}
 use Rattle.unifier_run.proofs.Unique.{runs_same}
-use Rattle.caps.specs.Caps.{Cap, node, Caps, caps, kept, any, all_filled, frozen, IsTop, IsCapOf, AreCapsOf, IsCapLarge, AreCapsLarge}
-use Rattle.caps.specs.Evidence.{IsCapOutcome, JudgedByCaps, IsRigidOutcome}
+use Rattle.caps.specs.Caps.{Cap, node, Caps, caps, any, all_filled, frozen, IsTop, IsCapOf, AreCapsOf, IsCapLarge, AreCapsLarge}
+use Rattle.caps.specs.Evidence.{IsCapOutcome, JudgedByCaps, IsPairOutcome}
 use Rattle.caps.specs.Laws.{IsOneCap, IsOneOutcome}
 
 -- the first rule whose run does not clash
@@ -119,16 +119,16 @@ pub one_judgement : (sys : System) (cs : List Condition) (o p : Option EvidenceR
 one_judgement sys cs o p h k = judgement_same sys cs o p (judgement sys cs o h) (judgement sys cs p k)
 
 -- outcomes of two terms
-abbrev rigid_run : System → Outcome → Cap → Cap → Type 0
-rigid_run sys o c d = IsOutcome (cons (apply even (frozen sys c)) nil) (cons (apply odd (frozen sys d)) nil) o
+abbrev pair_run : System → Outcome → Cap → Cap → Type 0
+pair_run sys o c d = IsOutcome (cons (apply even (frozen sys c)) nil) (cons (apply odd (frozen sys d)) nil) o
 
-rigid_same : (sys : System) (u v : Term) (o p : Outcome) → IsRigidOutcome sys u v o → IsRigidOutcome sys u v p → o ≡ p
-rigid_same sys u v o p h k =
-    runs_same (subst₂ (rigid_run sys o) (cap_same sys kept u h.first k.first h.is_first k.is_first) (cap_same sys kept v h.second k.second h.is_second k.is_second) h.outcome) k.outcome
+pair_same : (sys : System) (leaf : ℕ → Cap) (u v : Term) (o p : Outcome) → IsPairOutcome sys leaf u v o → IsPairOutcome sys leaf u v p → o ≡ p
+pair_same sys leaf u v o p h k =
+    runs_same (subst₂ (pair_run sys o) (cap_same sys leaf u h.first k.first h.is_first k.is_first) (cap_same sys leaf v h.second k.second h.is_second k.is_second) h.outcome) k.outcome
 
-pub one_outcome : (sys : System) (u v : Term) → IsOneOutcome sys u v
-one_outcome sys u v =
+pub one_outcome : (sys : System) (leaf : ℕ → Cap) (u v : Term) → IsOneOutcome sys leaf u v
+one_outcome sys leaf u v =
     record {
-      one = rigid_same sys u v;
-      never_both = λ o h. (cap_never_large sys kept u h.first h.is_first, cap_never_large sys kept v h.second h.is_second);
+      one = pair_same sys leaf u v;
+      never_both = λ o h. (cap_never_large sys leaf u h.first h.is_first, cap_never_large sys leaf v h.second h.is_second);
     }

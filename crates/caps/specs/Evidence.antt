@@ -1,5 +1,5 @@
 -- What caps show: that conditions are never met, and that two terms have no common reduct.
-use Rattle.std.specs.Prelude.{◌⊎◌, List, Option, None, Some}
+use Rattle.std.specs.Prelude.{ℕ, ◌⊎◌, List, Option, None, Some}
 use Rattle.rewriting.specs.Terms.{Term, var, nil, cons}
 use Rattle.rewriting.specs.Substitutions.{apply, apply_all}
 use Rattle.rewriting.specs.Unifiers.{even, odd}
@@ -21,15 +21,22 @@ JudgedByCaps sys cs (Some tcap_unifies) = (b : List Binding) × IsCapOutcome sys
 JudgedByCaps sys cs (Some tcap_large) = AreCapsLarge sys any (left_sides cs) ⊎ IsCapOutcome sys cs too_large
 JudgedByCaps sys cs (Some _) = ⊥
 
--- the outcome of the run for the rigid caps of two terms: the variables of both terms are the same constants, and no hole
--- of the one is a hole of the other
-pub record IsRigidOutcome (sys : System) (u v : Term) (o : Outcome) : Type 0 where
+-- the outcome of the run for the caps of two terms: variables that stay are the same constants in both, and no hole of the
+-- one is a hole of the other
+pub record IsPairOutcome (sys : System) (leaf : ℕ → Cap) (u v : Term) (o : Outcome) : Type 0 where
   pub first : Cap
   pub second : Cap
-  pub is_first : IsCapOf sys kept u first
-  pub is_second : IsCapOf sys kept v second
+  pub is_first : IsCapOf sys leaf u first
+  pub is_second : IsCapOf sys leaf v second
   pub outcome : IsOutcome (cons (apply even (frozen sys first)) nil) (cons (apply odd (frozen sys second)) nil) o
 
--- there is no outcome, since a term has no rigid cap, or the run passes the size
+-- there is no outcome, since a term has no cap, or the run passes the size
+abbrev pub IsPairLarge : System → (ℕ → Cap) → Term → Term → Type 0
+IsPairLarge sys leaf u v = (IsCapLarge sys leaf u ⊎ IsCapLarge sys leaf v) ⊎ IsPairOutcome sys leaf u v too_large
+
+-- the same for rigid caps, in which every variable stays
+abbrev pub IsRigidOutcome : System → Term → Term → Outcome → Type 0
+IsRigidOutcome sys u v o = IsPairOutcome sys kept u v o
+
 abbrev pub AreRigidCapsLarge : System → Term → Term → Type 0
-AreRigidCapsLarge sys u v = (IsCapLarge sys kept u ⊎ IsCapLarge sys kept v) ⊎ IsRigidOutcome sys u v too_large
+AreRigidCapsLarge sys u v = IsPairLarge sys kept u v

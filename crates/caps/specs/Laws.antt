@@ -11,7 +11,7 @@ use Rattle.rewriting.specs.Confluence.{AreApart}
 use Rattle.certificates.specs.Reasons.{EvidenceReason}
 use Rattle.unifier_run.specs.Run.{Outcome, clash}
 use Rattle.caps.specs.Caps.{Cap, any, kept, filled, IsCapOf, IsCapLarge}
-use Rattle.caps.specs.Evidence.{JudgedByCaps, IsRigidOutcome}
+use Rattle.caps.specs.Evidence.{JudgedByCaps, IsPairOutcome, IsRigidOutcome}
 
 -- what an instance of a term reaches is an instance of the term's cap
 abbrev pub CapsKeepReducts : Type 0
@@ -34,6 +34,11 @@ RigidCapsKeepReducts =
 abbrev pub CapsRefute : Type 0
 CapsRefute = (sys : System) (cs : List Condition) → JudgedByCaps sys cs None → IsInfeasible sys cs
 
+-- instances of terms whose caps clash have no common reduct
+abbrev pub CapsKeepApart : Type 0
+CapsKeepApart =
+    (sys : System) (u v : Term) (s r : Substitution) (w : Term) → IsPairOutcome sys any u v clash → Reaches sys (apply s u) w → Reaches sys (apply r v) w → ⊥
+
 -- terms whose rigid caps clash have no common reduct, where no left side is a variable
 abbrev pub RigidCapsKeepApart : Type 0
 RigidCapsKeepApart = (sys : System) (u v : Term) → IsWellFormed sys → IsRigidOutcome sys u v clash → AreApart sys u v
@@ -50,9 +55,9 @@ CapsAreUnique = (sys : System) (leaf : ℕ → Cap) (t : Term) → IsOneCap sys 
 abbrev pub JudgementsAreUnique : Type 0
 JudgementsAreUnique = (sys : System) (cs : List Condition) (o p : Option EvidenceReason) → JudgedByCaps sys cs o → JudgedByCaps sys cs p → o ≡ p
 
-pub record IsOneOutcome (sys : System) (u v : Term) : Type 0 where
-  pub one : (o p : Outcome) → IsRigidOutcome sys u v o → IsRigidOutcome sys u v p → o ≡ p
-  pub never_both : (o : Outcome) → IsRigidOutcome sys u v o → (IsCapLarge sys kept u → ⊥) × (IsCapLarge sys kept v → ⊥)
+pub record IsOneOutcome (sys : System) (leaf : ℕ → Cap) (u v : Term) : Type 0 where
+  pub one : (o p : Outcome) → IsPairOutcome sys leaf u v o → IsPairOutcome sys leaf u v p → o ≡ p
+  pub never_both : (o : Outcome) → IsPairOutcome sys leaf u v o → (IsCapLarge sys leaf u → ⊥) × (IsCapLarge sys leaf v → ⊥)
 
-abbrev pub RigidOutcomesAreUnique : Type 0
-RigidOutcomesAreUnique = (sys : System) (u v : Term) → IsOneOutcome sys u v
+abbrev pub OutcomesAreUnique : Type 0
+OutcomesAreUnique = (sys : System) (leaf : ℕ → Cap) (u v : Term) → IsOneOutcome sys leaf u v

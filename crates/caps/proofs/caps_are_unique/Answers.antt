@@ -7,5 +7,5 @@ returns-clause-caps c = one_cap
 pub returns-clause-judgements : goal.returns-clause-judgements
 returns-clause-judgements c = one_judgement
 
-pub returns-clause-rigid : goal.returns-clause-rigid
-returns-clause-rigid c = one_outcome
+pub returns-clause-outcomes : goal.returns-clause-outcomes
+returns-clause-outcomes c = one_outcome
