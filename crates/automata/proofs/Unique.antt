@@ -1,0 +1,151 @@
+-- An automaton has one judgement: its reasons exclude each other, and there is one first reason of a kind.
+use Rattle.std.proofs.Common.{ℕ, ◌≡◌, inl, inr, List, [], ◌∷◌, Option, None, Some, refl, sym, ◌∙◌, subst}
+use Rattle.rewriting.specs.Terms.{Term}
+use Rattle.rewriting.specs.Positions.{IsBefore}
+use Rattle.rewriting.specs.Rules.{Condition, System}
+use Rattle.rewriting.proofs.Conditions.{Order, is_smaller, is_equal, is_greater, order}
+use Rattle.certificates.specs.Evidence.{Automaton}
+use Rattle.certificates.specs.Judging.{hypothesis_at}
+use Rattle.certificates.specs.Reasons.{EvidenceReason, auto_wide, auto_not_closed, auto_wide_right, auto_reaches}
+use Rattle.automata.specs.Closed.{IsClosed, IsEarlier, IsFirstOpen, IsWide, AreNarrow, IsFirstWide, Excludes}
+use Rattle.automata.specs.Evidence.{IsClosureJudged, IsExclusionJudged, IsConditionJudged, not_any, misses, closure_fails, right_side, JudgedByAutomaton}
+
+-- of two choices one is before the other, or they are equal
+data ChoiceOrder (cs ds : List ℕ) : Type 0 where
+  is_before : IsBefore cs ds → ChoiceOrder cs ds
+  is_equal_choice : cs ≡ ds → ChoiceOrder cs ds
+  is_behind : IsBefore ds cs → ChoiceOrder cs ds
+
+by_heads : (c d : ℕ) (cs ds : List ℕ) → Order c d → ChoiceOrder cs ds → ChoiceOrder (c ∷ cs) (d ∷ ds)
+by_heads c d cs ds (is_smaller h) r = is_before (inl h)
+by_heads c d cs ds (is_greater h) r = is_behind (inl h)
+by_heads c d cs ds (is_equal e) (is_before h) = is_before (inr (e, h))
+by_heads c d cs ds (is_equal e) (is_behind h) = is_behind (inr (sym e, h))
+by_heads c d cs ds (is_equal e) (is_equal_choice h) = is_equal_choice (cc)
+
+choice_order : (cs ds : List ℕ) → ChoiceOrder cs ds
+choice_order [] [] = is_equal_choice refl
+choice_order [] (d ∷ ds) = is_before tt
+choice_order (c ∷ cs) [] = is_behind tt
+choice_order (c ∷ cs) (d ∷ ds) = by_heads c d cs ds (order c d) (choice_order cs ds)
+
+-- and so of two rules, each with a choice and a state
+data CaseOrder (i j : ℕ) (cs ds : List ℕ) (p q : ℕ) : Type 0 where
+  is_earlier : IsEarlier (i, (cs, p)) (j, (ds, q)) → CaseOrder i j cs ds p q
+  is_same_case : i ≡ j → cs ≡ ds → p ≡ q → CaseOrder i j cs ds p q
+  is_later : IsEarlier (j, (ds, q)) (i, (cs, p)) → CaseOrder i j cs ds p q
+
+by_rules : (i j : ℕ) (cs ds : List ℕ) (p q : ℕ) → Order i j → ChoiceOrder cs ds → Order p q → CaseOrder i j cs ds p q
+by_rules i j cs ds p q (is_smaller h) r s = is_earlier (inl h)
+by_rules i j cs ds p q (is_greater h) r s = is_later (inl h)
+by_rules i j cs ds p q (is_equal e) (is_before h) s = is_earlier (inr (e, inl h))
+by_rules i j cs ds p q (is_equal e) (is_behind h) s = is_later (inr (sym e, inl h))
+by_rules i j cs ds p q (is_equal e) (is_equal_choice f) (is_smaller h) = is_earlier (inr (e, inr (f, h)))
+by_rules i j cs ds p q (is_equal e) (is_equal_choice f) (is_greater h) = is_later (inr (sym e, inr (sym f, h)))
+by_rules i j cs ds p q (is_equal e) (is_equal_choice f) (is_equal h) = is_same_case e f h
+
+-- the first right side that is not kept, and the first wide left side
+open_same : (sys : System) (a : Automaton) (i j : ℕ) (cs ds : List ℕ) (p q : ℕ) → IsFirstOpen sys a i cs p → IsFirstOpen sys a j ds q → Some (auto_not_closed i cs p) ≡ Some (auto_not_closed j ds q)
+open_same sys a i j cs ds p q h k = go (by_rules i j cs ds p q (order i j) (choice_order cs ds) (order p q))
+  where
+    go : CaseOrder i j cs ds p q → Some (auto_not_closed i cs p) ≡ Some (auto_not_closed j ds q)
+    go (is_earlier e) = absurd (h.fails (k.earlier i h.rule cs p h.is_rule h.choice h.reached e))
+    go (is_later e) = absurd (k.fails (h.earlier j k.rule ds q k.is_rule k.choice k.reached e))
+    go (is_same_case e f g) = cc
+
+wide_same : (sys : System) (a : Automaton) (i j : ℕ) → IsFirstWide sys a i → IsFirstWide sys a j → Some (auto_wide i) ≡ Some (auto_wide j)
+wide_same sys a i j h k = go (order i j)
+  where
+    go : Order i j → Some (auto_wide i) ≡ Some (auto_wide j)
+    go (is_smaller e) = absurd (k.earlier i h.rule e h.is_rule h.wide)
+    go (is_greater e) = absurd (h.earlier j k.rule e k.is_rule k.wide)
+    go (is_equal e) = cc
+
+not_closed_and_open : (sys : System) (a : Automaton) (i : ℕ) (cs : List ℕ) (q : ℕ) → IsClosed sys a → IsFirstOpen sys a i cs q → ⊥
+not_closed_and_open sys a i cs q closed h = h.fails (closed i h.rule cs q h.is_rule h.choice h.reached)
+
+not_narrow_and_wide : (sys : System) (a : Automaton) (i : ℕ) → AreNarrow sys a → IsFirstWide sys a i → ⊥
+not_narrow_and_wide sys a i narrow h = narrow i h.rule h.is_rule h.wide
+
+-- the closure test's judgement with what it comes from
+data ClosureJudgement (sys : System) (a : Automaton) (o : Option EvidenceReason) : Type 0 where
+  closes : AreNarrow sys a → IsClosed sys a → o ≡ None → ClosureJudgement sys a o
+  wide_at : (i : ℕ) → IsFirstWide sys a i → o ≡ Some (auto_wide i) → ClosureJudgement sys a o
+  open_at : (i : ℕ) (cs : List ℕ) (q : ℕ) → AreNarrow sys a → IsFirstOpen sys a i cs q → o ≡ Some (auto_not_closed i cs q) → ClosureJudgement sys a o
+
+closure_judgement : (sys : System) (a : Automaton) (o : Option EvidenceReason) → IsClosureJudged sys a o → ClosureJudgement sys a o
+closure_judgement sys a None h = closes h.0 h.1 refl
+closure_judgement sys a (Some (auto_wide i)) h = wide_at i h refl
+closure_judgement sys a (Some (auto_not_closed i cs q)) h = open_at i cs q h.0 h.1 refl
+closure_judgement sys a (Some _) h = absurd h
+
+closure_same : (sys : System) (a : Automaton) (o p : Option EvidenceReason) → ClosureJudgement sys a o → ClosureJudgement sys a p → o ≡ p
+closure_same sys a o p (closes n h e) (closes m k f) = e ∙ sym f
+closure_same sys a o p (closes n h e) (wide_at i k f) = absurd (not_narrow_and_wide sys a i n k)
+closure_same sys a o p (closes n h e) (open_at i cs q m k f) = absurd (not_closed_and_open sys a i cs q h k)
+closure_same sys a o p (wide_at i h e) (closes m k f) = absurd (not_narrow_and_wide sys a i m h)
+closure_same sys a o p (wide_at i h e) (wide_at j k f) = e ∙ (wide_same sys a i j h k ∙ sym f)
+closure_same sys a o p (wide_at i h e) (open_at j ds q m k f) = absurd (not_narrow_and_wide sys a i m h)
+closure_same sys a o p (open_at i cs q n h e) (closes m k f) = absurd (not_closed_and_open sys a i cs q k h)
+closure_same sys a o p (open_at i cs q n h e) (wide_at j k f) = absurd (not_narrow_and_wide sys a j n k)
+closure_same sys a o p (open_at i cs q n h e) (open_at j ds r m k f) = e ∙ (open_same sys a i j cs ds q r h k ∙ sym f)
+
+closures_same : (sys : System) (a : Automaton) (o p : Option EvidenceReason) → IsClosureJudged sys a o → IsClosureJudged sys a p → o ≡ p
+closures_same sys a o p h k = closure_same sys a o p (closure_judgement sys a o h) (closure_judgement sys a p k)
+
+-- and the right side's
+data ExclusionJudgement (a : Automaton) (t : Term) (o : Option EvidenceReason) : Type 0 where
+  excludes : (IsWide a t → ⊥) → Excludes a t → o ≡ None → ExclusionJudgement a t o
+  right_wide : IsWide a t → o ≡ Some auto_wide_right → ExclusionJudgement a t o
+  right_reaches : (IsWide a t → ⊥) → (Excludes a t → ⊥) → o ≡ Some auto_reaches → ExclusionJudgement a t o
+
+exclusion_judgement : (a : Automaton) (t : Term) (o : Option EvidenceReason) → IsExclusionJudged a t o → ExclusionJudgement a t o
+exclusion_judgement a t None h = excludes h.0 h.1 refl
+exclusion_judgement a t (Some auto_wide_right) h = right_wide h refl
+exclusion_judgement a t (Some auto_reaches) h = right_reaches h.0 h.1 refl
+exclusion_judgement a t (Some _) h = absurd h
+
+exclusion_same : (a : Automaton) (t : Term) (o p : Option EvidenceReason) → ExclusionJudgement a t o → ExclusionJudgement a t p → o ≡ p
+exclusion_same a t o p (excludes n h e) (excludes m k f) = e ∙ sym f
+exclusion_same a t o p (excludes n h e) (right_wide k f) = absurd (n k)
+exclusion_same a t o p (excludes n h e) (right_reaches m k f) = absurd (k h)
+exclusion_same a t o p (right_wide h e) (excludes m k f) = absurd (m h)
+exclusion_same a t o p (right_wide h e) (right_wide k f) = e ∙ sym f
+exclusion_same a t o p (right_wide h e) (right_reaches m k f) = absurd (m h)
+exclusion_same a t o p (right_reaches n h e) (excludes m k f) = absurd (h k)
+exclusion_same a t o p (right_reaches n h e) (right_wide k f) = absurd (n k)
+exclusion_same a t o p (right_reaches n h e) (right_reaches m k f) = e ∙ sym f
+
+-- a condition's
+not_both : (sys : System) (a : Automaton) (why : EvidenceReason) → IsClosureJudged sys a (Some why) → IsClosureJudged sys a None → ⊥
+not_both sys a why h k = (let e = closures_same sys a (Some why) None h k in cc)
+
+condition_same : (sys : System) (c : Condition) (a : Automaton) (o p : Option EvidenceReason) → IsConditionJudged sys c a o → IsConditionJudged sys c a p → o ≡ p
+condition_same sys c a o p (not_any h) (not_any k) = refl
+condition_same sys c a o p (not_any h) (misses any k) = absurd (h any)
+condition_same sys c a o p (not_any h) (closure_fails why any accepts k) = absurd (h any)
+condition_same sys c a o p (not_any h) (right_side r any accepts closed k) = absurd (h any)
+condition_same sys c a o p (misses any h) (not_any k) = absurd (k any)
+condition_same sys c a o p (misses any h) (misses any' k) = refl
+condition_same sys c a o p (misses any h) (closure_fails why any' accepts k) = absurd (h accepts)
+condition_same sys c a o p (misses any h) (right_side r any' accepts closed k) = absurd (h accepts)
+condition_same sys c a o p (closure_fails why any accepts h) (not_any k) = absurd (k any)
+condition_same sys c a o p (closure_fails why any accepts h) (misses any' k) = absurd (k accepts)
+condition_same sys c a o p (closure_fails why any accepts h) (closure_fails other any' accepts' k) = closures_same sys a (Some why) (Some other) h k
+condition_same sys c a o p (closure_fails why any accepts h) (right_side r any' accepts' closed k) = absurd (not_both sys a why h closed)
+condition_same sys c a o p (right_side r any accepts closed h) (not_any k) = absurd (k any)
+condition_same sys c a o p (right_side r any accepts closed h) (misses any' k) = absurd (k accepts)
+condition_same sys c a o p (right_side r any accepts closed h) (closure_fails why any' accepts' k) = absurd (not_both sys a why k closed)
+condition_same sys c a o p (right_side r any accepts closed h) (right_side s any' accepts' closed' k) =
+    exclusion_same a c.right r s (exclusion_judgement a c.right r h) (exclusion_judgement a c.right s k)
+
+none_or_some : (cs : List Condition) (k : ℕ) (c : Condition) → hypothesis_at cs k ≡ None → hypothesis_at cs k ≡ Some c → ⊥
+none_or_some cs k c e f = cc
+
+pub judgement_same : (sys : System) (cs : List Condition) (k : ℕ) (a : Automaton) (o p : Option EvidenceReason) → JudgedByAutomaton sys cs k a o → JudgedByAutomaton sys cs k a p → o ≡ p
+judgement_same sys cs k a o p (inl (e, h)) (inl (f, g)) = h ∙ sym g
+judgement_same sys cs k a o p (inl (e, h)) (inr (c, f, g)) = absurd (none_or_some cs k c e f)
+judgement_same sys cs k a o p (inr (c, e, h)) (inl (f, g)) = absurd (none_or_some cs k c f e)
+judgement_same sys cs k a o p (inr (c, e, h)) (inr (d, f, g)) =
+    let same : c ≡ d = cc in
+    condition_same sys d a o p (subst (λ z. IsConditionJudged sys z a o) same h) g

@@ -1,0 +1,62 @@
+-- Tree automata: which states a term reaches (after Comon and others, Tree Automata Techniques and Applications, chapter 1).
+use Rattle.std.specs.Prelude.{ℕ, ◌≡◌, ◌<◌, List, [], ◌∷◌, ◌++◌, Option, None, Some, All, Contains}
+use Rattle.rewriting.specs.Terms.{Term, var, app, Terms, nil, cons}
+use Rattle.certificates.specs.Evidence.{Automaton}
+
+-- transitions as a relation: under a symbol, or for a variable, the states of the arguments, and the state that they lead to
+abbrev pub Moves : Type 1
+Moves = Option ℕ → List ℕ → ℕ → Type 0
+
+-- the states are the numbers below their count
+abbrev pub IsState : Automaton → ℕ → Type 0
+IsState a q = q < a.states
+
+-- a transition for a variable has no arguments
+abbrev pub IsPlain : Option ℕ → List ℕ → Type 0
+IsPlain None qs = qs ≡ []
+IsPlain (Some f) qs = Unit {0}
+
+-- the automaton has the transition; one with a number that is no state, or for a variable but with arguments, counts as absent
+pub record Has (a : Automaton) (symbol : Option ℕ) (qs : List ℕ) (q : ℕ) : Type 0 where
+  pub listed : Contains a.transitions (record { symbol = symbol; arguments = qs; target = q })
+  pub plain : IsPlain symbol qs
+  pub arguments : All (IsState a) qs
+  pub target : IsState a q
+
+-- the term reaches q, where each variable has the states that At tells
+abbrev mutual
+  pub Reach : Moves → (ℕ → ℕ → Type 0) → Term → ℕ → Type 0
+  Reach M At (var x) q = At x q
+  Reach M At (app f ts) q = (qs : List ℕ) × M (Some f) qs q × ReachAll M At ts qs
+
+  pub ReachAll : Moves → (ℕ → ℕ → Type 0) → Terms → List ℕ → Type 0
+  ReachAll M At nil qs = qs ≡ []
+  ReachAll M At (cons t ts) [] = ⊥
+  ReachAll M At (cons t ts) (q ∷ qs) = Reach M At t q × ReachAll M At ts qs
+
+-- each variable has the one state that e gives
+abbrev pub at : (ℕ → ℕ) → ℕ → ℕ → Type 0
+at e x q = q ≡ e x
+
+-- a term as it stands reaches q: a variable does so by the automaton's transitions for variables
+abbrev pub Runs : Automaton → Term → ℕ → Type 0
+Runs a t q = Reach (Has a) (λ x p. Has a None [] p) t q
+
+-- all variables have the state 0, and no other
+abbrev pub RunsFrom0 : Automaton → Term → ℕ → Type 0
+RunsFrom0 a t q = IsState a q × Reach (Has a) (at (λ x. 0)) t q
+
+-- each variable occurrence, from left to right, has a state of its own: the term reaches q with these states
+abbrev mutual
+  pub ReachBy : Moves → Term → List ℕ → ℕ → Type 0
+  ReachBy M (var x) cs q = cs ≡ q ∷ []
+  ReachBy M (app f ts) cs q = (qs : List ℕ) × M (Some f) qs q × ReachAllBy M ts cs qs
+
+  pub ReachAllBy : Moves → Terms → List ℕ → List ℕ → Type 0
+  ReachAllBy M nil cs qs = (cs ≡ []) × (qs ≡ [])
+  ReachAllBy M (cons t ts) cs [] = ⊥
+  ReachAllBy M (cons t ts) cs (q ∷ qs) = (before after : List ℕ) × (cs ≡ before ++ after) × ReachBy M t before q × ReachAllBy M ts after qs
+
+-- a number in the list of accepting states that is a state
+abbrev pub IsAccepting : Automaton → ℕ → Type 0
+IsAccepting a q = Contains a.accepting q × IsState a q
