@@ -1,0 +1,10 @@
+pub mod Order
+pub mod Adding
+pub mod States
+pub mod Asking
+pub mod Sizes
+pub mod Comparing
+pub mod Walks
+pub mod Rules
+pub mod Parts
+pub mod Whole

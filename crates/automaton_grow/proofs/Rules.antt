@@ -1,0 +1,131 @@
+-- Rules one by one: their sizes, the states before them, and the choices for their left sides.
+use Rattle.std.proofs.Common.{◌≡◌, ℕ, zero, suc, ◌+◌, ◌<◌, ◌≤◌, ◌^◌, ◌⊎◌, inl, inr, refl, sym, ap, ◌∙◌, subst, List, [], ◌∷◌, map, drop, length, get_or, Some, add-one, arith}
+use Rattle.std.specs.Prelude.{slice_get}
+use Rattle.std.proofs.Common.{add_assoc}
+use Rattle.rewriting.specs.Terms.{Term, var, app, size, Fits}
+use Rattle.rewriting.specs.Signatures.{Signature}
+use Rattle.rewriting.specs.Rules as math
+use Rattle.rewriting.specs.Rules.{rule_at}
+use Rattle.rewriting.specs.Systems.{AreRules, IsSystem, condition_count}
+use Rattle.ctrs_classes.specs.Blames.{leaves}
+use Rattle.automata.specs.Growth.{inner, proper, first_state, state_count}
+use Rattle.term_core.specs.RuleView.{rule_view}
+use Rattle.term_core.specs.declared.systems.Rule.{Rule}
+use Rattle.automaton_grow.specs.Limits.{DoFit, all_proper, IsWideFor, AreNarrowBelow, IsFirstWideFor}
+use Rattle.automaton_grow.proofs.Sizes.{inner_in_size}
+use Rattle.automaton_grow.proofs.States.{proper_at, proper_none, room_at}
+
+-- the views of rules
+pub rule_seen : (rs : List Rule) (i : ℕ) (r : Rule) → i < length rs → r ≡ get_or rs i r → slice_get (map rule_view rs) i ≡ Some (rule_view r)
+rule_seen [] i r h e = absurd (omega arith)
+rule_seen (a ∷ rs) zero r h e = ap (λ z. Some (rule_view z)) (sym e)
+rule_seen (a ∷ rs) (suc i) r h e = rule_seen rs i r (omega arith) e
+
+pub rules_left : (rs : List Rule) (i : ℕ) (r : Rule) → i < length rs → r ≡ get_or rs i r → map rule_view (drop i rs) ≡ rule_view r ∷ map rule_view (drop (i + 1) rs)
+rules_left rs i r h e = rw add-one (go rs i h e)
+  where
+    go : (qs : List Rule) (k : ℕ) → k < length qs → r ≡ get_or qs k r → map rule_view (drop k qs) ≡ rule_view r ∷ map rule_view (drop (suc k) qs)
+    go [] k h e = absurd (omega arith)
+    go (q ∷ qs) zero h e = ap (λ z. rule_view z ∷ map rule_view qs) (sym e)
+    go (q ∷ qs) (suc k) h e = go qs k (omega arith) e
+
+pub rules_none : (rs : List Rule) (i : ℕ) → length rs ≤ i → map rule_view (drop i rs) ≡ []
+rules_none [] zero h = refl
+rules_none [] (suc i) h = refl
+rules_none (r ∷ rs) zero h = absurd (omega arith)
+rules_none (r ∷ rs) (suc i) h = rules_none rs i (omega arith)
+
+views_length : (rs : List Rule) → length (map rule_view rs) ≡ length rs
+views_length [] = refl
+views_length (r ∷ rs) = let h = views_length rs in omega arith
+
+pub same_count : (rs : List Rule) (sys : math.System) → map rule_view rs ≡ sys.rules → length rs ≡ length sys.rules
+same_count rs sys e = sym (views_length rs) ∙ ap length e
+
+-- both sides fit
+do_fit : (arities : Signature) (rs : List math.Rule) → AreRules arities rs → DoFit rs
+do_fit arities [] h = tt
+do_fit arities (r ∷ rs) (h, hs) = (h.fits.0, h.fits.1.0, do_fit arities rs hs)
+
+pub system_fits : (sys : math.System) (rules : List math.Rule) → rules ≡ sys.rules → IsSystem sys → DoFit rules
+system_fits sys rules e h = subst DoFit (sym e) (do_fit sys.arities sys.rules h.rules)
+
+pub fits_at : (rs : List math.Rule) (i : ℕ) (r : math.Rule) → DoFit rs → slice_get rs i ≡ Some r → Fits r.left × Fits r.right
+fits_at [] i r h e = absurd (cc)
+fits_at (a ∷ rs) zero r (h, k, rest) e = let same : a ≡ r = cc in subst (λ z. Fits z.left × Fits z.right) same (h, k)
+fits_at (a ∷ rs) (suc i) r (h, k, rest) e = fits_at rs i r rest e
+
+pub proper_size : (t : Term) → proper t ≤ size t
+proper_size (var x) = omega arith
+proper_size (app f ts) = let h = inner_in_size ts in omega arith
+
+-- counting
+module _ (rs : List Rule) (i : ℕ) (r : Rule) (h : i < length rs) (at : r ≡ get_or rs i r) where
+  pub fit_here : DoFit (map rule_view (drop i rs)) → Fits (rule_view r).left × Fits (rule_view r).right × DoFit (map rule_view (drop (i + 1) rs))
+  fit_here fit = subst DoFit (rules_left rs i r h at) fit
+
+  pub count_here : all_proper (map rule_view (drop i rs)) ≡ proper (rule_view r).right + all_proper (map rule_view (drop (i + 1) rs))
+  count_here = ap all_proper (rules_left rs i r h at)
+
+  pub count_step : (n p all : ℕ) → p ≡ proper (rule_view r).right → n + all_proper (map rule_view (drop i rs)) ≡ all → n + p + all_proper (map rule_view (drop (i + 1) rs)) ≡ all
+  count_step n p all e inv =
+      add_assoc n p (all_proper (map rule_view (drop (i + 1) rs))) ∙ ap (λ z. n + z) (ap (λ z. z + all_proper (map rule_view (drop (i + 1) rs))) e ∙ sym count_here) ∙ inv
+
+pub first_next : (sys : math.System) (s : Term) (i : ℕ) (r : math.Rule) (first p : ℕ) → slice_get sys.rules i ≡ Some r → first ≡ first_state sys s i → p ≡ proper r.right → first + p ≡ first_state sys s (i + 1)
+first_next sys s i r first p at e q = rw add-one (let h = proper_at sys.rules i r at in omega arith)
+
+pub first_low : (sys : math.System) (s : Term) (i : ℕ) (r : math.Rule) (n first : ℕ) → slice_get sys.rules i ≡ Some r → first ≡ first_state sys s i → n ≡ state_count sys s → first ≤ n
+first_low sys s i r n first at e same = let h = room_at sys s i r at in omega arith
+
+-- widths
+pub narrow_next : (n : ℕ) (rs : List Rule) (i : ℕ) (r : Rule) → i < length rs → r ≡ get_or rs i r → AreNarrowBelow n (map rule_view rs) i → (IsWideFor n (rule_view r).left → ⊥) → AreNarrowBelow n (map rule_view rs) (i + 1)
+narrow_next n rs i r h at below here k q less is_rule wide = go (split k i (omega arith))
+  where
+    split : (a b : ℕ) → a < b + 1 → (a < b) ⊎ (a ≡ b)
+    split a b l = search arith
+
+    go : (k < i) ⊎ (k ≡ i) → ⊥
+    go (inl l) = below k q l is_rule wide
+    go (inr e) =
+        let one : slice_get (map rule_view rs) i ≡ Some q = subst (λ z. slice_get (map rule_view rs) z ≡ Some q) e is_rule in
+        let two : slice_get (map rule_view rs) i ≡ Some (rule_view r) = rule_seen rs i r h at in
+        let same : q ≡ rule_view r = cc in
+        here (subst (λ z. IsWideFor n z.left) same wide)
+
+pub first_wide : (n : ℕ) (rs : List Rule) (i number : ℕ) (r : Rule) → i < length rs → r ≡ get_or rs i r → number ≡ i + 1 → AreNarrowBelow n (map rule_view rs) i → IsWideFor n (rule_view r).left → IsFirstWideFor n (map rule_view rs) number
+first_wide n rs i number r h at e below wide = record { place = i; rule = rule_view r; numbered = e ∙ add-one i; is_rule = rule_seen rs i r h at; wide = wide; earlier = below }
+
+pub narrow_power : (n k : ℕ) → (100000 < n ^ k → ⊥) → n ^ k ≤ 100000
+narrow_power n k h = go (n ^ k) h
+  where
+    go : (x : ℕ) → (100000 < x → ⊥) → x ≤ 100000
+    go x never = omega arith
+
+index_within : {X : Type 0} (xs : List X) (i : ℕ) (x : X) → slice_get xs i ≡ Some x → i < length xs
+index_within [] i x e = absurd (cc)
+index_within (y ∷ xs) zero x e = omega arith
+index_within (y ∷ xs) (suc i) x e = let rest = index_within xs i x e in omega arith
+
+pub narrow_at : (n : ℕ) (rs : List math.Rule) (i : ℕ) (r : math.Rule) → AreNarrowBelow n rs (length rs) → slice_get rs i ≡ Some r → n ^ length (leaves r.left) ≤ 100000
+narrow_at n rs i r narrow at = narrow_power n (length (leaves r.left)) (narrow i r (index_within rs i r at) at)
+
+-- numbers that fit
+pub symbols_few : (sys : math.System) → IsSystem sys → length sys.arities < 2 ^ 31
+symbols_few sys h = go (length sys.arities) (condition_count sys.rules) h.few_symbols
+  where
+    go : (a b : ℕ) → a + b < 2 ^ 31 → a < 2 ^ 31
+    go a b l = omega arith
+
+pub first_zero : (sys : math.System) (s : Term) (n : ℕ) → n ≡ inner s → 1 + n ≡ first_state sys s 0
+first_zero sys s n e = let z = proper_none sys.rules in omega arith
+
+-- a rule among those that a system hands out
+module _ (sys : math.System) (rs : List Rule) (same : map rule_view rs ≡ sys.rules) (i : ℕ) (r : Rule) (h : i < length rs) (at : r ≡ get_or rs i r) where
+  pub rule_of : slice_get sys.rules i ≡ Some (rule_view r)
+  rule_of = subst (λ z. slice_get z i ≡ Some (rule_view r)) same (rule_seen rs i r h at)
+
+  pub sides_fit : IsSystem sys → Fits (rule_view r).left × Fits (rule_view r).right
+  sides_fit sound = fits_at (map rule_view rs) i (rule_view r) (system_fits sys (map rule_view rs) same sound) (rule_seen rs i r h at)
+
+  pub rule_low : i < length sys.rules
+  rule_low = subst (λ z. i < z) (same_count rs sys same) h

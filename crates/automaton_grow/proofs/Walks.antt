@@ -1,0 +1,85 @@
+-- Walks over the arguments of a term.
+use Rattle.std.proofs.Common.{◌≡◌, ℕ, zero, suc, ◌+◌, ◌<◌, ◌≤◌, refl, sym, ap, ap₂, ◌∙◌, List, [], ◌∷◌, ◌++◌, drop, length, get_or, Vec, Global, Bool, true, false, append_assoc, add-one, min, arith}
+use Rattle.std.specs.Prelude.{nat_eq, if◌then◌else◌}
+use Rattle.std.proofs.Common.{eqb-true}
+use Rattle.rewriting.specs.Terms as math
+use Rattle.rewriting.specs.Terms.{var, app, nil, cons, size, size_all}
+use Rattle.certificates.specs.Evidence as evidence
+use Rattle.automata.specs.Closed.{state_of}
+use Rattle.automata.specs.Growth.{inner, inner_in, top, tops, inside, inside_all, grown}
+use Rattle.term_core.specs.View.{view, views}
+use Rattle.term_core.specs.declared.terms.Term.{Term, Fun}
+use Rattle.term_core.proofs.Views.{view-Fun}
+
+pub args_left : (ts : List Term) (i : ℕ) (t : Term) → i < length ts → t ≡ get_or ts i t → views (drop i ts) ≡ cons (view t) (views (drop (i + 1) ts))
+args_left ts i t h e = rw add-one (go ts i h e)
+  where
+    go : (us : List Term) (k : ℕ) → k < length us → t ≡ get_or us k t → views (drop k us) ≡ cons (view t) (views (drop (suc k) us))
+    go [] k h e = absurd (omega arith)
+    go (u ∷ us) zero h e = ap (λ z. cons (view z) (views us)) (sym e)
+    go (u ∷ us) (suc k) h e = go us k (omega arith) e
+
+pub args_none : (ts : List Term) (i : ℕ) → length ts ≤ i → views (drop i ts) ≡ nil
+args_none [] zero h = refl
+args_none [] (suc i) h = refl
+args_none (t ∷ ts) zero h = absurd (omega arith)
+args_none (t ∷ ts) (suc i) h = args_none ts i (omega arith)
+
+pub append_nil : {X : Type 0} (xs : List X) → xs ++ [] ≡ xs
+append_nil [] = refl
+append_nil (x ∷ xs) = ap (λ z. x ∷ z) (append_nil xs)
+
+-- the term with these arguments
+pub whole : (t : Term) (f : ℕ) (v : Vec Term Global) (items : List Term) → t ≡ Fun f v → items ≡ v.items → view t ≡ app f (views items)
+whole t f v items is e = ap view is ∙ view-Fun f v ∙ ap (λ z. app f (views z)) (sym e)
+
+module _ (e : ℕ → ℕ) (ts : List Term) (i : ℕ) where
+  pub tops_next : (t : Term) (qs more all : List ℕ) (n q k : ℕ) → i < length ts → t ≡ get_or ts i t → qs ++ tops e n (views (drop i ts)) ≡ all → more ≡ qs ++ q ∷ [] → q ≡ top e n (view t) → k ≡ n + inner (view t)
+      → more ++ tops e k (views (drop (i + 1) ts)) ≡ all
+  tops_next t qs more all n q k h at inv put is next =
+      ap₂ (λ z m. z ++ tops e m (views (drop (i + 1) ts))) (put ∙ ap (λ z. qs ++ z ∷ []) is) next
+      ∙ append_assoc qs (top e n (view t) ∷ []) (tops e (n + inner (view t)) (views (drop (i + 1) ts)))
+      ∙ ap (λ z. qs ++ tops e n z) (sym (args_left ts i t h at)) ∙ inv
+
+  inside_grown : (n : ℕ) (t : math.Term) → inside e n t ≡ grown e (n + 1) t n
+  inside_grown n (var x) = refl
+  inside_grown n (app f us) = rw add-one refl
+
+  pub grown_next : (t : Term) (out more all : List evidence.Transition) (n k : ℕ) → i < length ts → t ≡ get_or ts i t → out ++ inside_all e n (views (drop i ts)) ≡ all → more ≡ out ++ grown e (n + 1) (view t) n → k ≡ n + inner (view t)
+      → more ++ inside_all e k (views (drop (i + 1) ts)) ≡ all
+  grown_next t out more all n k h at inv put next =
+      ap₂ (λ z m. z ++ inside_all e m (views (drop (i + 1) ts))) (put ∙ ap (λ z. out ++ z) (sym (inside_grown n (view t)))) next
+      ∙ append_assoc out (inside e n (view t)) (inside_all e (n + inner (view t)) (views (drop (i + 1) ts)))
+      ∙ ap (λ z. out ++ inside_all e n z) (sym (args_left ts i t h at)) ∙ inv
+
+-- how many nodes are left
+pub size_left : (ts : List Term) (i : ℕ) (t : Term) → i < length ts → t ≡ get_or ts i t → size_all (views (drop i ts)) ≡ size (view t) + size_all (views (drop (i + 1) ts))
+size_left ts i t h e = ap size_all (args_left ts i t h e)
+
+pub inner_left : (ts : List Term) (i : ℕ) (t : Term) → i < length ts → t ≡ get_or ts i t → inner_in (views (drop i ts)) ≡ inner (view t) + inner_in (views (drop (i + 1) ts))
+inner_left ts i t h e = ap inner_in (args_left ts i t h e)
+
+pub state_later : (xs cs : List ℕ) (i x : ℕ) → i < length xs → i < length cs → (x ≡ get_or xs i 0 → ⊥) → state_of (drop i xs) (drop i cs) x ≡ state_of (drop (i + 1) xs) (drop (i + 1) cs) x
+state_later xs cs i x h k other = rw add-one (go xs cs i h k other)
+  where
+    test : (y c : ℕ) (ys ds : List ℕ) (b : Bool) → nat_eq x y ≡ b → (x ≡ y → ⊥) → (if b then c else state_of ys ds x) ≡ state_of ys ds x
+    test y c ys ds true e n = absurd (n (eqb-true x y e))
+    test y c ys ds false e n = refl
+
+    go : (ys ds : List ℕ) (j : ℕ) → j < length ys → j < length ds → (x ≡ get_or ys j 0 → ⊥) → state_of (drop j ys) (drop j ds) x ≡ state_of (drop (suc j) ys) (drop (suc j) ds) x
+    go [] ds j h k n = absurd (omega arith)
+    go (y ∷ ys) [] j h k n = absurd (omega arith)
+    go (y ∷ ys) (d ∷ ds) zero h k n = test y d ys ds (nat_eq x y) refl n
+    go (y ∷ ys) (d ∷ ds) (suc j) h k n = go ys ds j (omega arith) (omega arith) n
+
+pub state_none : (xs cs : List ℕ) (i x : ℕ) → min (length xs) (length cs) ≤ i → state_of (drop i xs) (drop i cs) x ≡ 0
+state_none [] cs zero x h = refl
+state_none [] cs (suc i) x h = refl
+state_none (y ∷ xs) [] zero x h = refl
+state_none (y ∷ xs) [] (suc i) x h = none (drop i xs)
+  where
+    none : (zs : List ℕ) → state_of zs [] x ≡ 0
+    none [] = refl
+    none (z ∷ zs) = refl
+state_none (y ∷ xs) (c ∷ cs) zero x h = absurd (omega arith)
+state_none (y ∷ xs) (c ∷ cs) (suc i) x h = state_none xs cs i x (omega arith)

@@ -1,0 +1,18 @@
+use Rattle.std.proofs.Common.{◌≡◌, ◌∙◌, length, map, sym}
+use Rattle.term_core.specs.View.{view}
+use Rattle.cert_model.specs.EvidenceView.{transition_view}
+use Rattle.automaton_grow.proofs.Comparing.{views_length}
+use Rattle.automaton_grow.proofs.Parts.{round_same}
+use Rattle.automaton_grow.proofs.grow_on.Goals as goal
+
+pub returns-then-len : goal.returns-then-len
+returns-then-len c =
+    let ds = map transition_view c.rounds.current.transitions.items in
+    let es = map transition_view c.in-Ok.next.items in
+    let same : length es ≡ length ds =
+    views_length c.in-Ok.next.items ∙ sym (c.len.ensures ∙ c.in-Ok.next.ok.0) ∙ c.if-len.true ∙ (c.len-in-rounds.ensures ∙ c.rounds.current.transitions.ok.0) ∙ sym (views_length c.rounds.current.transitions.items) in
+    record {
+      states = c.rounds.invariant.states ∙ c.requires.states;
+      accepting = c.rounds.invariant.accepting ∙ c.requires.accepting;
+      transitions = round_same c.args.sys.now (view c.args.s.now) ds es c.rounds.invariant.partial c.in-Ok.ensures.0 same;
+    }

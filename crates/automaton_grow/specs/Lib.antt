@@ -1,0 +1,5 @@
+pub mod Growing
+pub mod Placing
+pub mod Limits
+pub mod Rounds
+pub mod Answers

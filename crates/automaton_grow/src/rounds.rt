@@ -1,0 +1,239 @@
+// The transitions that growth starts from, and one round of growth.
+ghost use Rattle.std.specs.Prelude.{◌≡◌, ◌<◌, ◌≤◌, ◌+◌, ◌^◌, map, length, Contains};
+ghost use Rattle.rewriting.specs.Terms.{Fits, size};
+ghost use Rattle.rewriting.specs.Systems.{IsSystem};
+ghost use Rattle.ctrs_classes.specs.Blames as blames;
+ghost use Rattle.automata.specs.Growth.{AreInOrder, state_count};
+ghost use Rattle.term_core.specs.View.{view};
+ghost use Rattle.term_core.specs.RuleView.{rule_view};
+ghost use Rattle.cert_model.specs.EvidenceView.{transition_view, automaton_view};
+ghost use Rattle.automaton_runs.specs.Arrivals.{arrival_view};
+ghost use Rattle.automaton_grow.specs.Growing.{twins, IsAskedAt, IsAskedByRule, IsAskedBelow, AddAnswers, AreAllStates, IsPartial};
+ghost use Rattle.automaton_grow.specs.Limits.{AreNarrowBelow};
+ghost use Rattle.automaton_grow.specs.Rounds.{IsForSymbol, IsBasicOf, IsAskedByRows, PartialAnswers, RoundAnswers};
+
+use crate::GrowError;
+use crate::ordered::{add, add_all};
+use crate::sides::{inner, proper, push_grown, state_of};
+use automaton_runs::{Arrival, AutomatonIndex, arrivals, occurrences};
+use cert_model::{Automaton, Transition};
+use std::alloc::Global;
+use term_core::{Rule, System, Term};
+
+// Adds the transitions from states 0 to the state 0 under each symbol.
+fn add_symbols(
+    alloc: Global,
+    arities: &[u32],
+    transitions: &mut Vec<Transition>,
+) -> Result<(), GrowError>
+    requires few { length arities.now < 2 ^ 31 }
+    requires sorted { AreInOrder (map transition_view transitions.old.items) }
+    requires most { length (map transition_view transitions.old.items) ≤ 5000 }
+    ensures { AddAnswers (IsForSymbol arities.now (length arities.now)) (map transition_view transitions.old.items) (map transition_view transitions.new.items) result }
+{
+    for f in 0..arities.len() {
+        let args = vec![in alloc; 0; arities[f] as usize]?;
+        match add(alloc, Some(f as u32), &args, 0, transitions) {
+            Ok(()) => {}
+            Err(e) => return Err(e),
+        }
+    }
+    Ok(())
+}
+
+// Adds those, then the one for variables, then some others.
+fn add_basic(
+    alloc: Global,
+    arities: &[u32],
+    inside: &[Transition],
+    transitions: &mut Vec<Transition>,
+) -> Result<(), GrowError>
+    requires few { length arities.now < 2 ^ 31 }
+    requires sorted { AreInOrder (map transition_view transitions.old.items) }
+    requires most { length (map transition_view transitions.old.items) ≤ 5000 }
+    ensures { AddAnswers (IsBasicOf arities.now (map transition_view inside.now)) (map transition_view transitions.old.items) (map transition_view transitions.new.items) result }
+{
+    match add_symbols(alloc, arities, transitions) {
+        Ok(()) => {}
+        Err(e) => return Err(e),
+    }
+    match add(alloc, None, &[], 0, transitions) {
+        Ok(()) => {}
+        Err(e) => return Err(e),
+    }
+    add_all(alloc, inside, transitions)
+}
+
+/// The transitions that state 0 and the term ask for.
+pub fn start(alloc: Global, sys: &System, s: &Term) -> Result<Vec<Transition>, GrowError>
+    requires fits { Fits (view s.now) }
+    requires system { IsSystem sys.now }
+    ensures { PartialAnswers sys.now (view s.now) result }
+{
+    let mut inside = Vec::new(alloc);
+    push_grown(alloc, &[], &[], 2, s, 1, &mut inside)?;
+    let mut transitions = Vec::new(alloc);
+    match add_basic(alloc, sys.arities(), &inside, &mut transitions) {
+        Ok(()) => Ok(transitions),
+        Err(e) => Err(e),
+    }
+}
+
+// Adds the twins at a state of the transitions to another.
+fn add_twins(
+    alloc: Global,
+    current: &[Transition],
+    from: u32,
+    to: u32,
+    next: &mut Vec<Transition>,
+) -> Result<(), GrowError>
+    requires sorted { AreInOrder (map transition_view next.old.items) }
+    requires few { length (map transition_view next.old.items) ≤ 5000 }
+    ensures { AddAnswers (Contains (twins from to (map transition_view current.now))) (map transition_view next.old.items) (map transition_view next.new.items) result }
+{
+    for one in current {
+        if one.target == from {
+            match add(alloc, one.symbol, &one.args, to, next) {
+                Ok(()) => {}
+                Err(e) => return Err(e),
+            }
+        }
+    }
+    Ok(())
+}
+
+// Adds what the rule asks for where its left side reaches a state by a choice for its leaves.
+fn add_asked(
+    alloc: Global,
+    rule: &Rule,
+    first: u32,
+    leaves: &[u32],
+    current: &[Transition],
+    choice: &[u32],
+    state: u32,
+    next: &mut Vec<Transition>,
+) -> Result<(), GrowError>
+    requires leaves { leaves.now ≡ blames.leaves (view rule.now.left) }
+    requires room { first + size (view rule.now.right) < 2 ^ 32 }
+    requires sorted { AreInOrder (map transition_view next.old.items) }
+    requires few { length (map transition_view next.old.items) ≤ 5000 }
+    ensures { AddAnswers (IsAskedAt first (rule_view rule.now) (map transition_view current.now) choice.now state) (map transition_view next.old.items) (map transition_view next.new.items) result }
+{
+    match &rule.right {
+        Term::Var(x) => add_twins(alloc, current, state_of(leaves, choice, *x), state, next),
+        Term::Fun(_, _) => {
+            let mut grown = Vec::new(alloc);
+            push_grown(alloc, leaves, choice, first, &rule.right, state, &mut grown)?;
+            add_all(alloc, &grown, next)
+        }
+    }
+}
+
+// Adds what the rule asks for at these arrivals of its left side.
+fn add_rule(
+    alloc: Global,
+    rule: &Rule,
+    first: u32,
+    current: &[Transition],
+    rows: &[Arrival],
+    next: &mut Vec<Transition>,
+) -> Result<(), GrowError>
+    requires room { first + size (view rule.now.right) < 2 ^ 32 }
+    requires sorted { AreInOrder (map transition_view next.old.items) }
+    requires few { length (map transition_view next.old.items) ≤ 5000 }
+    ensures { AddAnswers (IsAskedByRows first (rule_view rule.now) (map transition_view current.now) (map arrival_view rows.now)) (map transition_view next.old.items) (map transition_view next.new.items) result }
+{
+    let leaves = occurrences(alloc, &rule.left)?;
+    for row in rows {
+        match add_asked(
+            alloc,
+            rule,
+            first,
+            &leaves,
+            current,
+            &row.choice,
+            row.state,
+            next,
+        ) {
+            Ok(()) => {}
+            Err(e) => return Err(e),
+        }
+    }
+    Ok(())
+}
+
+// Adds what the rule asks for in the automaton.
+fn grow_rule(
+    alloc: Global,
+    rule: &Rule,
+    first: u32,
+    current: &Automaton,
+    index: &AutomatonIndex<'_>,
+    next: &mut Vec<Transition>,
+) -> Result<(), GrowError>
+    requires index { index.now ≡ automaton_view current.now }
+    requires fits { Fits (view rule.now.left) }
+    requires narrow { current.now.states ^ length (blames.leaves (view rule.now.left)) ≤ 100000 }
+    requires states { AreAllStates (automaton_view current.now) }
+    requires room { first + size (view rule.now.right) < 2 ^ 32 }
+    requires sorted { AreInOrder (map transition_view next.old.items) }
+    requires few { length (map transition_view next.old.items) ≤ 5000 }
+    ensures { AddAnswers (IsAskedByRule current.now.states first (rule_view rule.now) (map transition_view current.now.transitions.items)) (map transition_view next.old.items) (map transition_view next.new.items) result }
+{
+    let rows = arrivals(alloc, index, &rule.left)?;
+    add_rule(alloc, rule, first, &current.transitions, &rows, next)
+}
+
+// Adds what the rules ask for in the automaton.
+fn grow_rules(
+    alloc: Global,
+    sys: &System,
+    s: &Term,
+    current: &Automaton,
+    index: &AutomatonIndex<'_>,
+    next: &mut Vec<Transition>,
+) -> Result<(), GrowError>
+    requires index { index.now ≡ automaton_view current.now }
+    requires fits { Fits (view s.now) }
+    requires states { current.now.states ≡ state_count sys.now (view s.now) }
+    requires most { current.now.states ≤ 64 }
+    requires narrow { AreNarrowBelow current.now.states sys.now.rules (length sys.now.rules) }
+    requires partial { IsPartial sys.now (view s.now) (map transition_view current.now.transitions.items) }
+    requires sorted { AreInOrder (map transition_view next.old.items) }
+    requires few { length (map transition_view next.old.items) ≤ 5000 }
+    ensures { AddAnswers (IsAskedBelow sys.now (view s.now) (length sys.now.rules) (map transition_view current.now.transitions.items)) (map transition_view next.old.items) (map transition_view next.new.items) result }
+{
+    let mut first = 1 + inner(s);
+    let rules = sys.rules();
+    for rule in rules {
+        match grow_rule(alloc, rule, first, current, index, next) {
+            Ok(()) => {}
+            Err(e) => return Err(e),
+        }
+        first += proper(&rule.right);
+    }
+    Ok(())
+}
+
+/// The transitions of the automaton with what they ask for.
+pub fn round(
+    alloc: Global,
+    sys: &System,
+    s: &Term,
+    current: &Automaton,
+) -> Result<Vec<Transition>, GrowError>
+    requires fits { Fits (view s.now) }
+    requires states { current.now.states ≡ state_count sys.now (view s.now) }
+    requires most { current.now.states ≤ 64 }
+    requires narrow { AreNarrowBelow current.now.states sys.now.rules (length sys.now.rules) }
+    requires partial { IsPartial sys.now (view s.now) (map transition_view current.now.transitions.items) }
+    ensures { RoundAnswers sys.now (view s.now) (map transition_view current.now.transitions.items) result }
+{
+    let index = AutomatonIndex::new(alloc, current)?;
+    let copy = current.try_clone(alloc)?;
+    let mut next = copy.transitions;
+    match grow_rules(alloc, sys, s, current, &index, &mut next) {
+        Ok(()) => Ok(next),
+        Err(e) => Err(e),
+    }
+}

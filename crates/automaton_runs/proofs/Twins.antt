@@ -1,0 +1,154 @@
+-- Transitions put into a set, and looked up there.
+use Rattle.std.proofs.Common.{◌≡◌, ◌↔◌, ◌⊎◌, ℕ, inl, inr, ⊎_elim, Bool, true, false, ◌||◌, List, [], ◌∷◌, ◌++◌, map, Option, None, Some, Ordering, nat_cmp, refl, ap, sym, subst, ◌∙◌}
+use Rattle.std.specs.List.{list_any, filter}
+use Rattle.std.specs.Ordering.{is_eq, ordering_then, match_ordering}
+use Rattle.std.specs.Option.{option_cmp}
+use Rattle.std.specs.Cmp.{nat_cmp_total}
+use Rattle.std.specs.Cmp.Lexicographic.{slice_cmp}
+use Rattle.std.specs.BTreeMap.{is_at}
+use Rattle.std.specs.BTreeSet.{insert_key}
+use Rattle.std.specs.declared.cmp.Ordering.TheVariants.{Less, Equal, Greater}
+use Rattle.std.proofs.lemmas.Bool.{false≢true, or_cases}
+use Rattle.std.proofs.lemmas.Cmp.{tied_itself, nat_list_cmp_total}
+use Rattle.std.proofs.Common.{zero, suc, ◌+◌, ◌<◌, ◌≤◌, length, get_or, take, arith}
+use Rattle.std.proofs.lemmas.List.{take_more, map-append}
+use Rattle.certificates.specs.Evidence.{Transition, Automaton}
+use Rattle.cert_model.specs.EvidenceView.{transition_view}
+use Rattle.cert_model.specs.declared.evidence.Transition as cert
+use Rattle.automata.specs.Runs.{Has}
+use Rattle.automaton_runs.specs.Members.{IsIn}
+use Rattle.automaton_runs.specs.Counting.{counts}
+use Rattle.automaton_runs.specs.Twins.{known_view}
+use Rattle.automaton_runs.specs.declared.index.Known.{Known}
+use Rattle.automaton_runs.proofs.Members.{contains_in, in_left, in_right, in_cases, in_filter, filter_in}
+use Rattle.automaton_runs.proofs.Ordered.{same_of, equal_of, is_eq_of}
+use Rattle.automaton_runs.proofs.Counted.{has_from, counts_has}
+
+-- the order of transitions in the set
+abbrev pub compare_known : Known → Known → Ordering
+compare_known x y = ordering_then (option_cmp nat_cmp x.symbol y.symbol) (ordering_then (slice_cmp nat_cmp x.args.now y.args.now) (nat_cmp x.target y.target))
+
+option_same : (a b : Option ℕ) → option_cmp nat_cmp a b ≡ Equal → a ≡ b
+option_same None None e = refl
+option_same None (Some y) e = absurd (cc)
+option_same (Some x) None e = absurd (cc)
+option_same (Some x) (Some y) e = ap Some (equal_of x y e)
+
+option_tied : (a : Option ℕ) → option_cmp nat_cmp a a ≡ Equal
+option_tied None = refl
+option_tied (Some x) = tied_itself nat_cmp_total x
+
+made : Option ℕ → List ℕ → ℕ → Transition
+made s qs q = record { symbol = s; arguments = qs; target = q }
+
+known_equal : (x y : Known) → compare_known x y ≡ Equal → known_view x ≡ known_view y
+unfolding made
+known_equal x y e = first (option_cmp nat_cmp x.symbol y.symbol) refl e
+  where
+    second : (o : Ordering) → slice_cmp nat_cmp x.args.now y.args.now ≡ o → x.symbol ≡ y.symbol → ordering_then o (nat_cmp x.target y.target) ≡ Equal → known_view x ≡ known_view y
+    second Less s p t = absurd (cc)
+    second Equal s p t =
+        ap (λ (f : Option ℕ). made f x.args.now x.target) p ∙ ap (λ (qs : List ℕ). made y.symbol qs x.target) (same_of _ _ s) ∙ ap (λ (q : ℕ). made y.symbol y.args.now q) (equal_of _ _ t)
+    second Greater s p t = absurd (cc)
+
+    first : (o : Ordering) → option_cmp nat_cmp x.symbol y.symbol ≡ o → ordering_then o (ordering_then (slice_cmp nat_cmp x.args.now y.args.now) (nat_cmp x.target y.target)) ≡ Equal → known_view x ≡ known_view y
+    first Less s t = absurd (cc)
+    first Equal s t = second (slice_cmp nat_cmp x.args.now y.args.now) refl (option_same _ _ s) t
+    first Greater s t = absurd (cc)
+
+known_tied : (x y : Known) → known_view x ≡ known_view y → compare_known x y ≡ Equal
+known_tied x y e =
+    let one : option_cmp nat_cmp x.symbol y.symbol ≡ Equal = subst (λ (s : Option ℕ). option_cmp nat_cmp x.symbol s ≡ Equal) (ap (λ (t : Transition). t.symbol) e) (option_tied x.symbol) in
+    let two : slice_cmp nat_cmp x.args.now y.args.now ≡ Equal =
+    subst (λ (s : List ℕ). slice_cmp nat_cmp x.args.now s ≡ Equal) (ap (λ (t : Transition). t.arguments) e) (tied_itself nat_list_cmp_total x.args.now) in
+    let three : nat_cmp x.target y.target ≡ Equal = subst (λ (s : ℕ). nat_cmp x.target s ≡ Equal) (ap (λ (t : Transition). t.target) e) (tied_itself nat_cmp_total x.target) in
+    ap (λ (o : Ordering). ordering_then o (ordering_then (slice_cmp nat_cmp x.args.now y.args.now) (nat_cmp x.target y.target))) one ∙ ap (λ (o : Ordering). ordering_then o (nat_cmp x.target y.target)) two
+    ∙ three
+
+-- what a set has once a transition is put into it
+Grown : List Transition → Transition → List Transition → Transition → Type 0
+Grown old new more u = IsIn u more ↔ (IsIn u old ⊎ (u ≡ new))
+
+inserted : (k x : Known) (xs rest : List Known) (u : Transition) → IsIn u (map known_view rest) ↔ (IsIn u (map known_view xs) ⊎ (u ≡ known_view k)) → (o : Ordering) → compare_known k x ≡ o
+    → IsIn u (map known_view (match_ordering o (k ∷ x ∷ xs) (x ∷ xs) (x ∷ rest))) ↔ (IsIn u (map known_view (x ∷ xs)) ⊎ (u ≡ known_view k))
+inserted k x xs rest u ih Less e = (λ h. ⊎_elim (λ f. inr f) (λ g. inl g) h, λ h. ⊎_elim (λ g. inr g) (λ f. inl f) h)
+inserted k x xs rest u ih Equal e = (λ h. inl h, λ h. ⊎_elim (λ g. g) (λ f. inl (f ∙ known_equal k x e)) h)
+inserted k x xs rest u ih Greater e = (
+  λ h. ⊎_elim (λ f. inl (inl f)) (λ g. ⊎_elim (λ a. inl (inr a)) (λ b. inr b) (ih.0 g)) h,
+  λ h. ⊎_elim (λ g. ⊎_elim (λ f. inl f) (λ a. inr (ih.1 (inl a))) g) (λ f. inr (ih.1 (inr f))) h,
+)
+
+pub in_inserted : (ks : List Known) (k : Known) (u : Transition) → IsIn u (map known_view (insert_key compare_known ks k)) ↔ (IsIn u (map known_view ks) ⊎ (u ≡ known_view k))
+in_inserted [] k u = (λ h. ⊎_elim (λ f. inr f) (λ g. absurd g) h, λ h. ⊎_elim (λ g. absurd g) (λ f. inl f) h)
+in_inserted (x ∷ xs) k u = inserted k x xs (insert_key compare_known xs k) u (in_inserted xs k u) (compare_known k x) refl
+
+or_first : (a b : Bool) → a ≡ true → (a || b) ≡ true
+or_first true b e = refl
+or_first false b e = absurd (false≢true e)
+
+or_second : (a b : Bool) → b ≡ true → (a || b) ≡ true
+or_second true b e = refl
+or_second false b e = e
+
+found : (ks : List Known) (k : Known) → list_any (is_at (compare_known k)) ks ≡ true → IsIn (known_view k) (map known_view ks)
+found [] k e = absurd (false≢true e)
+found (x ∷ xs) k e = ⊎_elim (λ h. inl (known_equal k x (is_eq_of _ h))) (λ h. inr (found xs k h)) (or_cases (is_at (compare_known k) x) (list_any (is_at (compare_known k)) xs) e)
+
+stands : (ks : List Known) (k : Known) → IsIn (known_view k) (map known_view ks) → list_any (is_at (compare_known k)) ks ≡ true
+stands [] k h = absurd h
+stands (x ∷ xs) k (inl e) = or_first (is_at (compare_known k) x) _ (ap is_eq (known_tied k x e))
+stands (x ∷ xs) k (inr h) = or_second (is_at (compare_known k) x) _ (stands xs k h)
+
+-- a look-up answers whether the automaton has the transition
+pub looked_up : (a : Automaton) (ks : List Known) (k : Known) → ((t : Transition) → IsIn t (map known_view ks) ↔ IsIn t (filter (counts a.states) a.transitions))
+    → (list_any (is_at (compare_known k)) ks ≡ true) ↔ Has a k.symbol k.args.now k.target
+looked_up a ks k same = (
+  λ e. let i = in_filter (counts a.states) (known_view k) a.transitions ((same (known_view k)).0 (found ks k e)) in has_from a (known_view k) i.0 i.1,
+  λ h. stands ks k ((same (known_view k)).1 (filter_in (counts a.states) (known_view k) a.transitions (contains_in (known_view k) a.transitions h.listed) (counts_has a k.symbol k.args.now k.target h))),
+)
+
+filter_parts : (p : Transition → Bool) (ts : List Transition) (t u : Transition) → IsIn u (filter p (ts ++ t ∷ [])) ↔ (IsIn u (filter p ts) ⊎ ((u ≡ t) × (p t ≡ true)))
+filter_parts p ts t u = (into, back)
+  where
+    into : IsIn u (filter p (ts ++ t ∷ [])) → IsIn u (filter p ts) ⊎ ((u ≡ t) × (p t ≡ true))
+    into h =
+        let i = in_filter p u (ts ++ t ∷ []) h in
+        ⊎_elim (λ g. inl (filter_in p u ts g i.1)) (λ g. let same : u ≡ t = ⊎_elim (λ e. e) (λ k. absurd k) g in inr (same, ap p (sym same) ∙ i.1)) (in_cases u ts (t ∷ []) i.0)
+
+    back : IsIn u (filter p ts) ⊎ ((u ≡ t) × (p t ≡ true)) → IsIn u (filter p (ts ++ t ∷ []))
+    back (inl g) = let i = in_filter p u ts g in filter_in p u (ts ++ t ∷ []) (in_left u ts (t ∷ []) i.0) i.1
+    back (inr (e, h)) = filter_in p u (ts ++ t ∷ []) (in_right u ts (t ∷ []) (inl e)) (ap p e ∙ h)
+
+-- the loop's step
+pub known_more : (n : ℕ) (ts : List Transition) (t : Transition) (old new : List Transition) → ((u : Transition) → IsIn u old ↔ IsIn u (filter (counts n) ts))
+    → ((u : Transition) → IsIn u new ↔ (IsIn u old ⊎ ((u ≡ t) × (counts n t ≡ true)))) → (u : Transition) → IsIn u new ↔ IsIn u (filter (counts n) (ts ++ t ∷ []))
+known_more n ts t old new same step u =
+    let parts = filter_parts (counts n) ts t u in (
+      λ h. parts.1 (⊎_elim (λ g. inl ((same u).0 g)) (λ p. inr p) ((step u).0 h)),
+      λ h. (step u).1 (⊎_elim (λ g. inl ((same u).1 g)) (λ p. inr p) (parts.0 h)),
+    )
+
+-- a transition that counts is put into the set
+pub put_counted : (n : ℕ) (t : cert.Transition) (k : Known) (old new : List Known) → known_view k ≡ transition_view t → new ≡ insert_key compare_known old k → counts n (transition_view t) ≡ true
+    → (u : Transition) → IsIn u (map known_view new) ↔ (IsIn u (map known_view old) ⊎ ((u ≡ transition_view t) × (counts n (transition_view t) ≡ true)))
+put_counted n t k old new same is e u =
+    let step = in_inserted old k u in (
+      λ h. ⊎_elim (λ g. inl g) (λ f. inr (f ∙ same, e)) (step.0 (subst (λ (ks : List Known). IsIn u (map known_view ks)) is h)),
+      λ h. subst (λ (ks : List Known). IsIn u (map known_view ks)) (sym is) (step.1 (⊎_elim (λ g. inl g) (λ p. inr (p.0 ∙ sym same)) h)),
+    )
+
+pub fields : (k : Known) (t : cert.Transition) → k.symbol ≡ t.symbol → k.args.now ≡ t.args.items → k.target ≡ t.target → known_view k ≡ transition_view t
+unfolding made
+fields k t p s q =
+    ap (λ (f : Option ℕ). made f k.args.now k.target) p ∙ ap (λ (qs : List ℕ). made t.symbol qs k.target) s ∙ ap (λ (r : ℕ). made t.symbol t.args.items r) q
+
+-- the front of a mapped list up to a place
+pub mapped_more : {X Y : Type 0} (f : X → Y) (xs : List X) (i : ℕ) (x : X) → i < length xs → x ≡ get_or xs i x → map f (take (i + 1) xs) ≡ map f (take i xs) ++ f x ∷ []
+mapped_more {X = X} f xs i x h e =
+    ap (map f) (take_more xs i x h ∙ ap (λ (y : X). take i xs ++ y ∷ []) (sym e)) ∙ map-append f (take i xs) (x ∷ [])
+
+pub all_of : {X : Type 0} (xs : List X) (i : ℕ) → length xs ≤ i → take i xs ≡ xs
+all_of [] zero h = refl
+all_of [] (suc i) h = refl
+all_of (x ∷ xs) zero h = absurd (omega arith)
+all_of (x ∷ xs) (suc i) h = ap (λ l. x ∷ l) (all_of xs i (omega arith))

@@ -1,0 +1,23 @@
+-- The arrivals of a term: choices of states for its variable occurrences, each with a state that the term reaches by it.
+use Rattle.std.specs.Prelude.{ℕ, ◌≡◌, ◌<◌, ◌⊎◌, List, Contains}
+use Rattle.std.specs.List.{AllPairs}
+use Rattle.rewriting.specs.Terms.{Term}
+use Rattle.rewriting.specs.Positions.{IsBefore}
+use Rattle.certificates.specs.Evidence.{Automaton}
+use Rattle.automata.specs.Runs.{Has, ReachBy}
+use Rattle.automata.specs.Closed.{IsChoice}
+use Rattle.automaton_runs.specs.declared.runs.Arrival.{Arrival}
+
+-- the choice and the state
+abbrev pub arrival_view : Arrival → List ℕ × ℕ
+arrival_view a = (a.choice.items, a.state)
+
+-- in order by the choice, then the state
+abbrev pub IsArrivalBefore : List ℕ × ℕ → List ℕ × ℕ → Type 0
+IsArrivalBefore (cs, p) (ds, q) = IsBefore cs ds ⊎ ((cs ≡ ds) × (p < q))
+
+-- the list has exactly the choices with the states that the term reaches by them, in order
+pub record AreArrivals (a : Automaton) (t : Term) (rows : List (List ℕ × ℕ)) : Type 0 where
+  pub each : (cs : List ℕ) (q : ℕ) → Contains rows (cs, q) → IsChoice a.states t cs × ReachBy (Has a) t cs q
+  pub complete : (cs : List ℕ) (q : ℕ) → IsChoice a.states t cs → ReachBy (Has a) t cs q → Contains rows (cs, q)
+  pub sorted : AllPairs IsArrivalBefore rows

@@ -1,0 +1,9 @@
+pub mod Members
+pub mod Groups
+pub mod Counting
+pub mod Indexed
+pub mod IndexView
+pub mod Choices
+pub mod Arrivals
+pub mod Made
+pub mod Twins

@@ -1,0 +1,204 @@
+ghost use Rattle.std.specs.Prelude.{◌≡◌, ◌++◌, ◌∷◌, ◌↔◌, ◌⊎◌, ℕ, true, [], IfOk, OnOk, IsTrue, map, filter, if◌then◌else◌};
+ghost use Rattle.certificates.specs.Evidence as math;
+ghost use Rattle.automata.specs.Runs.{Has};
+ghost use Rattle.cert_model.specs.EvidenceView.{transition_view, automaton_view};
+ghost use Rattle.automaton_runs.specs.Counting.{are_below, counts, key_of, chosen, symbol_key, first_key, target_key};
+ghost use Rattle.automaton_runs.specs.Groups.{listed};
+ghost use Rattle.automaton_runs.specs.Members.{IsIn};
+ghost use Rattle.automaton_runs.specs.Twins.{known_view, AreKnown};
+ghost use Rattle.automaton_runs.specs.Indexed.{key_view, pointed, IsGroupedBy};
+
+use crate::groups::Groups;
+use cert_model::{Automaton, Transition};
+use std::alloc::Global;
+use std::collections::BTreeSet;
+use std::marker::Model;
+use term_core::NoMemory;
+
+// What transitions are looked up by.
+#[derive(Clone, Copy, Debug)]
+pub(crate) enum Key {
+    Symbol,
+    FirstArgument,
+    Target,
+}
+
+// A transition, to be looked up.
+#[derive(Clone, Copy, Debug, PartialEq, Eq, PartialOrd, Ord)]
+pub(crate) struct Known<'a> {
+    symbol: Option<u32>,
+    args: &'a [u32],
+    target: u32,
+}
+
+/// The transitions of an automaton that count: by their symbols, first arguments and targets, and as a set.
+#[derive(Debug, Drop)]
+pub struct AutomatonIndex<'a> {
+    automaton: &'a Automaton,
+    by_symbol: Groups<&'a Transition>,
+    by_first: Groups<&'a Transition>,
+    by_target: Groups<&'a Transition>,
+    known: BTreeSet<Known<'a>>,
+}
+
+impl<'a> Model for AutomatonIndex<'a> {
+    ghost use Rattle.certificates.specs.Evidence as evidence;
+    ghost use Rattle.automaton_runs.specs.IndexView.{index_view, IsIndexed};
+
+    ghost Value = { evidence.Automaton };
+
+    ghost view = { index_view };
+
+    ghost invariant = { IsIndexed };
+}
+
+fn are_states(count: u32, numbers: &[u32]) -> bool
+    ensures { result ≡ are_below count numbers.now }
+{
+    for q in numbers {
+        if *q >= count {
+            return false;
+        }
+    }
+    true
+}
+
+// Whether a transition counts: its numbers are states, and without a symbol it has no arguments.
+fn is_counted(states: u32, transition: &Transition) -> bool
+    ensures { result ≡ counts states (transition_view transition.now) }
+{
+    (transition.symbol.is_some() || transition.args.is_empty())
+        && are_states(states, &transition.args)
+        && transition.target < states
+}
+
+fn number_of(key: Key, transition: &Transition) -> Option<u32>
+    ensures { result ≡ key_of (key_view key) (transition_view transition.now) }
+{
+    match key {
+        Key::Symbol => transition.symbol,
+        Key::FirstArgument => transition.args.first().copied(),
+        Key::Target => Some(transition.target),
+    }
+}
+
+// Puts a transition that counts last at its number.
+fn put_transition<'a>(
+    alloc: Global,
+    states: u32,
+    key: Key,
+    transition: &'a Transition,
+    groups: &mut Groups<&'a Transition>,
+) -> Result<(), NoMemory>
+    ensures { OnOk result ((q : ℕ) → pointed (listed groups.new q) ≡ pointed (listed groups.old q) ++ (if chosen (key_view key) states q (transition_view transition.now) then transition_view transition.now ∷ [] else [])) }
+{
+    if is_counted(states, transition) {
+        if let Some(number) = number_of(key, transition) {
+            groups.put(alloc, number, transition)?;
+        }
+    }
+    Ok(())
+}
+
+fn grouped<'a>(
+    alloc: Global,
+    automaton: &'a Automaton,
+    key: Key,
+) -> Result<Groups<&'a Transition>, NoMemory>
+    ensures { IfOk result (IsGroupedBy (key_view key) (automaton_view automaton.now)) }
+{
+    let mut groups = Groups::new(alloc);
+    for transition in &automaton.transitions {
+        put_transition(alloc, automaton.states, key, transition, &mut groups)?;
+    }
+    Ok(groups)
+}
+
+// Puts a transition that counts into the set.
+fn put_known<'a>(
+    states: u32,
+    transition: &'a Transition,
+    known: &mut BTreeSet<Known<'a>>,
+) -> Result<(), NoMemory>
+    ensures { OnOk result ((t : math.Transition) → IsIn t (map known_view known.new.keys) ↔ (IsIn t (map known_view known.old.keys) ⊎ ((t ≡ transition_view transition.now) × (counts states (transition_view transition.now) ≡ true)))) }
+{
+    if is_counted(states, transition) {
+        known.insert(Known {
+            symbol: transition.symbol,
+            args: &transition.args,
+            target: transition.target,
+        })?;
+    }
+    Ok(())
+}
+
+fn known_transitions<'a>(
+    alloc: Global,
+    automaton: &'a Automaton,
+) -> Result<BTreeSet<Known<'a>>, NoMemory>
+    ensures { IfOk result (λ known. AreKnown automaton.now.states (map transition_view automaton.now.transitions.items) known) }
+{
+    let mut known = BTreeSet::new(alloc);
+    for transition in &automaton.transitions {
+        put_known(automaton.states, transition, &mut known)?;
+    }
+    Ok(known)
+}
+
+impl<'a> AutomatonIndex<'a> {
+    /// The index of an automaton, whose numbers may be any.
+    pub fn new(alloc: Global, automaton: &'a Automaton) -> Result<AutomatonIndex<'a>, NoMemory>
+        ensures { IfOk result (λ index. index ≡ automaton_view automaton.now) }
+    {
+        let by_symbol = grouped(alloc, automaton, Key::Symbol)?;
+        let by_first = grouped(alloc, automaton, Key::FirstArgument)?;
+        let by_target = grouped(alloc, automaton, Key::Target)?;
+        let known = known_transitions(alloc, automaton)?;
+        Ok(AutomatonIndex {
+            automaton,
+            by_symbol,
+            by_first,
+            by_target,
+            known,
+        })
+    }
+
+    /// The number of states.
+    pub fn states(&self) -> u32
+        ensures { result ≡ self.now.states }
+    {
+        self.automaton.states
+    }
+
+    /// The transitions that count and have this symbol.
+    pub fn with_symbol(&self, f: u32) -> &[&'a Transition]
+        ensures { pointed result.now ≡ filter (chosen symbol_key self.now.states f) self.now.transitions }
+    {
+        self.by_symbol.at(f)
+    }
+
+    /// The transitions that count and have this first argument.
+    pub fn with_first(&self, q: u32) -> &[&'a Transition]
+        ensures { pointed result.now ≡ filter (chosen first_key self.now.states q) self.now.transitions }
+    {
+        self.by_first.at(q)
+    }
+
+    /// The transitions that count and have this target.
+    pub fn with_target(&self, q: u32) -> &[&'a Transition]
+        ensures { pointed result.now ≡ filter (chosen target_key self.now.states q) self.now.transitions }
+    {
+        self.by_target.at(q)
+    }
+
+    /// Whether the automaton has a transition: it is listed, and counts.
+    pub fn has(&self, symbol: Option<u32>, args: &'a [u32], target: u32) -> bool
+        ensures { IsTrue result ↔ Has self.now symbol args.now target }
+    {
+        self.known.contains(&Known {
+            symbol,
+            args,
+            target,
+        })
+    }
+}

@@ -1,0 +1,115 @@
+//! Arrivals of terms.
+use crate::{Arrival, AutomatonIndex, arrivals, has_more_choices, occurrences};
+use cert_model::{Automaton, Transition};
+use std::alloc::{AllocError, Global};
+use std::process::Abort;
+use std::test::Fail;
+use term_core::{Term, fits};
+
+fn move_to(
+    alloc: Global,
+    symbol: Option<u32>,
+    args: &[u32],
+    target: u32,
+) -> Result<Transition, AllocError> {
+    Ok(Transition {
+        symbol,
+        args: Vec::from_slice(alloc, args)?,
+        target,
+    })
+}
+
+// Two states, f(0, 1) -> 1, f(1, 1) -> 0, a -> 0 and | 0; the others do not count.
+fn two_states(alloc: Global) -> Result<Automaton, AllocError> {
+    let transitions = [
+        move_to(alloc, Some(0), &[0, 1], 1)?,
+        move_to(alloc, Some(0), &[1, 1], 0)?,
+        move_to(alloc, Some(0), &[1, 1], 0)?,
+        move_to(alloc, Some(1), &[], 0)?,
+        move_to(alloc, None, &[], 0)?,
+        move_to(alloc, None, &[1], 1)?,
+        move_to(alloc, Some(0), &[0, 5], 1)?,
+        move_to(alloc, Some(0), &[0], 1)?,
+        move_to(alloc, Some(1), &[], 4_000_000_000)?,
+    ];
+    Ok(Automaton {
+        states: 2,
+        accepting: Vec::new(alloc),
+        transitions: Vec::from_array(alloc, transitions)?,
+    })
+}
+
+fn f(alloc: Global, first: Term, second: Term) -> Result<Term, AllocError> {
+    Ok(Term::Fun(0, Vec::from_array(alloc, [first, second])?))
+}
+
+fn found(rt: &impl Abort, alloc: Global, t: &Term) -> Result<Vec<Arrival>, Fail> {
+    let automaton = two_states(alloc)?;
+    let index = AutomatonIndex::new(alloc, &automaton)?;
+    let names = occurrences(alloc, t)?;
+    assert!(rt; fits(t));
+    assert!(rt; !has_more_choices(index.states(), names.len(), 1_000_000));
+    Ok(arrivals(alloc, &index, t)?)
+}
+
+fn same(rows: &[Arrival], wanted: &[(&[u32], u32)]) -> bool {
+    if rows.len() != wanted.len() {
+        return false;
+    }
+    for (row, (choice, state)) in rows.iter().zip(wanted) {
+        if row.choice.as_slice() != *choice || row.state != *state {
+            return false;
+        }
+    }
+    true
+}
+
+#[test]
+fn each_occurrence_has_a_state_of_its_own(rt: HostRuntime) -> Result<(), Fail> {
+    let alloc = rt.alloc();
+    let twice = f(alloc, Term::Var(0), Term::Var(0))?;
+    let rows = found(&rt, alloc, &twice)?;
+    assert!(rt; same(&rows, &[(&[0, 1], 1), (&[1, 1], 0)]));
+    let inner = f(alloc, Term::Var(0), Term::Var(1))?;
+    let nested = f(alloc, inner, Term::Var(0))?;
+    let rows = found(&rt, alloc, &nested)?;
+    assert!(rt; same(&rows, &[(&[0, 1, 1], 0), (&[1, 1, 1], 1)]));
+    Ok(())
+}
+
+#[test]
+fn symbols_without_arguments_and_variables_arrive(rt: HostRuntime) -> Result<(), Fail> {
+    let alloc = rt.alloc();
+    let rows = found(&rt, alloc, &Term::Fun(1, Vec::new(alloc)))?;
+    assert!(rt; same(&rows, &[(&[], 0)]));
+    let rows = found(&rt, alloc, &Term::Var(7))?;
+    assert!(rt; same(&rows, &[(&[0], 0), (&[1], 1)]));
+    let rows = found(&rt, alloc, &Term::Fun(2, Vec::new(alloc)))?;
+    assert!(rt; rows.is_empty());
+    Ok(())
+}
+
+#[test]
+fn only_listed_transitions_that_count_are_had(rt: HostRuntime) -> Result<(), Fail> {
+    let alloc = rt.alloc();
+    let automaton = two_states(alloc)?;
+    let index = AutomatonIndex::new(alloc, &automaton)?;
+    assert!(rt; index.has(Some(0), &[0, 1], 1));
+    assert!(rt; index.has(None, &[], 0));
+    assert!(rt; !index.has(Some(0), &[0, 1], 0));
+    assert!(rt; !index.has(None, &[1], 1));
+    assert!(rt; !index.has(Some(0), &[0, 5], 1));
+    assert_eq!(rt; index.with_symbol(0).len(), 4);
+    assert_eq!(rt; index.with_first(1).len(), 2);
+    assert_eq!(rt; index.with_target(0).len(), 4);
+    Ok(())
+}
+
+#[test]
+fn choices_are_counted_up_to_a_limit(rt: HostRuntime) {
+    assert!(rt; !has_more_choices(1000, 2, 1_000_000));
+    assert!(rt; has_more_choices(1001, 2, 1_000_000));
+    assert!(rt; has_more_choices(4_000_000_000, 4_000_000_000, 1_000_000));
+    assert!(rt; !has_more_choices(0, 1, 1));
+    assert!(rt; !has_more_choices(1, 5, 1));
+}

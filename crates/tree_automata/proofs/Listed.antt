@@ -1,0 +1,78 @@
+-- Arrivals at one of some states, row by row; transitions and their twins.
+use Rattle.std.proofs.Common.{◌≡◌, ℕ, ◌+◌, ◌<◌, ◌≤◌, ◌^◌, ⊎_elim, List, length, map, get_or, take, false, IsTrue, Bor, ap, sym, subst, ◌∙◌, arith}
+use Rattle.std.specs.List.{filter}
+use Rattle.std.proofs.lemmas.Bool.{false≢true}
+use Rattle.rewriting.specs.Terms.{Term}
+use Rattle.rewriting.specs.Rules.{System}
+use Rattle.ctrs_classes.specs.Blames.{leaves}
+use Rattle.certificates.specs.Evidence.{Transition, Automaton}
+use Rattle.automata.specs.Runs.{Has}
+use Rattle.automata.specs.Closed.{IsHead, Includes, IsWide}
+use Rattle.cert_model.specs.EvidenceView.{transition_view}
+use Rattle.cert_model.specs.declared.evidence.Transition as cert
+use Rattle.automaton_runs.specs.Arrivals.{arrival_view}
+use Rattle.automaton_runs.specs.Members.{IsIn}
+use Rattle.automaton_runs.specs.Counting.{chosen, target_key}
+use Rattle.automaton_runs.specs.Indexed.{pointed}
+use Rattle.automaton_runs.specs.declared.runs.Arrival.{Arrival}
+use Rattle.automaton_runs.proofs.Members.{in_map, in_map_back}
+use Rattle.automaton_runs.proofs.Twins.{all_of}
+use Rattle.tree_automata.specs.Open.{IsOneListed, HaveTwins}
+use Rattle.tree_automata.proofs.Lists.{in_front}
+use Rattle.tree_automata.proofs.Looked.{looked_from}
+use Rattle.tree_automata.proofs.Open.{listed_from, listed_to, twins_include}
+use Rattle.tree_automata.proofs.Accepted.{at_in}
+
+module _ (rows : List Arrival) (numbers : List ℕ) (i : ℕ) where
+  pub listed_here : (x : Arrival) → i < length rows → x ≡ get_or rows i x → IsIn x.state numbers → IsOneListed (map arrival_view rows) numbers
+  listed_here x inside is k = listed_to (map arrival_view rows) numbers (arrival_view x) (in_map arrival_view x rows (at_in rows i x inside is)) k
+
+  pub listed_more : (x : Arrival) → i < length rows → x ≡ get_or rows i x → (IsOneListed (map arrival_view (take i rows)) numbers → ⊥) → (IsIn x.state numbers → ⊥)
+      → IsOneListed (map arrival_view (take (i + 1) rows)) numbers → ⊥
+  listed_more x inside is front never h =
+      let b = listed_from (map arrival_view (take (i + 1) rows)) numbers h in
+      let m = in_map_back arrival_view b.0 (take (i + 1) rows) b.1 in
+      let there : IsIn m.0.state numbers = subst (λ (r : List ℕ × ℕ). IsIn r.1 numbers) m.2 b.2 in
+      ⊎_elim (λ k. front (listed_to (map arrival_view (take i rows)) numbers (arrival_view m.0) (in_map arrival_view m.0 (take i rows) k) there))
+      (λ e. never (subst (λ (y : Arrival). IsIn y.state numbers) e there)) (in_front rows i x m.0 inside is m.1)
+
+  pub listed_none : length rows ≤ i → (IsOneListed (map arrival_view (take i rows)) numbers → ⊥) → IsOneListed (map arrival_view rows) numbers → ⊥
+  listed_none past front h = front (subst (λ (l : List Arrival). IsOneListed (map arrival_view l) numbers) (sym (all_of rows i past)) h)
+
+-- as many choices as there are variable occurrences ask for
+pub wide_by : (a : Automaton) (t : Term) (n : ℕ) (names : List ℕ) → n ≡ length names → names ≡ leaves t → 1000000 < a.states ^ n → IsWide a t
+wide_by a t n names e l h = subst (λ (k : ℕ). 1000000 < a.states ^ k) (e ∙ ap length l) h
+
+pub narrow_by : (a : Automaton) (t : Term) (n : ℕ) (names : List ℕ) → n ≡ length names → names ≡ leaves t → (1000000 < a.states ^ n → IsTrue false) → IsWide a t → ⊥
+narrow_by a t n names e l h w = false≢true (h (subst (λ (k : ℕ). 1000000 < a.states ^ k) (sym (e ∙ ap length l)) w))
+
+pub few_by : (a : Automaton) (t : Term) → (IsWide a t → ⊥) → a.states ^ length (leaves t) ≤ 1000000
+few_by a t h = go (a.states ^ length (leaves t)) h
+  where
+    go : (n : ℕ) → (1000000 < n → ⊥) → n ≤ 1000000
+    go n k = omega arith
+
+module _ (sys : System) (a : Automaton) (q p : ℕ) (refs : List (Bor cert.Transition)) (is : pointed refs ≡ filter (chosen target_key a.states p) a.transitions) (i : ℕ) where
+  pub twin_missing : (x : Bor cert.Transition) → i < length refs → x ≡ get_or refs i x → IsHead sys x.now.symbol x.now.args.items → (Has a x.now.symbol x.now.args.items q → ⊥) → Includes sys (Has a) q p → ⊥
+  twin_missing x inside here head never twins =
+      let t = transition_view x.now in
+      let there : IsIn t (pointed refs) = in_map (λ (r : Bor cert.Transition). transition_view r.now) x refs (at_in refs i x inside here) in
+      let f = looked_from a target_key p t (subst (λ (l : List Transition). IsIn t l) is there) in
+      let target : x.now.target ≡ p = cc in
+      never (twins x.now.symbol x.now.args.items head (subst (λ (s : ℕ). Has a x.now.symbol x.now.args.items s) target f.0))
+
+  pub twins_more : (x : Bor cert.Transition) → i < length refs → x ≡ get_or refs i x → HaveTwins sys a (pointed (take i refs)) q → (IsHead sys x.now.symbol x.now.args.items → Has a x.now.symbol x.now.args.items q)
+      → HaveTwins sys a (pointed (take (i + 1) refs)) q
+  twins_more x inside here front twin t h head =
+      let view : Bor cert.Transition → Transition = λ r. transition_view r.now in
+      let b = in_map_back view t (take (i + 1) refs) h in
+      ⊎_elim (λ k. front t (subst (λ (u : Transition). IsIn u (pointed (take i refs))) (sym b.2) (in_map view b.0 (take i refs) k)) head)
+      (λ e.
+      let same : t ≡ transition_view x.now = b.2 ∙ ap view e in
+      subst (λ (u : Transition). IsHead sys u.symbol u.arguments → Has a u.symbol u.arguments q) (sym same) twin head)
+      (in_front refs i x b.0 inside here b.1)
+
+  pub twins_all : length refs ≤ i → HaveTwins sys a (pointed (take i refs)) q → Includes sys (Has a) q p
+  twins_all past front =
+      twins_include sys a q p (pointed (take i refs))
+      (λ t h. subst (λ (l : List (Bor cert.Transition)). IsIn t (pointed l)) (sym (all_of refs i past)) (subst (λ (l : List Transition). IsIn t l) (sym is) h)) front

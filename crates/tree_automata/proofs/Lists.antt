@@ -1,0 +1,73 @@
+-- Lists of numbers and lists side by side.
+use Rattle.std.proofs.Common.{◌≡◌, ◌↔◌, ℕ, zero, suc, ◌+◌, ◌<◌, ◌⊎◌, inl, inr, ⊎_elim, Bool, true, false, ◌||◌, nat_eq, eqb-true, eq-eqb, eqb, List, [], ◌∷◌, ◌++◌, length, map, get_or, take, Some, slice_get, refl, ap, sym, subst, ◌∙◌, arith}
+use Rattle.std.specs.List.{list_any, AllZip, dedup}
+use Rattle.std.specs.List.Sorted.{IsPermutation}
+use Rattle.std.proofs.lemmas.Bool.{false≢true, or_cases}
+use Rattle.std.proofs.lemmas.List.{take_more}
+use Rattle.std.proofs.lemmas.List.Kept.{Contains-dedup_nat, Contains-from_dedup}
+use Rattle.std.proofs.lemmas.List.Sorted.{IsPermutation-sym, Contains-permutation}
+use Rattle.automaton_runs.specs.Members.{IsIn}
+use Rattle.automaton_runs.proofs.Members.{contains_in, in_contains}
+
+or_first : (a b : Bool) → a ≡ true → (a || b) ≡ true
+or_first true b e = refl
+or_first false b e = absurd (false≢true e)
+
+or_second : (a b : Bool) → b ≡ true → (a || b) ≡ true
+or_second true b e = refl
+or_second false b e = e
+
+pub any_in : (q : ℕ) (s : List ℕ) → list_any (λ y. nat_eq y q) s ≡ true → IsIn q s
+any_in q [] e = absurd (false≢true e)
+any_in q (y ∷ ys) e = ⊎_elim (λ h. inl (sym (eqb-true y q h))) (λ h. inr (any_in q ys h)) (or_cases (nat_eq y q) (list_any (λ z. nat_eq z q) ys) e)
+
+pub in_any : (q : ℕ) (s : List ℕ) → IsIn q s → list_any (λ y. nat_eq y q) s ≡ true
+in_any q [] h = absurd h
+in_any q (y ∷ ys) (inl e) = or_first (nat_eq y q) _ (eq-eqb y q (sym e))
+in_any q (y ∷ ys) (inr h) = or_second (nat_eq y q) _ (in_any q ys h)
+
+-- numbers that are sorted, each once
+pub same_numbers : (old sorted new : List ℕ) → IsPermutation old sorted → new ≡ dedup eqb sorted → (q : ℕ) → IsIn q new ↔ IsIn q old
+same_numbers old sorted new moved is q = (
+  λ h. contains_in q old (Contains-permutation sorted old q (IsPermutation-sym old sorted moved) (Contains-from_dedup eqb sorted q (in_contains q (dedup eqb sorted) (subst (λ (l : List ℕ). IsIn q l) is h)))),
+  λ h. subst (λ (l : List ℕ). IsIn q l) (sym is) (contains_in q (dedup eqb sorted) (Contains-dedup_nat sorted q (Contains-permutation old sorted q moved (in_contains q old h)))),
+)
+
+zip_push : {X Y : Type 0} (R : X → Y → Type 0) (xs : List X) (ys : List Y) (x : X) (y : Y) → AllZip R xs ys → R x y → AllZip R (xs ++ x ∷ []) (ys ++ y ∷ [])
+zip_push R [] [] x y z h = (h, tt)
+zip_push R [] (d ∷ ys) x y z h = absurd z
+zip_push R (u ∷ xs) [] x y z h = absurd z
+zip_push R (u ∷ xs) (d ∷ ys) x y z h = (z.0, zip_push R xs ys x y z.1 h)
+
+pub zip_more : {X Y : Type 0} (R : X → Y → Type 0) (xs : List X) (ys : List Y) (i : ℕ) (x : X) (y : Y) → i < length xs → x ≡ get_or xs i x → AllZip R (take i xs) ys → R x y
+    → AllZip R (take (i + 1) xs) (ys ++ y ∷ [])
+zip_more {X = X} R xs ys i x y inside is z h =
+    subst (λ (l : List X). AllZip R l (ys ++ y ∷ [])) (sym (take_more xs i x inside ∙ ap (λ (u : X). take i xs ++ u ∷ []) (sym is))) (zip_push R (take i xs) ys x y z h)
+
+-- the element at a place
+pub mapped_at : {X Y : Type 0} (f : X → Y) (xs : List X) (i : ℕ) (x : X) → i < length xs → x ≡ get_or xs i x → slice_get (map f xs) i ≡ Some (f x)
+mapped_at f [] i x h e = absurd (omega arith)
+mapped_at f (y ∷ ys) zero x h e = ap (λ z. Some (f z)) (sym e)
+mapped_at f (y ∷ ys) (suc i) x h e = mapped_at f ys i x (omega arith) e
+
+pub mapped_within : {X Y : Type 0} (f : X → Y) (xs : List X) (i : ℕ) (y : Y) → slice_get (map f xs) i ≡ Some y → i < length xs
+mapped_within f [] i y e = absurd (cc)
+mapped_within f (x ∷ xs) zero y e = omega arith
+mapped_within f (x ∷ xs) (suc i) y e = let low = mapped_within f xs i y e in omega arith
+
+-- the front of a list up to a place, and the element there
+pub in_front : {X : Type 0} (xs : List X) (i : ℕ) (x u : X) → i < length xs → x ≡ get_or xs i x → IsIn u (take (i + 1) xs) → IsIn u (take i xs) ⊎ (u ≡ x)
+in_front xs i x u h e k = go xs i h e (subst (λ n. IsIn u (take n xs)) (let q : i + 1 ≡ suc i = omega arith in q) k)
+  where
+    go : (ys : List _) (j : ℕ) → j < length ys → x ≡ get_or ys j x → IsIn u (take (suc j) ys) → IsIn u (take j ys) ⊎ (u ≡ x)
+    go [] j h e k = absurd (omega arith)
+    go (y ∷ ys) zero h e (inl f) = inr (f ∙ sym e)
+    go (y ∷ ys) zero h e (inr f) = absurd f
+    go (y ∷ ys) (suc j) h e (inl f) = inl (inl f)
+    go (y ∷ ys) (suc j) h e (inr f) = ⊎_elim (λ a. inl (inr a)) (λ b. inr b) (go ys j (omega arith) e f)
+
+pub taken_map : {X Y : Type 0} (f : X → Y) (xs : List X) (i : ℕ) → map f (take i xs) ≡ take i (map f xs)
+taken_map f [] zero = refl
+taken_map f [] (suc i) = refl
+taken_map f (x ∷ xs) zero = refl
+taken_map f (x ∷ xs) (suc i) = ap (λ l. f x ∷ l) (taken_map f xs i)

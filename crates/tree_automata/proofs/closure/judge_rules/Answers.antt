@@ -1,0 +1,38 @@
+use Rattle.std.proofs.Common.{◌+◌, ℕ, refl, ap, subst}
+use Rattle.term_core.specs.RuleView.{rule_view}
+use Rattle.tree_automata.specs.Open.{IsRuleClosed, OpenAnswers}
+use Rattle.tree_automata.proofs.Open.{rule_stands, rules_past, left_fits, numbered, all_closed, first_open_of, each_more}
+use Rattle.tree_automata.proofs.closure.judge_rules.Goals as goal
+
+pub first_open-requires-clause-fits : goal.first_open-requires-clause-fits
+first_open-requires-clause-fits c =
+    left_fits c.args.sys.now c.rules.rule-index (rule_view c.rule-item.result) c.rules-rule-items.ensures.sound
+    (rule_stands c.args.sys.now c.rules-rule-items.result.now c.rules.rule-index c.rule-item.result c.rules-rule-items.ensures.rules c.rules-test.true c.rule-item.is)
+
+pub first_open-requires-clause-narrow : goal.first_open-requires-clause-narrow
+first_open-requires-clause-narrow c =
+    let at = rule_stands c.args.sys.now c.rules-rule-items.result.now c.rules.rule-index c.rule-item.result c.rules-rule-items.ensures.rules c.rules-test.true c.rule-item.is in
+    c.requires (c.rules.rule-index + 1) (rule_view c.rule-item.result) (numbered c.args.sys.now c.rules.rule-index (c.rules.rule-index + 1) (rule_view c.rule-item.result) refl at)
+
+pub returns-in-Some : goal.returns-in-Some
+returns-in-Some c =
+    let sys = c.args.sys.now in
+    let a = c.args.index.now in
+    let r = rule_view c.rule-item.result in
+    let at = rule_stands sys c.rules-rule-items.result.now c.rules.rule-index c.rule-item.result c.rules-rule-items.ensures.rules c.rules-test.true c.rule-item.is in
+    first_open_of sys a c.rules.rule-index (c.rules.number + 1) r c.in-Some.arrival.choice.items c.in-Some.arrival.state (ap (λ (k : ℕ). k + 1) c.rules.invariant.counted) at
+    (subst (OpenAnswers sys a r) c.in-Some.is c.in_ok-first_open.ensures) c.rules.invariant.closed
+
+pub rules-preserved : goal.rules-preserved
+rules-preserved c =
+    let sys = c.args.sys.now in
+    let a = c.args.index.now in
+    let r = rule_view c.rule-item.result in
+    let at = rule_stands sys c.rules-rule-items.result.now c.rules.rule-index c.rule-item.result c.rules-rule-items.ensures.rules c.rules-test.true c.rule-item.is in record {
+      counted = ap (λ (k : ℕ). k + 1) c.rules.invariant.counted;
+      closed = each_more (IsRuleClosed sys a) sys.rules c.rules.rule-index r at (subst (OpenAnswers sys a r) c.in-None.is c.in_ok-first_open.ensures) c.rules.invariant.closed;
+    }
+
+pub returns : goal.returns
+returns c =
+    all_closed c.args.sys.now c.args.index.now c.rules.rule-index (rules_past c.args.sys.now c.rules-rule-items.result.now c.rules.rule-index c.rules-rule-items.ensures.rules c.rules-test.false) c.rules.invariant.closed

@@ -1,0 +1,3 @@
+pub mod States
+pub mod Open
+pub mod Accepts

@@ -1,0 +1,74 @@
+ghost use Rattle.std.specs.Prelude.{◌≡◌, ◌↔◌, IfOk};
+ghost use Rattle.rewriting.specs.Terms as math;
+ghost use Rattle.automata.specs.Closed.{IsWide, AreNarrow};
+ghost use Rattle.automata.specs.Evidence.{IsClosureJudged};
+ghost use Rattle.term_core.specs.View.{view};
+ghost use Rattle.term_core.specs.RuleView.{rule_view};
+ghost use Rattle.cert_model.specs.EvidenceView.{automaton_view};
+ghost use Rattle.refuter.specs.Answers.{RefutesAnswers};
+ghost use Rattle.tree_automata.specs.Open.{OpenAnswers, IsOpenJudged};
+
+use crate::sides::is_kept;
+use crate::width::judge_widths;
+use automaton_runs::{Arrival, AutomatonIndex, arrivals, occurrences};
+use cert_model::{Automaton, EvidenceReason};
+use refuter::Refusal;
+use std::alloc::Global;
+use term_core::{NoMemory, Rule, System};
+
+// The first arrival of the left side at which the right side is not kept.
+fn first_open(
+    alloc: Global,
+    index: &AutomatonIndex<'_>,
+    sys: &System,
+    rule: &Rule,
+) -> Result<Option<Arrival>, NoMemory>
+    requires fits { math.Fits (view rule.now.left) }
+    requires narrow { IsWide index.now (view rule.now.left) → ⊥ }
+    ensures { IfOk result (OpenAnswers sys.now index.now (rule_view rule.now)) }
+{
+    let names = occurrences(alloc, &rule.left)?;
+    let rows = arrivals(alloc, index, &rule.left)?;
+    for row in &rows {
+        if !is_kept(alloc, index, sys, &rule.right, &names, row)? {
+            return Ok(Some(Arrival {
+                choice: Vec::from_slice(alloc, &row.choice)?,
+                state: row.state,
+            }));
+        }
+    }
+    Ok(None)
+}
+
+// Whether every right side is kept, or the first that is not.
+fn judge_rules(alloc: Global, index: &AutomatonIndex<'_>, sys: &System) -> Result<(), Refusal>
+    requires { AreNarrow sys.now index.now }
+    ensures { RefutesAnswers (IsOpenJudged sys.now index.now) result }
+{
+    let mut number: u32 = 0;
+    'rules: for rule in sys.rules() {
+        number += 1;
+        match first_open(alloc, index, sys, rule)? {
+            None => {}
+            Some(arrival) => {
+                return Err(Refusal::Reason(EvidenceReason::AutoNotClosed {
+                    rule: number,
+                    states: arrival.choice,
+                    target: arrival.state,
+                }));
+            }
+        }
+    }
+    Ok(())
+}
+
+/// Whether an automaton is closed under the rules of a system: where a left side reaches a state, so does the
+/// right side. Else `AutoWide` for the first left side with more than 1,000,000 choices of states, or
+/// `AutoNotClosed` for the first rule, choice and state at which the right side is not kept.
+pub fn is_closed(alloc: Global, sys: &System, a: &Automaton) -> Result<(), Refusal>
+    ensures { RefutesAnswers (λ o. IsClosureJudged sys.now (automaton_view a.now) o) result }
+{
+    let index = AutomatonIndex::new(alloc, a)?;
+    judge_widths(alloc, &index, sys)?;
+    judge_rules(alloc, &index, sys)
+}

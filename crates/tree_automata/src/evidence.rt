@@ -1,0 +1,70 @@
+ghost use Rattle.std.specs.Prelude.{◌≡◌, ◌≤◌, length, map, option_map};
+ghost use Rattle.rewriting.specs.Terms as math;
+ghost use Rattle.certificates.specs.Judging.{hypothesis_at};
+ghost use Rattle.certificates.specs.Sizes.{DoConditionsFit};
+ghost use Rattle.automata.specs.Evidence.{IsConditionJudged};
+ghost use Rattle.term_core.specs.View.{view};
+ghost use Rattle.term_core.specs.RuleView.{condition_view};
+ghost use Rattle.cert_model.specs.EvidenceView.{automaton_view};
+ghost use Rattle.refuter.specs.Answers.{RefutesAnswers};
+
+use crate::accepts::{accepts_all, is_accepted};
+use crate::closure::is_closed;
+use crate::exclusion::excludes;
+use automaton_runs::AutomatonIndex;
+use cert_model::{Automaton, EvidenceReason};
+use refuter::{Refusal, Refuter};
+use std::alloc::Global;
+use term_core::{Cond, System};
+
+/// Evidence that conditions are never met: an automaton for the condition with a number, from 1.
+#[derive(Clone, Copy, Debug)]
+pub struct AutoEvidence<'a> {
+    pub cond: u32,
+    pub automaton: &'a Automaton,
+}
+
+// The condition with a number, from 1.
+fn condition(conds: &[Cond], number: u32) -> Option<&Cond>
+    ensures { option_map (λ c. condition_view c.now) result ≡ hypothesis_at (map condition_view conds.now) number }
+{
+    if number == 0 {
+        return None;
+    }
+    conds.get(number as usize - 1)
+}
+
+// Judges an automaton for one condition.
+fn judge_condition(alloc: Global, sys: &System, cond: &Cond, a: &Automaton) -> Result<(), Refusal>
+    requires left { math.Fits (view cond.now.left) }
+    requires right { math.Fits (view cond.now.right) }
+    ensures { RefutesAnswers (λ o. IsConditionJudged sys.now (condition_view cond.now) (automaton_view a.now) o) result }
+{
+    let index = AutomatonIndex::new(alloc, a)?;
+    if !accepts_all(&index, sys) {
+        return Err(Refusal::Reason(EvidenceReason::AutoAny));
+    }
+    if !is_accepted(alloc, &index, a, &cond.left)? {
+        return Err(Refusal::Reason(EvidenceReason::AutoMisses));
+    }
+    match is_closed(alloc, sys, a) {
+        Ok(()) => excludes(alloc, a, &cond.right),
+        Err(why) => Err(why),
+    }
+}
+
+impl Refuter for AutoEvidence<'_> {
+    ghost use Rattle.automata.specs.Evidence.{JudgedByAutomaton};
+    ghost use Rattle.automata.proofs.Kept.{refutes as never_met};
+
+    ghost judged = { λ e s cs. JudgedByAutomaton s cs e.cond (automaton_view e.automaton.now) };
+
+    fn refutes(&self, alloc: Global, sys: &System, conds: &[Cond]) -> Result<(), Refusal> {
+        let Some(cond) = condition(conds, self.cond) else {
+            return Err(Refusal::Reason(EvidenceReason::AutoNumber));
+        };
+        judge_condition(alloc, sys, cond, self.automaton)
+    }
+
+    ghost law = { λ e s cs well h. never_met s cs e.cond (automaton_view e.automaton.now) h };
+}
