@@ -1,4 +1,4 @@
--- From the caps of two terms with holes in one row to their rigid caps.
+-- From the caps of two terms with holes in one row to caps with holes of their own.
 use Rattle.std.proofs.Common.{ℕ, zero, suc, ◌≡◌, ◌+◌, ◌-◌, ◌*◌, ◌^◌, ◌<◌, ◌≤◌, inl, inr, Bool, true, false, nat_lt, if◌then◌else◌, List, [], length, refl, sym, ap, ap₂, ◌∙◌, subst, subst₂, arith, Result, Ok, Err}
 use Rattle.std.proofs.lemmas.Bool.{ltb-true, lt-ltb}
 use Rattle.rewriting.specs.Terms.{Term, var, app, nil, cons, size, Fits}
@@ -7,17 +7,17 @@ use Rattle.rewriting.specs.Rules.{System}
 use Rattle.rewriting.specs.Systems.{IsSystem, IsWellFormed}
 use Rattle.renumbering.specs.Rows.{AreDistinct, IsFront}
 use Rattle.unifier_run.specs.Run.{Outcome, unifier, clash, too_large, IsOutcome}
-use Rattle.unifier_run.proofs.Renamed.{renamed, all_renamed, renamed_outcome, runs_to}
-use Rattle.caps.specs.Caps.{Cap, Caps, hole, kept, node, no_caps, caps, holes, holes_in, filled, all_filled, constants, IsCapOf, IsCapLarge}
-use Rattle.caps.specs.Evidence.{IsRigidOutcome}
-use Rattle.caps.proofs.Rigid.{rigid_apart}
+use Rattle.unifier_run.proofs.Renamed.{renamed, all_renamed, renamed_outcome, stays, names, runs_to, runs_with_names}
+use Rattle.caps.specs.Caps.{Cap, Caps, hole, kept, any, node, no_caps, caps, holes, holes_in, filled, all_filled, constants, IsCapOf, IsCapLarge}
+use Rattle.caps.specs.Evidence.{IsPairOutcome, IsRigidOutcome}
+use Rattle.caps.proofs.Rigid.{rigid_apart, caps_apart}
 use Rattle.term_core.specs.declared.terms.NoMemory.{NoMemory}
-use Rattle.tcap_infeasible.specs.declared.rigid.RigidCaps.{RigidCaps}
-use Rattle.tcap_infeasible.specs.declared.rigid.RigidCaps.TheVariants.{Clash, Unify, TooLarge}
+use Rattle.tcap_infeasible.specs.declared.comparing.ComparedCaps.{ComparedCaps}
+use Rattle.tcap_infeasible.specs.declared.comparing.ComparedCaps.TheVariants.{Clash, Unify, TooLarge}
 use Rattle.tcap_infeasible.specs.Keys.{IsKeyed}
 use Rattle.tcap_infeasible.specs.declared.capping.Leaf.TheVariants.{Kept}
 use Rattle.tcap_infeasible.specs.Frozen.{HasConstants}
-use Rattle.tcap_infeasible.specs.Rigid.{RigidAnswers, GivesApart, IsFrozenOutcome, FrozenPairAnswers}
+use Rattle.tcap_infeasible.specs.Compared.{PairAnswers, KeepsInstancesApart, GivesApart, IsFrozenOutcome, FrozenPairAnswers}
 use Rattle.tcap_infeasible.proofs.Tried.{not_lt, rule_of}
 use Rattle.tcap_infeasible.proofs.Filling.{filling}
 use Rattle.tcap_infeasible.proofs.Keyed.{shifted, shifted_past, shifted_one, keyed_renamed, keyed_below, keyed_grows}
@@ -95,7 +95,7 @@ module _ (sys : System) (row : List ℕ) (sound : IsSystem sys) (distinct : AreD
   abbrev symbols_of : ℕ → ℕ
   symbols_of f = shifted (length sys.arities) row f
 
-  pair_outcome : (o : Outcome) → (h : IsFrozenOutcome sys x y o) → IsRigidOutcome sys u v (renamed_outcome (woven (holes h.first)) symbols_of o)
+  pair_outcome : (o : Outcome) → (h : IsFrozenOutcome sys kept x y o) → IsRigidOutcome sys u v (renamed_outcome (woven (holes h.first)) symbols_of o)
   pair_outcome o h =
       let first_start : 2 ^ 31 ≡ 2 ^ 31 + 0 = omega arith in
       let second_start : 2 ^ 31 + holes h.first ≡ 2 ^ 31 + holes h.first + 0 = omega arith in
@@ -115,13 +115,58 @@ module _ (sys : System) (row : List ℕ) (sound : IsSystem sys) (distinct : AreD
   one_large : (t z : Term) → IsKeyed (length sys.arities) row t z → IsCapLarge sys kept z → IsCapLarge sys kept t
   one_large t z keys large = subst (IsCapLarge sys kept) (sym (keyed_renamed (length sys.arities) row t z keys)) (large_named sys row sound distinct z large)
 
-  pub pair_answers : (r : Result RigidCaps NoMemory) → FrozenPairAnswers sys x y r → RigidAnswers sys u v r
+  pub pair_answers : (r : Result ComparedCaps NoMemory) → FrozenPairAnswers sys kept x y r → PairAnswers sys kept u v r
   pair_answers (Ok Clash) h = pair_outcome clash h
   pair_answers (Ok Unify) (b, h) = (_, pair_outcome (unifier b) h)
   pair_answers (Ok TooLarge) (inl (inl h)) = inl (inl (one_large u x first_keys h))
   pair_answers (Ok TooLarge) (inl (inr h)) = inl (inr (one_large v y second_keys h))
   pair_answers (Ok TooLarge) (inr h) = inr (pair_outcome too_large h)
   pair_answers (Err e) h = tt
+
+-- the same where all variables of the caps are holes, so that no symbol is renamed
+module _ (sys : System) (rho g : ℕ → ℕ) (base limit : ℕ) (same : (j : ℕ) → j < limit → rho (base + j) ≡ g j) where
+  mutual
+    filled_to : (j : ℕ) (c : Cap) → j + holes c ≤ limit → apply (names rho) (filled (constants sys) (base + j) c) ≡ apply (λ k. var (g k)) (filled (constants sys) j c)
+    filled_to j hole h = ap var (same j (omega (arith, h)))
+    filled_to j (kept x) h = refl
+    filled_to j (node f cs) h = ap (app f) (all_filled_to j cs h)
+
+    all_filled_to : (j : ℕ) (cs : Caps) → j + holes_in cs ≤ limit → apply_all (names rho) (all_filled (constants sys) (base + j) cs) ≡ apply_all (λ k. var (g k)) (all_filled (constants sys) j cs)
+    all_filled_to j no_caps h = refl
+    all_filled_to j (caps c cs) h =
+        (let more : base + j + holes c ≡ base + (j + holes c) = omega arith in
+        ap₂ cons (filled_to j c (omega (arith, h))) (ap (λ z. apply_all (names rho) (all_filled (constants sys) z cs)) more ∙ all_filled_to (j + holes c) cs (omega (arith, h))))
+
+module _ (sys : System) (u v : Term) where
+  opened_outcome : (o : Outcome) → (h : IsFrozenOutcome sys any u v o) → IsPairOutcome sys any u v (renamed_outcome (woven (holes h.first)) stays o)
+  opened_outcome o h =
+      let first_start : 2 ^ 31 ≡ 2 ^ 31 + 0 = omega arith in
+      let second_start : 2 ^ 31 + holes h.first ≡ 2 ^ 31 + holes h.first + 0 = omega arith in
+      record {
+        first = h.first;
+        second = h.second;
+        is_first = h.is_first;
+        is_second = h.is_second;
+        outcome = subst₂ (λ p q. IsOutcome (cons p nil) (cons q nil) (renamed_outcome (woven (holes h.first)) stays o))
+            (ap (λ z. apply (names (woven (holes h.first))) (filled (constants sys) z h.first)) first_start
+            ∙ filled_to sys (woven (holes h.first)) (λ k. 2 * k) (2 ^ 31) (holes h.first) (λ j less. woven_first (holes h.first) j less) 0 h.first (omega arith))
+            (ap (λ z. apply (names (woven (holes h.first))) (filled (constants sys) z h.second)) second_start
+            ∙ filled_to sys (woven (holes h.first)) (λ k. 2 * k + 1) (2 ^ 31 + holes h.first) (holes h.second) (λ j less. woven_second (holes h.first) j) 0 h.second (omega arith))
+            (runs_with_names (woven (holes h.first)) (woven_one (holes h.first)) h.outcome);
+      }
+
+  pub opened_answers : (r : Result ComparedCaps NoMemory) → FrozenPairAnswers sys any u v r → PairAnswers sys any u v r
+  opened_answers (Ok Clash) h = opened_outcome clash h
+  opened_answers (Ok Unify) (b, h) = (_, opened_outcome (unifier b) h)
+  opened_answers (Ok TooLarge) (inl h) = inl h
+  opened_answers (Ok TooLarge) (inr h) = inr (opened_outcome too_large h)
+  opened_answers (Err e) h = tt
+
+  pub opened_apart : (r : Result ComparedCaps NoMemory) → PairAnswers sys any u v r → KeepsInstancesApart sys u v r
+  opened_apart (Ok Clash) h = λ s r w p q. caps_apart sys u v s r w h p q
+  opened_apart (Ok Unify) h = tt
+  opened_apart (Ok TooLarge) h = tt
+  opened_apart (Err e) h = tt
 
 -- variables that are places of a short row have constants
 pub constants_small : (sys : System) (n : ℕ) (row : List ℕ) (t u : Term) → n ≡ length sys.arities → IsSystem sys → length row ≤ 2 ^ 31 → IsKeyed n row t u → HasConstants sys Kept u
@@ -133,12 +178,12 @@ well_formed sys sound zero r e = absurd (cc)
 well_formed sys sound (suc i) r e = (rule_of sys.arities sys.rules i r sound.rules e).is_over
 
 -- terms that have got places in one row, the first of them before the second
-pub places_answer : (sys : System) (n : ℕ) (row more : List ℕ) (u v x y : Term) (r : Result RigidCaps NoMemory) → n ≡ length sys.arities → IsSystem sys → AreDistinct more → IsFront row more → IsKeyed n row u x → IsKeyed n more v y → FrozenPairAnswers sys x y r
-    → RigidAnswers sys u v r
+pub places_answer : (sys : System) (n : ℕ) (row more : List ℕ) (u v x y : Term) (r : Result ComparedCaps NoMemory) → n ≡ length sys.arities → IsSystem sys → AreDistinct more → IsFront row more → IsKeyed n row u x → IsKeyed n more v y → FrozenPairAnswers sys kept x y r
+    → PairAnswers sys kept u v r
 places_answer sys n row more u v x y r count sound distinct front first second h =
     pair_answers sys more sound distinct u v x y (subst (λ z. IsKeyed z more u x) count (keyed_grows n row more u x front first)) (subst (λ z. IsKeyed z more v y) count second) r h
 
-pub answer_apart : (sys : System) (u v : Term) (r : Result RigidCaps NoMemory) → IsSystem sys → RigidAnswers sys u v r → GivesApart sys u v r
+pub answer_apart : (sys : System) (u v : Term) (r : Result ComparedCaps NoMemory) → IsSystem sys → PairAnswers sys kept u v r → GivesApart sys u v r
 answer_apart sys u v (Ok Clash) sound h = rigid_apart sys u v (well_formed sys sound) h
 answer_apart sys u v (Ok Unify) sound h = tt
 answer_apart sys u v (Ok TooLarge) sound h = tt

@@ -2,6 +2,6 @@ pub mod Answers
 pub mod Frozen
 pub mod Comparing
 pub mod Keys
-pub mod Rigid
+pub mod Compared
 pub mod Thawing
 pub mod Reducts

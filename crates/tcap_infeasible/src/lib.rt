@@ -2,15 +2,15 @@
 #![tactic(auto)]
 
 mod capping;
+mod comparing;
 mod evidence;
 mod keys;
-mod rigid;
 #[cfg(test)]
 mod tests;
 mod thawing;
 
+pub use comparing::{ComparedCaps, compare_caps, compare_rigid_caps};
 pub use evidence::TcapEvidence;
-pub use rigid::{RigidCaps, compare_rigid_caps};
 use term_core::Term;
 pub use thawing::{rigid_cap, tcap};
 

@@ -2,7 +2,7 @@ ghost use Rattle.std.specs.Prelude.{◌≡◌, ◌<◌, ℕ, true, IsTrue};
 ghost use Rattle.rewriting.specs.Variables.{occurs};
 ghost use Rattle.term_core.specs.View.{view};
 
-use crate::{Cap, RigidCaps, TcapEvidence, compare_rigid_caps, rigid_cap, tcap};
+use crate::{Cap, ComparedCaps, TcapEvidence, compare_caps, compare_rigid_caps, rigid_cap, tcap};
 use cert_model::EvidenceReason;
 use refuter::{Refusal, Refuter};
 use std::alloc::Global;
@@ -59,11 +59,18 @@ fn rigid(alloc: Global, system: &System, t: &Term, fresh: u32) -> Result<Term, F
     }
 }
 
-fn compared(alloc: Global, system: &System, u: &Term, v: &Term) -> Result<RigidCaps, Fail> {
+fn compared(alloc: Global, system: &System, u: &Term, v: &Term) -> Result<ComparedCaps, Fail> {
     if !fits(u) || !fits(v) {
         return Err(Fail::from("too large"));
     }
     Ok(compare_rigid_caps(alloc, system, u, v)?)
+}
+
+fn opened(alloc: Global, system: &System, u: &Term, v: &Term) -> Result<ComparedCaps, Fail> {
+    if !fits(u) || !fits(v) {
+        return Err(Fail::from("too large"));
+    }
+    Ok(compare_caps(alloc, system, u, v)?)
 }
 
 // Whether caps show that a condition is never met, and why not.
@@ -224,8 +231,14 @@ fn rigid_caps_are_compared(rt: HostRuntime) -> Result<(), Fail> {
     let open = unary(alloc, 2, constant(alloc, 0))?;
     let other = unary(alloc, 3, constant(alloc, 0))?;
     let closed = unary(alloc, 2, constant(alloc, 1))?;
-    assert_eq!(rt; compared(alloc, &system, &open, &other)?, RigidCaps::Clash);
-    assert_eq!(rt; compared(alloc, &system, &open, &closed)?, RigidCaps::Unify);
+    assert_eq!(rt;
+        compared(alloc, &system, &open, &other)?,
+        ComparedCaps::Clash
+    );
+    assert_eq!(rt;
+        compared(alloc, &system, &open, &closed)?,
+        ComparedCaps::Unify
+    );
     Ok(())
 }
 
@@ -235,10 +248,31 @@ fn variables_are_constants_of_both_rigid_caps(rt: HostRuntime) -> Result<(), Fai
     let system = growing(alloc)?;
     let first = unary(alloc, 2, Term::Var(4294967295))?;
     let second = unary(alloc, 2, Term::Var(0))?;
-    assert_eq!(rt; compared(alloc, &system, &first, &first)?, RigidCaps::Unify);
+    assert_eq!(rt;
+        compared(alloc, &system, &first, &first)?,
+        ComparedCaps::Unify
+    );
     assert_eq!(rt;
         compared(alloc, &system, &first, &second)?,
-        RigidCaps::Clash
+        ComparedCaps::Clash
+    );
+    Ok(())
+}
+
+#[test]
+fn variables_are_holes_of_both_caps(rt: HostRuntime) -> Result<(), Fail> {
+    let alloc = rt.alloc();
+    let system = growing(alloc)?;
+    let first = unary(alloc, 2, Term::Var(4294967295))?;
+    let second = unary(alloc, 2, constant(alloc, 1))?;
+    let other = unary(alloc, 3, Term::Var(4294967295))?;
+    assert_eq!(rt;
+        opened(alloc, &system, &first, &second)?,
+        ComparedCaps::Unify
+    );
+    assert_eq!(rt;
+        opened(alloc, &system, &first, &other)?,
+        ComparedCaps::Clash
     );
     Ok(())
 }
@@ -276,7 +310,11 @@ fn a_run_inside_may_pass_the_size(rt: HostRuntime) -> Result<(), Fail> {
     let large = binary(alloc, 0, hundred(alloc, 1, Some(2))?, Term::Var(0))?;
     assert_eq!(rt;
         compared(alloc, &system, &large, &large)?,
-        RigidCaps::TooLarge
+        ComparedCaps::TooLarge
+    );
+    assert_eq!(rt;
+        opened(alloc, &system, &large, &large)?,
+        ComparedCaps::TooLarge
     );
     let reason = judged(alloc, &system, large, constant(alloc, 2))?;
     assert!(rt; matches!(reason, Some(EvidenceReason::TcapLarge)));

@@ -14,8 +14,8 @@ ghost use Rattle.tcap_infeasible.specs.Reducts.{KeepsReducts, KeepsOwnReducts};
 
 use crate::Cap;
 use crate::capping::{FIRST_HOLE, Leaf, frozen_cap};
+use crate::comparing::symbol_count;
 use crate::keys::keyed;
-use crate::rigid::symbol_count;
 use renumbering::Numbering;
 use rule_index::RuleIndex;
 use std::alloc::Global;

@@ -2,7 +2,7 @@ use Rattle.std.proofs.Common.{arith}
 use Rattle.term_core.specs.View.{view}
 use Rattle.tcap_infeasible.proofs.Keyed.{keyed_fits}
 use Rattle.tcap_infeasible.proofs.Pairs.{constants_small, places_answer, answer_apart, none_distinct, short_row}
-use Rattle.tcap_infeasible.proofs.rigid.compare_rigid_caps.Goals as goal
+use Rattle.tcap_infeasible.proofs.comparing.compare_rigid_caps.Goals as goal
 
 pub compare_frozen-requires-clause-first : goal.compare_frozen-requires-clause-first
 compare_frozen-requires-clause-first c = keyed_fits c.symbol_count-symbols.result c.keyed.new.numbering (view c.args.u.now) (view c.in_ok-first.first) c.in_ok-first.ensures.keys c.requires.first

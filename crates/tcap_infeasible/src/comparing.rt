@@ -1,0 +1,105 @@
+// Two terms compared by their caps.
+ghost use Rattle.std.specs.Prelude.{◌≡◌, length};
+ghost use Rattle.rewriting.specs.Terms as math;
+ghost use Rattle.rewriting.specs.Systems.{IsSystem};
+ghost use Rattle.rule_index.specs.Index.{IsIndexOf};
+ghost use Rattle.caps.specs.Caps.{any, kept};
+ghost use Rattle.term_core.specs.View.{view};
+ghost use Rattle.tcap_infeasible.specs.Frozen.{leaf_of, HasConstants};
+ghost use Rattle.tcap_infeasible.specs.Compared.{PairAnswers, KeepsInstancesApart, GivesApart, FrozenPairAnswers};
+
+use crate::Cap;
+use crate::capping::{FIRST_HOLE, Leaf, frozen_cap};
+use crate::keys::keyed;
+use renumbering::Numbering;
+use rule_index::RuleIndex;
+use std::alloc::Global;
+use term_core::{NoMemory, System, Term};
+use unification::{Unified, unify_terms};
+
+/// What comparing the caps of two terms tells.
+#[derive(Clone, Copy, Debug, PartialEq, Eq)]
+pub enum ComparedCaps {
+    /// They do not unify, so the terms have no common reduct; where the caps are not rigid, no instances of theirs have.
+    Clash,
+    Unify,
+    /// A term has no cap, or the run for both passes the size.
+    TooLarge,
+}
+
+// The same for terms whose variables that stay have constants in 32 bits.
+fn compare_frozen(
+    alloc: Global,
+    sys: &System,
+    index: &RuleIndex,
+    u: &Term,
+    v: &Term,
+    leaf: Leaf,
+) -> Result<ComparedCaps, NoMemory>
+    requires index { IsIndexOf sys.now index.now }
+    requires first { math.Fits (view u.now) }
+    requires second { math.Fits (view v.now) }
+    requires first_constants { HasConstants sys.now leaf (view u.now) }
+    requires second_constants { HasConstants sys.now leaf (view v.now) }
+    ensures { FrozenPairAnswers sys.now (leaf_of leaf) (view u.now) (view v.now) result }
+{
+    let mut next = FIRST_HOLE;
+    let Cap::Capped(first) = frozen_cap(alloc, sys, index, u, leaf, &mut next)? else {
+        return Ok(ComparedCaps::TooLarge);
+    };
+    let Cap::Capped(second) = frozen_cap(alloc, sys, index, v, leaf, &mut next)? else {
+        return Ok(ComparedCaps::TooLarge);
+    };
+    match unify_terms(alloc, &first, &second)? {
+        Unified::Clash => Ok(ComparedCaps::Clash),
+        Unified::Mgu(_) => Ok(ComparedCaps::Unify),
+        Unified::TooLarge => Ok(ComparedCaps::TooLarge),
+    }
+}
+
+/// How many symbols a system has.
+pub fn symbol_count(sys: &System) -> u32
+    ensures count { result ≡ length sys.now.arities }
+    ensures sound { IsSystem sys.now }
+{
+    // The rules of a system tell that its symbols are few.
+    let _rules = sys.rules();
+    sys.arities().len() as u32
+}
+
+/// Compares the caps of two terms, in which each variable is a hole: no hole of the one is a hole of the other.
+pub fn compare_caps(
+    alloc: Global,
+    sys: &System,
+    u: &Term,
+    v: &Term,
+) -> Result<ComparedCaps, NoMemory>
+    requires first { math.Fits (view u.now) }
+    requires second { math.Fits (view v.now) }
+    ensures answer { PairAnswers sys.now any (view u.now) (view v.now) result }
+    ensures apart { KeepsInstancesApart sys.now (view u.now) (view v.now) result }
+{
+    let index = RuleIndex::new(alloc, sys)?;
+    compare_frozen(alloc, sys, &index, u, v, Leaf::Hole)
+}
+
+/// Compares the rigid caps of two terms: their variables are the same constants in both, and no hole of the one is a hole
+/// of the other.
+pub fn compare_rigid_caps(
+    alloc: Global,
+    sys: &System,
+    u: &Term,
+    v: &Term,
+) -> Result<ComparedCaps, NoMemory>
+    requires first { math.Fits (view u.now) }
+    requires second { math.Fits (view v.now) }
+    ensures answer { PairAnswers sys.now kept (view u.now) (view v.now) result }
+    ensures apart { GivesApart sys.now (view u.now) (view v.now) result }
+{
+    let symbols = symbol_count(sys);
+    let mut numbering = Numbering::new(alloc);
+    let first = keyed(alloc, symbols, &mut numbering, u)?;
+    let second = keyed(alloc, symbols, &mut numbering, v)?;
+    let index = RuleIndex::new(alloc, sys)?;
+    compare_frozen(alloc, sys, &index, &first, &second, Leaf::Kept)
+}
