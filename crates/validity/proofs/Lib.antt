@@ -4,4 +4,10 @@ pub mod Valid
 pub mod OneOutcome
 pub mod OneList
 pub mod OneAnswer
-pub mod NoAutomaton
+pub mod Settled
+pub mod Once
+pub mod OneBlame
+pub mod OneOverlaps
+pub mod OneEvidence
+pub mod OneMeasure
+pub mod OneCertificate

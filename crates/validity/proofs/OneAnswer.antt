@@ -3,7 +3,9 @@ use Rattle.std.proofs.Common.{◌≡◌, ◌≢◌, inl, inr, ℕ, suc, List, []
 use Rattle.rewriting.proofs.Common.{Term, Condition, Rule, System, Bindings}
 use Rattle.rewriting.specs.Overlaps.{conditions_under}
 use Rattle.unifier_run.specs.Run.{Binding, Outcome, unifier, clash, too_large}
+use Rattle.caps.specs.Caps.{kept}
 use Rattle.caps.proofs.Unique.{one_judgement, one_outcome}
+use Rattle.automata.proofs.Unique.{judgement_same}
 use Rattle.caps.specs.Evidence.{IsRigidOutcome, AreRigidCapsLarge}
 use Rattle.certificates.specs.Certificates.{Apartness, Peak, Redex, by_normal_forms, by_rigid_caps}
 use Rattle.certificates.specs.Evidence.{InfeasibilityEvidence, by_caps, by_automaton}
@@ -13,7 +15,7 @@ use Rattle.certificates.specs.Reasons.{EvidenceReason, BadStep, StepReason, Reje
 use Rattle.certificates.proofs.Unique.{matches_unique, derives_unique}
 use Rattle.validity.specs.Evidence.{IsJudged}
 use Rattle.validity.specs.Peaks.{Place, chosen, at_redex, AreConditionsAt, IsRedexJudged, AreRefuted, AreNotRefuted, AreShownApart, AreNotShownApart, LeadsTo, IsValidPeak, IsPeakRejected, first_fails, second_fails, not_apart}
-use Rattle.validity.specs.Laws.{PeaksHaveOneAnswer}
+use Rattle.validity.specs.Laws.{IsOneAnswer}
 use Rattle.validity.proofs.OneOutcome.{derives_or_fails, fails_from_once}
 use Rattle.validity.proofs.OneList.{redexes_once}
 
@@ -23,9 +25,9 @@ conditions_once sys t r cs ds a b =
     let same = matches_unique sys t r.rule r.position a.rule b.rule a.match b.match a.matches b.matches in
     a.are ∙ ap₂ (λ (q : Rule) (m : Bindings). conditions_under (at_redex m) q.conditions) same.same_rule same.same_match ∙ sym b.are
 
-evidence_once : (sys : System) (cs : List Condition) (e : InfeasibilityEvidence) (o p : Option EvidenceReason) → IsJudged sys cs e o → IsJudged sys cs e p → o ≡ p
+pub evidence_once : (sys : System) (cs : List Condition) (e : InfeasibilityEvidence) (o p : Option EvidenceReason) → IsJudged sys cs e o → IsJudged sys cs e p → o ≡ p
 evidence_once sys cs by_caps o p a b = one_judgement sys cs o p a b
-evidence_once sys cs (by_automaton k x) o p a b = absurd a
+evidence_once sys cs (by_automaton k x) o p a b = judgement_same sys cs k x o p a b
 
 redex_once : (sys : System) (t : Term) (r : Place) (e : InfeasibilityEvidence) (o p : Option EvidenceReason) → IsRedexJudged sys t r e o → IsRedexJudged sys t r e p → o ≡ p
 redex_once sys t r e o p (cs, at, inl (fit, h)) (ds, there, inl (_, k)) =
@@ -68,9 +70,9 @@ module _ (sys : System) (u v : Term) where
   not_refuted_once n (r ∷ rs) (e ∷ es) x y (inr (inr (_, _, a))) (inr (inr (_, _, b))) = not_refuted_once (suc n) rs es x y a b
 
   caps_large_alone : (o : Outcome) → o ≢ too_large → IsRigidOutcome sys u v o → AreRigidCapsLarge sys u v → ⊥
-  caps_large_alone o ne h (inl (inl first)) = ((one_outcome sys u v).never_both o h).0 first
-  caps_large_alone o ne h (inl (inr second)) = ((one_outcome sys u v).never_both o h).1 second
-  caps_large_alone o ne h (inr k) = ne ((one_outcome sys u v).one o too_large h k)
+  caps_large_alone o ne h (inl (inl first)) = ((one_outcome sys kept u v).never_both o h).0 first
+  caps_large_alone o ne h (inl (inr second)) = ((one_outcome sys kept u v).never_both o h).1 second
+  caps_large_alone o ne h (inr k) = ne ((one_outcome sys kept u v).one o too_large h k)
 
   no_unifier : (b : List Binding) → unifier b ≢ too_large
   no_unifier b e = cc
@@ -83,7 +85,7 @@ module _ (sys : System) (u v : Term) where
   apart_or_not (by_normal_forms es) reason (_, (rs, all, a)) (inr (_, (qs, each, b))) =
       refuted_or_not 1 qs es reason (subst (λ x. AreRefuted sys u v x es) (redexes_once sys u v rs qs all each) a) b
   apart_or_not by_rigid_caps reason a (inl b) = caps_large_alone clash no_clash a b.0
-  apart_or_not by_rigid_caps reason a (inr ((b, h), _)) = (let same = (one_outcome sys u v).one clash (unifier b) a h in cc)
+  apart_or_not by_rigid_caps reason a (inr ((b, h), _)) = (let same = (one_outcome sys kept u v).one clash (unifier b) a h in cc)
 
   not_apart_once : (a : Apartness) (x y : Rejection) → AreNotShownApart sys u v a x → AreNotShownApart sys u v a y → x ≡ y
   not_apart_once (by_normal_forms es) x y (inl a) (inl b) = a.1 ∙ sym b.1
@@ -134,5 +136,5 @@ module _ (sys : System) (peak : Peak) where
       apart_or_not sys valid.u valid.v peak.apart reason valid.apart
       (subst₂ (λ a b. AreNotShownApart sys a b peak.apart reason) (one_first u v valid.u valid.v ends valid.ends) (one_second u v valid.u valid.v ends valid.ends) f)
 
-pub one_answer : PeaksHaveOneAnswer
-one_answer sys peak = record { one_reason = one_reason sys peak; never_both = never_both sys peak }
+pub peak_answer : (sys : System) (peak : Peak) → IsOneAnswer (IsValidPeak sys peak) (IsPeakRejected sys peak)
+peak_answer sys peak = record { one_reason = one_reason sys peak; never_both = never_both sys peak }

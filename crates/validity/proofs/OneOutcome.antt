@@ -11,10 +11,10 @@ use Rattle.certificates.specs.Reasons.{StepReason, no_such_rule, no_redex, wrong
 use Rattle.certificates.specs.Judging.{Covers, derivation_count, hypothesis_at, RuleMatches, ConditionMet, ConditionFails, left_unbound, left_large, derivation_fails, right_differs, RuleStep, RuleFails, no_rule, no_position, no_match, count_differs, conditions_fail, right_unbound, result_large, HypothesisStep, HypothesisFails, no_hypothesis, left_differs, large_result, Derives, StepsTo, AreMet, FailsFrom, StepFails, FailFrom}
 use Rattle.certificates.proofs.Unique.{match_or_none, least_match_unique, matches_unique, derives_unique, step_unique, met_unique}
 
-some_or_none : {A : Type 0} (o : Option A) (x : A) → o ≡ Some x → o ≡ None → ⊥
+pub some_or_none : {A : Type 0} (o : Option A) (x : A) → o ≡ Some x → o ≡ None → ⊥
 some_or_none o x e f = cc
 
-same_some : {A : Type 0} (o : Option A) (x y : A) → o ≡ Some x → o ≡ Some y → x ≡ y
+pub same_some : {A : Type 0} (o : Option A) (x y : A) → o ≡ Some x → o ≡ Some y → x ≡ y
 same_some o x y e f = cc
 
 -- one path and one reason

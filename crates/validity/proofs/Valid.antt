@@ -6,6 +6,7 @@ use Rattle.rewriting.specs.Systems.{IsWellFormed}
 use Rattle.rewriting.proofs.Common.{Term, Condition, System}
 use Rattle.caps.proofs.Reducts.{never_met as caps_refute}
 use Rattle.caps.proofs.Rigid.{rigid_apart}
+use Rattle.automata.proofs.Kept.{refutes as automaton_refutes}
 use Rattle.certificates.specs.Certificates.{Apartness, Redex, by_normal_forms, by_rigid_caps}
 use Rattle.certificates.specs.Evidence.{InfeasibilityEvidence, by_caps, by_automaton}
 use Rattle.certificates.specs.Reasons.{tcap_large}
@@ -23,9 +24,9 @@ judged_at sys u v (q ∷ rs) [] h r l = absurd h
 judged_at sys u v (q ∷ rs) (e ∷ es) h r (inl is) = subst (λ x. (i : InfeasibilityEvidence) × IsRedexJudged sys (chosen u v x.which) x i None) (sym is) (e.evidence, h.1)
 judged_at sys u v (q ∷ rs) (e ∷ es) h r (inr l) = judged_at sys u v rs es h.2 r l
 
-judged_infeasible : (sys : System) (cs : List Condition) (e : InfeasibilityEvidence) → IsJudged sys cs e None → IsInfeasible sys cs
+pub judged_infeasible : (sys : System) (cs : List Condition) (e : InfeasibilityEvidence) → IsJudged sys cs e None → IsInfeasible sys cs
 judged_infeasible sys cs by_caps h = caps_refute sys cs h
-judged_infeasible sys cs (by_automaton k a) h = absurd h
+judged_infeasible sys cs (by_automaton k a) h = automaton_refutes sys cs k a h
 
 -- a rule does not apply where its evidence is valid
 never_met : (sys : System) (t : Term) (r : Place) (e : InfeasibilityEvidence) → IsRedexJudged sys t r e None → IsNeverMet sys t r.position r.rule

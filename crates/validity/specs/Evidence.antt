@@ -4,13 +4,9 @@ use Rattle.rewriting.specs.Rules.{Condition, System}
 use Rattle.certificates.specs.Evidence.{InfeasibilityEvidence, by_caps, by_automaton}
 use Rattle.certificates.specs.Reasons.{EvidenceReason}
 use Rattle.caps.specs.Evidence.{JudgedByCaps}
+use Rattle.automata.specs.Evidence.{JudgedByAutomaton}
 
 -- the evidence is judged: with no reason, it is valid; else the first reason why it is not
 abbrev pub IsJudged : System → List Condition → InfeasibilityEvidence → Option EvidenceReason → Type 0
 IsJudged sys cs by_caps o = JudgedByCaps sys cs o
-IsJudged sys cs (by_automaton k a) o = ⊥
-
--- the evidence is by caps; automata are not judged yet
-abbrev pub IsByCaps : InfeasibilityEvidence → Type 0
-IsByCaps by_caps = Unit {0}
-IsByCaps (by_automaton k a) = ⊥
+IsJudged sys cs (by_automaton k a) o = JudgedByAutomaton sys cs k a o

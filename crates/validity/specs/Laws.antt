@@ -1,4 +1,4 @@
--- What a valid peak shows, and that a peak is either valid or rejected for one reason.
+-- What a valid peak shows, and that a certificate is either valid or rejected for one reason.
 use Rattle.std.specs.Prelude.{◌≡◌}
 use Rattle.rewriting.specs.Terms.{Term}
 use Rattle.rewriting.specs.Signatures.{IsOver}
@@ -6,9 +6,10 @@ use Rattle.rewriting.specs.Rules.{System}
 use Rattle.rewriting.specs.Systems.{IsWellFormed}
 use Rattle.rewriting.specs.Reduction.{Reaches}
 use Rattle.rewriting.specs.Confluence.{AreApart}
-use Rattle.certificates.specs.Certificates.{Peak}
+use Rattle.certificates.specs.Certificates.{Peak, Certificate}
 use Rattle.certificates.specs.Reasons.{Rejection}
-use Rattle.validity.specs.Peaks.{IsValidPeak, IsPeakRejected}
+use Rattle.validity.specs.Peaks.{IsValidPeak}
+use Rattle.validity.specs.Certificates.{IsValid, IsRejected}
 
 -- the term reaches two terms that have no common reduct
 pub record ReachesApart (sys : System) (t : Term) : Type 0 where
@@ -22,10 +23,10 @@ pub record ReachesApart (sys : System) (t : Term) : Type 0 where
 abbrev pub ValidPeaksReachApart : Type 0
 ValidPeaksReachApart = (sys : System) (peak : Peak) → IsWellFormed sys → IsOver sys.arities peak.start → IsValidPeak sys peak → ReachesApart sys peak.start
 
--- a peak is rejected for one reason, and then it is not valid
-pub record IsOneAnswer (sys : System) (peak : Peak) : Type 0 where
-  pub one_reason : (r s : Rejection) → IsPeakRejected sys peak r → IsPeakRejected sys peak s → r ≡ s
-  pub never_both : (r : Rejection) → IsPeakRejected sys peak r → IsValidPeak sys peak → ⊥
+-- a certificate is rejected for one reason, and then it is not valid
+pub record IsOneAnswer (Valid : Type 0) (IsRejected : Rejection → Type 0) : Type 0 where
+  pub one_reason : (r s : Rejection) → IsRejected r → IsRejected s → r ≡ s
+  pub never_both : (r : Rejection) → IsRejected r → Valid → ⊥
 
-abbrev pub PeaksHaveOneAnswer : Type 0
-PeaksHaveOneAnswer = (sys : System) (peak : Peak) → IsOneAnswer sys peak
+abbrev pub CertificatesHaveOneAnswer : Type 0
+CertificatesHaveOneAnswer = (sys : System) (c : Certificate) → IsOneAnswer (IsValid sys c) (IsRejected sys c)

@@ -14,7 +14,7 @@ use Rattle.certificates.specs.Certificates.{Apartness, Peak, Redex, by_normal_fo
 use Rattle.certificates.specs.Judging.{Derives, IsFirstBad, RuleMatches}
 use Rattle.certificates.specs.Sizes.{DoConditionsFit}
 use Rattle.certificates.specs.Reasons.{EvidenceReason, tcap_large, BadStep, Rejection, first_bad, second_bad, same_term, not_normal, redex_extra, redex_fails, caps_unify, caps_large}
-use Rattle.validity.specs.Evidence.{IsJudged, IsByCaps}
+use Rattle.validity.specs.Evidence.{IsJudged}
 
 -- the left side of the rule with a number matches at the position
 pub record MatchesAt (sys : System) (t : Term) (p : Position) (i : ℕ) : Type 0 where
@@ -138,12 +138,3 @@ pub data IsPeakRejected (sys : System) (peak : Peak) : Rejection → Type 0 wher
   second_fails : (u : Term) (bad : BadStep) → Derives sys [] peak.start peak.first u → IsFirstBad sys [] peak.start peak.second bad
       → IsPeakRejected sys peak (second_bad bad)
   not_apart : (u v : Term) (reason : Rejection) → LeadsTo sys peak u v → AreNotShownApart sys u v peak.apart reason → IsPeakRejected sys peak reason
-
--- no evidence in the peak is an automaton; automata are not judged yet
-abbrev pub AreByCaps : List Redex → Type 0
-AreByCaps [] = Unit {0}
-AreByCaps (e ∷ es) = IsByCaps e.evidence × AreByCaps es
-
-abbrev pub UsesNoAutomaton : Apartness → Type 0
-UsesNoAutomaton (by_normal_forms es) = AreByCaps es
-UsesNoAutomaton by_rigid_caps = Unit {0}

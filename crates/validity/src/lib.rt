@@ -1,11 +1,13 @@
 //! What makes a certificate valid, and why one is rejected.
 #![tactic(auto)]
 
-ghost use Rattle.std.specs.Prelude.{◌≡◌};
-ghost use Rattle.validity.specs.Laws.{ValidPeaksReachApart, PeaksHaveOneAnswer};
+ghost use Rattle.std.specs.Prelude.{◌≡◌, ◌↔◌, IsTrue};
+ghost use Rattle.cert_model.specs.EvidenceView.{pair_evidence_view};
+ghost use Rattle.validity.specs.PairEvidence.{IsAllowed};
+ghost use Rattle.validity.specs.Laws.{ValidPeaksReachApart, CertificatesHaveOneAnswer};
 ghost use Rattle.validity.specs.declared.CheckError.TheVariants.{NoMemory as no_memory};
 
-use cert_model::Rejected;
+use cert_model::{PairEvidence, Rejected};
 use term_core::NoMemory;
 
 /// Why a check does not answer Ok.
@@ -24,12 +26,38 @@ impl From<NoMemory> for CheckError {
     }
 }
 
+/// The kinds of certificates that show that a system is confluent.
+#[derive(Clone, Copy, Debug, PartialEq, Eq)]
+pub enum CertKind {
+    /// Of an almost orthogonal system.
+    Ortho,
+    /// Of a quasi-decreasing system, with a measure.
+    Quasi,
+}
+
+/// Whether certificates of the kind may give the evidence for an overlap. Takes no memory.
+pub fn allowed(kind: CertKind, e: &PairEvidence) -> bool
+    ensures { IsTrue result ↔ IsAllowed kind (pair_evidence_view e.now) }
+{
+    match (kind, e) {
+        (_, PairEvidence::Infeasible(_)) => true,
+        (CertKind::Ortho, PairEvidence::Trivial) => true,
+        (CertKind::Ortho, PairEvidence::Conflict { .. }) => true,
+        (CertKind::Ortho, PairEvidence::Join { .. }) => false,
+        (CertKind::Ortho, PairEvidence::Unfeasible { .. }) => false,
+        (CertKind::Quasi, PairEvidence::Trivial) => false,
+        (CertKind::Quasi, PairEvidence::Conflict { .. }) => false,
+        (CertKind::Quasi, PairEvidence::Join { .. }) => true,
+        (CertKind::Quasi, PairEvidence::Unfeasible { .. }) => true,
+    }
+}
+
 /// The start of a valid peak reaches two terms that have no common reduct.
 pub fn valid_peaks_reach_apart()
     ensures { ValidPeaksReachApart }
 {}
 
-/// A peak is rejected for one reason, and then it is not valid.
-pub fn peaks_have_one_answer()
-    ensures { PeaksHaveOneAnswer }
+/// A certificate is rejected for one reason, and then it is not valid.
+pub fn certificates_have_one_answer()
+    ensures { CertificatesHaveOneAnswer }
 {}
