@@ -7,7 +7,7 @@ ghost use Rattle.certificates.specs.Sizes.{DoConditionsFit};
 ghost use Rattle.term_core.specs.RuleView.{condition_view};
 ghost use Rattle.cert_model.specs.EvidenceView.{inf_evidence_view};
 ghost use Rattle.refuter.specs.Answers.{RefutesAnswers};
-ghost use Rattle.validity.specs.Evidence.{IsJudged, IsByCaps};
+ghost use Rattle.validity.specs.Evidence.{IsJudged};
 
 use cert_model::InfEvidence;
 pub use refuter::Refusal;
@@ -15,6 +15,7 @@ use refuter::Refuter;
 use std::alloc::Global;
 use tcap_infeasible::TcapEvidence;
 use term_core::{Cond, System};
+use tree_automata::AutoEvidence;
 
 #[cfg(test)]
 mod tests;
@@ -35,7 +36,7 @@ fn refuted<R: Refuter>(
     refuter.refutes(alloc, sys, conds)
 }
 
-/// Judges evidence by caps for conditions of a system. Where it is valid, no level and no substitution meet all of them.
+/// Judges evidence for conditions of a system, by caps or by an automaton. Where it is valid, no level and no substitution meet all of them.
 pub fn check_infeasible(
     alloc: Global,
     sys: &System,
@@ -44,12 +45,17 @@ pub fn check_infeasible(
 ) -> Result<(), Refusal>
     requires few { length conds.now ≤ 200 }
     requires fit { DoConditionsFit (map condition_view conds.now) }
-    requires caps { IsByCaps (inf_evidence_view evidence.now) }
     ensures judged { RefutesAnswers (IsJudged sys.now (map condition_view conds.now) (inf_evidence_view evidence.now)) result }
     ensures sound { OnOk result (IsInfeasible sys.now (map condition_view conds.now)) }
 {
     match evidence {
         InfEvidence::Tcap => refuted(alloc, sys, conds, &TcapEvidence),
-        InfEvidence::Auto { .. } => unreachable!(),
+        InfEvidence::Auto { cond, automaton } => {
+            let evidence = AutoEvidence {
+                cond: *cond,
+                automaton,
+            };
+            refuted(alloc, sys, conds, &evidence)
+        }
     }
 }

@@ -9,6 +9,7 @@ use Rattle.unifier_run.specs.Run.{Outcome, unifier, clash, too_large, IsOutcome}
 use Rattle.unifier_run.proofs.Renamed.{names, stays, renamed_outcome, runs_with_names}
 use Rattle.caps.specs.Caps.{Cap, Caps, any, all_filled, IsCapOf, AreCapsOf, IsCapLarge, AreCapsLarge}
 use Rattle.caps.specs.Evidence.{IsCapOutcome, JudgedByCaps}
+use Rattle.automata.proofs.Renamed.{by_automaton_to}
 use Rattle.certificates.specs.Evidence.{InfeasibilityEvidence, by_caps, by_automaton}
 use Rattle.certificates.specs.Reasons.{EvidenceReason, tcap_unifies, tcap_large, not_allowed, not_root, sides_differ, conflict_number, conflict_left, conflict_unifies, conflict_large, auto_number, auto_any, auto_misses, auto_wide, auto_not_closed, auto_wide_right, auto_reaches, join_left, join_right, join_differs, unfeasible_number, unfeasible_first, unfeasible_second, first_reducible, second_reducible, unfeasible_unifies, unfeasible_large}
 use Rattle.certificates.specs.Sizes.{DoConditionsFit}
@@ -190,7 +191,7 @@ module _ (rho : ℕ → ℕ) where
     -- evidence for conditions is the same for renamed ones
     pub judged_to : (sys : System) (cs : List Condition) (e : InfeasibilityEvidence) (o : Option EvidenceReason) → IsJudged sys cs e o → IsJudged sys (conditions_renamed cs) e o
     judged_to sys cs by_caps o h = by_caps_to sys cs o h
-    judged_to sys cs (by_automaton k a) o h = absurd h
+    judged_to sys cs (by_automaton k a) o h = by_automaton_to rho sys cs k a o h
 
     pub are_judged_to : (sys : System) (cs : List Condition) (e : InfeasibilityEvidence) (o : Option EvidenceReason) → AreJudged sys cs e o → AreJudged sys (conditions_renamed cs) e o
     are_judged_to sys cs e o (inl (fit, h)) = inl (fit_to cs fit, judged_to sys cs e o h)

@@ -13,8 +13,6 @@ use Rattle.term_core.specs.SystemView.{IsSound, AreSound}
 use Rattle.term_core.specs.declared.systems.Rule as program
 use Rattle.cert_model.specs.CertificateView.{redex_view}
 use Rattle.cert_model.specs.declared.model.Redex as program_redex
-use Rattle.validity.specs.Evidence.{IsByCaps}
-use Rattle.validity.specs.Peaks.{AreByCaps}
 use Rattle.rule_index.specs.Roots.{rules_with_root}
 use Rattle.rule_index.proofs.Walks.{listed_rule}
 use Rattle.rewriting.specs.Positions.{Position}
@@ -67,11 +65,6 @@ listed_some sys f ns i same l =
 -- entries
 pub entry_low : (es : List program_redex.Redex) (at : ℕ) (e : math.Redex) → slice_get (map redex_view es) at ≡ Some e → at < length es
 entry_low es at e h = let low = slice_get_within (map redex_view es) at e h in let long = length-map es redex_view in omega (arith, low, long)
-
-pub by_caps_at : (es : List math.Redex) (at : ℕ) (e : math.Redex) → AreByCaps es → slice_get es at ≡ Some e → IsByCaps e.evidence
-by_caps_at [] at e h is = absurd (cc)
-by_caps_at (d ∷ es) zero e h is = subst (λ (z : math.Redex). IsByCaps z.evidence) (let same : d ≡ e = cc in same) h.0
-by_caps_at (d ∷ es) (suc at) e h is = by_caps_at es at e h.1 is
 
 -- a rule that matches is hit
 module _ (sys : System) (t : Term) (n : ℕ) (r : Rule) (is : rule_at sys n ≡ Some r) where

@@ -9,16 +9,14 @@ use Rattle.term_core.specs.declared.systems.Rule.{Rule}
 use Rattle.certificates.specs.Certificates.{Apartness, by_normal_forms, by_rigid_caps}
 use Rattle.cert_model.specs.CertificateView.{redex_view}
 use Rattle.cert_model.specs.declared.model.Redex.{Redex}
-use Rattle.validity.specs.Peaks.{AreByCaps}
 
--- the rules are the system's, the index is its, the entries are by caps, and the end has few variables
+-- the rules are the system's, the index is its, the entries are few, and the end has few variables
 pub record IsReady (sys : System) (rs : List Rule) (index : List (List ℕ)) (es : List Redex) (n : ℕ) : Type 0 where
   pub system : IsSystem sys
   pub rules : map rule_view rs ≡ sys.rules
   pub sound : AreSound sys.arities rs
   pub by_root : IsIndexOf sys index
   pub few : length es < 2 ^ 32
-  pub caps : AreByCaps (map redex_view es)
   pub own : n ≤ 10000
 
 -- numbers of 32 bits tell the entries

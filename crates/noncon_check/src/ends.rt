@@ -3,7 +3,6 @@ ghost use Rattle.rewriting.specs.Terms as math;
 ghost use Rattle.certificates.specs.Certificates.{by_normal_forms, by_rigid_caps};
 ghost use Rattle.term_core.specs.View.{view};
 ghost use Rattle.cert_model.specs.CertificateView.{redex_view, apart_view};
-ghost use Rattle.validity.specs.Peaks.{AreByCaps, UsesNoAutomaton};
 ghost use Rattle.noncon_check.specs.Ends.{ApartAnswers, EndAnswers};
 ghost use Rattle.noncon_check.specs.Judges.{IsReady, AreFew};
 
@@ -12,7 +11,7 @@ use cert_model::{NonJoin, Redex, Rejected};
 use renumbering::Numbering;
 use rule_index::RuleIndex;
 use std::alloc::Global;
-use tcap_infeasible::{RigidCaps, compare_rigid_caps};
+use tcap_infeasible::{ComparedCaps, compare_rigid_caps};
 use term_core::{System, Term, equal};
 use validity::CheckError;
 
@@ -40,7 +39,6 @@ fn check_normal(
     requires first { math.Fits (view first.now) }
     requires second { math.Fits (view second.now) }
     requires few { length entries.now < 2 ^ 32 }
-    requires caps { AreByCaps (map redex_view entries.now) }
     ensures { ApartAnswers sys.now (view first.now) (view second.now) (by_normal_forms (map redex_view entries.now)) result }
 {
     if equal(first, second) {
@@ -72,9 +70,9 @@ fn check_caps(alloc: Global, sys: &System, first: &Term, second: &Term) -> Resul
     ensures { ApartAnswers sys.now (view first.now) (view second.now) by_rigid_caps result }
 {
     match compare_rigid_caps(alloc, sys, first, second)? {
-        RigidCaps::Clash => Ok(()),
-        RigidCaps::TooLarge => Err(CheckError::Rejected(Rejected::CapsLarge)),
-        RigidCaps::Unify => Err(CheckError::Rejected(Rejected::CapsUnify)),
+        ComparedCaps::Clash => Ok(()),
+        ComparedCaps::TooLarge => Err(CheckError::Rejected(Rejected::CapsLarge)),
+        ComparedCaps::Unify => Err(CheckError::Rejected(Rejected::CapsUnify)),
     }
 }
 
@@ -89,7 +87,6 @@ pub(crate) fn check_apart(
     requires first { math.Fits (view first.now) }
     requires second { math.Fits (view second.now) }
     requires few { AreFew (apart_view apart.now) }
-    requires caps { UsesNoAutomaton (apart_view apart.now) }
     ensures { ApartAnswers sys.now (view first.now) (view second.now) (apart_view apart.now) result }
 {
     match apart {

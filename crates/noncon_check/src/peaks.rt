@@ -5,7 +5,6 @@ ghost use Rattle.certificates.specs.Sizes.{IsShort};
 ghost use Rattle.term_core.specs.View.{view};
 ghost use Rattle.cert_model.specs.DerivationView.{derivation_view};
 ghost use Rattle.cert_model.specs.CertificateView.{peak_view};
-ghost use Rattle.validity.specs.Peaks.{UsesNoAutomaton};
 ghost use Rattle.validity.specs.Laws.{ReachesApart};
 ghost use Rattle.validity.specs.Answers.{PeakAnswers};
 ghost use Rattle.noncon_check.specs.Ends.{FirstAnswers, SecondAnswers};
@@ -47,7 +46,6 @@ fn second_end(alloc: Global, sys: &System, peak: &Peak) -> Result<Term, CheckErr
 // Whether the peak is valid, or the first reason why it is not.
 fn judge_peak(alloc: Global, sys: &System, peak: &Peak) -> Result<(), CheckError>
     requires start { math.Fits (view peak.now.start) }
-    requires caps { UsesNoAutomaton (peak_view peak.now).apart }
     requires first_short { IsShort (derivation_view peak.now.first) }
     requires second_short { IsShort (derivation_view peak.now.second) }
     requires few { AreFew (peak_view peak.now).apart }
@@ -63,7 +61,6 @@ fn judge_peak(alloc: Global, sys: &System, peak: &Peak) -> Result<(), CheckError
 pub fn check_peak(alloc: Global, sys: &System, peak: &Peak) -> Result<(), CheckError>
     requires start { math.Fits (view peak.now.start) }
     requires over { IsOver sys.now.arities (view peak.now.start) }
-    requires caps { UsesNoAutomaton (peak_view peak.now).apart }
     requires first_short { IsShort (derivation_view peak.now.first) }
     requires second_short { IsShort (derivation_view peak.now.second) }
     requires few { AreFew (peak_view peak.now).apart }

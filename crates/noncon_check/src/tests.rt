@@ -6,7 +6,6 @@ ghost use Rattle.certificates.specs.Sizes.{IsShort, IsStepShort};
 ghost use Rattle.term_core.specs.View.{view};
 ghost use Rattle.cert_model.specs.DerivationView.{derivation_view, step_view};
 ghost use Rattle.cert_model.specs.CertificateView.{redex_view, apart_view, peak_view};
-ghost use Rattle.validity.specs.Peaks.{AreByCaps, UsesNoAutomaton};
 ghost use Rattle.noncon_check.specs.Judges.{AreFew};
 
 use crate::{CheckError, check_peak};
@@ -148,24 +147,11 @@ fn is_step_short(step: &Step) -> bool
     }
 }
 
-fn are_by_caps(redexes: &[Redex]) -> bool
-    ensures { IsTrue result → AreByCaps (map redex_view redexes.now) }
-{
-    match redexes {
-        [] => true,
-        [first, rest @ ..] => match &first.evidence {
-            InfEvidence::Tcap => are_by_caps(rest),
-            InfEvidence::Auto { .. } => false,
-        },
-    }
-}
-
 fn is_plain(apart: &NonJoin) -> bool
-    ensures caps { IsTrue result → UsesNoAutomaton (apart_view apart.now) }
-    ensures few { IsTrue result → AreFew (apart_view apart.now) }
+    ensures { IsTrue result → AreFew (apart_view apart.now) }
 {
     match apart {
-        NonJoin::Normal(redexes) => redexes.len() < 100 && are_by_caps(redexes),
+        NonJoin::Normal(redexes) => redexes.len() < 100,
         NonJoin::Caps => true,
     }
 }

@@ -18,7 +18,6 @@ judge_end-requires-clause-ready c =
       sound = rules_sound c.args.sys.now _ c.rules.ensures.sound c.rules.ensures.rules c.rules.ensures.counted;
       by_root = c.in_ok-index.ensures;
       few = c.requires.few;
-      caps = c.requires.caps;
       own = omega arith;
     }
 
@@ -30,7 +29,6 @@ judge_end-requires-2-clause-ready c =
       sound = rules_sound c.args.sys.now _ c.rules.ensures.sound c.rules.ensures.rules c.rules.ensures.counted;
       by_root = c.in_ok-index.ensures;
       few = c.requires.few;
-      caps = c.requires.caps;
       own = omega arith;
     }
 

@@ -13,7 +13,6 @@ judge_part-requires-clause-ready c =
       sound = c.requires.ready.sound;
       by_root = c.requires.ready.by_root;
       few = c.requires.ready.few;
-      caps = c.requires.ready.caps;
       own = few_names _ _ _ _ c.new-numbering.ensures c.in_ok-numbered.ensures.row c.requires.fits.nodes c.len-own.ensures.len;
     }
 

@@ -1,11 +1,8 @@
 use Rattle.std.proofs.Common.{◌≡◌, inl, inr, ap, suc, ◌+◌, arith}
 use Rattle.certificates.specs.Reasons.{redex_fails}
 use Rattle.cert_model.specs.ReasonView.{evidence_reason_view}
-use Rattle.noncon_check.proofs.Rules.{entry_low, by_caps_at}
+use Rattle.noncon_check.proofs.Rules.{entry_low}
 use Rattle.noncon_check.proofs.redexes.Judge.judge_entry.Goals as goal
-
-pub judge_conditions-requires-clause-caps : goal.judge_conditions-requires-clause-caps
-judge_conditions-requires-clause-caps c = by_caps_at _ _ _ c.requires.ready.caps c.in-Some.ensures.0
 
 pub overflow_add-result : goal.overflow_add-result
 overflow_add-result c = let low = entry_low c.args.self.now.entries.now c.args.at _ c.in-Some.ensures.0 in let few = c.requires.ready.few in omega (arith, low, few)
