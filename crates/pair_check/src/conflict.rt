@@ -1,0 +1,66 @@
+// Two conditions that ask for two results of one term.
+ghost use Rattle.std.specs.Prelude.{◌≡◌, ◌≤◌, None, Some, MatchOption, length, map};
+ghost use Rattle.rewriting.specs.Terms as math;
+ghost use Rattle.certificates.specs.Judging.{hypothesis_at};
+ghost use Rattle.certificates.specs.Sizes.{DoConditionsFit};
+ghost use Rattle.term_core.specs.View.{view};
+ghost use Rattle.term_core.specs.RuleView.{condition_view};
+ghost use Rattle.critical_pairs.specs.View.{overlap_view};
+ghost use Rattle.refuter.specs.Answers.{RefutesAnswers};
+ghost use Rattle.validity.specs.PairEvidence.{IsConflictJudged};
+ghost use Rattle.pair_check.specs.Judges.{IsConflictOf};
+
+use cert_model::EvidenceReason;
+use critical_pairs::Overlap;
+use refuter::Refusal;
+use std::alloc::Global;
+use tcap_infeasible::{ComparedCaps, compare_caps};
+use term_core::{Cond, System, equal};
+
+/// The condition with a number, from 1.
+pub fn condition(conds: &[Cond], number: u32) -> Option<&Cond>
+    ensures { MatchOption result (hypothesis_at (map condition_view conds.now) number ≡ None) (λ c. hypothesis_at (map condition_view conds.now) number ≡ Some (condition_view c.now)) }
+{
+    if number == 0 {
+        return None;
+    }
+    conds.get(number as usize - 1)
+}
+
+// That two conditions have one left side, and right sides whose caps clash.
+fn judge_conditions(alloc: Global, sys: &System, first: &Cond, second: &Cond) -> Result<(), Refusal>
+    requires first { math.Fits (view first.now.right) }
+    requires second { math.Fits (view second.now.right) }
+    ensures { RefutesAnswers (IsConflictOf sys.now (condition_view first.now) (condition_view second.now)) result }
+{
+    if !equal(&first.left, &second.left) {
+        return Err(Refusal::Reason(EvidenceReason::ConflictLeft));
+    }
+    match compare_caps(alloc, sys, &first.right, &second.right)? {
+        ComparedCaps::Clash => Ok(()),
+        ComparedCaps::Unify => Err(Refusal::Reason(EvidenceReason::ConflictUnifies)),
+        ComparedCaps::TooLarge => Err(Refusal::Reason(EvidenceReason::ConflictLarge)),
+    }
+}
+
+/// Judges that a condition of the inner and one of the outer rule, both numbered from 1, ask for two results of one term.
+pub fn judge_conflict(
+    alloc: Global,
+    sys: &System,
+    overlap: &Overlap,
+    inner: u32,
+    outer: u32,
+) -> Result<(), Refusal>
+    requires fit { DoConditionsFit (map condition_view overlap.now.conds.items) }
+    requires counted { overlap.now.inner_conds ≤ length overlap.now.conds.items }
+    ensures { RefutesAnswers (IsConflictJudged sys.now (overlap_view overlap.now) inner outer) result }
+{
+    let split = overlap.inner_conds as usize;
+    let Some(first) = condition(&overlap.conds[..split], inner) else {
+        return Err(Refusal::Reason(EvidenceReason::ConflictNumber));
+    };
+    let Some(second) = condition(&overlap.conds[split..], outer) else {
+        return Err(Refusal::Reason(EvidenceReason::ConflictNumber));
+    };
+    judge_conditions(alloc, sys, first, second)
+}
