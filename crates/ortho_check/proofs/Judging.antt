@@ -1,0 +1,54 @@
+-- The answer for a certificate, from those for the classes and for the overlaps, and what a valid one shows.
+use Rattle.std.proofs.Common.{List, Result, Ok, Err, OnOk, sym, subst}
+use Rattle.rewriting.specs.Rules.{System}
+use Rattle.rewriting.specs.Systems.{IsWellFormed}
+use Rattle.rewriting.specs.Classes.{IsLeftLinear, IsType3, IsExtendedOriented}
+use Rattle.rewriting.specs.Confluence.{IsConfluent}
+use Rattle.certificates.specs.Certificates.{PairEntry}
+use Rattle.certificates.specs.Reasons.{left_linear, type3, extended_oriented, right_stable}
+use Rattle.cert_model.specs.ReasonView.{rejected_view}
+use Rattle.level_theorem.specs.AlmostOrthogonal.{DoLevelsCommute, LevelsCommute, AlmostOrthogonalSystemsAreConfluent}
+use Rattle.validity.specs.declared.CheckError.{CheckError}
+use Rattle.validity.specs.declared.CheckError.TheVariants.{Rejected, NoMemory}
+use Rattle.validity.specs.declared.CertKind.TheVariants.{Ortho}
+use Rattle.validity.specs.Confluence.{IsInOrthoClasses, IsOrthoRejected, not_left_linear, not_type3, not_oriented, not_right_stable, ortho_pairs_fail}
+use Rattle.validity.specs.Answers.{SettleAnswers, OrthoAnswers}
+use Rattle.ortho_check.specs.Answers.{ClassAnswers, ClassesAnswer}
+use Rattle.ortho_check.proofs.Sound.{almost_orthogonal}
+
+-- a class that is missed, where the system is in those before it
+module _ (sys : System) where
+  pub not_in_first : (e : CheckError) → ClassAnswers sys left_linear (Err e) → ClassesAnswer sys (Err e)
+  not_in_first (Rejected reason) (blame, is, by) = λ es. subst (IsOrthoRejected sys es) (sym is) (not_left_linear blame by)
+  not_in_first NoMemory h = absurd h
+
+  pub not_in_second : IsLeftLinear sys → (e : CheckError) → ClassAnswers sys type3 (Err e) → ClassesAnswer sys (Err e)
+  not_in_second linear (Rejected reason) (blame, is, by) = λ es. subst (IsOrthoRejected sys es) (sym is) (not_type3 blame linear by)
+  not_in_second linear NoMemory h = absurd h
+
+  pub not_in_third : IsLeftLinear sys → IsType3 sys → (e : CheckError) → ClassAnswers sys extended_oriented (Err e) → ClassesAnswer sys (Err e)
+  not_in_third linear known (Rejected reason) (blame, is, by) = λ es. subst (IsOrthoRejected sys es) (sym is) (not_oriented blame linear known by)
+  not_in_third linear known NoMemory h = absurd h
+
+  pub last_class : IsLeftLinear sys → IsType3 sys → IsExtendedOriented sys → (a : Result (Unit {0}) CheckError) → ClassAnswers sys right_stable a → ClassesAnswer sys a
+  last_class linear known oriented (Ok _) h = record { left_linear = linear; type3 = known; oriented = oriented; right_stable = h }
+  last_class linear known oriented (Err (Rejected reason)) (blame, is, by) =
+      λ es. subst (IsOrthoRejected sys es) (sym is) (not_right_stable blame linear known oriented by)
+  last_class linear known oriented (Err NoMemory) h = absurd h
+
+  pub not_in_classes : (es : List PairEntry) (e : CheckError) → ClassesAnswer sys (Err e) → OrthoAnswers sys es (Err e)
+  not_in_classes es (Rejected reason) h = h es
+  not_in_classes es NoMemory h = absurd h
+
+  pub in_classes : (es : List PairEntry) (a : Result (Unit {0}) CheckError) → IsInOrthoClasses sys → SettleAnswers Ortho sys es a → OrthoAnswers sys es a
+  in_classes es (Ok _) classes h = record { classes = classes; pairs = h }
+  in_classes es (Err (Rejected reason)) classes h = ortho_pairs_fail (rejected_view reason) classes h
+  in_classes es (Err NoMemory) classes h = tt
+
+  pub levels_of_valid : LevelsCommute → IsWellFormed sys → (es : List PairEntry) (a : Result (Unit {0}) CheckError) → OrthoAnswers sys es a → OnOk a (DoLevelsCommute sys)
+  levels_of_valid law good es (Ok _) h = law sys (almost_orthogonal sys es good h)
+  levels_of_valid law good es (Err e) h = tt
+
+  pub confluent_of_valid : AlmostOrthogonalSystemsAreConfluent → IsWellFormed sys → (es : List PairEntry) (a : Result (Unit {0}) CheckError) → OrthoAnswers sys es a → OnOk a (IsConfluent sys)
+  confluent_of_valid law good es (Ok _) h = law sys (almost_orthogonal sys es good h)
+  confluent_of_valid law good es (Err e) h = tt
