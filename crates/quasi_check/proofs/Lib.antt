@@ -1,0 +1,7 @@
+pub mod SoundRuns
+pub mod SoundPairs
+pub mod SoundEvidence
+pub mod Sound
+pub mod Answers
+pub mod Walks
+pub mod NoRules

@@ -1,0 +1,84 @@
+-- The walks over right sides of conditions.
+use Rattle.std.proofs.Common.{◌≡◌, ◌⊎◌, inl, inr, ℕ, ◌+◌, ◌<◌, ◌≤◌, List, Some, None, Option, length, map, get_or, sym, subst, arith, ap, ◌∙◌, option_map, slice_get, Bool, true, false, IsTrue, ◌↔◌, Ok}
+use Rattle.std.proofs.lemmas.Bool.{false≢true}
+use Rattle.std.proofs.lemmas.List.{length-map}
+use Rattle.std.proofs.lemmas.Option.{slice_get-get_or, slice_get-map}
+use Rattle.rewriting.specs.Rules.{Condition, Rule, System, rule_at}
+use Rattle.rewriting.specs.Terms.{Term}
+use Rattle.rewriting.specs.Classes.{IsAt}
+use Rattle.unifier_run.specs.Run.{Outcome, unifier, clash, too_large}
+use Rattle.unifier_run.specs.Irreducible.{DoAllClash, IsFirstOutcome}
+use Rattle.unifier_run.proofs.Unique.{runs_same}
+use Rattle.validity.specs.Confluence.{IsFirstReducible}
+use Rattle.term_core.specs.declared.systems.Cond.{Cond}
+use Rattle.term_core.specs.RuleView.{condition_view}
+use Rattle.irreducible.specs.declared.Irreducible.{Irreducible}
+use Rattle.irreducible.specs.declared.Irreducible.TheVariants.{No, TooLarge}
+use Rattle.irreducible.specs.Answers.{IrreducibleAnswers}
+use Rattle.quasi_check.specs.declared.sides.Place.{Place}
+use Rattle.quasi_check.specs.Sides.{DoSidesClash, IsFirstCondition, ConditionAnswers, SideAnswers}
+
+-- a run that ends in something else
+pub does_not_clash : (sys : System) (t : Term) (o : Outcome) → IsFirstOutcome sys t o → (o ≡ clash → ⊥) → DoAllClash sys t → ⊥
+does_not_clash sys t o f other all = other (runs_same f.outcome (all f.position f.number f.part f.rule f.trial))
+
+-- the first condition of a rule whose earlier rules have none
+pub first_of_all : (sys : System) (i : ℕ) (r : Rule) (k : ℕ) → rule_at sys (i + 1) ≡ Some r → ((j : ℕ) (q : Rule) → j ≤ i → rule_at sys j ≡ Some q → DoSidesClash sys q.conditions)
+    → IsFirstCondition sys r.conditions k → IsFirstReducible sys (i + 1) k
+first_of_all sys i r k is before f =
+    record {
+      rule = r;
+      condition = f.condition;
+      place = f.place;
+      number = f.number;
+      is_rule = is;
+      is_condition = f.is_condition;
+      earlier = go;
+      fails = f.fails;
+    }
+  where
+    go : (j : ℕ) (q : Rule) (n : ℕ) (c : Condition) → rule_at sys j ≡ Some q → IsAt q.conditions n c → (j < i + 1) ⊎ ((j ≡ i + 1) × (n < f.place)) → DoAllClash sys c.right
+    go j q n c h at (inl less) = before j q (omega (arith, less)) h n c at
+    go j q n c h at (inr (e, less)) =
+        let there : rule_at sys (i + 1) ≡ Some q = subst (λ z. rule_at sys z ≡ Some q) e h in
+        let same : q ≡ r = cc in
+        f.earlier n c less (subst (λ z. IsAt z.conditions n c) same at)
+
+-- the answers of the test for one term
+pub not_clashing : (sys : System) (t : Term) → (DoAllClash sys t → ⊥) → (IsTrue false → DoAllClash sys t) × (DoAllClash sys t → IsTrue false)
+not_clashing sys t never = (λ h. absurd (false≢true h), λ all. absurd (never all))
+
+pub no_is_other : (sys : System) (t : Term) (r : Irreducible) → IrreducibleAnswers sys t (Ok r) → r ≡ No → (IsTrue false → DoAllClash sys t) × (DoAllClash sys t → IsTrue false)
+no_is_other sys t r h e =
+    let f = subst (λ z. IrreducibleAnswers sys t (Ok z)) e h in
+    not_clashing sys t (does_not_clash sys t (unifier f.0.0) f.0.1 (λ k. cc))
+
+pub large_is_other : (sys : System) (t : Term) (r : Irreducible) → IrreducibleAnswers sys t (Ok r) → r ≡ TooLarge → (IsTrue false → DoAllClash sys t) × (DoAllClash sys t → IsTrue false)
+large_is_other sys t r h e =
+    let f = subst (λ z. IrreducibleAnswers sys t (Ok z)) e h in
+    not_clashing sys t (does_not_clash sys t too_large f (λ k. cc))
+
+-- the conditions of a list one after another
+pub condition_here : (items : List Cond) (i : ℕ) (c : Cond) → i < length items → c ≡ get_or items i c → IsAt (map condition_view items) i (condition_view c)
+condition_here items i c low is =
+    let there : slice_get items i ≡ Some c = slice_get-get_or items i c low ∙ ap Some (sym is) in
+    slice_get-map condition_view items i ∙ ap (option_map condition_view) there
+
+pub none_left : (items : List Cond) (i : ℕ) → length items ≤ i → length (map condition_view items) ≤ i
+none_left items i h = rw (length-map items condition_view) h
+
+pub found_at : (sys : System) (cs ds : List Condition) (o : Option ℕ) (k : ℕ) → ConditionAnswers sys cs o → o ≡ Some k → cs ≡ ds → IsFirstCondition sys ds k
+found_at sys cs ds o k h e same = subst (λ z. IsFirstCondition sys z k) same (subst (ConditionAnswers sys cs) e h)
+
+pub none_found : (sys : System) (cs ds : List Condition) (o : Option ℕ) → ConditionAnswers sys cs o → o ≡ None → cs ≡ ds → DoSidesClash sys ds
+none_found sys cs ds o h e same = subst (DoSidesClash sys) same (subst (ConditionAnswers sys cs) e h)
+
+pub side_found : (sys : System) (o : Option Place) (place : Place) → SideAnswers sys o → o ≡ Some place → IsFirstReducible sys place.rule place.cond
+side_found sys o place h e = subst (SideAnswers sys) e h
+
+-- a test that decides a fact
+pub fails_where : (b : Bool) (P : Type 0) → IsTrue b ↔ P → b ≡ false → P → ⊥
+fails_where b P h e p = false≢true (sym e ∙ h.1 p)
+
+pub holds_where : (b : Bool) (P : Type 0) → IsTrue b ↔ P → b ≡ true → P
+holds_where b P h e = h.0 e

@@ -1,0 +1,10 @@
+//! Certificates that systems with a measure are confluent.
+#![tactic(auto)]
+
+mod quasi;
+mod sides;
+#[cfg(test)]
+mod tests;
+
+pub use quasi::check_quasi;
+pub use validity::CheckError;

@@ -1,0 +1,86 @@
+ghost use Rattle.std.specs.Prelude.{OnOk, map};
+ghost use Rattle.rewriting.specs.Confluence.{IsConfluent};
+ghost use Rattle.cert_model.specs.CertificateView.{pair_entry_view};
+ghost use Rattle.validity.specs.Entries.{ArePairsShort};
+ghost use Rattle.validity.specs.Answers.{QuasiAnswers};
+ghost use Rattle.quasi_check.specs.Parts.{RulesAnswers, MeasureAnswers};
+
+use crate::sides::first_reducible;
+use cert_model::{Class, PairEntry, Rejected};
+use ctrs_classes::why_not;
+use descent_theorem::bounded_descents_are_confluent;
+use measure::{Measure, MeasureError};
+use pair_check::check_pairs;
+use std::alloc::Global;
+use term_core::System;
+use validity::{CertKind, CheckError};
+
+// Whether the system is deterministic and the right side of each condition is absolutely irreducible.
+fn check_rules(alloc: Global, sys: &System) -> Result<(), CheckError>
+    ensures { RulesAnswers sys.now result }
+{
+    if let Some(blame) = why_not(sys, Class::Deterministic) {
+        return Err(CheckError::Rejected(Rejected::ClassFails(blame)));
+    }
+    match first_reducible(alloc, sys)? {
+        Some(place) => Err(CheckError::Rejected(Rejected::NotIrreducible {
+            rule: place.rule,
+            cond: place.cond,
+        })),
+        None => Ok(()),
+    }
+}
+
+// Whether the measure bounds descents.
+fn check_measure<M: Measure>(alloc: Global, sys: &System, measure: &M) -> Result<(), CheckError>
+    ensures { MeasureAnswers (M.judged measure.now sys.now) result }
+{
+    match measure.shows(alloc, sys) {
+        Ok(()) => Ok(()),
+        Err(MeasureError::Reason(reason)) => {
+            Err(CheckError::Rejected(Rejected::MeasureFails(reason)))
+        }
+        Err(MeasureError::Unraveling { rule }) => {
+            Err(CheckError::Rejected(Rejected::UnravelLarge { rule }))
+        }
+        Err(MeasureError::NoMemory) => Err(CheckError::NoMemory),
+    }
+}
+
+// Whether the certificate is valid, or the first reason why it is not.
+fn judge_quasi<M: Measure>(
+    alloc: Global,
+    sys: &System,
+    measure: &M,
+    pairs: &[PairEntry],
+) -> Result<(), CheckError>
+    requires short { ArePairsShort (map pair_entry_view pairs.now) }
+    ensures { QuasiAnswers (M.judged measure.now sys.now) sys.now (map pair_entry_view pairs.now) result }
+{
+    check_rules(alloc, sys)?;
+    check_measure(alloc, sys, measure)?;
+    check_pairs(alloc, sys, CertKind::Quasi, pairs)
+}
+
+/// Judges a certificate that a system is confluent, by a measure and the evidence for each overlap (after Avenhaus and
+/// Loria-Saenz 1994). Where the answer is Ok, the system is confluent.
+///
+/// # Errors
+///
+/// The first reason, in this order, why it is not valid: the system is not deterministic; the right side of a condition is
+/// not absolutely irreducible, or a run that tells passes the size, where rules and conditions are numbered from 1; the
+/// measure is not good; the entries do not settle the overlaps.
+pub fn check_quasi<M: Measure>(
+    alloc: Global,
+    sys: &System,
+    measure: &M,
+    pairs: &[PairEntry],
+) -> Result<(), CheckError>
+    requires short { ArePairsShort (map pair_entry_view pairs.now) }
+    ensures judged { QuasiAnswers (M.judged measure.now sys.now) sys.now (map pair_entry_view pairs.now) result }
+    ensures confluent { OnOk result (IsConfluent sys.now) }
+{
+    bounded_descents_are_confluent();
+    let _rules = sys.rules();
+    judge_quasi(alloc, sys, measure, pairs)
+}

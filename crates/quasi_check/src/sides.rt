@@ -1,0 +1,56 @@
+//! Right sides of conditions that are not absolutely irreducible.
+ghost use Rattle.std.specs.Prelude.{◌≡◌, ◌≤◌, ◌↔◌, IfOk, IsTrue, length, map};
+ghost use Rattle.unifier_run.specs.Irreducible.{DoAllClash};
+ghost use Rattle.term_core.specs.View.{view};
+ghost use Rattle.term_core.specs.RuleView.{condition_view};
+ghost use Rattle.quasi_check.specs.Sides.{ConditionAnswers, SideAnswers};
+
+use irreducible::{Irreducible, is_absolutely_irreducible};
+use std::alloc::Global;
+use term_core::{Cond, NoMemory, System, Term};
+
+/// A condition of a rule; both are numbered from 1.
+#[derive(Clone, Copy)]
+pub(crate) struct Place {
+    pub(crate) rule: u32,
+    pub(crate) cond: u32,
+}
+
+// Whether every run for the term ends in a clash; one that passes the size does not.
+fn do_all_clash(alloc: Global, sys: &System, t: &Term) -> Result<bool, NoMemory>
+    ensures { IfOk result (λ b. IsTrue b ↔ DoAllClash sys.now (view t.now)) }
+{
+    match is_absolutely_irreducible(alloc, sys, t)? {
+        Irreducible::Yes => Ok(true),
+        Irreducible::No => Ok(false),
+        Irreducible::TooLarge => Ok(false),
+    }
+}
+
+// The first condition, from 1, whose right side is not absolutely irreducible.
+fn first_condition(alloc: Global, sys: &System, conds: &[Cond]) -> Result<Option<u32>, NoMemory>
+    requires { length conds.now ≤ 100 }
+    ensures { IfOk result (λ first. ConditionAnswers sys.now (map condition_view conds.now) first) }
+{
+    for (k, cond) in conds.iter().enumerate() {
+        if !do_all_clash(alloc, sys, &cond.right)? {
+            return Ok(Some(k as u32 + 1));
+        }
+    }
+    Ok(None)
+}
+
+// The first such condition of the first rule that has one.
+pub(crate) fn first_reducible(alloc: Global, sys: &System) -> Result<Option<Place>, NoMemory>
+    ensures { IfOk result (λ first. SideAnswers sys.now first) }
+{
+    for (i, rule) in sys.rules().iter().enumerate() {
+        if let Some(cond) = first_condition(alloc, sys, &rule.conds)? {
+            return Ok(Some(Place {
+                rule: i as u32 + 1,
+                cond,
+            }));
+        }
+    }
+    Ok(None)
+}
