@@ -1,13 +1,21 @@
 //! The check of a certificate, by its kind.
 #![tactic(auto)]
 
-ghost use Rattle.cert_model.specs.CertificateView.{certificate_view};
-ghost use Rattle.validity.specs.Laws.{ReachesApart};
-ghost use Rattle.cert_check.specs.Kinds.{IsPeakWith, CanBeJudged};
-ghost use Rattle.cert_check.specs.Answers.{VerdictAnswers, OnNo};
+ghost use Rattle.std.specs.Prelude.{◌≡◌, OnOk, map};
+ghost use Rattle.rewriting.specs.Confluence.{IsConfluent};
+ghost use Rattle.certificates.specs.Certificates.{linear_measure};
+ghost use Rattle.cert_model.specs.CertificateView.{linear_entry_view, pair_entry_view, measure_view, certificate_view};
+ghost use Rattle.validity.specs.Entries.{ArePairsShort};
+ghost use Rattle.validity.specs.Certificates.{IsMeasureJudged};
+ghost use Rattle.validity.specs.Answers.{QuasiAnswers};
+ghost use Rattle.cert_check.specs.Kinds.{CanBeJudged, IsPeakApart};
+ghost use Rattle.cert_check.specs.Answers.{VerdictAnswers, OnYes, OnNo};
 
-use cert_model::Certificate;
+use cert_model::{Certificate, Linear, MeasureCert, PairEntry};
+use linear_interp::LinearMeasure;
 use noncon_check::check_peak;
+use ortho_check::check_ortho;
+use quasi_check::check_quasi;
 use std::alloc::Global;
 use term_core::System;
 pub use validity::CheckError;
@@ -24,18 +32,50 @@ pub enum Verdict {
     No,
 }
 
-/// Judges a certificate, which for now is a peak: one that is valid shows that the system is not confluent.
+// The linear interpretation that a measure is.
+fn linear_of(measure: &MeasureCert) -> &Linear
+    ensures { measure_view measure.now ≡ linear_measure (map linear_entry_view result.now.entries.items) }
+{
+    match measure {
+        MeasureCert::Linear(linear) => linear,
+    }
+}
+
+// A certificate with a measure.
+fn check_measured(
+    alloc: Global,
+    sys: &System,
+    measure: &MeasureCert,
+    pairs: &[PairEntry],
+) -> Result<(), CheckError>
+    requires { ArePairsShort (map pair_entry_view pairs.now) }
+    ensures judged { QuasiAnswers (IsMeasureJudged sys.now (measure_view measure.now)) sys.now (map pair_entry_view pairs.now) result }
+    ensures confluent { OnOk result (IsConfluent sys.now) }
+{
+    let linear = linear_of(measure);
+    check_quasi(alloc, sys, &LinearMeasure { linear }, pairs)
+}
+
+/// Judges a certificate: one that is valid shows that the system is confluent, or,
+/// where it is a peak, that it is not.
 pub fn check(alloc: Global, sys: &System, cert: &Certificate) -> Result<Verdict, CheckError>
-    requires { IsPeakWith (CanBeJudged sys.now) (certificate_view cert.now) }
-    ensures judged { IsPeakWith (λ p. VerdictAnswers sys.now p result) (certificate_view cert.now) }
-    ensures sound { IsPeakWith (λ p. OnNo result (ReachesApart sys.now p.start)) (certificate_view cert.now) }
+    requires { CanBeJudged sys.now (certificate_view cert.now) }
+    ensures judged { VerdictAnswers sys.now (certificate_view cert.now) result }
+    ensures yes { OnYes result (IsConfluent sys.now) }
+    ensures no { OnNo result (IsPeakApart sys.now (certificate_view cert.now)) }
 {
     match cert {
+        Certificate::Ortho(pairs) => {
+            check_ortho(alloc, sys, pairs)?;
+            Ok(Verdict::Yes)
+        }
+        Certificate::Quasi(measure, pairs) => {
+            check_measured(alloc, sys, measure, pairs)?;
+            Ok(Verdict::Yes)
+        }
         Certificate::Peak(peak) => {
             check_peak(alloc, sys, peak)?;
             Ok(Verdict::No)
         }
-        Certificate::Ortho(_) => unreachable!(),
-        Certificate::Quasi(_, _) => unreachable!(),
     }
 }

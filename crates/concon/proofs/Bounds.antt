@@ -1,24 +1,25 @@
 -- What the readers promise of a certificate is what its check asks.
-use Rattle.std.proofs.Common.{◌≡◌, ℕ, suc, ◌-◌, List, map, refl, ap, ◌∙◌, arith}
+use Rattle.std.proofs.Common.{◌≡◌, ℕ, suc, ◌-◌, List, [], ◌∷◌, map, refl, ap, ◌∙◌, arith}
 use Rattle.std.specs.Prelude.{slice_get}
 use Rattle.std.proofs.lemmas.Option.{slice_get-map}
 use Rattle.rewriting.specs.Terms.{Term, Terms, var, app, nil, cons}
 use Rattle.rewriting.specs.Signatures.{IsOver, AreOver}
 use Rattle.rewriting.specs.Rules.{System}
 use Rattle.certificates.specs.Derivations.{Derivation, no_steps, first_step, Step, by_rule, by_hypothesis, Derivations, no_derivations, first_derivation}
-use Rattle.certificates.specs.Certificates.{Apartness, by_normal_forms, by_rigid_caps, Certificate, ortho_certificate, quasi_certificate, peak_certificate}
+use Rattle.certificates.specs.Evidence.{PairEvidence, trivial_pair, infeasible_pair, conflicting_pair, joined_pair, unfeasible_pair}
+use Rattle.certificates.specs.Certificates.{PairEntry, Apartness, by_normal_forms, by_rigid_caps, Certificate, ortho_certificate, quasi_certificate, peak_certificate}
 use Rattle.certificates.specs.Sizes.{IsShort, AreStepsShort, IsStepShort, AreShort}
 use Rattle.certificates.specs.Sizes as sizes
-use Rattle.validity.proofs.NoAutomaton.{no_automaton}
+use Rattle.validity.specs.Entries.{IsPairShort, ArePairsShort}
 use Rattle.noncon_check.specs.Judges.{AreFew}
-use Rattle.cert_check.specs.Kinds.{IsPeakWith, CanBeJudged}
+use Rattle.cert_check.specs.Kinds.{CanBeJudged}
 use Rattle.cops_read.specs.NameTable.{NameTable}
 use Rattle.cops_read.specs.File.{IsFile}
 use Rattle.cert_text.specs.Words.{IsSpelt, AreSpelt}
 use Rattle.cert_text.specs.Steps as steps
 use Rattle.cert_text.specs.Limits.{AreSteps, IsStep, AreDerivations, IsDerivation}
+use Rattle.cert_text.specs.EvidenceText.{IsEvidence, ArePairs}
 use Rattle.cert_text.specs.CertificateText.{IsApart, IsCertificateText}
-use Rattle.concon.specs.Outcomes.{IsNotJudged}
 
 -- terms that the names spell are over the arities of the names
 mutual
@@ -55,15 +56,24 @@ few : (names : NameTable) (a : Apartness) → IsApart names a → AreFew a
 few names (by_normal_forms es) h = let at_most = h.0 in omega arith
 few names by_rigid_caps h = tt
 
-pub can_be_judged : (file text : List ℕ) (sys : System) (names : NameTable) (c : Certificate) → IsFile file sys names → IsCertificateText names text c → (IsNotJudged c → ⊥)
-    → IsPeakWith (CanBeJudged sys) c
-can_be_judged file text sys names (ortho_certificate pairs) f c judged = judged tt
-can_be_judged file text sys names (quasi_certificate measure pairs) f c judged = judged tt
-can_be_judged file text sys names (peak_certificate peak) f c judged = record {
+evidence_short : (names : NameTable) (e : PairEvidence) → IsEvidence names e → IsPairShort e
+evidence_short names trivial_pair h = tt
+evidence_short names (infeasible_pair e) h = tt
+evidence_short names (conflicting_pair a b) h = tt
+evidence_short names (joined_pair d e) h = (short d h.0, short e h.1)
+evidence_short names (unfeasible_pair k d e) h = (short d h.1, short e h.2)
+
+pairs_short : (names : NameTable) (es : List PairEntry) → ArePairs names es → ArePairsShort es
+pairs_short names [] h = tt
+pairs_short names (e ∷ es) h = (evidence_short names e.evidence h.3, pairs_short names es h.4)
+
+pub can_be_judged : (file text : List ℕ) (sys : System) (names : NameTable) (c : Certificate) → IsFile file sys names → IsCertificateText names text c → CanBeJudged sys c
+can_be_judged file text sys names (ortho_certificate pairs) f c = pairs_short names pairs c.spelt.1
+can_be_judged file text sys names (quasi_certificate measure pairs) f c = pairs_short names pairs c.spelt.2
+can_be_judged file text sys names (peak_certificate peak) f c = record {
   fits = c.spelt.1;
   over = spelt_over names sys.arities f.meant.arities peak.start c.spelt.0;
   first_short = short peak.first c.spelt.2;
   second_short = short peak.second c.spelt.3;
   few = few names peak.apart c.spelt.4;
-  caps = no_automaton peak.apart judged;
 }

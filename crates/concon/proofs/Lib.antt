@@ -6,3 +6,4 @@ pub mod Verdicts
 pub mod Answered
 pub mod SoundNo
 pub mod OneAnswer
+pub mod Rejecting

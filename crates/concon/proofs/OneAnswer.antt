@@ -1,10 +1,13 @@
 -- Two texts come to one outcome, and where nothing fails that is the answer.
 use Rattle.std.proofs.Common.{◌≡◌, ◌⊎◌, ◌≤◌, ℕ, List, length, Option, Some, None, refl, sym, ap, ap₂, ◌∙◌, subst, subst₂, inl, inr, arith}
 use Rattle.rewriting.specs.Rules.{System}
-use Rattle.certificates.specs.Certificates.{Certificate, Peak, peak_certificate}
+use Rattle.certificates.specs.Certificates.{Certificate}
 use Rattle.certificates.specs.Reasons.{Rejection}
-use Rattle.validity.specs.Peaks.{IsPeakRejected, IsValidPeak}
-use Rattle.validity.specs.Laws.{PeaksHaveOneAnswer}
+use Rattle.validity.specs.Certificates.{IsRejected, IsValid}
+use Rattle.validity.specs.Laws.{CertificatesHaveOneAnswer}
+use Rattle.cert_check.specs.Kinds.{verdict_of}
+use Rattle.cert_check.specs.declared.Verdict.{Verdict}
+use Rattle.cert_check.specs.declared.Verdict.TheVariants.{Yes, No}
 use Rattle.cops_read.specs.NameTable.{NameTable}
 use Rattle.cops_read.specs.File.{IsFile}
 use Rattle.cops_read.specs.Answers.{OneSystem, OneRefusal, NeverSystemAndRefusal}
@@ -16,7 +19,7 @@ use Rattle.concon.specs.CertRefusals as certs
 use Rattle.cert_text.proofs.Whole.{same_certificate}
 use Rattle.concon.specs.Words.{IsCheck}
 use Rattle.concon.specs.Said.{Said, IsTold}
-use Rattle.concon.specs.Outcomes.{Bytes, Outcome, no_system, no_certificate, not_judged, rejected, refuted, SpellsSystem, IsRefusedFile, SpellsCertificate, IsRefusedCertificate, SpellsPeak, IsNotJudged, SpellsOther, ComesTo, said_of_outcome}
+use Rattle.concon.specs.Outcomes.{Bytes, Outcome, no_system, no_certificate, rejected, shown, SpellsSystem, IsRefusedFile, SpellsCertificate, IsRefusedCertificate, ComesTo, status_of, said_of_outcome}
 use Rattle.concon.specs.Causes.{Run, Answer, usage, checked, file_fault, cert_fault, no_memory, said_of, told_or_any, bytes_of, Failed, IsCaused}
 use Rattle.concon.specs.Rows.{CalmlyComesTo, IsUnlessHindered}
 use Rattle.concon.specs.declared.status.Status.{Status}
@@ -26,17 +29,17 @@ same_bytes : (told : Option (List ℕ)) (a b : List ℕ) → told ≡ Some a →
 same_bytes None a b e h = absurd cc
 same_bytes (Some c) a b e h = (let f : c ≡ a = cc in h ∙ f)
 
--- what is known of the texts of systems and of certificates, and of peaks
+-- what is known of the texts of systems and of certificates, and of certificates
 pub record Known : Type 0 where
   pub one : OneSystem
   pub once : OneRefusal
   pub never : NeverSystemAndRefusal
   pub cert_once : texts.OneRefusal
   pub cert_never : texts.NeverBoth
-  pub peaks : PeaksHaveOneAnswer
+  pub answers : CertificatesHaveOneAnswer
 
-pub known : OneSystem → OneRefusal → NeverSystemAndRefusal → texts.OneRefusal → texts.NeverBoth → PeaksHaveOneAnswer → Known
-known one once never cert_once cert_never peaks = record { one = one; once = once; never = never; cert_once = cert_once; cert_never = cert_never; peaks = peaks }
+pub known : OneSystem → OneRefusal → NeverSystemAndRefusal → texts.OneRefusal → texts.NeverBoth → CertificatesHaveOneAnswer → Known
+known one once never cert_once cert_never answers = record { one = one; once = once; never = never; cert_once = cert_once; cert_never = cert_never; answers = answers }
 
 module _ (k : Known) (file cert : Option (List ℕ)) where
   abbrev pub Told : Option (List ℕ) → Bytes
@@ -77,18 +80,6 @@ module _ (k : Known) (file cert : Option (List ℕ)) where
   one_text names others c d e x y =
       same_certificate names x.0 c d x.3 (cert_bytes x.0 y.0 names d x.1 y.1 (subst (λ n. IsCertificateText n y.0 d) (sym e) y.3))
 
-  one_peak : (names others : NameTable) (peak other : Peak) → names ≡ others → SpellsPeak (Told cert) names peak → SpellsPeak (told_or_any cert) others other → peak ≡ other
-  one_peak names others peak other e x y = same_inside peak other (one_text names others (peak_certificate peak) (peak_certificate other) e x.0 y.0)
-    where
-      same_inside : (a b : Peak) → peak_certificate a ≡ peak_certificate b → a ≡ b
-      same_inside a b e = cc
-
-  peak_or_other : (names others : NameTable) (peak : Peak) → names ≡ others → SpellsPeak (Told cert) names peak → SpellsOther (told_or_any cert) others → ⊥
-  peak_or_other names others peak e x y = x.1 (subst IsNotJudged (sym (one_text names others (peak_certificate peak) y.0 e x.0 y.1)) y.2)
-
-  other_or_peak : (names others : NameTable) (peak : Peak) → names ≡ others → SpellsOther (Told cert) names → SpellsPeak (told_or_any cert) others peak → ⊥
-  other_or_peak names others peak e x y = y.1 (subst IsNotJudged (one_text names others x.0 (peak_certificate peak) e x.1 y.0) x.2)
-
   -- the text of a certificate is not refused
   text_or_refused : (names : NameTable) (bytes : List ℕ) (c : Certificate) (r : CertRefusal) → length bytes ≤ most_cert_bytes → IsCertificateText names bytes c → IsCertRefused names bytes r → ⊥
   text_or_refused names bytes c certs.too_long short f h = absurd (omega arith)
@@ -112,50 +103,43 @@ module _ (k : Known) (file cert : Option (List ℕ)) where
   one_cert_refused names others r s e x y =
       cert_refused_once names x.0 r s x.2 (subst₂ (λ n b. IsCertRefused n b s) (sym e) (same_bytes cert x.0 y.0 x.1 y.1) y.2)
 
-  same_rejection : (names others : NameTable) (reason other : Rejection) (sys third : System) (peak fourth : Peak) → names ≡ others → sys ≡ third → peak ≡ fourth
-      → IsPeakRejected sys peak reason → IsPeakRejected third fourth other → rejected names reason ≡ rejected others other
-  same_rejection names others reason other sys third peak fourth e f g x y =
-      ap₂ rejected e ((k.peaks third fourth).one_reason reason other (subst₂ (λ s p. IsPeakRejected s p reason) f g x) y)
+  same_rejection : (names others : NameTable) (reason other : Rejection) (sys third : System) (c d : Certificate) → names ≡ others → sys ≡ third → c ≡ d
+      → IsRejected sys c reason → IsRejected third d other → rejected names reason ≡ rejected others other
+  same_rejection names others reason other sys third c d e f g x y =
+      ap₂ rejected e ((k.answers third d).one_reason reason other (subst₂ (λ s p. IsRejected s p reason) f g x) y)
 
   pub one_outcome : (o p : Outcome) → ComesTo (Told file) (Told cert) o → ComesTo (told_or_any file) (told_or_any cert) p → o ≡ p
   one_outcome (no_system r) (no_system s) x y = ap no_system (one_refused r s x y)
   one_outcome (no_system r) (no_certificate s) x y = absurd (none_or_spells y.0 y.1 r x y.2)
-  one_outcome (no_system r) not_judged x y = absurd (none_or_spells y.0 y.1 r x y.2)
   one_outcome (no_system r) (rejected others other) x y = absurd (none_or_spells y.0 others r x y.2)
-  one_outcome (no_system r) refuted x y = absurd (none_or_spells y.0 y.1 r x y.3)
+  one_outcome (no_system r) (shown w) x y = absurd (none_or_spells y.0 y.1 r x y.3)
   one_outcome (no_certificate r) (no_system s) x y = absurd (spells_or_none x.0 x.1 s x.2 y)
   one_outcome (no_certificate r) (no_certificate s) x y =
       let same = one_pair x.0 y.0 x.1 y.1 x.2 y.2 in ap no_certificate (one_cert_refused x.1 y.1 r s same.1 x.3 y.3)
-  one_outcome (no_certificate r) not_judged x y = let same = one_pair x.0 y.0 x.1 y.1 x.2 y.2 in absurd (none_or_text x.1 y.1 y.3.0 r same.1 x.3 y.3.1)
   one_outcome (no_certificate r) (rejected others other) x y =
-      let same = one_pair x.0 y.0 x.1 others x.2 y.2 in absurd (none_or_text x.1 others (peak_certificate y.1) r same.1 x.3 y.3.0)
-  one_outcome (no_certificate r) refuted x y =
-      let same = one_pair x.0 y.0 x.1 y.1 x.2 y.3 in absurd (none_or_text x.1 y.1 (peak_certificate y.2) r same.1 x.3 y.4.0)
-  one_outcome not_judged (no_system s) x y = absurd (spells_or_none x.0 x.1 s x.2 y)
-  one_outcome not_judged (no_certificate s) x y = let same = one_pair x.0 y.0 x.1 y.1 x.2 y.2 in absurd (text_or_none x.1 y.1 x.3.0 s same.1 x.3.1 y.3)
-  one_outcome not_judged not_judged x y = refl
-  one_outcome not_judged (rejected others other) x y = let same = one_pair x.0 y.0 x.1 others x.2 y.2 in absurd (other_or_peak x.1 others y.1 same.1 x.3 y.3)
-  one_outcome not_judged refuted x y = let same = one_pair x.0 y.0 x.1 y.1 x.2 y.3 in absurd (other_or_peak x.1 y.1 y.2 same.1 x.3 y.4)
+      let same = one_pair x.0 y.0 x.1 others x.2 y.2 in absurd (none_or_text x.1 others y.1 r same.1 x.3 y.3)
+  one_outcome (no_certificate r) (shown w) x y =
+      let same = one_pair x.0 y.0 x.1 y.1 x.2 y.3 in absurd (none_or_text x.1 y.1 y.2 r same.1 x.3 y.4)
   one_outcome (rejected names reason) (no_system s) x y = absurd (spells_or_none x.0 names s x.2 y)
   one_outcome (rejected names reason) (no_certificate s) x y =
-      let same = one_pair x.0 y.0 names y.1 x.2 y.2 in absurd (text_or_none names y.1 (peak_certificate x.1) s same.1 x.3.0 y.3)
-  one_outcome (rejected names reason) not_judged x y = let same = one_pair x.0 y.0 names y.1 x.2 y.2 in absurd (peak_or_other names y.1 x.1 same.1 x.3 y.3)
+      let same = one_pair x.0 y.0 names y.1 x.2 y.2 in absurd (text_or_none names y.1 x.1 s same.1 x.3 y.3)
   one_outcome (rejected names reason) (rejected others other) x y =
       let same = one_pair x.0 y.0 names others x.2 y.2 in
-      same_rejection names others reason other x.0 y.0 x.1 y.1 same.1 same.0 (one_peak names others x.1 y.1 same.1 x.3 y.3) x.4 y.4
-  one_outcome (rejected names reason) refuted x y =
+      same_rejection names others reason other x.0 y.0 x.1 y.1 same.1 same.0 (one_text names others x.1 y.1 same.1 x.3 y.3) x.4 y.4
+  one_outcome (rejected names reason) (shown w) x y =
       let same = one_pair x.0 y.0 names y.1 x.2 y.3 in
-      let peaks = one_peak names y.1 x.1 y.2 same.1 x.3 y.4 in
-      absurd ((k.peaks y.0 y.2).never_both reason (subst₂ (λ s p. IsPeakRejected s p reason) same.0 peaks x.4) y.5)
-  one_outcome refuted (no_system s) x y = absurd (spells_or_none x.0 x.1 s x.3 y)
-  one_outcome refuted (no_certificate s) x y =
-      let same = one_pair x.0 y.0 x.1 y.1 x.3 y.2 in absurd (text_or_none x.1 y.1 (peak_certificate x.2) s same.1 x.4.0 y.3)
-  one_outcome refuted not_judged x y = let same = one_pair x.0 y.0 x.1 y.1 x.3 y.2 in absurd (peak_or_other x.1 y.1 x.2 same.1 x.4 y.3)
-  one_outcome refuted (rejected others other) x y =
+      let certs = one_text names y.1 x.1 y.2 same.1 x.3 y.4 in
+      absurd ((k.answers y.0 y.2).never_both reason (subst₂ (λ s p. IsRejected s p reason) same.0 certs x.4) y.5)
+  one_outcome (shown v) (no_system s) x y = absurd (spells_or_none x.0 x.1 s x.3 y)
+  one_outcome (shown v) (no_certificate s) x y =
+      let same = one_pair x.0 y.0 x.1 y.1 x.3 y.2 in absurd (text_or_none x.1 y.1 x.2 s same.1 x.4 y.3)
+  one_outcome (shown v) (rejected others other) x y =
       let same = one_pair x.0 y.0 x.1 others x.3 y.2 in
-      let peaks = one_peak x.1 others x.2 y.1 same.1 x.4 y.3 in
-      absurd ((k.peaks y.0 y.1).never_both other y.4 (subst₂ IsValidPeak same.0 peaks x.5))
-  one_outcome refuted refuted x y = refl
+      let certs = one_text x.1 others x.2 y.1 same.1 x.4 y.3 in
+      absurd ((k.answers y.0 y.1).never_both other y.4 (subst₂ IsValid same.0 certs x.5))
+  one_outcome (shown v) (shown w) x y =
+      let same = one_pair x.0 y.0 x.1 y.1 x.3 y.3 in
+      ap shown (x.6 ∙ (ap verdict_of (one_text x.1 y.1 x.2 y.2 same.1 x.4 y.4) ∙ sym y.6))
 
 same_file : (words : List (List ℕ)) (file cert other others : List ℕ) → IsCheck words file cert → IsCheck words other others → other ≡ file
 same_file words file cert other others e f = cc
@@ -190,8 +174,13 @@ module _ (k : Known) (run : Run) (status : Status) (out_old out_new err_old err_
   wanting_status (inl whole) = inl whole.0
   wanting_status (inr part) = inr part.0
 
-  pub complete : (answer : Answer) → IsCaused run answer → Tells (said_of answer) → (file cert : List ℕ) → CalmlyComesTo run file cert refuted → IsUnlessHindered statuses.No status
-  complete answer caused told file cert calm = elim (exactly answer caused told file cert refuted calm) [
-    | inl t ↦ told_status (said_of_outcome file cert refuted) t
+  -- what is said of a verdict has its status
+  status_said : (file cert : List ℕ) (v : Verdict) → (said_of_outcome file cert (shown v)).status ≡ status_of v
+  status_said file cert Yes = refl
+  status_said file cert No = refl
+
+  pub complete : (answer : Answer) → IsCaused run answer → Tells (said_of answer) → (file cert : List ℕ) (v : Verdict) → CalmlyComesTo run file cert (shown v) → IsUnlessHindered (status_of v) status
+  complete answer caused told file cert v calm = elim (exactly answer caused told file cert (shown v) calm) [
+    | inl t ↦ subst (λ s. IsUnlessHindered s status) (status_said file cert v) (told_status (said_of_outcome file cert (shown v)) t)
     | inr t ↦ inr (wanting_status t)
   ]

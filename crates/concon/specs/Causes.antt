@@ -6,7 +6,7 @@ use Rattle.cc_io.specs.Faults.{Rose}
 use Rattle.cc_io.specs.Errors.{IsBegunIfAny}
 use Rattle.concon.specs.Words.{IsCheck, IsNoCommand}
 use Rattle.concon.specs.Said.{Said}
-use Rattle.concon.specs.Outcomes.{Bytes, Outcome, no_system, refuted, SpellsSystem, ComesTo, IsRefuted, said_of_outcome}
+use Rattle.concon.specs.Outcomes.{Bytes, Outcome, no_system, shown, SpellsSystem, ComesTo, IsTrueOf, said_of_outcome}
 use Rattle.concon.specs.declared.status.Status.TheVariants as status
 
 -- the words, what the shelf tells of its files, and how often it had failed at each name before and now
@@ -62,9 +62,9 @@ IsCaused run (cert_fault file cert) =
     IsCheck run.words file cert × Failed run cert × ((sys : System) × (names : NameTable) × SpellsSystem (bytes_of run file) sys names)
 IsCaused run no_memory = (file : List ℕ) × (cert : List ℕ) × IsCheck run.words file cert
 
--- an answer that the system is not confluent is right
+-- an answer that the system is confluent, or that it is not, is right
 abbrev pub IsRight : Run → Answer → Type 0
-IsRight run (checked file cert refuted) = IsRefuted (bytes_of run file) (bytes_of run cert)
+IsRight run (checked file cert (shown verdict)) = IsTrueOf (bytes_of run file) (bytes_of run cert) verdict
 IsRight run _ = Unit {0}
 
 -- What the shelf was asked: nothing, where the words are no command; no other file than FILE, where the answer is about FILE.

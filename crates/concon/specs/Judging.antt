@@ -3,12 +3,14 @@ use Rattle.std.specs.Prelude.{◌≡◌, ◌⊎◌, ◌++◌, ℕ, List, [], Res
 use Rattle.rewriting.specs.Rules.{System}
 use Rattle.certificates.specs.Certificates as math
 use Rattle.certificates.specs.Reasons.{Rejection}
-use Rattle.validity.specs.Peaks.{IsValidPeak, IsPeakRejected}
-use Rattle.validity.specs.Laws.{ReachesApart}
+use Rattle.rewriting.specs.Confluence.{IsConfluent}
+use Rattle.validity.specs.Certificates.{IsValid, IsRejected}
 use Rattle.cops_read.specs.NameTable.{NameTable}
 use Rattle.cert_model.specs.CertificateView.{certificate_view}
 use Rattle.cert_model.specs.declared.model.Certificate.{Certificate}
-use Rattle.cert_check.specs.Kinds.{IsPeakWith}
+use Rattle.cert_check.specs.Kinds.{verdict_of, IsPeakApart}
+use Rattle.cert_check.specs.declared.Verdict.{Verdict}
+use Rattle.cert_check.specs.declared.Verdict.TheVariants as verdict
 use Rattle.cc_io.specs.declared.shelf.ReadAllError.{ReadAllError}
 use Rattle.cc_io.specs.declared.shelf.ReadAllError.TheVariants as reading
 use Rattle.concon.specs.Rejections.{rejection_text}
@@ -19,7 +21,7 @@ use Rattle.cert_text.specs.declared.error.CertError.TheVariants as cert_causes
 use Rattle.concon.specs.FileRefusals.{too_long, no_text}
 use Rattle.concon.specs.CertRefusals as certs
 use Rattle.concon.specs.Said.{Said}
-use Rattle.concon.specs.Outcomes.{Bytes, no_system, no_certificate, not_judged, rejected, refuted, SpellsSystem, IsRefusedFile, SpellsCertificate, IsRefusedCertificate, IsNotJudged, SpellsOther, ComesTo, IsRefuted, said_of_outcome}
+use Rattle.concon.specs.Outcomes.{Bytes, no_system, no_certificate, rejected, shown, SpellsSystem, IsRefusedFile, SpellsCertificate, IsRefusedCertificate, ComesTo, IsTrueOf, said_of_outcome}
 use Rattle.concon.specs.Causes.{Run, bytes_of, Failed, said_of, file_fault, cert_fault, no_memory}
 use Rattle.concon.specs.declared.judge.Refusal.{Refusal}
 use Rattle.concon.specs.declared.judge.Refusal.TheVariants as refusal
@@ -53,16 +55,11 @@ SystemAnswers file failed (Err (refusal.FileRefused e)) = IsRefusedFile file (no
 SystemAnswers file failed (Err refusal.NoMemory) = Unit {0}
 SystemAnswers file failed (Err _) = ⊥
 
--- the text is that of the certificate, and that is judged
-abbrev pub SpellsJudged : Bytes → NameTable → math.Certificate → Type 0
-SpellsJudged cert names c = SpellsCertificate cert names c × (IsNotJudged c → ⊥)
-
 abbrev pub CertificateAnswers : Bytes → Type 0 → NameTable → Result Certificate Refusal → Type 0
-CertificateAnswers cert failed names (Ok c) = SpellsJudged cert names (certificate_view c)
+CertificateAnswers cert failed names (Ok c) = SpellsCertificate cert names (certificate_view c)
 CertificateAnswers cert failed names (Err refusal.CertFault) = failed
 CertificateAnswers cert failed names (Err refusal.CertTooLong) = IsRefusedCertificate cert names certs.too_long
 CertificateAnswers cert failed names (Err (refusal.CertRefused e)) = IsRefusedCertificate cert names (certs.cert_refusal_of e)
-CertificateAnswers cert failed names (Err refusal.CertNotBuilt) = SpellsOther cert names
 CertificateAnswers cert failed names (Err refusal.NoMemory) = Unit {0}
 CertificateAnswers cert failed names (Err _) = ⊥
 
@@ -70,37 +67,33 @@ CertificateAnswers cert failed names (Err _) = ⊥
 abbrev pub IsRejectionLine : NameTable → Rejection → List ℕ → Type 0
 IsRejectionLine names reason line = line ≡ codes "REJECTED " ++ (rejection_text names reason ++ codes "\n")
 
--- the peak is valid, and its start reaches two terms without a common reduct
-abbrev pub IsShown : System → math.Peak → Type 0
-IsShown sys peak = IsValidPeak sys peak × ReachesApart sys peak.start
+-- what a certificate shows of a system
+abbrev pub IsShown : System → math.Certificate → Verdict → Type 0
+IsShown sys c verdict.Yes = IsConfluent sys
+IsShown sys c verdict.No = IsPeakApart sys c
 
--- the peak is rejected for a reason, and the line says so
-abbrev pub IsRejectedBy : System → NameTable → List ℕ → math.Peak → Type 0
-IsRejectedBy sys names line peak = (reason : Rejection) × IsPeakRejected sys peak reason × IsRejectionLine names reason line
-
-abbrev pub CheckAnswers : System → NameTable → math.Certificate → Result (Unit {0}) Refusal → Type 0
-CheckAnswers sys names c (Ok u) = IsPeakWith (IsShown sys) c
-CheckAnswers sys names c (Err (refusal.Rejected line)) = IsPeakWith (IsRejectedBy sys names line.items) c
+abbrev pub CheckAnswers : System → NameTable → math.Certificate → Result Verdict Refusal → Type 0
+CheckAnswers sys names c (Ok v) = (v ≡ verdict_of c) × IsValid sys c × IsShown sys c v
+CheckAnswers sys names c (Err (refusal.Rejected line)) = (reason : Rejection) × IsRejected sys c reason × IsRejectionLine names reason line.items
 CheckAnswers sys names c (Err refusal.NoMemory) = Unit {0}
 CheckAnswers sys names c (Err _) = ⊥
 
 -- the whole check of a file and a certificate, with these words for them
-abbrev pub Judged : Run → List ℕ → List ℕ → Result (Unit {0}) Refusal → Type 0
-Judged run file cert (Ok u) = ComesTo (bytes_of run file) (bytes_of run cert) refuted × IsRefuted (bytes_of run file) (bytes_of run cert)
+abbrev pub Judged : Run → List ℕ → List ℕ → Result Verdict Refusal → Type 0
+Judged run file cert (Ok v) = ComesTo (bytes_of run file) (bytes_of run cert) (shown v) × IsTrueOf (bytes_of run file) (bytes_of run cert) v
 Judged run file cert (Err refusal.FileFault) = Failed run file
 Judged run file cert (Err refusal.FileTooLong) = ComesTo (bytes_of run file) (bytes_of run cert) (no_system too_long)
 Judged run file cert (Err (refusal.FileRefused e)) = ComesTo (bytes_of run file) (bytes_of run cert) (no_system (no_text e))
 Judged run file cert (Err refusal.CertFault) = Failed run cert × ((sys : System) × (names : NameTable) × SpellsSystem (bytes_of run file) sys names)
 Judged run file cert (Err refusal.CertTooLong) = ComesTo (bytes_of run file) (bytes_of run cert) (no_certificate certs.too_long)
 Judged run file cert (Err (refusal.CertRefused e)) = ComesTo (bytes_of run file) (bytes_of run cert) (no_certificate (certs.cert_refusal_of e))
-Judged run file cert (Err refusal.CertNotBuilt) = ComesTo (bytes_of run file) (bytes_of run cert) not_judged
 Judged run file cert (Err (refusal.Rejected line)) =
     (names : NameTable) × (reason : Rejection) × ComesTo (bytes_of run file) (bytes_of run cert) (rejected names reason)
     × IsRejectionLine names reason line.items
 Judged run file cert (Err refusal.NoMemory) = Unit {0}
 
 -- a fact that holds where the file is refused
-abbrev pub WhereFileIsRefused : Result (Unit {0}) Refusal → Type 0 → Type 0
+abbrev pub WhereFileIsRefused : Result Verdict Refusal → Type 0 → Type 0
 WhereFileIsRefused (Ok u) P = Unit {0}
 WhereFileIsRefused (Err refusal.FileFault) P = P
 WhereFileIsRefused (Err refusal.FileTooLong) P = P
@@ -112,14 +105,13 @@ abbrev pub SaysUnlessNoMemory : Said → Said → Type 0
 SaysUnlessNoMemory said wanted = (said ≡ wanted) ⊎ (said ≡ said_of no_memory)
 
 -- what is said of a check that was judged so
-abbrev pub Says : List ℕ → List ℕ → Result (Unit {0}) Refusal → Said → Type 0
-Says file cert (Ok u) said = said ≡ said_of_outcome file cert refuted
+abbrev pub Says : List ℕ → List ℕ → Result Verdict Refusal → Said → Type 0
+Says file cert (Ok v) said = said ≡ said_of_outcome file cert (shown v)
 Says file cert (Err refusal.FileFault) said = SaysUnlessNoMemory said (said_of (file_fault file cert))
 Says file cert (Err refusal.FileTooLong) said = SaysUnlessNoMemory said (said_of_outcome file cert (no_system too_long))
 Says file cert (Err (refusal.FileRefused e)) said = SaysUnlessNoMemory said (said_of_outcome file cert (no_system (no_text e)))
 Says file cert (Err refusal.CertFault) said = SaysUnlessNoMemory said (said_of (cert_fault file cert))
 Says file cert (Err refusal.CertTooLong) said = SaysUnlessNoMemory said (said_of_outcome file cert (no_certificate certs.too_long))
 Says file cert (Err (refusal.CertRefused e)) said = SaysUnlessNoMemory said (said_of_outcome file cert (no_certificate (certs.cert_refusal_of e)))
-Says file cert (Err refusal.CertNotBuilt) said = SaysUnlessNoMemory said (said_of_outcome file cert not_judged)
 Says file cert (Err (refusal.Rejected line)) said = said ≡ record { status = status.Rejected; out = line.items; err = [] }
 Says file cert (Err refusal.NoMemory) said = said ≡ said_of no_memory

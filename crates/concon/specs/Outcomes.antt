@@ -1,11 +1,14 @@
 -- What the check of two texts comes to.
-use Rattle.std.specs.Prelude.{◌++◌, ◌≤◌, ℕ, List, [], length, codes}
+use Rattle.std.specs.Prelude.{◌≡◌, ◌++◌, ◌≤◌, ℕ, List, [], length, codes}
 use Rattle.rewriting.specs.Rules.{System}
-use Rattle.certificates.specs.Certificates.{Certificate, Peak, ortho_certificate, quasi_certificate, peak_certificate}
-use Rattle.certificates.specs.Automata.{UsesAutomaton}
+use Rattle.rewriting.specs.Confluence.{IsConfluent}
+use Rattle.certificates.specs.Certificates.{Certificate, Peak, peak_certificate}
 use Rattle.certificates.specs.Reasons.{Rejection}
-use Rattle.validity.specs.Peaks.{IsValidPeak, IsPeakRejected}
+use Rattle.validity.specs.Certificates.{IsValid, IsRejected}
 use Rattle.validity.specs.Laws.{ReachesApart}
+use Rattle.cert_check.specs.Kinds.{verdict_of}
+use Rattle.cert_check.specs.declared.Verdict.{Verdict}
+use Rattle.cert_check.specs.declared.Verdict.TheVariants as verdict
 use Rattle.cops_read.specs.NameTable.{NameTable}
 use Rattle.cops_read.specs.File.{IsFile}
 use Rattle.cert_text.specs.CertificateText.{IsCertificateText}
@@ -13,6 +16,7 @@ use Rattle.concon.specs.Rejections.{rejection_text}
 use Rattle.concon.specs.FileRefusals.{FileRefusal, most_file_bytes, IsFileRefused, file_refused_line}
 use Rattle.concon.specs.CertRefusals.{CertRefusal, most_cert_bytes, IsCertRefused, cert_refused_line}
 use Rattle.concon.specs.Said.{Said}
+use Rattle.concon.specs.declared.status.Status.{Status}
 use Rattle.concon.specs.declared.status.Status.TheVariants as status
 
 -- the bytes of a file or of a certificate: a set of lists, since a shelf may not tell which they are
@@ -33,46 +37,47 @@ SpellsCertificate cert names c = (bytes : List ℕ) × cert bytes × (length byt
 abbrev pub IsRefusedCertificate : Bytes → NameTable → CertRefusal → Type 0
 IsRefusedCertificate cert names refusal = (bytes : List ℕ) × cert bytes × IsCertRefused names bytes refusal
 
--- a peak in which no evidence is an automaton; no other certificate is judged yet
-abbrev pub SpellsPeak : Bytes → NameTable → Peak → Type 0
-SpellsPeak cert names peak = SpellsCertificate cert names (peak_certificate peak) × (UsesAutomaton (peak_certificate peak) → ⊥)
-
-abbrev pub IsNotJudged : Certificate → Type 0
-IsNotJudged (ortho_certificate pairs) = Unit {0}
-IsNotJudged (quasi_certificate measure pairs) = Unit {0}
-IsNotJudged (peak_certificate peak) = UsesAutomaton (peak_certificate peak)
-
-abbrev pub SpellsOther : Bytes → NameTable → Type 0
-SpellsOther cert names = (c : Certificate) × SpellsCertificate cert names c × IsNotJudged c
-
 pub data Outcome : Type 0 where
   no_system : FileRefusal → Outcome
   no_certificate : CertRefusal → Outcome
-  -- the certificate is of a kind that is not judged
-  not_judged : Outcome
   -- the certificate is rejected; the names are those of the file
   rejected : NameTable → Rejection → Outcome
-  -- the certificate is valid: the system is not confluent
-  refuted : Outcome
+  -- the certificate is valid, and shows this of the system
+  shown : Verdict → Outcome
 
 abbrev pub ComesTo : Bytes → Bytes → Outcome → Type 0
 ComesTo file cert (no_system refusal) = IsRefusedFile file refusal
 ComesTo file cert (no_certificate refusal) = (sys : System) × (names : NameTable) × SpellsSystem file sys names × IsRefusedCertificate cert names refusal
-ComesTo file cert not_judged = (sys : System) × (names : NameTable) × SpellsSystem file sys names × SpellsOther cert names
 ComesTo file cert (rejected names reason) =
-    (sys : System) × (peak : Peak) × SpellsSystem file sys names × SpellsPeak cert names peak × IsPeakRejected sys peak reason
-ComesTo file cert refuted =
-    (sys : System) × (names : NameTable) × (peak : Peak) × SpellsSystem file sys names × SpellsPeak cert names peak × IsValidPeak sys peak
+    (sys : System) × (c : Certificate) × SpellsSystem file sys names × SpellsCertificate cert names c × IsRejected sys c reason
+ComesTo file cert (shown verdict) =
+    (sys : System) × (names : NameTable) × (c : Certificate) × SpellsSystem file sys names × SpellsCertificate cert names c × IsValid sys c
+    × (verdict ≡ verdict_of c)
+
+-- the file spells a system that is confluent
+abbrev pub IsConfirmed : Bytes → Type 0
+IsConfirmed file = (sys : System) × (names : NameTable) × SpellsSystem file sys names × IsConfluent sys
 
 -- the file spells a system, and the certificate a peak whose start reaches two terms without a common reduct
 abbrev pub IsRefuted : Bytes → Bytes → Type 0
 IsRefuted file cert =
-    (sys : System) × (names : NameTable) × (peak : Peak) × SpellsSystem file sys names × SpellsPeak cert names peak × ReachesApart sys peak.start
+    (sys : System) × (names : NameTable) × (peak : Peak) × SpellsSystem file sys names × SpellsCertificate cert names (peak_certificate peak)
+    × ReachesApart sys peak.start
+
+-- the verdict is true
+abbrev pub IsTrueOf : Bytes → Bytes → Verdict → Type 0
+IsTrueOf file cert verdict.Yes = IsConfirmed file
+IsTrueOf file cert verdict.No = IsRefuted file cert
+
+-- the status of a verdict
+abbrev pub status_of : Verdict → Status
+status_of verdict.Yes = status.Yes
+status_of verdict.No = status.No
 
 -- what is said of it, with the words for the file and for the certificate
 abbrev pub said_of_outcome : List ℕ → List ℕ → Outcome → Said
 said_of_outcome file cert (no_system refusal) = record { status = status.FileRefused; out = []; err = file_refused_line file refusal }
 said_of_outcome file cert (no_certificate refusal) = record { status = status.CertRefused; out = []; err = cert_refused_line cert refusal }
-said_of_outcome file cert not_judged = record { status = status.NotBuilt; out = []; err = cert ++ codes ": not built\n" }
 said_of_outcome file cert (rejected names reason) = record { status = status.Rejected; out = codes "REJECTED " ++ (rejection_text names reason ++ codes "\n"); err = [] }
-said_of_outcome file cert refuted = record { status = status.No; out = codes "NO\n"; err = [] }
+said_of_outcome file cert (shown verdict.Yes) = record { status = status.Yes; out = codes "YES\n"; err = [] }
+said_of_outcome file cert (shown verdict.No) = record { status = status.No; out = codes "NO\n"; err = [] }

@@ -7,7 +7,7 @@ use Rattle.concon.specs.Words.{IsCheck}
 use Rattle.concon.specs.Said.{TakesPart}
 use Rattle.concon.specs.FileRefusals.{FileRefusal}
 use Rattle.concon.specs.CertRefusals.{CertRefusal}
-use Rattle.concon.specs.Outcomes.{Outcome, no_system, no_certificate, not_judged, rejected, ComesTo, IsRefuted}
+use Rattle.concon.specs.Outcomes.{Outcome, no_system, no_certificate, rejected, ComesTo, IsConfirmed, IsRefuted}
 use Rattle.concon.specs.Causes.{Run, bytes_of, told_bytes, Failed, Answer, said_of, IsCaused}
 use Rattle.concon.specs.declared.status.Status.{Status}
 use Rattle.concon.specs.declared.status.Status.TheVariants as status
@@ -15,9 +15,6 @@ use Rattle.concon.specs.declared.status.Status.TheVariants as status
 -- the words are in form, and the check comes to this
 abbrev pub CheckComesTo : Run → Outcome → Type 0
 CheckComesTo run outcome = (file : List ℕ) × (cert : List ℕ) × IsCheck run.words file cert × ComesTo (bytes_of run file) (bytes_of run cert) outcome
-
-abbrev pub IsNotBuilt : Run → Type 0
-IsNotBuilt run = CheckComesTo run not_judged
 
 abbrev pub IsCertificateRefusal : Run → Type 0
 IsCertificateRefusal run = (refusal : CertRefusal) × CheckComesTo run (no_certificate refusal)
@@ -27,6 +24,10 @@ IsFileRefusal run = (refusal : FileRefusal) × CheckComesTo run (no_system refus
 
 abbrev pub IsRejected : Run → Type 0
 IsRejected run = (names : NameTable) × (reason : Rejection) × CheckComesTo run (rejected names reason)
+
+-- the words name the text of a system that is confluent
+abbrev pub IsConfluent : Run → Type 0
+IsConfluent run = (file : List ℕ) × (cert : List ℕ) × IsCheck run.words file cert × IsConfirmed (bytes_of run file)
 
 -- the words name texts of a system and of a peak whose start reaches two terms without a common reduct
 abbrev pub IsNotConfluent : Run → Type 0
@@ -44,7 +45,6 @@ IsWriteFault run out_old out_new err_old err_new out_before out_now err_before e
 
 -- no check answers so
 abbrev pub IsPossible : Status → Type 0
-IsPossible status.Yes = ⊥
 IsPossible status.Maybe = ⊥
 IsPossible _ = Unit {0}
 

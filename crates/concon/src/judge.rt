@@ -5,20 +5,19 @@ ghost use Rattle.cc_io.specs.Faults.{Rose};
 ghost use Rattle.cops_read.specs.File.{IsFile};
 ghost use Rattle.cert_text.specs.CertificateText.{IsCertificateText};
 ghost use Rattle.cert_model.specs.CertificateView.{certificate_view};
-ghost use Rattle.concon.specs.Outcomes.{IsNotJudged};
 ghost use Rattle.concon.specs.Causes.{run_of, told_or_any};
 ghost use Rattle.concon.specs.Judging.{file_refusal, text_refusal, cert_refusal, cert_text_refusal, SystemAnswers, CertificateAnswers, CheckAnswers, Judged, WhereFileIsRefused};
 
 use crate::texts::rejection_line;
 use cc_io::{ReadAllError, Shelf, read_all};
 use cert_check::{CheckError, Verdict, check};
-use cert_model::{Certificate, uses_auto};
+use cert_model::Certificate;
 use cert_text::{CertError, read_cert};
 use cops_read::{Names, ReadError, read_system};
 use std::alloc::{AllocError, Global};
 use term_core::System;
 
-/// Why the answer is not NO.
+/// Why there is no verdict.
 #[derive(Drop)]
 pub enum Refusal {
     FileFault,
@@ -31,8 +30,6 @@ pub enum Refusal {
     CertTooLong,
     /// The certificate is no text of one.
     CertRefused(CertError),
-    /// The certificate is of a kind that is not judged.
-    CertNotBuilt,
     /// The certificate is rejected: the line that says why.
     Rejected(Vec<u8>),
     NoMemory,
@@ -107,17 +104,6 @@ fn refusal_of_cert_text(error: CertError) -> Refusal
     }
 }
 
-// Whether the certificate is of a kind that is not judged: it is for confluence, or some evidence in it is an automaton.
-fn is_not_judged(cert: &Certificate) -> bool
-    ensures { IsTrue result ↔ IsNotJudged (certificate_view cert.now) }
-{
-    match cert {
-        Certificate::Ortho(_) => true,
-        Certificate::Quasi(_, _) => true,
-        Certificate::Peak(_) => uses_auto(cert),
-    }
-}
-
 fn certificate_of<S: Shelf>(
     alloc: Global,
     shelf: &mut S,
@@ -131,22 +117,22 @@ fn certificate_of<S: Shelf>(
         Err(error) => return Err(refusal_of_cert(error)),
     };
     match read_cert(alloc, names, &bytes) {
-        Ok(found) => if is_not_judged(&found) {
-            Err(Refusal::CertNotBuilt)
-        } else {
-            Ok(found)
-        },
+        Ok(found) => Ok(found),
         Err(error) => Err(refusal_of_cert_text(error)),
     }
 }
 
-fn verdict_on(alloc: Global, sys: &System, names: &Names, cert: &Certificate) -> Result<(), Refusal>
-    requires read { (file : List ℕ) × (text : List ℕ) × IsFile file sys.now names.now × IsCertificateText names.now text (certificate_view cert.now) × (IsNotJudged (certificate_view cert.now) → ⊥) }
+fn verdict_on(
+    alloc: Global,
+    sys: &System,
+    names: &Names,
+    cert: &Certificate,
+) -> Result<Verdict, Refusal>
+    requires { (file : List ℕ) × (text : List ℕ) × IsFile file sys.now names.now × IsCertificateText names.now text (certificate_view cert.now) }
     ensures { CheckAnswers sys.now names.now (certificate_view cert.now) result }
 {
     match check(alloc, sys, cert) {
-        Ok(Verdict::No) => Ok(()),
-        Ok(Verdict::Yes) => unreachable!(),
+        Ok(verdict) => Ok(verdict),
         Err(CheckError::Rejected(reason)) => Err(Refusal::Rejected(rejection_line(
             alloc, names, &reason,
         )?)),
@@ -154,8 +140,13 @@ fn verdict_on(alloc: Global, sys: &System, names: &Names, cert: &Certificate) ->
     }
 }
 
-/// Reads the file, then the certificate, and checks it. The answer is NO, or the first refusal.
-pub fn judge<S: Shelf>(alloc: Global, shelf: &mut S, file: &str, cert: &str) -> Result<(), Refusal>
+/// Reads the file, then the certificate, and checks it: what it shows, or the first refusal.
+pub fn judge<S: Shelf>(
+    alloc: Global,
+    shelf: &mut S,
+    file: &str,
+    cert: &str,
+) -> Result<Verdict, Refusal>
     ensures judged { Judged (run_of [] (S.contents shelf.old) (S.faults shelf.old) (S.faults shelf.new)) file.now cert.now result }
     ensures begun { WhereFileIsRefused result (IsBegunIfAny file.now (S.begun shelf.new)) }
 {

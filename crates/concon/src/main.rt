@@ -4,6 +4,8 @@
 mod adapters;
 mod judge;
 mod pieces;
+#[cfg(test)]
+mod reason_tests;
 mod refusals;
 mod reply;
 mod status;

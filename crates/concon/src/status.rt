@@ -12,8 +12,6 @@ pub enum Status {
     Maybe,
     /// The certificate is not valid.
     Rejected,
-    /// The certificate is of a kind that is not judged.
-    NotBuilt,
     /// The words are no command.
     Usage,
     /// The file is no text of a system, or too long.
@@ -41,7 +39,6 @@ impl Status {
             Status::ReadFault => 4,
             Status::WriteFault => 5,
             Status::NoMemory => 6,
-            Status::NotBuilt => 7,
         }
     }
 }

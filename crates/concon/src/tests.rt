@@ -95,33 +95,27 @@ fn each_check_writes_its_answer(rt: HostRuntime) -> Result<(), Fail> {
             "NO\n",
             "",
         ),
-        (
-            "(RULES )",
-            ORTHO,
-            Status::NotBuilt,
-            "",
-            "c.crt: not built\n",
-        ),
+        ("(RULES )", ORTHO, Status::Yes, "YES\n", ""),
         (
             "(RULES )",
             "YES\nconcon 1\nquasi\nlinear\nend\n",
-            Status::NotBuilt,
+            Status::Yes,
+            "YES\n",
             "",
-            "c.crt: not built\n",
         ),
         (
             TWO_RULES,
             "concon 1\npeak\nstart a\nsteps 0\nsteps 0\nnormal\nredex 1 e 1 tcap\nredex 1 e 2 auto 1\nstates 1\naccepting\ntransitions 0\nend\n",
-            Status::NotBuilt,
+            Status::Rejected,
+            "REJECTED peak same term\n",
             "",
-            "c.crt: not built\n",
         ),
         (
             "(RULES )",
             "concon 1\northo\npair 1 e 1 auto 1\nstates 1\naccepting 0\ntransitions 0\nend\n",
-            Status::NotBuilt,
+            Status::Rejected,
+            "REJECTED pair extra 1\n",
             "",
-            "c.crt: not built\n",
         ),
         (
             "(RULES a -> ",
@@ -368,7 +362,7 @@ fn a_file_is_refused_at_its_place(rt: HostRuntime) -> Result<(), Fail> {
 }
 
 // the status and the texts of a check of these two
-fn checked(
+pub(crate) fn checked(
     alloc: Global,
     system: &str,
     certificate: &str,
@@ -615,7 +609,6 @@ fn exit_codes_are_apart(rt: HostRuntime) {
         (Status::ReadFault, 4),
         (Status::WriteFault, 5),
         (Status::NoMemory, 6),
-        (Status::NotBuilt, 7),
     ] {
         assert_eq!(rt; status.code(), code);
     }
