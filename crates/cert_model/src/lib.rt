@@ -1,14 +1,12 @@
 // Certificates and the reasons of a rejection, as plain data.
 #![tactic(auto)]
 
-mod automata;
 mod copies;
 mod derivations;
 mod evidence;
 mod model;
 mod reasons;
 
-pub use automata::uses_auto;
 pub use derivations::{Derivation, Step};
 pub use evidence::{Automaton, InfEvidence, PairEvidence, Transition};
 pub use model::{Certificate, Linear, LinearEntry, MeasureCert, NonJoin, PairEntry, Peak, Redex};

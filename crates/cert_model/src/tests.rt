@@ -1,11 +1,6 @@
 //! Each copy is made.
-use crate::{
-    Automaton, Certificate, Derivation, InfEvidence, NonJoin, PairEvidence, Peak, Redex, Step,
-    Transition, uses_auto,
-};
-use std::alloc::Global;
+use crate::{Automaton, Derivation, InfEvidence, PairEvidence, Step, Transition};
 use std::test::Fail;
-use term_core::Term;
 
 #[test]
 fn copies_are_made(rt: HostRuntime) -> Result<(), Fail> {
@@ -42,39 +37,5 @@ fn copies_are_made(rt: HostRuntime) -> Result<(), Fail> {
         _ => false,
     };
     assert!(rt; same);
-    Ok(())
-}
-
-fn with_evidence(alloc: Global, evidence: InfEvidence) -> Result<Certificate, Fail> {
-    let redex = Redex {
-        which: 1,
-        pos: Vec::new(alloc),
-        rule: 1,
-        evidence,
-    };
-    Ok(Certificate::Peak(Peak {
-        start: Term::Var(0),
-        first: Derivation {
-            steps: Vec::new(alloc),
-        },
-        second: Derivation {
-            steps: Vec::new(alloc),
-        },
-        apart: NonJoin::Normal(Vec::from_array(alloc, [redex])?),
-    }))
-}
-
-#[test]
-fn automata_are_seen(rt: HostRuntime) -> Result<(), Fail> {
-    let alloc = rt.alloc();
-    let automaton = Automaton {
-        states: 1,
-        accepting: Vec::new(alloc),
-        transitions: Vec::new(alloc),
-    };
-    let with = with_evidence(alloc, InfEvidence::Auto { cond: 1, automaton })?;
-    let without = with_evidence(alloc, InfEvidence::Tcap)?;
-    assert!(rt; uses_auto(&with));
-    assert!(rt; !uses_auto(&without));
     Ok(())
 }

@@ -5,4 +5,3 @@ pub mod Reasons
 pub mod Judging
 pub mod Soundness
 pub mod Sizes
-pub mod Automata
