@@ -1,7 +1,12 @@
 pub mod Members
-pub mod Ordered
+pub mod Named
+pub mod Joined
+pub mod Steps
+pub mod Buckets
+pub mod Tabled
+pub mod Comparisons
 pub mod Counted
-pub mod Products
-pub mod Reached
+pub mod Arguments
+pub mod Reaching
 pub mod Twins
 pub mod Widths

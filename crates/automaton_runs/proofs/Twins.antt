@@ -21,7 +21,7 @@ use Rattle.automaton_runs.specs.Counting.{counts}
 use Rattle.automaton_runs.specs.Twins.{known_view}
 use Rattle.automaton_runs.specs.declared.index.Known.{Known}
 use Rattle.automaton_runs.proofs.Members.{contains_in, in_left, in_right, in_cases, in_filter, filter_in}
-use Rattle.automaton_runs.proofs.Ordered.{same_of, equal_of, is_eq_of}
+use Rattle.automaton_runs.proofs.Comparisons.{same_of, equal_of, is_eq_of}
 use Rattle.automaton_runs.proofs.Counted.{has_from, counts_has}
 
 -- the order of transitions in the set

@@ -1,6 +1,6 @@
 -- The arrivals of a term: choices of states for its variable occurrences, each with a state that the term reaches by it.
-use Rattle.std.specs.Prelude.{ℕ, ◌≡◌, ◌<◌, ◌⊎◌, List, Contains}
-use Rattle.std.specs.List.{AllPairs}
+use Rattle.std.specs.Prelude.{ℕ, ◌≡◌, ◌<◌, ◌⊎◌, List, map, Contains}
+use Rattle.std.specs.List.{AllPairs, flat_map}
 use Rattle.rewriting.specs.Terms.{Term}
 use Rattle.rewriting.specs.Positions.{IsBefore}
 use Rattle.certificates.specs.Evidence.{Automaton}
@@ -21,3 +21,7 @@ pub record AreArrivals (a : Automaton) (t : Term) (rows : List (List ℕ × ℕ)
   pub each : (cs : List ℕ) (q : ℕ) → Contains rows (cs, q) → IsChoice a.states t cs × ReachBy (Has a) t cs q
   pub complete : (cs : List ℕ) (q : ℕ) → IsChoice a.states t cs → ReachBy (Has a) t cs q → Contains rows (cs, q)
   pub sorted : AllPairs IsArrivalBefore rows
+
+-- each choice with each of its states
+abbrev pub spread : List (List ℕ × List ℕ) → List (List ℕ × ℕ)
+spread rows = flat_map (λ row. map (λ q. (row.0, q)) row.1) rows

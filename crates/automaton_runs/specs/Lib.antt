@@ -5,5 +5,9 @@ pub mod Indexed
 pub mod IndexView
 pub mod Choices
 pub mod Arrivals
-pub mod Made
+pub mod Sets
+pub mod Tables
+pub mod Fronts
+pub mod Buckets
+pub mod Reaching
 pub mod Twins

@@ -1,5 +1,8 @@
 //! Arrivals of terms.
-use crate::{Arrival, AutomatonIndex, arrivals, has_more_choices, occurrences};
+use crate::{
+    Arrival, AutomatonIndex, StatesByChoice, arrivals, has_more_choices, occurrences,
+    states_by_choice,
+};
 use cert_model::{Automaton, Transition};
 use std::alloc::{AllocError, Global};
 use std::process::Abort;
@@ -86,6 +89,95 @@ fn symbols_without_arguments_and_variables_arrive(rt: HostRuntime) -> Result<(),
     assert!(rt; same(&rows, &[(&[0], 0), (&[1], 1)]));
     let rows = found(&rt, alloc, &Term::Fun(2, Vec::new(alloc)))?;
     assert!(rt; rows.is_empty());
+    Ok(())
+}
+
+// Three states; g(0) and g(1) reach 1 and 2, and g(2) none; h(1, 0) reaches 0, h(2, 0) reaches 2 and 0.
+fn three_states(alloc: Global) -> Result<Automaton, AllocError> {
+    let transitions = [
+        move_to(alloc, Some(0), &[1], 2)?,
+        move_to(alloc, Some(0), &[0], 2)?,
+        move_to(alloc, Some(0), &[0], 1)?,
+        move_to(alloc, Some(0), &[1], 1)?,
+        move_to(alloc, Some(1), &[2, 0], 2)?,
+        move_to(alloc, Some(1), &[1, 0], 0)?,
+        move_to(alloc, Some(1), &[2, 0], 0)?,
+    ];
+    Ok(Automaton {
+        states: 3,
+        accepting: Vec::new(alloc),
+        transitions: Vec::from_array(alloc, transitions)?,
+    })
+}
+
+fn reached(rt: &impl Abort, alloc: Global, t: &Term) -> Result<StatesByChoice, Fail> {
+    let automaton = three_states(alloc)?;
+    let index = AutomatonIndex::new(alloc, &automaton)?;
+    let names = occurrences(alloc, t)?;
+    assert!(rt; fits(t));
+    assert!(rt; !has_more_choices(index.states(), names.len(), 1_000_000));
+    Ok(states_by_choice(alloc, &index, t)?)
+}
+
+fn are_rows(found: &StatesByChoice, wanted: &[(&[u32], &[u32])]) -> bool {
+    if found.len() != wanted.len() {
+        return false;
+    }
+    for row in 0..found.len() {
+        let (choice, states) = wanted[row];
+        if found.choice(row) != choice || found.states(row) != states {
+            return false;
+        }
+    }
+    true
+}
+
+fn reaches(
+    rt: &impl Abort,
+    alloc: Global,
+    t: &Term,
+    wanted: &[(&[u32], &[u32])],
+) -> Result<bool, Fail> {
+    let found = reached(rt, alloc, t)?;
+    Ok(are_rows(&found, wanted))
+}
+
+fn g(alloc: Global, argument: Term) -> Result<Term, AllocError> {
+    Ok(Term::Fun(0, Vec::from_array(alloc, [argument])?))
+}
+
+fn h(alloc: Global, first: Term, second: Term) -> Result<Term, AllocError> {
+    Ok(Term::Fun(1, Vec::from_array(alloc, [first, second])?))
+}
+
+#[test]
+fn a_choice_has_all_its_states_in_one_row(rt: HostRuntime) -> Result<(), Fail> {
+    let alloc = rt.alloc();
+    let one = g(alloc, Term::Var(0))?;
+    assert!(rt; reaches(&rt, alloc, &one, &[(&[0], &[1, 2]), (&[1], &[1, 2])])?);
+    let two = h(alloc, one, Term::Var(0))?;
+    assert!(rt; reaches(&rt, alloc, &two, &[(&[0, 0], &[0, 2]), (&[1, 0], &[0, 2])])?);
+    Ok(())
+}
+
+#[test]
+fn variables_have_each_state_and_states_without_transitions_none(
+    rt: HostRuntime,
+) -> Result<(), Fail> {
+    let alloc = rt.alloc();
+    let all: [(&[u32], &[u32]); 3] = [(&[0], &[0]), (&[1], &[1]), (&[2], &[2])];
+    assert!(rt; reaches(&rt, alloc, &Term::Var(7), &all)?);
+    let wrong = h(alloc, Term::Var(0), g(alloc, Term::Var(0))?)?;
+    assert!(rt; reaches(&rt, alloc, &wrong, &[])?);
+    Ok(())
+}
+
+#[test]
+fn choices_with_the_same_states_share_their_set(rt: HostRuntime) -> Result<(), Fail> {
+    let alloc = rt.alloc();
+    let found = reached(&rt, alloc, &g(alloc, Term::Var(0))?)?;
+    assert_eq!(rt; found.len(), 2);
+    assert_eq!(rt; found.set(0), found.set(1));
     Ok(())
 }
 

@@ -1,6 +1,9 @@
 pub mod Lists
 pub mod Looked
 pub mod Sets
+pub mod StateSets
+pub mod Moves
+pub mod Included
 pub mod Open
 pub mod Conditions
 pub mod Accepted

@@ -1,4 +1,4 @@
--- Arrivals at one of some states, row by row; transitions and their twins.
+-- How many choices there are; transitions and their twins.
 use Rattle.std.proofs.Common.{◌≡◌, ℕ, ◌+◌, ◌<◌, ◌≤◌, ◌^◌, ⊎_elim, List, length, map, get_or, take, false, IsTrue, Bor, ap, sym, subst, ◌∙◌, arith}
 use Rattle.std.specs.List.{filter}
 use Rattle.std.proofs.lemmas.Bool.{false≢true}
@@ -10,34 +10,16 @@ use Rattle.automata.specs.Runs.{Has}
 use Rattle.automata.specs.Closed.{IsHead, Includes, IsWide}
 use Rattle.cert_model.specs.EvidenceView.{transition_view}
 use Rattle.cert_model.specs.declared.evidence.Transition as cert
-use Rattle.automaton_runs.specs.Arrivals.{arrival_view}
 use Rattle.automaton_runs.specs.Members.{IsIn}
 use Rattle.automaton_runs.specs.Counting.{chosen, target_key}
 use Rattle.automaton_runs.specs.Indexed.{pointed}
-use Rattle.automaton_runs.specs.declared.runs.Arrival.{Arrival}
 use Rattle.automaton_runs.proofs.Members.{in_map, in_map_back}
 use Rattle.automaton_runs.proofs.Twins.{all_of}
-use Rattle.tree_automata.specs.Open.{IsOneListed, HaveTwins}
+use Rattle.tree_automata.specs.Open.{HaveTwins}
 use Rattle.tree_automata.proofs.Lists.{in_front}
 use Rattle.tree_automata.proofs.Looked.{looked_from}
-use Rattle.tree_automata.proofs.Open.{listed_from, listed_to, twins_include}
+use Rattle.tree_automata.proofs.Open.{twins_include}
 use Rattle.tree_automata.proofs.Accepted.{at_in}
-
-module _ (rows : List Arrival) (numbers : List ℕ) (i : ℕ) where
-  pub listed_here : (x : Arrival) → i < length rows → x ≡ get_or rows i x → IsIn x.state numbers → IsOneListed (map arrival_view rows) numbers
-  listed_here x inside is k = listed_to (map arrival_view rows) numbers (arrival_view x) (in_map arrival_view x rows (at_in rows i x inside is)) k
-
-  pub listed_more : (x : Arrival) → i < length rows → x ≡ get_or rows i x → (IsOneListed (map arrival_view (take i rows)) numbers → ⊥) → (IsIn x.state numbers → ⊥)
-      → IsOneListed (map arrival_view (take (i + 1) rows)) numbers → ⊥
-  listed_more x inside is front never h =
-      let b = listed_from (map arrival_view (take (i + 1) rows)) numbers h in
-      let m = in_map_back arrival_view b.0 (take (i + 1) rows) b.1 in
-      let there : IsIn m.0.state numbers = subst (λ (r : List ℕ × ℕ). IsIn r.1 numbers) m.2 b.2 in
-      ⊎_elim (λ k. front (listed_to (map arrival_view (take i rows)) numbers (arrival_view m.0) (in_map arrival_view m.0 (take i rows) k) there))
-      (λ e. never (subst (λ (y : Arrival). IsIn y.state numbers) e there)) (in_front rows i x m.0 inside is m.1)
-
-  pub listed_none : length rows ≤ i → (IsOneListed (map arrival_view (take i rows)) numbers → ⊥) → IsOneListed (map arrival_view rows) numbers → ⊥
-  listed_none past front h = front (subst (λ (l : List Arrival). IsOneListed (map arrival_view l) numbers) (sym (all_of rows i past)) h)
 
 -- as many choices as there are variable occurrences ask for
 pub wide_by : (a : Automaton) (t : Term) (n : ℕ) (names : List ℕ) → n ≡ length names → names ≡ leaves t → 1000000 < a.states ^ n → IsWide a t

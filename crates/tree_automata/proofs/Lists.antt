@@ -55,6 +55,11 @@ mapped_within f [] i y e = absurd (cc)
 mapped_within f (x ∷ xs) zero y e = omega arith
 mapped_within f (x ∷ xs) (suc i) y e = let low = mapped_within f xs i y e in omega arith
 
+any_default : {X : Type 0} (xs : List X) (i : ℕ) (d e : X) → i < length xs → get_or xs i d ≡ get_or xs i e
+any_default [] i d e h = absurd (omega arith)
+any_default (y ∷ ys) zero d e h = refl
+any_default (y ∷ ys) (suc i) d e h = any_default ys i d e (omega arith)
+
 -- the front of a list up to a place, and the element there
 pub in_front : {X : Type 0} (xs : List X) (i : ℕ) (x u : X) → i < length xs → x ≡ get_or xs i x → IsIn u (take (i + 1) xs) → IsIn u (take i xs) ⊎ (u ≡ x)
 in_front xs i x u h e k = go xs i h e (subst (λ n. IsIn u (take n xs)) (let q : i + 1 ≡ suc i = omega arith in q) k)
@@ -65,6 +70,15 @@ in_front xs i x u h e k = go xs i h e (subst (λ n. IsIn u (take n xs)) (let q :
     go (y ∷ ys) zero h e (inr f) = absurd f
     go (y ∷ ys) (suc j) h e (inl f) = inl (inl f)
     go (y ∷ ys) (suc j) h e (inr f) = ⊎_elim (λ a. inl (inr a)) (λ b. inr b) (go ys j (omega arith) e f)
+
+-- the same, with any element in place of those past the end
+pub in_front_at : {X : Type 0} (xs : List X) (i : ℕ) (d u : X) → i < length xs → IsIn u (take (i + 1) xs) → IsIn u (take i xs) ⊎ (u ≡ get_or xs i d)
+in_front_at xs i d u h k = in_front xs i (get_or xs i d) u h (any_default xs i d (get_or xs i d) h) k
+
+pub at_place : {X : Type 0} (xs : List X) (i : ℕ) (d : X) → i < length xs → IsIn (get_or xs i d) xs
+at_place [] i d h = absurd (omega arith)
+at_place (y ∷ ys) zero d h = inl refl
+at_place (y ∷ ys) (suc i) d h = inr (at_place ys i d (omega arith))
 
 pub taken_map : {X Y : Type 0} (f : X → Y) (xs : List X) (i : ℕ) → map f (take i xs) ≡ take i (map f xs)
 taken_map f [] zero = refl

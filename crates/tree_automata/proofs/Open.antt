@@ -1,5 +1,5 @@
 -- The first right side that is not kept.
-use Rattle.std.proofs.Common.{◌≡◌, ℕ, zero, suc, ◌+◌, ◌<◌, ◌≤◌, ◌⊎◌, inl, inr, ⊎_elim, List, [], ◌∷◌, length, map, get_or, take, Some, slice_get, refl, ap, sym, subst, ◌∙◌, arith}
+use Rattle.std.proofs.Common.{◌≡◌, ◌↔◌, ℕ, zero, suc, ◌+◌, ◌<◌, ◌≤◌, ◌⊎◌, inl, inr, ⊎_elim, List, [], ◌∷◌, ◌++◌, length, map, get_or, take, drop, Some, slice_get, refl, ap, sym, subst, ◌∙◌, append_assoc, length-append, arith}
 use Rattle.std.specs.List.{All, AllPairs, Contains, filter}
 use Rattle.std.proofs.lemmas.Bool.{cases_lt, cases_order}
 use Rattle.std.proofs.lemmas.Option.{slice_get_within}
@@ -9,22 +9,32 @@ use Rattle.rewriting.specs.Positions.{IsBefore}
 use Rattle.rewriting.specs.Rules.{Rule, System, rule_at}
 use Rattle.certificates.specs.Evidence.{Transition, Automaton}
 use Rattle.automata.specs.Runs.{Has, ReachBy}
-use Rattle.automata.specs.Closed.{IsChoice, Includes, IsRuleKept, IsClosed, IsFirstOpen, IsWide, IsFirstWide, Excludes}
-use Rattle.automaton_runs.specs.Arrivals.{IsArrivalBefore, AreArrivals}
+use Rattle.ctrs_classes.specs.Blames.{leaves}
+use Rattle.automata.specs.Closed.{IsChoice, state_of, Includes, IsRuleKept, IsClosed, IsFirstOpen, IsWide, IsFirstWide, Excludes}
+use Rattle.automaton_runs.specs.Arrivals.{IsArrivalBefore, AreArrivals, spread}
 use Rattle.automaton_runs.specs.Members.{IsIn}
 use Rattle.automaton_runs.specs.Counting.{chosen, target_key}
-use Rattle.automaton_runs.proofs.Members.{contains_in, in_contains}
-use Rattle.tree_automata.specs.Open.{IsRuleClosed, IsOpenAt, IsOneListed, AreKept, HaveTwins}
-use Rattle.std.proofs.lemmas.List.{length-map}
+use Rattle.automaton_runs.proofs.Members.{contains_in, in_contains, in_left, in_right, in_cases, in_map, in_map_back, in_flat, in_flat_back}
+use Rattle.automaton_runs.proofs.Twins.{all_of}
+use Rattle.automaton_runs.specs.Tables.{choice_at, set_at}
+use Rattle.tree_automata.specs.StateSets.{IsFirstMissing, Meets}
+use Rattle.tree_automata.specs.Kept.{AreKeptAt}
+use Rattle.tree_automata.specs.Open.{IsRuleClosed, IsOpenAt, IsOneMet, AreKept, HaveTwins}
+use Rattle.std.proofs.Math.Seq.{split_at, take-append_seam}
+use Rattle.std.proofs.lemmas.Grind.{flat_map-append}
+use Rattle.std.proofs.lemmas.List.{length-map, map-append, take_more}
 use Rattle.rewriting.specs.Systems.{AreRules, IsRule, IsSystem}
 use Rattle.term_core.specs.RuleView.{rule_view}
 use Rattle.term_core.specs.declared.systems.Rule as data_rule
-use Rattle.tree_automata.proofs.Lists.{in_front, mapped_at}
+use Rattle.tree_automata.proofs.Lists.{at_place, in_front_at, mapped_at}
 use Rattle.tree_automata.proofs.Looked.{looked_to}
 
--- a choice and a state
+-- a choice and a state; a choice and some states
 abbrev pub Row : Type 0
 Row = List ℕ × ℕ
+
+abbrev pub Found : Type 0
+Found = List ℕ × List ℕ
 
 before_asym : (p q : List ℕ) → IsBefore p q → IsBefore q p → ⊥
 before_asym [] [] h k = h
@@ -68,22 +78,86 @@ before_place rows i x y sorted inside is (j, low, at) before = go (cases_order j
         let same : get_or rows i x ≡ y = get_any rows i x y inside ∙ sym is in
         absurd (row_asym x.0 y.0 x.1 y.1 before (subst (λ (z : Row). IsArrivalBefore z x) same back))
 
-module _ (sys : System) (a : Automaton) (r : Rule) (rows : List Row) (all : AreArrivals a r.left rows) where
-  pub kept_more : (i : ℕ) (y : Row) → i < length rows → y ≡ get_or rows i y → AreKept sys a r (take i rows) → IsRuleKept sys (Has a) r y.0 y.1 → AreKept sys a r (take (i + 1) rows)
-  kept_more i y inside is front here cs q k =
-      ⊎_elim (λ h. front cs q h) (λ e. subst (λ (z : Row). IsRuleKept sys (Has a) r z.0 z.1) (sym e) here) (in_front {X = Row} rows i y (cs, q) inside is k)
+reached_state : (a : Automaton) (t : math.Term) (cs : List ℕ) (q : ℕ) → IsChoice a.states t cs → ReachBy (Has a) t cs q → q < a.states
+reached_state a (math.var x) cs q choice r = All-head (λ p. p < a.states) q [] (subst (All (λ p. p < a.states)) r choice.states)
+reached_state a (math.app f ts) cs q choice (qs, has, r) = has.target
 
-  pub kept_all : (i : ℕ) → take i rows ≡ rows → AreKept sys a r (take i rows) → IsRuleClosed sys a r
-  kept_all i e front cs q choice reach = front cs q (subst (λ (l : List Row). IsIn {X = Row} (cs, q) l) (sym e) (contains_in {X = Row} (cs, q) rows (all.complete cs q choice reach)))
+-- each state of a row stands beside its choice
+in_spread : (found : List Found) (y : Found) (q : ℕ) → IsIn y found → IsIn q y.1 → IsIn {X = Row} (y.0, q) (spread found)
+in_spread found y q h k = in_flat (λ (x : Found). map (λ (p : ℕ). (x.0, p)) x.1) (y.0, q) y found h (in_map (λ (p : ℕ). (y.0, p)) q y.1 k)
 
-  pub open_here : (i : ℕ) (y : Row) → i < length rows → y ≡ get_or rows i y → AreKept sys a r (take i rows) → (IsRuleKept sys (Has a) r y.0 y.1 → ⊥) → IsOpenAt sys a r y.0 y.1
-  open_here i y inside is front fails =
-      let there = all.each y.0 y.1 (i, inside, sym is) in record {
+from_spread : (found : List Found) (cs : List ℕ) (q : ℕ) → IsIn {X = Row} (cs, q) (spread found) → (y : Found) × IsIn y found × (cs ≡ y.0) × IsIn q y.1
+from_spread found cs q h =
+    let b = in_flat_back (λ (x : Found). map (λ (p : ℕ). (x.0, p)) x.1) (cs, q) found h in
+    let m = in_map_back (λ (p : ℕ). (b.0.0, p)) (cs, q) b.0.1 b.2 in
+    (b.0, b.1, ap (λ (x : Row). x.0) m.2, subst (λ (p : ℕ). IsIn p b.0.1) (sym (ap (λ (x : Row). x.1) m.2)) m.1)
+
+place_of : (A B : List Row) (y d : Row) → get_or (A ++ y ∷ B) (length A) d ≡ y
+place_of [] B y d = refl
+place_of (x ∷ A) B y d = place_of A B y d
+
+-- in a list in order, what is before an element stands in the front
+before_split : (A B : List Row) (x y : Row) → AllPairs IsArrivalBefore (A ++ y ∷ B) → Contains (A ++ y ∷ B) x → IsArrivalBefore x y → IsIn x A
+before_split A B x y sorted there before =
+    let inside : length A < length (A ++ y ∷ B) = omega (arith, length-append A (y ∷ B)) in
+    subst (λ (l : List Row). IsIn x l) (take-append_seam A (y ∷ B)) (before_place (A ++ y ∷ B) (length A) x y sorted inside (sym (place_of A B y y)) there before)
+
+module _ (sys : System) (a : Automaton) (r : Rule) (found : List Found) (all : AreArrivals a r.left (spread found)) where
+  -- the right side is kept by a row's choice at those of its states that are in the set
+  pub kept_there : (i : ℕ) (set : List ℕ) → i < length found → AreKeptAt sys a (state_of (leaves r.left) (choice_at found i)) r.right set → (q : ℕ) → IsIn q (set_at found i)
+      → IsIn q set ↔ IsRuleKept sys (Has a) r (choice_at found i) q
+  kept_there i set inside kept q h =
+      let y = get_or found i ([], []) in
+      let there = all.each y.0 q (in_contains {X = Row} (y.0, q) (spread found) (in_spread found y q (at_place found i ([], []) inside) h)) in
+      kept q (reached_state a r.left y.0 q there.0 there.1)
+
+  pub kept_more : (i : ℕ) → i < length found → AreKept sys a r (spread (take i found)) → ((q : ℕ) → IsIn q (set_at found i) → IsRuleKept sys (Has a) r (choice_at found i) q) → AreKept sys a r (spread (take (i + 1) found))
+  kept_more i inside front here cs q k =
+      let b = from_spread (take (i + 1) found) cs q k in
+      ⊎_elim (λ h. front cs q (subst (λ (l : List ℕ). IsIn {X = Row} (l, q) (spread (take i found))) (sym b.2) (in_spread (take i found) b.0 q h b.3)))
+      (λ (e : b.0 ≡ get_or found i ([], [])).
+      let there : IsIn q (set_at found i) = subst (λ (y : Found). IsIn q y.1) e b.3 in
+      subst (λ (l : List ℕ). IsRuleKept sys (Has a) r l q) (sym (b.2 ∙ ap (λ (y : Found). y.0) e)) (here q there)) (in_front_at found i ([], []) b.0 inside b.1)
+
+  pub kept_all : (i : ℕ) → length found ≤ i → AreKept sys a r (spread (take i found)) → IsRuleClosed sys a r
+  kept_all i past front cs q choice reach =
+      front cs q
+      (subst (λ (l : List Found). IsIn {X = Row} (cs, q) (spread l)) (sym (all_of found i past)) (contains_in {X = Row} (cs, q) (spread found) (all.complete cs q choice reach)))
+
+  -- the first state of a row at which the right side is not kept
+  pub open_here : (i : ℕ) (set : List ℕ) (q : ℕ) → i < length found → AreKept sys a r (spread (take i found)) → AreKeptAt sys a (state_of (leaves r.left) (choice_at found i)) r.right set
+      → IsFirstMissing (set_at found i) set q → IsOpenAt sys a r (choice_at found i) q
+  open_here i set q inside front kept first =
+      let cs = choice_at found i in
+      let A = spread (take i found) ++ map (λ (p : ℕ). (cs, p)) first.before in
+      let B = map (λ (p : ℕ). (cs, p)) first.after ++ spread (drop (suc i) found) in
+      let within = λ (p : ℕ) (h : IsIn p first.before). (kept_there i set inside kept p (subst (λ (l : List ℕ). IsIn p l) (sym first.split) (in_left p first.before (q ∷ first.after) h))).0 (first.within p h) in
+      let itself : IsIn q (set_at found i) = subst (λ (l : List ℕ). IsIn q l) (sym first.split) (in_right q first.before (q ∷ first.after) (inl refl)) in
+      let there = all.each cs q (in_contains {X = Row} (cs, q) (spread found) (in_spread found (get_or found i ([], [])) q (at_place found i ([], []) inside) itself)) in
+      record {
         choice = there.0;
         reached = there.1;
-        fails = fails;
-        earlier = λ ds p choice reach before. front ds p (before_place rows i (ds, p) y all.sorted inside is (all.complete ds p choice reach) before);
+        fails = λ k. first.missing ((kept_there i set inside kept q itself).1 k);
+        earlier = λ ds p choice reach before.
+            early front within ds p (in_cases {X = Row} (ds, p) (spread (take i found)) (map (λ (s : ℕ). (cs, s)) first.before)
+            (before_split A B (ds, p) (cs, q) (subst (AllPairs IsArrivalBefore) (parts i q inside first.before first.after first.split) all.sorted)
+            (subst (λ (l : List Row). Contains l (ds, p)) (parts i q inside first.before first.after first.split) (all.complete ds p choice reach)) before));
       }
+    where
+      early : AreKept sys a r (spread (take i found)) → ((p : ℕ) → IsIn p first.before → IsRuleKept sys (Has a) r (choice_at found i) p) → (ds : List ℕ) (p : ℕ)
+          → IsIn {X = Row} (ds, p) (spread (take i found)) ⊎ IsIn {X = Row} (ds, p) (map (λ (s : ℕ). (choice_at found i, s)) first.before) → IsRuleKept sys (Has a) r ds p
+      early front within ds p (inl h) = front ds p h
+      early front within ds p (inr h) =
+          let m = in_map_back (λ (s : ℕ). (choice_at found i, s)) (ds, p) first.before h in
+          subst (λ (x : Row). IsRuleKept sys (Has a) r x.0 x.1) (sym m.2) (within m.0 m.1)
+
+      parts : (i q : ℕ) → i < length found → (before after : List ℕ) → set_at found i ≡ before ++ q ∷ after
+          → spread found ≡ (spread (take i found) ++ map (λ (p : ℕ). (choice_at found i, p)) before) ++ (choice_at found i, q) ∷ (map (λ (p : ℕ). (choice_at found i, p)) after ++ spread (drop (suc i) found))
+      parts i q inside before after split =
+          ap spread (split_at found i ([], []) inside) ∙ flat_map-append (λ (x : Found). map (λ (p : ℕ). (x.0, p)) x.1) (take i found) (get_or found i ([], []) ∷ drop (suc i) found)
+          ∙ ap (λ (l : List ℕ). spread (take i found) ++ (map (λ (p : ℕ). (choice_at found i, p)) l ++ spread (drop (suc i) found))) split
+          ∙ ap (λ (l : List Row). spread (take i found) ++ (l ++ spread (drop (suc i) found))) (map-append (λ (p : ℕ). (choice_at found i, p)) before (q ∷ after))
+          ∙ simp append_assoc
 
 module _ (P : Rule → Type 0) where
   pub each_more : (rs : List Rule) (i : ℕ) (r : Rule) → slice_get rs i ≡ Some r → P r → ((k : ℕ) (q : Rule) → k < i → slice_get rs k ≡ Some q → P q)
@@ -136,31 +210,28 @@ first_wide_of sys a i n r c e wide front =
 pub twins_include : (sys : System) (a : Automaton) (q p : ℕ) (ts : List Transition) → ((t : Transition) → IsIn t (filter (chosen target_key a.states p) a.transitions) → IsIn t ts) → HaveTwins sys a ts q → Includes sys (Has a) q p
 twins_include sys a q p ts whole twins s qs head has = twins (record { symbol = s; arguments = qs; target = p }) (whole _ (looked_to a target_key p s qs p has refl)) head
 
--- arrivals at one of some states
-pub listed_from : (rows : List Row) (qs : List ℕ) → IsOneListed rows qs → (row : Row) × IsIn row rows × IsIn row.1 qs
-listed_from [] qs h = absurd h
-listed_from (row ∷ rows) qs (inl h) = (row, inl refl, h)
-listed_from (row ∷ rows) qs (inr h) = let b = listed_from rows qs h in (b.0, inr b.1, b.2)
+-- rows with a state in a set
+module _ (found : List Found) (set : List ℕ) (i : ℕ) where
+  pub met_here : i < length found → Meets (set_at found i) set → IsOneMet found set
+  met_here inside h = (get_or found i ([], []), at_place found i ([], []) inside, h)
 
-pub listed_to : (rows : List Row) (qs : List ℕ) (row : Row) → IsIn row rows → IsIn row.1 qs → IsOneListed rows qs
-listed_to [] qs row h k = absurd h
-listed_to (r ∷ rows) qs row (inl e) k = inl (subst (λ (z : Row). IsIn z.1 qs) e k)
-listed_to (r ∷ rows) qs row (inr h) k = inr (listed_to rows qs row h k)
+  pub met_more : i < length found → (IsOneMet (take i found) set → ⊥) → (Meets (set_at found i) set → ⊥) → IsOneMet (take (i + 1) found) set → ⊥
+  met_more inside front never (y, h, meets) =
+      ⊎_elim (λ k. front (y, k, meets)) (λ (e : y ≡ get_or found i ([], [])). never (subst (λ (x : Found). Meets x.1 set) e meets)) (in_front_at found i ([], []) y inside h)
 
-reached_state : (a : Automaton) (t : math.Term) (cs : List ℕ) (q : ℕ) → IsChoice a.states t cs → ReachBy (Has a) t cs q → q < a.states
-reached_state a (math.var x) cs q choice r = All-head (λ p. p < a.states) q [] (subst (All (λ p. p < a.states)) r choice.states)
-reached_state a (math.app f ts) cs q choice (qs, has, r) = has.target
+  pub met_none : length found ≤ i → (IsOneMet (take i found) set → ⊥) → IsOneMet found set → ⊥
+  met_none past front h = front (subst (λ (l : List Found). IsOneMet l set) (sym (all_of found i past)) h)
 
-module _ (a : Automaton) (t : math.Term) (rows : List Row) (all : AreArrivals a t rows) where
-  pub excluded : (IsOneListed rows a.accepting → ⊥) → Excludes a t
+module _ (a : Automaton) (t : math.Term) (found : List Found) (all : AreArrivals a t (spread found)) (set : List ℕ) (same : (q : ℕ) → IsIn q set ↔ IsIn q a.accepting) where
+  pub excluded : (IsOneMet found set → ⊥) → Excludes a t
   excluded never cs q choice accepting reach =
-      never (listed_to rows a.accepting (cs, q) (contains_in {X = Row} (cs, q) rows (all.complete cs q choice reach)) (contains_in q a.accepting accepting.0))
+      let b = from_spread found cs q (contains_in {X = Row} (cs, q) (spread found) (all.complete cs q choice reach)) in
+      never (b.0, b.1, (q, b.3, (same q).1 (contains_in q a.accepting accepting.0)))
 
-  pub not_excluded : IsOneListed rows a.accepting → Excludes a t → ⊥
-  not_excluded h ex =
-      let b = listed_from rows a.accepting h in
-      let there = all.each b.0.0 b.0.1 (in_contains b.0 rows b.1) in
-      ex b.0.0 b.0.1 there.0 (in_contains b.0.1 a.accepting b.2, reached_state a t b.0.0 b.0.1 there.0 there.1) there.1
+  pub not_excluded : IsOneMet found set → Excludes a t → ⊥
+  not_excluded (y, h, (q, k, m)) ex =
+      let there = all.each y.0 q (in_contains {X = Row} (y.0, q) (spread found) (in_spread found y q h k)) in
+      ex y.0 q there.0 (in_contains q a.accepting ((same q).0 m), reached_state a t y.0 q there.0 there.1) there.1
 
 -- the rules of a program's system
 module _ (sys : System) (rules : List data_rule.Rule) (i : ℕ) (rule : data_rule.Rule) (same : map rule_view rules ≡ sys.rules) where

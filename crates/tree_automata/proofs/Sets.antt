@@ -1,5 +1,5 @@
 -- The states that are found are those that the term reaches.
-use Rattle.std.proofs.Common.{◌≡◌, ◌↔◌, ℕ, inl, ⊎_elim, Bool, true, nat_eq, eq-eqb, List, [], ◌∷◌, Option, Some, None, slice_get, IsTrue, Vec, Global, refl, ap, sym, subst, ◌∙◌}
+use Rattle.std.proofs.Common.{◌≡◌, ◌↔◌, ℕ, inl, ⊎_elim, Bool, true, nat_eq, eq-eqb, List, [], ◌∷◌, Option, Some, None, slice_get, Bor, Vec, Global, refl, ap, sym, subst, ◌∙◌}
 use Rattle.std.specs.List.{filter, flat_map, list_any}
 use Rattle.std.proofs.lemmas.Bool.{false≢true, and_parts, and_from}
 use Rattle.rewriting.specs.Terms as math
@@ -9,13 +9,13 @@ use Rattle.term_core.specs.View.{view, views}
 use Rattle.term_core.specs.declared.terms.Term.{Term, Var, Fun}
 use Rattle.term_core.proofs.Views.{view-Var, view-Fun}
 use Rattle.automaton_runs.specs.Members.{IsIn}
-use Rattle.automaton_runs.specs.Choices.{lists}
 use Rattle.rewriting.specs.Rules.{System}
-use Rattle.automata.specs.Closed.{IsKept}
 use Rattle.automaton_runs.specs.Counting.{is_number, chosen, Key, symbol_key, first_key}
 use Rattle.automaton_runs.proofs.Members.{in_map, in_map_back, in_filter, filter_in, in_flat, in_flat_back}
 use Rattle.automaton_runs.proofs.Counted.{number_is}
-use Rattle.tree_automata.specs.States.{all_in, comes_from, targets, targets_by_first, IsReachedThrough, AreStatesOf, AreAllStatesOf}
+use Rattle.tree_automata.specs.States.{spans, all_in, comes_from, targets, targets_by_first, IsReachedThrough, AreStatesOf, AreAllStatesOf}
+use Rattle.tree_automata.specs.Reached.{AreReachedThrough}
+use Rattle.tree_automata.specs.Kept.{AreIncluding, AreKeptAt}
 use Rattle.tree_automata.proofs.Lists.{any_in, in_any}
 use Rattle.tree_automata.proofs.Looked.{looked_from, looked_to}
 
@@ -79,37 +79,34 @@ of_variable a e t x states is one =
     let alone : AreStatesOf a e (math.var x) (e x ∷ []) = λ q. (λ h. ⊎_elim (λ k. k) (λ k. absurd k) h, λ k. inl k) in
     subst (λ (u : math.Term). AreStatesOf a e u states) (sym (ap view is ∙ view-Var x)) (subst (λ (l : List ℕ). AreStatesOf a e (math.var x) l) (sym one) alone)
 
-pub of_symbol : (a : Automaton) (e : ℕ → ℕ) (t : Term) (f : ℕ) (v : Vec Term Global) (sets : List (List ℕ)) (reached states : List ℕ) → t ≡ Fun f v → AreAllStatesOf a e v.items sets
-    → ((q : ℕ) → IsIn q reached ↔ IsReachedThrough a f sets q) → ((q : ℕ) → IsIn q states ↔ IsIn q reached) → AreStatesOf a e (view t) states
-of_symbol a e t f v sets reached states is z through same q =
+pub of_symbol : (a : Automaton) (e : ℕ → ℕ) (t : Term) (f : ℕ) (v : Vec Term Global) (sets : List (List ℕ)) (states : List ℕ) → t ≡ Fun f v → AreAllStatesOf a e v.items sets → AreReachedThrough a f sets states
+    → AreStatesOf a e (view t) states
+of_symbol a e t f v sets states is z through q =
     let shown : view t ≡ math.app f (views v.items) = ap view is ∙ view-Fun f v in (
-      λ h. let r = (through q).0 ((same q).0 h) in subst (λ (u : math.Term). Reach (Has a) (at e) u q) (sym shown) (r.0, r.1, all_reached a e v.items sets r.0 z r.2),
-      λ h. let r = subst (λ (u : math.Term). Reach (Has a) (at e) u q) shown h in (same q).1 ((through q).1 (r.0, r.1, reached_all a e v.items sets r.0 z r.2)),
+      λ h. let r = (through q).0 h in subst (λ (u : math.Term). Reach (Has a) (at e) u q) (sym shown) (r.0, r.1, all_reached a e v.items sets r.0 z r.2),
+      λ h. let r = subst (λ (u : math.Term). Reach (Has a) (at e) u q) shown h in (through q).1 (r.0, r.1, reached_all a e v.items sets r.0 z r.2),
     )
 
 -- what is found for the sets
-pub found_none : (a : Automaton) (f : ℕ) (sets : List (Vec ℕ Global)) (out : List ℕ) (ts : List Transition) → None ≡ slice_get sets 0 → out ≡ targets f (lists sets) ts
-    → ts ≡ filter (chosen symbol_key a.states f) a.transitions → (q : ℕ) → IsIn q out ↔ IsReachedThrough a f (lists sets) q
+pub found_none : (a : Automaton) (f : ℕ) (sets : List (Bor (List ℕ))) (out : List ℕ) (ts : List Transition) → None ≡ slice_get sets 0 → out ≡ targets f (spans sets) ts
+    → ts ≡ filter (chosen symbol_key a.states f) a.transitions → AreReachedThrough a f (spans sets) out
 found_none a f [] out ts none e is q =
     subst (λ (l : List ℕ). IsIn q l ↔ IsReachedThrough a f [] q) (sym (e ∙ ap (targets f []) is)) (through_none a f q)
 found_none a f (s ∷ ss) out ts none e is q = absurd (cc)
 
-pub found_first : (a : Automaton) (f : ℕ) (sets : List (Vec ℕ Global)) (firsts : Vec ℕ Global) (out : List ℕ) → Some firsts ≡ slice_get sets 0 → out ≡ targets_by_first a firsts.items f (lists sets)
-    → (q : ℕ) → IsIn q out ↔ IsReachedThrough a f (lists sets) q
+pub found_first : (a : Automaton) (f : ℕ) (sets : List (Bor (List ℕ))) (firsts : Bor (List ℕ)) (out : List ℕ) → Some firsts ≡ slice_get sets 0 → out ≡ targets_by_first a firsts.now f (spans sets)
+    → AreReachedThrough a f (spans sets) out
 found_first a f [] firsts out some e q = absurd (cc)
 found_first a f (s ∷ ss) firsts out some e q =
     let same : firsts ≡ s = cc in
-    subst (λ (l : List ℕ). IsIn q l ↔ IsReachedThrough a f (lists (s ∷ ss)) q) (sym (e ∙ ap (λ (v : Vec ℕ Global). targets_by_first a v.items f (lists (s ∷ ss))) same)) (through_first a f s.items (lists ss) q)
+    subst (λ (l : List ℕ). IsIn q l ↔ IsReachedThrough a f (spans (s ∷ ss)) q) (sym (e ∙ ap (λ (v : Bor (List ℕ)). targets_by_first a v.now f (spans (s ∷ ss))) same)) (through_first a f s.now (spans ss) q)
 
--- a right side that is no variable is kept where it reaches the state
-pub kept_symbol : (sys : System) (a : Automaton) (e : ℕ → ℕ) (t : Term) (f : ℕ) (v : Vec Term Global) (states : List ℕ) (q : ℕ) (b : Bool) → t ≡ Fun f v → AreStatesOf a e (view t) states
-    → b ≡ list_any (λ y. nat_eq y q) states → IsTrue b ↔ IsKept sys (Has a) e (view t) q
-kept_symbol sys a e t f v states q b is all found =
-    let shown : view t ≡ math.app f (views v.items) = ap view is ∙ view-Fun f v in (
-      λ yes.
-          let r = (all q).0 (any_in q states (sym found ∙ yes)) in
-          subst (λ (u : math.Term). IsKept sys (Has a) e u q) (sym shown) (subst (λ (u : math.Term). Reach (Has a) (at e) u q) shown r),
-      λ k.
-          let r = subst (λ (u : math.Term). IsKept sys (Has a) e u q) shown k in
-          found ∙ in_any q states ((all q).1 (subst (λ (u : math.Term). Reach (Has a) (at e) u q) (sym shown) r)),
-    )
+-- a right side that is a variable is kept where its state is included, another where it reaches the state
+pub kept_variable : (sys : System) (a : Automaton) (e : ℕ → ℕ) (t : Term) (x : ℕ) (set : List ℕ) → t ≡ Var x → AreIncluding sys a (e x) set → AreKeptAt sys a e (view t) set
+kept_variable sys a e t x set is all =
+    subst (λ (u : math.Term). AreKeptAt sys a e u set) (sym (ap view is ∙ view-Var x)) (λ q low. (λ h. ((all q).0 h).1, λ k. (all q).1 (low, k)))
+
+pub kept_symbol : (sys : System) (a : Automaton) (e : ℕ → ℕ) (t : Term) (f : ℕ) (v : Vec Term Global) (set : List ℕ) → t ≡ Fun f v → AreStatesOf a e (view t) set → AreKeptAt sys a e (view t) set
+kept_symbol sys a e t f v set is all =
+    let shown : view t ≡ math.app f (views v.items) = ap view is ∙ view-Fun f v in
+    subst (λ (u : math.Term). AreKeptAt sys a e u set) (sym shown) (λ q low. subst (λ (u : math.Term). AreStatesOf a e u set) shown all q)

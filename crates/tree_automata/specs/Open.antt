@@ -1,5 +1,5 @@
 -- Rules at whose arrivals the right side is kept, and the first that is not.
-use Rattle.std.specs.Prelude.{ℕ, ◌⊎◌, List, [], ◌∷◌, Option, None, Some}
+use Rattle.std.specs.Prelude.{ℕ, List, Option, None, Some}
 use Rattle.rewriting.specs.Rules.{Rule, System}
 use Rattle.certificates.specs.Evidence.{Transition, Automaton}
 use Rattle.certificates.specs.Reasons.{EvidenceReason, auto_wide, auto_not_closed}
@@ -8,6 +8,7 @@ use Rattle.automata.specs.Closed.{IsChoice, IsHead, IsRuleKept, IsClosed, IsFirs
 use Rattle.automaton_runs.specs.Arrivals.{IsArrivalBefore}
 use Rattle.automaton_runs.specs.Members.{IsIn}
 use Rattle.automaton_runs.specs.declared.runs.Arrival.{Arrival}
+use Rattle.tree_automata.specs.StateSets.{Meets}
 
 -- no left side is wide, or the first rule whose left side is
 abbrev pub IsWidthJudged : System → Automaton → Option EvidenceReason → Type 0
@@ -36,10 +37,9 @@ abbrev pub OpenAnswers : System → Automaton → Rule → Option Arrival → Ty
 OpenAnswers sys a r None = IsRuleClosed sys a r
 OpenAnswers sys a r (Some arrival) = IsOpenAt sys a r arrival.choice.items arrival.state
 
--- the state of one of the arrivals is among the numbers
-abbrev pub IsOneListed : List (List ℕ × ℕ) → List ℕ → Type 0
-IsOneListed [] qs = ⊥
-IsOneListed (row ∷ rows) qs = IsIn row.1 qs ⊎ IsOneListed rows qs
+-- one of the rows has a state in the set
+abbrev pub IsOneMet : List (List ℕ × List ℕ) → List ℕ → Type 0
+IsOneMet rows set = (row : List ℕ × List ℕ) × IsIn row rows × Meets row.1 set
 
 -- the right side is kept at each of some arrivals
 abbrev pub AreKept : System → Automaton → Rule → List (List ℕ × ℕ) → Type 0

@@ -1,5 +1,6 @@
 -- The states that terms reach where each variable has one state.
 use Rattle.std.specs.Prelude.{ℕ, ◌≡◌, ◌↔◌, Bool, true, false, ◌&&◌, nat_eq, List, [], ◌∷◌, Some, map, filter}
+use Rattle.std.specs.Borrow.{Bor}
 use Rattle.std.specs.List.{list_any, flat_map, AllZip}
 use Rattle.rewriting.specs.Terms as math
 use Rattle.certificates.specs.Evidence.{Transition, Automaton}
@@ -8,6 +9,10 @@ use Rattle.term_core.specs.View.{view}
 use Rattle.term_core.specs.declared.terms.Term.{Term}
 use Rattle.automaton_runs.specs.Members.{IsIn}
 use Rattle.automaton_runs.specs.Counting.{is_number, chosen, first_key}
+
+-- the lists that references point to
+abbrev pub spans : List (Bor (List ℕ)) → List (List ℕ)
+spans sets = map (λ s. s.now) sets
 
 -- each state is in the set at its place
 abbrev pub all_in : List (List ℕ) → List ℕ → Bool

@@ -9,7 +9,7 @@ ghost use Rattle.cert_model.specs.EvidenceView.{automaton_view};
 ghost use Rattle.automaton_runs.specs.Members.{IsIn};
 ghost use Rattle.tree_automata.specs.Accepts.{AreMarked, IsMarked, IsOneAccepting};
 
-use crate::states::states_of;
+use crate::reached::ReachedSets;
 use automaton_runs::AutomatonIndex;
 use cert_model::Automaton;
 use std::alloc::Global;
@@ -76,8 +76,9 @@ pub(crate) fn is_accepted(
     requires { index.now ≡ automaton_view a.now }
     ensures { IfOk result (λ yes. IsTrue yes ↔ IsAccepted (automaton_view a.now) (view t.now)) }
 {
-    let states = states_of(alloc, index, &[], &[], t)?;
-    Ok(is_one_accepting(&states, a))
+    let mut reached = ReachedSets::new(alloc, index);
+    let number = reached.number_of(alloc, &[], &[], t)?;
+    Ok(is_one_accepting(reached.set(number), a))
 }
 
 // Marks each of the states that has a place.
@@ -111,8 +112,10 @@ impl Runs for Automaton {
 
     fn reaches(&self, alloc: Global, t: &Term, out: &mut [bool]) -> Result<bool, NoMemory> {
         let index = AutomatonIndex::new(alloc, self)?;
-        let states = states_of(alloc, &index, &[], &[], t)?;
-        mark_all(&states, out);
-        Ok(is_one_accepting(&states, self))
+        let mut reached = ReachedSets::new(alloc, &index);
+        let number = reached.number_of(alloc, &[], &[], t)?;
+        let states = reached.set(number);
+        mark_all(states, out);
+        Ok(is_one_accepting(states, self))
     }
 }

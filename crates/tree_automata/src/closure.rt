@@ -1,43 +1,67 @@
 ghost use Rattle.std.specs.Prelude.{◌≡◌, ◌↔◌, IfOk};
 ghost use Rattle.rewriting.specs.Terms as math;
+ghost use Rattle.ctrs_classes.specs.Blames.{leaves};
 ghost use Rattle.automata.specs.Closed.{IsWide, AreNarrow};
 ghost use Rattle.automata.specs.Evidence.{IsClosureJudged};
 ghost use Rattle.term_core.specs.View.{view};
 ghost use Rattle.term_core.specs.RuleView.{rule_view};
 ghost use Rattle.cert_model.specs.EvidenceView.{automaton_view};
 ghost use Rattle.refuter.specs.Answers.{RefutesAnswers};
+ghost use Rattle.automaton_runs.specs.Arrivals.{AreArrivals, spread};
+ghost use Rattle.tree_automata.specs.Kept.{GrowsKept};
 ghost use Rattle.tree_automata.specs.Open.{OpenAnswers, IsOpenJudged};
 
-use crate::sides::is_kept;
+use crate::kept::KeptSets;
+use crate::state_sets::first_missing;
 use crate::width::judge_widths;
-use automaton_runs::{Arrival, AutomatonIndex, arrivals, occurrences};
+use automaton_runs::{Arrival, AutomatonIndex, StatesByChoice, occurrences, states_by_choice};
 use cert_model::{Automaton, EvidenceReason};
 use refuter::Refusal;
 use std::alloc::Global;
 use term_core::{NoMemory, Rule, System};
 
-// The first arrival of the left side at which the right side is not kept.
-fn first_open(
+// The first arrival among all of the left side at which the right side is not kept.
+fn first_open_among(
     alloc: Global,
-    index: &AutomatonIndex<'_>,
-    sys: &System,
+    kept: &mut KeptSets<'_, '_>,
     rule: &Rule,
+    names: &[u32],
+    rows: &StatesByChoice,
 ) -> Result<Option<Arrival>, NoMemory>
-    requires fits { math.Fits (view rule.now.left) }
-    requires narrow { IsWide index.now (view rule.now.left) → ⊥ }
-    ensures { IfOk result (OpenAnswers sys.now index.now (rule_view rule.now)) }
+    requires names { names.now ≡ leaves (view rule.now.left) }
+    requires rows { AreArrivals kept.old.automaton (view rule.now.left) (spread rows.now) }
+    ensures more { GrowsKept kept.old kept.new }
+    ensures open { IfOk result (OpenAnswers kept.old.system kept.old.automaton (rule_view rule.now)) }
 {
-    let names = occurrences(alloc, &rule.left)?;
-    let rows = arrivals(alloc, index, &rule.left)?;
-    for row in &rows {
-        if !is_kept(alloc, index, sys, &rule.right, &names, row)? {
+    for row in 0..rows.len() {
+        let choice = rows.choice(row);
+        let number = kept.kept(alloc, names, choice, &rule.right)?;
+        if let Some(state) = first_missing(rows.states(row), kept.set(number)) {
             return Ok(Some(Arrival {
-                choice: Vec::from_slice(alloc, &row.choice)?,
-                state: row.state,
+                choice: Vec::from_slice(alloc, choice)?,
+                state,
             }));
         }
     }
     Ok(None)
+}
+
+// The first arrival of the left side at which the right side is not kept.
+fn first_open(
+    alloc: Global,
+    index: &AutomatonIndex<'_>,
+    kept: &mut KeptSets<'_, '_>,
+    rule: &Rule,
+) -> Result<Option<Arrival>, NoMemory>
+    requires automaton { kept.old.automaton ≡ index.now }
+    requires fits { math.Fits (view rule.now.left) }
+    requires narrow { IsWide index.now (view rule.now.left) → ⊥ }
+    ensures more { GrowsKept kept.old kept.new }
+    ensures open { IfOk result (OpenAnswers kept.old.system index.now (rule_view rule.now)) }
+{
+    let names = occurrences(alloc, &rule.left)?;
+    let rows = states_by_choice(alloc, index, &rule.left)?;
+    first_open_among(alloc, kept, rule, &names, &rows)
 }
 
 // Whether every right side is kept, or the first that is not.
@@ -45,10 +69,11 @@ fn judge_rules(alloc: Global, index: &AutomatonIndex<'_>, sys: &System) -> Resul
     requires { AreNarrow sys.now index.now }
     ensures { RefutesAnswers (IsOpenJudged sys.now index.now) result }
 {
+    let mut kept = KeptSets::new(alloc, index, sys);
     let mut number: u32 = 0;
     'rules: for rule in sys.rules() {
         number += 1;
-        match first_open(alloc, index, sys, rule)? {
+        match first_open(alloc, index, &mut kept, rule)? {
             None => {}
             Some(arrival) => {
                 return Err(Refusal::Reason(EvidenceReason::AutoNotClosed {

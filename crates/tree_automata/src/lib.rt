@@ -5,7 +5,10 @@ mod accepts;
 mod closure;
 mod evidence;
 mod exclusion;
+mod kept;
+mod reached;
 mod sides;
+mod state_sets;
 mod states;
 #[cfg(test)]
 mod tests;

@@ -1,13 +1,13 @@
 ghost use Rattle.std.specs.Prelude.{◌↔◌, IfOk, IsTrue};
+ghost use Rattle.std.specs.List.Sorted.{IsStrictlyIncreasing};
 ghost use Rattle.automata.specs.Runs.{Has};
-ghost use Rattle.automata.specs.Closed.{IsHead, Includes, IsKept, state_of};
-ghost use Rattle.term_core.specs.View.{view};
+ghost use Rattle.automata.specs.Closed.{IsHead, Includes};
+ghost use Rattle.tree_automata.specs.Kept.{AreIncluding};
 
-use crate::states::{state_at, states_of};
-use automaton_runs::{Arrival, AutomatonIndex};
+use automaton_runs::AutomatonIndex;
 use cert_model::Transition;
 use std::alloc::Global;
-use term_core::{NoMemory, System, Term};
+use term_core::{NoMemory, System};
 
 // Whether the transition is for a symbol of the system with as many arguments as its arity, or for variables.
 fn is_headed(sys: &System, transition: &Transition) -> bool
@@ -34,25 +34,21 @@ fn includes(index: &AutomatonIndex<'_>, sys: &System, q: u32, p: u32) -> bool
     true
 }
 
-// Whether the right side is kept at the state of an arrival of a left side with these variables.
-pub(crate) fn is_kept(
+// The states that include p, in order.
+pub(crate) fn including(
     alloc: Global,
     index: &AutomatonIndex<'_>,
     sys: &System,
-    right: &Term,
-    names: &[u32],
-    arrival: &Arrival,
-) -> Result<bool, NoMemory>
-    ensures { IfOk result (λ kept. IsTrue kept ↔ IsKept sys.now (Has index.now) (state_of names.now arrival.now.choice.items) (view right.now) arrival.now.state) }
+    p: u32,
+) -> Result<Vec<u32>, NoMemory>
+    ensures including { IfOk result (λ set. AreIncluding sys.now index.now p set.items) }
+    ensures ascending { IfOk result (λ set. IsStrictlyIncreasing set.items) }
 {
-    match right {
-        Term::Var(x) => {
-            let p = state_at(names, &arrival.choice, *x);
-            Ok(includes(index, sys, arrival.state, p))
-        }
-        Term::Fun(_, _) => {
-            let states = states_of(alloc, index, names, &arrival.choice, right)?;
-            Ok(states.contains(&arrival.state))
+    let mut set = Vec::new(alloc);
+    for q in 0..index.states() {
+        if includes(index, sys, q, p) {
+            set.push(q)?;
         }
     }
+    Ok(set)
 }

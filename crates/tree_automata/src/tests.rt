@@ -1,4 +1,6 @@
 //! Automata against systems.
+ghost use Rattle.std.specs.Prelude.{◌≡◌, []};
+
 use crate::{AutoEvidence, Runs, excludes, is_closed};
 use cert_model::{Automaton, EvidenceReason, Transition};
 use refuter::{Refusal, Refuter};
@@ -35,18 +37,39 @@ fn step(alloc: Global, symbol: Option<u32>, args: &[u32], target: u32) -> Result
     })
 }
 
-// The rule `left -> x0`.
-fn system(alloc: Global, left: Term) -> Result<System, Fail> {
-    let rule = Rule {
+fn rule(alloc: Global, left: Term, right: Term, vars: u32) -> Rule
+    ensures { result.conds.items ≡ [] }
+{
+    Rule {
         left,
-        right: Term::Var(0),
+        right,
         conds: Vec::new(alloc),
-        vars: 1,
-    };
+        vars,
+    }
+}
+
+fn one_rule(alloc: Global, rule: Rule) -> Result<System, Fail>
+    requires { rule.conds.items ≡ [] }
+{
     match System::make(vec![in alloc; 1, 0, 0, 2]?, vec![in alloc; rule]?) {
         Ok(system) => Ok(system),
         Err(_) => Err(Fail::from("no system")),
     }
+}
+
+fn two_rules(alloc: Global, first: Rule, second: Rule) -> Result<System, Fail>
+    requires first { first.conds.items ≡ [] }
+    requires second { second.conds.items ≡ [] }
+{
+    match System::make(vec![in alloc; 1, 0, 0, 2]?, vec![in alloc; first, second]?) {
+        Ok(system) => Ok(system),
+        Err(_) => Err(Fail::from("no system")),
+    }
+}
+
+// The rule `left -> x0`, of one variable.
+fn system(alloc: Global, left: Term) -> Result<System, Fail> {
+    one_rule(alloc, rule(alloc, left, Term::Var(0), 1))
 }
 
 // State 0 accepts all, and state 1, which is accepting, is reached by a, f(a), f(f(a)), ..
@@ -169,6 +192,56 @@ fn each_occurrence_has_a_state_of_its_own(rt: HostRuntime) -> Result<(), Fail> {
     let why = EvidenceReason::AutoNotClosed {
         rule: 1,
         states: vec![in alloc; 0, 1]?,
+        target: 1,
+    };
+    assert_eq!(rt; reason(is_closed(alloc, &sys, &open))?, Some(why));
+    Ok(())
+}
+
+#[test]
+fn rules_share_the_sets_of_their_right_sides(rt: HostRuntime) -> Result<(), Fail> {
+    let alloc = rt.alloc();
+    let twice = unary(alloc, unary(alloc, Term::Var(0))?)?;
+    let pair = binary(alloc, Term::Var(0), Term::Var(1))?;
+    let first = rule(alloc, twice, unary(alloc, Term::Var(0))?, 1);
+    let second = rule(alloc, pair, unary(alloc, Term::Var(0))?, 2);
+    let sys = two_rules(alloc, first, second)?;
+    let mut open = automaton(alloc, 3)?;
+    open.transitions.push(step(alloc, Some(F), &[1], 2)?)?;
+    open.transitions.push(step(alloc, Some(F), &[2], 2)?)?;
+    open.transitions.push(step(alloc, Some(G), &[1, 0], 2)?)?;
+    open.transitions.push(step(alloc, Some(G), &[1, 0], 1)?)?;
+    assert_eq!(rt; reason(is_closed(alloc, &sys, &open))?, None);
+    open.transitions.push(step(alloc, Some(G), &[2, 0], 2)?)?;
+    open.transitions.push(step(alloc, Some(G), &[2, 0], 1)?)?;
+    let why = EvidenceReason::AutoNotClosed {
+        rule: 2,
+        states: vec![in alloc; 2, 0]?,
+        target: 1,
+    };
+    assert_eq!(rt; reason(is_closed(alloc, &sys, &open))?, Some(why));
+    Ok(())
+}
+
+#[test]
+fn a_variable_is_kept_at_the_states_that_include_its_own(rt: HostRuntime) -> Result<(), Fail> {
+    let alloc = rt.alloc();
+    let pair = binary(alloc, Term::Var(0), Term::Var(1))?;
+    let sys = one_rule(alloc, rule(alloc, pair, Term::Var(0), 2))?;
+    let mut open = automaton(alloc, 3)?;
+    open.transitions.push(step(alloc, Some(A), &[], 2)?)?;
+    open.transitions.push(step(alloc, Some(F), &[1], 2)?)?;
+    for argument in [1, 2] {
+        for target in [1, 2] {
+            open.transitions
+                .push(step(alloc, Some(G), &[argument, 0], target)?)?;
+        }
+    }
+    assert_eq!(rt; reason(is_closed(alloc, &sys, &open))?, None);
+    open.transitions.push(step(alloc, Some(F), &[2], 2)?)?;
+    let why = EvidenceReason::AutoNotClosed {
+        rule: 1,
+        states: vec![in alloc; 2, 0]?,
         target: 1,
     };
     assert_eq!(rt; reason(is_closed(alloc, &sys, &open))?, Some(why));

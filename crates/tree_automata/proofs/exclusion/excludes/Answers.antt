@@ -1,37 +1,33 @@
-use Rattle.std.proofs.Common.{◌∙◌, map, sym, subst, refl, List, ℕ}
+use Rattle.std.proofs.Common.{◌∙◌, ◌↔◌, List, ℕ, refl, sym, subst}
 use Rattle.std.proofs.lemmas.Bool.{false≢true}
 use Rattle.certificates.specs.Evidence.{Automaton}
 use Rattle.term_core.specs.View.{view}
 use Rattle.cert_model.specs.EvidenceView.{automaton_view}
-use Rattle.automaton_runs.specs.Arrivals.{arrival_view, AreArrivals}
-use Rattle.automaton_runs.specs.declared.runs.Arrival.{Arrival}
-use Rattle.tree_automata.specs.Open.{IsOneListed}
+use Rattle.automaton_runs.specs.Arrivals.{AreArrivals, spread}
+use Rattle.automaton_runs.specs.Members.{IsIn}
+use Rattle.tree_automata.specs.Open.{IsOneMet}
 use Rattle.tree_automata.proofs.Open.{excluded, not_excluded}
 use Rattle.tree_automata.proofs.Listed.{narrow_by}
 use Rattle.tree_automata.proofs.exclusion.excludes.Goals as goal
 
-pub returns-then-is_one_listed : goal.returns-then-is_one_listed
-returns-then-is_one_listed c =
+pub returns-then-is_one_met : goal.returns-then-is_one_met
+returns-then-is_one_met c =
     let a = automaton_view c.args.a.now in
     let t = view c.args.t.now in
-    let all = subst (λ (i : Automaton). AreArrivals i t (map arrival_view c.in_ok-rows.rows.items)) c.in_ok-index.ensures c.in_ok-rows.ensures in
-    let listed =
-    subst (λ (l : List Arrival). IsOneListed (map arrival_view l) c.args.a.now.accepting.items) c.deref.ensures.value
-    (subst (λ (l : List ℕ). IsOneListed (map arrival_view c.deref.result.now) l) c.deref-2.ensures.value (c.if-is_one_listed.ensures.0 refl)) in (
+    let rows = c.in_ok-rows.rows in
+    let all = subst (λ (i : Automaton). AreArrivals i t (spread rows)) c.in_ok-index.ensures c.in_ok-rows.ensures.exact in
+    let met = subst (IsOneMet rows) c.deref-2.ensures.value (c.if-is_one_met.ensures.0 refl) in (
       narrow_by a t c.len.result c.in_ok-names.names.items (c.len.ensures ∙ c.in_ok-names.names.ok.0) c.in_ok-names.ensures c.if-has_more_choices.ensures.1,
-      not_excluded a t (map arrival_view c.in_ok-rows.rows.items) all listed,
+      not_excluded a t rows all c.in_ok-accepting.accepting.items (λ q. subst (λ (l : List ℕ). IsIn q c.in_ok-accepting.accepting.items ↔ IsIn q l) c.deref.ensures.value (c.in_ok-accepting.ensures.same q)) met,
     )
 
 pub returns : goal.returns
 returns c =
     let a = automaton_view c.args.a.now in
     let t = view c.args.t.now in
-    let all = subst (λ (i : Automaton). AreArrivals i t (map arrival_view c.in_ok-rows.rows.items)) c.in_ok-index.ensures c.in_ok-rows.ensures in (
+    let rows = c.in_ok-rows.rows in
+    let all = subst (λ (i : Automaton). AreArrivals i t (spread rows)) c.in_ok-index.ensures c.in_ok-rows.ensures.exact in (
       narrow_by a t c.len.result c.in_ok-names.names.items (c.len.ensures ∙ c.in_ok-names.names.ok.0) c.in_ok-names.ensures c.if-has_more_choices.ensures.1,
-      excluded a t (map arrival_view c.in_ok-rows.rows.items) all
-          (λ h.
-          false≢true
-          (c.if-is_one_listed.ensures.1
-          (subst (λ (l : List Arrival). IsOneListed (map arrival_view l) c.deref-2.result.now) (sym c.deref.ensures.value)
-          (subst (λ (l : List ℕ). IsOneListed (map arrival_view c.in_ok-rows.rows.items) l) (sym c.deref-2.ensures.value) h)))),
+      excluded a t rows all c.in_ok-accepting.accepting.items (λ q. subst (λ (l : List ℕ). IsIn q c.in_ok-accepting.accepting.items ↔ IsIn q l) c.deref.ensures.value (c.in_ok-accepting.ensures.same q))
+          (λ h. false≢true (c.if-is_one_met.ensures.1 (subst (IsOneMet rows) (sym c.deref-2.ensures.value) h))),
     )

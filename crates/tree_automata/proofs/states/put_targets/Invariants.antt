@@ -1,8 +1,7 @@
 use Rattle.std.proofs.Common.{◌≡◌, ◌++◌, take}
 use Rattle.automaton_runs.specs.Indexed.{pointed}
-use Rattle.automaton_runs.specs.Choices.{lists}
-use Rattle.tree_automata.specs.States.{targets}
+use Rattle.tree_automata.specs.States.{spans, targets}
 use Rattle.tree_automata.proofs.states.put_targets.Given as goal
 
 abbrev pub invariant-loop-transition : goal.invariant-loop-transition
-invariant-loop-transition l = l.out.items ≡ l.fn.out.items ++ targets l.f (lists l.sets) (pointed (take l.transition-index l.transitions))
+invariant-loop-transition l = l.out.items ≡ l.fn.out.items ++ targets l.f (spans l.sets) (pointed (take l.transition-index l.transitions))

@@ -1,17 +1,6 @@
-use Rattle.std.proofs.Common.{◌∙◌, ◌++◌, ap, List, ℕ}
-use Rattle.automaton_runs.specs.Choices.{lists}
-use Rattle.automaton_runs.specs.Indexed.{pointed}
-use Rattle.tree_automata.specs.States.{targets, targets_by_first}
-use Rattle.tree_automata.proofs.Sets.{found_none, found_first}
 use Rattle.tree_automata.proofs.states.reached_through.Goals as goal
 
-pub returns-in_ok-put_targets-in-None : goal.returns-in_ok-put_targets-in-None
-returns-in_ok-put_targets-in-None c =
-    found_none c.args.index.now c.args.f c.args.sets.now c.put_targets.new.out.items (pointed c.with_symbol.result.now) c.in-None.ensures.value
-    (c.in_ok-put_targets-in-None.ensures ∙ ap (λ (l : List ℕ). l ++ targets c.args.f (lists c.args.sets.now) (pointed c.with_symbol.result.now)) c.new-out.ensures.items) c.with_symbol.ensures
-
-pub returns-in_ok-put_targets_by_first-in-Some : goal.returns-in_ok-put_targets_by_first-in-Some
-returns-in_ok-put_targets_by_first-in-Some c =
-    found_first c.args.index.now c.args.f c.args.sets.now c.in-Some.firsts.now c.put_targets_by_first.new.out.items c.in-Some.ensures.value
-    (c.in_ok-put_targets_by_first-in-Some.ensures ∙ ap (λ (l : List ℕ). l ++ targets_by_first c.args.index.now c.deref.result.now c.args.f (lists c.args.sets.now)) c.new-out.ensures.items
-    ∙ ap (λ (l : List ℕ). targets_by_first c.args.index.now l c.args.f (lists c.args.sets.now)) c.deref.ensures.value)
+pub returns-clause-reached : goal.returns-clause-reached
+returns-clause-reached c q =
+    let same = c.in_ok-keep_once.ensures.same q in
+    let reached = c.in_ok-states.ensures q in (λ h. reached.0 (same.0 h), λ r. same.1 (reached.1 r))

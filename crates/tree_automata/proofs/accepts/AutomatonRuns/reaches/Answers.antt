@@ -1,15 +1,25 @@
-use Rattle.std.proofs.Common.{◌∙◌}
+use Rattle.std.proofs.Common.{◌∙◌, []}
+use Rattle.automata.specs.Closed.{state_of}
 use Rattle.term_core.specs.View.{view}
 use Rattle.cert_model.specs.EvidenceView.{automaton_view}
+use Rattle.tree_automata.specs.StateSets.{set_at}
+use Rattle.tree_automata.specs.States.{AreStatesOf}
+use Rattle.tree_automata.proofs.StateSets.{at_number}
 use Rattle.tree_automata.proofs.Accepted.{marks_are, hit_is}
 use Rattle.tree_automata.proofs.accepts.AutomatonRuns.reaches.Goals as goal
 
 pub returns-clause-marks : goal.returns-clause-marks
 returns-clause-marks c =
-    marks_are (automaton_view c.args.self.now) c.in_ok-index.index (view c.args.t.now) c.in_ok-states.states.items c.deref.result.now c.mark_all.new.out c.in_ok-index.ensures c.in_ok-states.ensures c.deref.ensures.value
-    c.mark_all.ensures.marked (c.mark_all.ensures.len ∙ c.requires.long)
+    let a = c.new-reached.result.automaton in
+    let sets = c.number_of.new.self.sets in
+    let number = c.in_ok-number.number in
+    marks_are (automaton_view c.args.self.now) a (view c.args.t.now) (set_at sets number) c.set-states.result.now c.mark_all.new.out (c.new-reached.ensures.automaton ∙ c.in_ok-index.ensures)
+    (at_number sets number (AreStatesOf a (state_of [] []) (view c.args.t.now)) c.in_ok-number.ensures.set) c.set-states.ensures.value c.mark_all.ensures.marked (c.mark_all.ensures.len ∙ c.requires.long)
 
 pub returns-clause-hit : goal.returns-clause-hit
 returns-clause-hit c =
-    hit_is (automaton_view c.args.self.now) c.in_ok-index.index (view c.args.t.now) c.in_ok-states.states.items c.deref-2.result.now c.is_one_accepting.result c.in_ok-index.ensures c.in_ok-states.ensures c.deref-2.ensures.value
-    c.is_one_accepting.ensures
+    let a = c.new-reached.result.automaton in
+    let sets = c.number_of.new.self.sets in
+    let number = c.in_ok-number.number in
+    hit_is (automaton_view c.args.self.now) a (view c.args.t.now) (set_at sets number) c.set-states.result.now c.is_one_accepting.result (c.new-reached.ensures.automaton ∙ c.in_ok-index.ensures)
+    (at_number sets number (AreStatesOf a (state_of [] []) (view c.args.t.now)) c.in_ok-number.ensures.set) c.set-states.ensures.value c.is_one_accepting.ensures

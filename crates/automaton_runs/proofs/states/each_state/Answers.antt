@@ -1,0 +1,15 @@
+use Rattle.std.proofs.Common.{◌∙◌, ◌≡◌, ap, Some, arith, ℕ}
+use Rattle.automaton_runs.specs.Sets.{sets_of}
+use Rattle.automaton_runs.specs.Tables.{numbered, singles}
+use Rattle.automaton_runs.proofs.Joined.{held_is, held_more}
+use Rattle.automaton_runs.proofs.states.each_state.Goals as goal
+
+pub loop-state-preserved : goal.loop-state-preserved
+loop-state-preserved c =
+    held_more (sets_of c.loop-state.sets) (sets_of c.number.new.self) c.in_ok-set.ensures.front c.loop-state.rows.items c.push.new.self.items (record { choice = c.in_ok-choice.choice; set = c.in_ok-set.set }) c.loop-state.state
+    c.loop-state.invariant c.in_ok-push.ensures.items c.in_ok-choice.ensures.items (c.in_ok-set.ensures.place ∙ ap Some c.in_ok-from_array.ensures.items)
+
+pub returns : goal.returns
+returns c =
+    let all : c.loop-state.state ≡ c.args.states = omega arith in
+    held_is (sets_of c.loop-state.sets) (numbered c.loop-state.rows.items) (singles c.loop-state.state) c.loop-state.invariant ∙ ap singles all

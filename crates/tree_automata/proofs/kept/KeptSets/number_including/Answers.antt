@@ -1,0 +1,19 @@
+use Rattle.std.proofs.Common.{◌≡◌, Some, slice_get, sym, subst}
+use Rattle.std.proofs.lemmas.Result.{IfOk-weaker}
+use Rattle.certificates.specs.Evidence.{Automaton}
+use Rattle.tree_automata.specs.StateSets.{IsSetAt}
+use Rattle.tree_automata.specs.Kept.{Kept, AreIncluding}
+use Rattle.tree_automata.proofs.kept.KeptSets.number_including.Goals as goal
+
+pub keep-requires-clause-including : goal.keep-requires-clause-including
+keep-requires-clause-including c =
+    let set = c.in_ok-set-in-None.set.items in
+    subst (λ (k : Kept). AreIncluding k.system k.automaton c.args.p set) c.self.view_is (subst (λ (a : Automaton). AreIncluding c.self.inside.sys.now a c.args.p set) c.index.ensures c.in_ok-set-in-None.ensures.including)
+
+pub returns-in_ok-set-in-None-clause-set : goal.returns-in_ok-set-in-None-clause-set
+returns-in_ok-set-in-None-clause-set c =
+    let set = c.in_ok-set-in-None.set.items in
+    let sets = c.keep.new.self.sets in
+    let including =
+    subst (λ (k : Kept). AreIncluding k.system k.automaton c.args.p set) c.self.view_is (subst (λ (a : Automaton). AreIncluding c.self.inside.sys.now a c.args.p set) c.index.ensures c.in_ok-set-in-None.ensures.including) in
+    IfOk-weaker c.keep.result (λ n. slice_get sets n ≡ Some set) (λ n. IsSetAt sets n (AreIncluding c.args.self.now.system c.args.self.now.automaton c.args.p)) (λ n at. (set, at, including)) c.keep.ensures.place

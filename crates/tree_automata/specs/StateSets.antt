@@ -1,0 +1,47 @@
+-- Sets of states with numbers.
+use Rattle.std.specs.Prelude.{ℕ, ◌≡◌, ◌<◌, List, [], ◌∷◌, ◌++◌, Option, None, Some, map, slice_get, get_or}
+use Rattle.std.specs.List.Sorted.{IsStrictlyIncreasing}
+use Rattle.automaton_runs.specs.Members.{IsIn}
+
+-- the second list begins with the first
+abbrev pub IsFront : {X : Type 0} → List X → List X → Type 0
+IsFront {X} xs ys = (rest : List X) × (ys ≡ xs ++ rest)
+
+-- the set with a number, and those with some numbers
+abbrev pub set_at : List (List ℕ) → ℕ → List ℕ
+set_at sets n = get_or sets n []
+
+abbrev pub sets_at : List (List ℕ) → List ℕ → List (List ℕ)
+sets_at sets ns = map (set_at sets) ns
+
+-- there is a set with the number, and it has the property
+abbrev pub IsSetAt : List (List ℕ) → ℕ → (List ℕ → Type 0) → Type 0
+IsSetAt sets n P = (set : List ℕ) × (slice_get sets n ≡ Some set) × P set
+
+-- the states of each set are in order
+abbrev pub AreAscending : List (List ℕ) → Type 0
+AreAscending sets = (set : List ℕ) → IsIn set sets → IsStrictlyIncreasing set
+
+-- each number is below n
+abbrev pub AreBelow : ℕ → List ℕ → Type 0
+AreBelow n ns = (k : ℕ) → IsIn k ns → k < n
+
+-- each of some states is in the set
+abbrev pub AreWithin : List ℕ → List ℕ → Type 0
+AreWithin set states = (q : ℕ) → IsIn q states → IsIn q set
+
+-- the first of some states that is not in the set
+pub record IsFirstMissing (states set : List ℕ) (q : ℕ) : Type 0 where
+  pub before : List ℕ
+  pub after : List ℕ
+  pub split : states ≡ before ++ q ∷ after
+  pub within : AreWithin set before
+  pub missing : IsIn q set → ⊥
+
+abbrev pub MissingAnswers : List ℕ → List ℕ → Option ℕ → Type 0
+MissingAnswers states set None = AreWithin set states
+MissingAnswers states set (Some q) = IsFirstMissing states set q
+
+-- one of some states is in the set
+abbrev pub Meets : List ℕ → List ℕ → Type 0
+Meets states set = (q : ℕ) × IsIn q states × IsIn q set
