@@ -40,6 +40,8 @@ fn is_read(alloc: Global, file: &str, text: &[u8]) -> bool {
     }
 }
 
+// Tables are constants: the proof of a function grows fast with the rows of an array in it.
+
 // the first text that is read where it is to be refused, or the other way round
 fn first_wrong<'a>(alloc: Global, file: &str, rows: &[(bool, &'a str)]) -> Option<&'a str> {
     for (wanted, text) in rows {
@@ -79,45 +81,47 @@ fn a_peak_of_two_steps_is_read(rt: HostRuntime) -> Result<(), Fail> {
     Ok(())
 }
 
+const EACH_KIND: &[(&str, &str)] = &[
+    (CHOICE, PLAIN),
+    ("(RULES )", "concon 1\northo\nend\n"),
+    (
+        MINIMUM,
+        "YES\nconcon 1\northo\npair 4 e 5 conflict 1 1\nend\n",
+    ),
+    (MINIMUM, "concon 1\northo\npair 4 e 5 tcap\nend\n"),
+    (
+        "(CONDITIONTYPE ORIENTED)(VAR x)(RULES a -> b f(x) -> c | x == a)",
+        "concon 1\npeak\nstart f(a)\nsteps 1\nrule 2 e 1\nsteps 0\nsteps 1\nrule 1 1 0\nnormal\nredex 2 e 2 tcap\nend\n",
+    ),
+    (
+        "(CONDITIONTYPE ORIENTED)(VAR x)(RULES eq(x,x) -> true g(x) -> x | eq(x,x) == true)",
+        "YES\nconcon 1\nquasi\nlinear\nfun eq 1 1 1\nfun true 0\nfun g 3 3\naux 2 1 1 1 1\nend\n",
+    ),
+    (LOOP, AUTOMATON),
+    (
+        "(CONDITIONTYPE ORIENTED)(VAR x)(RULES f(x) -> g(x) f(x) -> c | g(x) == c g(0) -> c)",
+        "YES\nconcon 1\nquasi\nlinear\nfun f 3 1\nfun g 1 1\nfun c 0\nfun 0 0\naux 2 1 1 1 0\npair 1 e 2 join\nsteps 1\nhyp 1 e\nsteps 0\nend\n",
+    ),
+    (MINIMUM, UNFEASIBLE),
+    (
+        "(RULES a -> f(a) a -> g(a))",
+        "NO\nconcon 1\npeak\nstart a\nsteps 1\nrule 1 e 0\nsteps 1\nrule 2 e 0\ncaps\nend\n",
+    ),
+];
+
 #[test]
 fn certificates_of_each_kind_are_read(rt: HostRuntime) -> Result<(), Fail> {
-    let rows = [
-        (CHOICE, PLAIN),
-        ("(RULES )", "concon 1\northo\nend\n"),
-        (
-            MINIMUM,
-            "YES\nconcon 1\northo\npair 4 e 5 conflict 1 1\nend\n",
-        ),
-        (MINIMUM, "concon 1\northo\npair 4 e 5 tcap\nend\n"),
-        (
-            "(CONDITIONTYPE ORIENTED)(VAR x)(RULES a -> b f(x) -> c | x == a)",
-            "concon 1\npeak\nstart f(a)\nsteps 1\nrule 2 e 1\nsteps 0\nsteps 1\nrule 1 1 0\nnormal\nredex 2 e 2 tcap\nend\n",
-        ),
-        (
-            "(CONDITIONTYPE ORIENTED)(VAR x)(RULES eq(x,x) -> true g(x) -> x | eq(x,x) == true)",
-            "YES\nconcon 1\nquasi\nlinear\nfun eq 1 1 1\nfun true 0\nfun g 3 3\naux 2 1 1 1 1\nend\n",
-        ),
-        (LOOP, AUTOMATON),
-        (
-            "(CONDITIONTYPE ORIENTED)(VAR x)(RULES f(x) -> g(x) f(x) -> c | g(x) == c g(0) -> c)",
-            "YES\nconcon 1\nquasi\nlinear\nfun f 3 1\nfun g 1 1\nfun c 0\nfun 0 0\naux 2 1 1 1 0\npair 1 e 2 join\nsteps 1\nhyp 1 e\nsteps 0\nend\n",
-        ),
-        (MINIMUM, UNFEASIBLE),
-        (
-            "(RULES a -> f(a) a -> g(a))",
-            "NO\nconcon 1\npeak\nstart a\nsteps 1\nrule 1 e 0\nsteps 1\nrule 2 e 0\ncaps\nend\n",
-        ),
-    ];
-    for (file, text) in &rows {
+    for &(file, text) in EACH_KIND {
         assert!(rt; is_read(rt.alloc(), file, text.as_bytes()), "{text}");
     }
     Ok(())
 }
 
+const WHOLE: &[(&str, &str)] = &[(CHOICE, PLAIN), (MINIMUM, UNFEASIBLE), (LOOP, AUTOMATON)];
+
 #[test]
 fn no_beginning_is_read(rt: HostRuntime) -> Result<(), Fail> {
-    let rows = [(CHOICE, PLAIN), (MINIMUM, UNFEASIBLE), (LOOP, AUTOMATON)];
-    for (file, text) in &rows {
+    for &(file, text) in WHOLE {
         for length in 0..text.len() {
             let (front, _) = text.as_bytes().split_at(length);
             assert!(rt; !is_read(rt.alloc(), file, front), "at {length}");
@@ -126,103 +130,105 @@ fn no_beginning_is_read(rt: HostRuntime) -> Result<(), Fail> {
     Ok(())
 }
 
+const ANSWER_LINES: &[(bool, &str)] = &[
+    (READ, "YES\nconcon 1\northo\nend\n"),
+    (REFUSED, "NO\nconcon 1\northo\nend\n"),
+    (READ, "YES\nconcon 1\nquasi\nlinear\nend\n"),
+    (REFUSED, "NO\nconcon 1\nquasi\nlinear\nend\n"),
+    (
+        READ,
+        "NO\nconcon 1\npeak\nstart a\nsteps 0\nsteps 0\ncaps\nend\n",
+    ),
+    (
+        REFUSED,
+        "YES\nconcon 1\npeak\nstart a\nsteps 0\nsteps 0\ncaps\nend\n",
+    ),
+    (REFUSED, "YES\nYES\nconcon 1\northo\nend\n"),
+    (REFUSED, "MAYBE\nconcon 1\northo\nend\n"),
+    (REFUSED, "YESconcon 1\northo\nend\n"),
+];
+
 #[test]
 fn an_answer_line_fits_its_certificate(rt: HostRuntime) -> Result<(), Fail> {
-    let rows = [
-        (READ, "YES\nconcon 1\northo\nend\n"),
-        (REFUSED, "NO\nconcon 1\northo\nend\n"),
-        (READ, "YES\nconcon 1\nquasi\nlinear\nend\n"),
-        (REFUSED, "NO\nconcon 1\nquasi\nlinear\nend\n"),
-        (
-            READ,
-            "NO\nconcon 1\npeak\nstart a\nsteps 0\nsteps 0\ncaps\nend\n",
-        ),
-        (
-            REFUSED,
-            "YES\nconcon 1\npeak\nstart a\nsteps 0\nsteps 0\ncaps\nend\n",
-        ),
-        (REFUSED, "YES\nYES\nconcon 1\northo\nend\n"),
-        (REFUSED, "MAYBE\nconcon 1\northo\nend\n"),
-        (REFUSED, "YESconcon 1\northo\nend\n"),
-    ];
-    assert_eq!(rt; first_wrong(rt.alloc(), CHOICE, &rows), None);
+    assert_eq!(rt; first_wrong(rt.alloc(), CHOICE, ANSWER_LINES), None);
     Ok(())
 }
+
+const FORMS: &[(bool, &str)] = &[
+    (
+        READ,
+        "concon 1\npeak\nstart f(f(|7))\nsteps 0\nsteps 0\nnormal\nend\n",
+    ),
+    (
+        READ,
+        "concon 1\npeak\nstart |4294967295\nsteps 0\nsteps 0\nnormal\nend\n",
+    ),
+    (
+        REFUSED,
+        "concon 1\npeak\nstart |4294967296\nsteps 0\nsteps 0\nnormal\nend\n",
+    ),
+    (
+        REFUSED,
+        "concon 1\npeak\nstart d\nsteps 0\nsteps 0\nnormal\nend\n",
+    ),
+    (
+        REFUSED,
+        "concon 1\npeak\nstart a\nsteps 0\nsteps 0\nnormal\ncaps\nend\n",
+    ),
+    (READ, "concon 1\nquasi\nlinear\nfun a\naux 0 7\nend\n"),
+    (REFUSED, "concon 1\nquasi\nlinear\nfun a \nend\n"),
+    (REFUSED, "concon 1\nquasi\nlinear\nfun d 1\nend\n"),
+    (REFUSED, "concon 1\nquasi\nlinear\nfun a 01\nend\n"),
+    (REFUSED, "concon 1\nquasi\nlinear\naux 1\nend\n"),
+    (REFUSED, "concon 1\nquasi\nend\n"),
+    (READ, "concon 1\northo\npair 0 1.2 9 trivial\nend\n"),
+    (REFUSED, "concon 1\northo\npair 1 1.0 1 trivial\nend\n"),
+    (REFUSED, "concon 1\northo\npair 1 e 1 trivial \nend\n"),
+    (REFUSED, "concon 1\northo\npair 1 e 1 tcap\nend\nend\n"),
+    (REFUSED, "concon 2\northo\nend\n"),
+];
 
 #[test]
 fn one_form_of_text_is_read(rt: HostRuntime) -> Result<(), Fail> {
-    let rows = [
-        (
-            READ,
-            "concon 1\npeak\nstart f(f(|7))\nsteps 0\nsteps 0\nnormal\nend\n",
-        ),
-        (
-            READ,
-            "concon 1\npeak\nstart |4294967295\nsteps 0\nsteps 0\nnormal\nend\n",
-        ),
-        (
-            REFUSED,
-            "concon 1\npeak\nstart |4294967296\nsteps 0\nsteps 0\nnormal\nend\n",
-        ),
-        (
-            REFUSED,
-            "concon 1\npeak\nstart d\nsteps 0\nsteps 0\nnormal\nend\n",
-        ),
-        (
-            REFUSED,
-            "concon 1\npeak\nstart a\nsteps 0\nsteps 0\nnormal\ncaps\nend\n",
-        ),
-        (READ, "concon 1\nquasi\nlinear\nfun a\naux 0 7\nend\n"),
-        (REFUSED, "concon 1\nquasi\nlinear\nfun a \nend\n"),
-        (REFUSED, "concon 1\nquasi\nlinear\nfun d 1\nend\n"),
-        (REFUSED, "concon 1\nquasi\nlinear\nfun a 01\nend\n"),
-        (REFUSED, "concon 1\nquasi\nlinear\naux 1\nend\n"),
-        (REFUSED, "concon 1\nquasi\nend\n"),
-        (READ, "concon 1\northo\npair 0 1.2 9 trivial\nend\n"),
-        (REFUSED, "concon 1\northo\npair 1 1.0 1 trivial\nend\n"),
-        (REFUSED, "concon 1\northo\npair 1 e 1 trivial \nend\n"),
-        (REFUSED, "concon 1\northo\npair 1 e 1 tcap\nend\nend\n"),
-        (REFUSED, "concon 2\northo\nend\n"),
-    ];
-    assert_eq!(rt; first_wrong(rt.alloc(), CHOICE, &rows), None);
+    assert_eq!(rt; first_wrong(rt.alloc(), CHOICE, FORMS), None);
     Ok(())
 }
 
+const STATES: &[(bool, &str)] = &[
+    (READ, "states 1\naccepting\ntransitions 0\n"),
+    (
+        READ,
+        "states 1000\naccepting 999 0 999\ntransitions 1\n| 999\n",
+    ),
+    (REFUSED, "states 0\naccepting\ntransitions 0\n"),
+    (REFUSED, "states 1001\naccepting\ntransitions 0\n"),
+    (REFUSED, "states 2\naccepting 2\ntransitions 0\n"),
+    (
+        READ,
+        "states 2\naccepting\ntransitions 3\n| 1\na 0\nf(1) 1\n",
+    ),
+    (REFUSED, "states 2\naccepting\ntransitions 1\n| 2\n"),
+    (REFUSED, "states 2\naccepting\ntransitions 1\nf(2) 1\n"),
+    (REFUSED, "states 2\naccepting\ntransitions 1\nf 1\n"),
+    (REFUSED, "states 2\naccepting\ntransitions 1\nf(1,1) 1\n"),
+    (REFUSED, "states 2\naccepting\ntransitions 1\na() 1\n"),
+    (REFUSED, "states 2\naccepting\ntransitions 1\n|(1) 1\n"),
+    (REFUSED, "states 2\naccepting\ntransitions 1\n|0 1\n"),
+    (REFUSED, "states 2\naccepting\ntransitions 1\n| 1\n| 1\n"),
+];
+
 #[test]
 fn states_are_below_their_number(rt: HostRuntime) -> Result<(), Fail> {
-    let rows = [
-        (READ, "states 1\naccepting\ntransitions 0\n"),
-        (
-            READ,
-            "states 1000\naccepting 999 0 999\ntransitions 1\n| 999\n",
-        ),
-        (REFUSED, "states 0\naccepting\ntransitions 0\n"),
-        (REFUSED, "states 1001\naccepting\ntransitions 0\n"),
-        (REFUSED, "states 2\naccepting 2\ntransitions 0\n"),
-        (
-            READ,
-            "states 2\naccepting\ntransitions 3\n| 1\na 0\nf(1) 1\n",
-        ),
-        (REFUSED, "states 2\naccepting\ntransitions 1\n| 2\n"),
-        (REFUSED, "states 2\naccepting\ntransitions 1\nf(2) 1\n"),
-        (REFUSED, "states 2\naccepting\ntransitions 1\nf 1\n"),
-        (REFUSED, "states 2\naccepting\ntransitions 1\nf(1,1) 1\n"),
-        (REFUSED, "states 2\naccepting\ntransitions 1\na() 1\n"),
-        (REFUSED, "states 2\naccepting\ntransitions 1\n|(1) 1\n"),
-        (REFUSED, "states 2\naccepting\ntransitions 1\n|0 1\n"),
-        (REFUSED, "states 2\naccepting\ntransitions 1\n| 1\n| 1\n"),
-    ];
-    for (wanted, lines) in &rows {
-        let mut text = Vec::from_slice(rt.alloc(), b"concon 1\northo\npair 1 e 1 auto 1\n")?;
-        text.extend_from_slice(lines.as_bytes())?;
-        text.extend_from_slice(b"end\n")?;
-        assert_eq!(rt; is_read(rt.alloc(), CHOICE, &text), *wanted, "{lines}");
+    for &(wanted, lines) in STATES {
+        let front = "concon 1\northo\npair 1 e 1 auto 1\n";
+        let text = repeated(rt.alloc(), front, lines, 1, "end\n")?;
+        assert_eq!(rt; is_read(rt.alloc(), CHOICE, &text), wanted, "{lines}");
     }
     Ok(())
 }
 
 // a text with as many equal parts between its front and its back
-fn repeated(
+pub(crate) fn repeated(
     alloc: Global,
     front: &str,
     part: &str,
@@ -237,78 +243,91 @@ fn repeated(
     Ok(text)
 }
 
+const LIMITS: &[(&str, &str, u32, &str)] = &[
+    ("concon 1\northo\n", "pair 1 e 1 trivial\n", 20_000, "end\n"),
+    ("concon 1\nquasi\nlinear\n", "fun a\n", 25_000, "end\n"),
+    ("concon 1\nquasi\nlinear\nfun a", " 1", 200, "\nend\n"),
+    (
+        "concon 1\npeak\nstart a\nsteps 0\nsteps 0\nnormal\n",
+        "redex 1 e 1 tcap\n",
+        20_000,
+        "end\n",
+    ),
+    (
+        "concon 1\npeak\nstart a\n",
+        "steps 1\nrule 1 e 1\n",
+        49,
+        "steps 0\nsteps 0\ncaps\nend\n",
+    ),
+];
+
 #[test]
 fn limits_are_reached_and_not_passed(rt: HostRuntime) -> Result<(), Fail> {
-    let rows = [
-        ("concon 1\northo\n", "pair 1 e 1 trivial\n", 20_000, "end\n"),
-        ("concon 1\nquasi\nlinear\n", "fun a\n", 25_000, "end\n"),
-        ("concon 1\nquasi\nlinear\nfun a", " 1", 200, "\nend\n"),
-        (
-            "concon 1\npeak\nstart a\nsteps 0\nsteps 0\nnormal\n",
-            "redex 1 e 1 tcap\n",
-            20_000,
-            "end\n",
-        ),
-        (
-            "concon 1\npeak\nstart a\n",
-            "steps 1\nrule 1 e 1\n",
-            49,
-            "steps 0\nsteps 0\ncaps\nend\n",
-        ),
-    ];
-    for (front, part, most, back) in &rows {
-        let text = repeated(rt.alloc(), front, part, *most, back)?;
+    for &(front, part, most, back) in LIMITS {
+        let text = repeated(rt.alloc(), front, part, most, back)?;
         assert!(rt; is_read(rt.alloc(), CHOICE, &text), "{part}");
-        let text = repeated(rt.alloc(), front, part, *most + 1, back)?;
+        let text = repeated(rt.alloc(), front, part, most.saturating_add(1), back)?;
         assert!(rt; !is_read(rt.alloc(), CHOICE, &text), "{part}");
     }
     Ok(())
 }
 
+const GIVEN_COUNTS: &[(bool, &str, &str, u32, &str)] = &[
+    (
+        READ,
+        "concon 1\northo\npair 1 e 1 auto 1\nstates 1\naccepting\ntransitions 20000\n",
+        "| 0\n",
+        20_000,
+        "end\n",
+    ),
+    (
+        REFUSED,
+        "concon 1\northo\npair 1 e 1 auto 1\nstates 1\naccepting\ntransitions 20001\n",
+        "| 0\n",
+        20_001,
+        "end\n",
+    ),
+    (
+        REFUSED,
+        "concon 1\northo\npair 1 e 1 auto 1\nstates 1\naccepting\ntransitions 20000\n",
+        "| 0\n",
+        19_999,
+        "end\n",
+    ),
+    (
+        READ,
+        "concon 1\npeak\nstart a\nsteps 10000\n",
+        "hyp 1 e\n",
+        10_000,
+        "steps 0\ncaps\nend\n",
+    ),
+    (
+        REFUSED,
+        "concon 1\npeak\nstart a\nsteps 10001\n",
+        "hyp 1 e\n",
+        10_001,
+        "steps 0\ncaps\nend\n",
+    ),
+];
+
 #[test]
 fn counts_that_are_given_have_limits(rt: HostRuntime) -> Result<(), Fail> {
-    let rows = [
-        (READ, "transitions 20000\n", "| 0\n", 20_000),
-        (REFUSED, "transitions 20001\n", "| 0\n", 20_001),
-        (REFUSED, "transitions 20000\n", "| 0\n", 19_999),
-    ];
-    for (wanted, line, part, count) in &rows {
-        let mut text = Vec::from_slice(
-            rt.alloc(),
-            b"concon 1\northo\npair 1 e 1 auto 1\nstates 1\naccepting\n",
-        )?;
-        text.extend_from_slice(&repeated(rt.alloc(), line, part, *count, "end\n")?)?;
-        assert_eq!(rt; is_read(rt.alloc(), CHOICE, &text), *wanted, "{line}");
-    }
-    let rows = [
-        (READ, "concon 1\npeak\nstart a\nsteps 10000\n", 10_000),
-        (REFUSED, "concon 1\npeak\nstart a\nsteps 10001\n", 10_001),
-    ];
-    for (wanted, front, count) in &rows {
-        let text = repeated(
-            rt.alloc(),
-            front,
-            "hyp 1 e\n",
-            *count,
-            "steps 0\ncaps\nend\n",
-        )?;
-        assert_eq!(rt; is_read(rt.alloc(), CHOICE, &text), *wanted, "{front}");
+    for &(wanted, front, part, count, back) in GIVEN_COUNTS {
+        let text = repeated(rt.alloc(), front, part, count, back)?;
+        assert_eq!(rt; is_read(rt.alloc(), CHOICE, &text), wanted, "{front}");
     }
     Ok(())
 }
 
+const LEVELS: &[(bool, u32)] = &[(READ, 399), (REFUSED, 400)];
+
 #[test]
 fn a_term_has_four_hundred_levels(rt: HostRuntime) -> Result<(), Fail> {
-    for (wanted, count) in &[(READ, 399), (REFUSED, 400)] {
-        let mut text = repeated(rt.alloc(), "concon 1\npeak\nstart ", "f(", *count, "a")?;
-        text.extend_from_slice(&repeated(
-            rt.alloc(),
-            "",
-            ")",
-            *count,
-            "\nsteps 0\nsteps 0\ncaps\nend\n",
-        )?)?;
-        assert_eq!(rt; is_read(rt.alloc(), CHOICE, &text), *wanted, "{count}");
+    let behind = "\nsteps 0\nsteps 0\ncaps\nend\n";
+    for &(wanted, count) in LEVELS {
+        let mut text = repeated(rt.alloc(), "concon 1\npeak\nstart ", "f(", count, "a")?;
+        text.extend_from_slice(&repeated(rt.alloc(), "", ")", count, behind)?)?;
+        assert_eq!(rt; is_read(rt.alloc(), CHOICE, &text), wanted, "{count}");
     }
     Ok(())
 }

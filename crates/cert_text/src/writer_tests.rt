@@ -162,18 +162,17 @@ fn overlaps_are_written(rt: HostRuntime) -> Result<(), Fail> {
     Ok(())
 }
 
+const EQUALITY: &[(Head, &[u32])] = &[
+    (Head::File(0), &[1, 1, 1]),
+    (Head::File(1), &[0]),
+    (Head::File(2), &[3, 3]),
+    (Head::Aux { rule: 2, cond: 1 }, &[1, 1, 1]),
+];
+
 #[test]
 fn a_linear_interpretation_is_written(rt: HostRuntime) -> Result<(), Fail> {
     let alloc = rt.alloc();
-    let measure = linear(
-        alloc,
-        &[
-            (Head::File(0), &[1, 1, 1]),
-            (Head::File(1), &[0]),
-            (Head::File(2), &[3, 3]),
-            (Head::Aux { rule: 2, cond: 1 }, &[1, 1, 1]),
-        ],
-    )?;
+    let measure = linear(alloc, EQUALITY)?;
     let quasi = Certificate::Quasi(measure, Vec::new(alloc));
     assert!(rt;
         writes(
@@ -201,27 +200,28 @@ fn transitions(
     Ok(transitions)
 }
 
+const TRANSITIONS: &[(Option<u32>, &[u32], u32)] = &[
+    (Some(0), &[0], 0),
+    (Some(1), &[], 0),
+    (Some(2), &[0], 0),
+    (Some(2), &[0], 1),
+    (Some(2), &[2], 0),
+    (Some(2), &[2], 1),
+    (Some(3), &[], 0),
+    (Some(4), &[], 0),
+    (Some(5), &[0], 0),
+    (Some(5), &[0], 2),
+    (Some(5), &[2], 2),
+    (None, &[], 0),
+];
+
 #[test]
 fn an_automaton_is_written(rt: HostRuntime) -> Result<(), Fail> {
     let alloc = rt.alloc();
-    let rows: [(Option<u32>, &[u32], u32); 12] = [
-        (Some(0), &[0], 0),
-        (Some(1), &[], 0),
-        (Some(2), &[0], 0),
-        (Some(2), &[0], 1),
-        (Some(2), &[2], 0),
-        (Some(2), &[2], 1),
-        (Some(3), &[], 0),
-        (Some(4), &[], 0),
-        (Some(5), &[0], 0),
-        (Some(5), &[0], 2),
-        (Some(5), &[2], 2),
-        (None, &[], 0),
-    ];
     let automaton = Automaton {
         states: 3,
         accepting: numbers(alloc, &[1])?,
-        transitions: transitions(alloc, &rows)?,
+        transitions: transitions(alloc, TRANSITIONS)?,
     };
     let evidence = PairEvidence::Infeasible(InfEvidence::Auto { cond: 1, automaton });
     let pairs = Certificate::Ortho(at_root(alloc, 1, 2, evidence)?);
@@ -236,19 +236,18 @@ fn an_automaton_is_written(rt: HostRuntime) -> Result<(), Fail> {
     Ok(())
 }
 
+const JOINING: &[(Head, &[u32])] = &[
+    (Head::File(0), &[3, 1]),
+    (Head::File(1), &[1, 1]),
+    (Head::File(2), &[0]),
+    (Head::File(3), &[0]),
+    (Head::Aux { rule: 2, cond: 1 }, &[1, 1, 0]),
+];
+
 #[test]
 fn a_join_is_written(rt: HostRuntime) -> Result<(), Fail> {
     let alloc = rt.alloc();
-    let measure = linear(
-        alloc,
-        &[
-            (Head::File(0), &[3, 1]),
-            (Head::File(1), &[1, 1]),
-            (Head::File(2), &[0]),
-            (Head::File(3), &[0]),
-            (Head::Aux { rule: 2, cond: 1 }, &[1, 1, 0]),
-        ],
-    )?;
+    let measure = linear(alloc, JOINING)?;
     let join = PairEvidence::Join {
         left: by_hypothesis(alloc, 1)?,
         right: Derivation {
@@ -267,22 +266,21 @@ fn a_join_is_written(rt: HostRuntime) -> Result<(), Fail> {
     Ok(())
 }
 
+const MEASURED: &[(Head, &[u32])] = &[
+    (Head::File(0), &[1, 1, 1]),
+    (Head::File(1), &[0]),
+    (Head::File(2), &[0]),
+    (Head::File(3), &[1, 1]),
+    (Head::File(4), &[0]),
+    (Head::File(5), &[3, 2, 2]),
+    (Head::Aux { rule: 4, cond: 1 }, &[1, 1, 1, 0]),
+    (Head::Aux { rule: 5, cond: 1 }, &[1, 1, 0, 1]),
+];
+
 #[test]
 fn unfeasible_conditions_are_written(rt: HostRuntime) -> Result<(), Fail> {
     let alloc = rt.alloc();
-    let measure = linear(
-        alloc,
-        &[
-            (Head::File(0), &[1, 1, 1]),
-            (Head::File(1), &[0]),
-            (Head::File(2), &[0]),
-            (Head::File(3), &[1, 1]),
-            (Head::File(4), &[0]),
-            (Head::File(5), &[3, 2, 2]),
-            (Head::Aux { rule: 4, cond: 1 }, &[1, 1, 1, 0]),
-            (Head::Aux { rule: 5, cond: 1 }, &[1, 1, 0, 1]),
-        ],
-    )?;
+    let measure = linear(alloc, MEASURED)?;
     let unfeasible = PairEvidence::Unfeasible {
         cond: 1,
         first: by_hypothesis(alloc, 1)?,
