@@ -1,6 +1,6 @@
 -- Choices for arguments, and how long they are.
-use Rattle.std.proofs.Common.{◌≡◌, ℕ, suc, ◌+◌, ◌<◌, inl, inr, ⊎_elim, List, [], ◌∷◌, ◌++◌, map, length, get_or, take, refl, ap, sym, subst, ◌∙◌, append_assoc, arith}
-use Rattle.std.proofs.lemmas.List.{append-nil, take_more}
+use Rattle.std.proofs.Common.{◌≡◌, ℕ, suc, ◌<◌, List, [], ◌∷◌, ◌++◌, length, refl, ap, sym, subst, ◌∙◌, append_assoc, arith}
+use Rattle.std.proofs.lemmas.List.{append-nil}
 use Rattle.std.specs.List.{All}
 use Rattle.std.proofs.Common.{length-append}
 use Rattle.std.proofs.lemmas.List.Elements.{All-nil, All-cons, All-head, All-tail, All-append}
@@ -11,8 +11,6 @@ use Rattle.automata.specs.Runs.{Moves, Has, ReachBy, ReachAllBy}
 use Rattle.automata.specs.Closed.{IsChoice}
 use Rattle.term_core.specs.View.{view, views}
 use Rattle.term_core.specs.declared.terms.Term.{Term}
-use Rattle.automaton_runs.specs.Members.{IsIn}
-use Rattle.automaton_runs.proofs.Members.{in_left, in_right, in_cases, in_map, in_map_back}
 
 -- there are as many states as arguments
 pub arguments_count : (a : Automaton) (ts : List Term) (cs qs : List ℕ) → ReachAllBy (Has a) (views ts) cs qs → length ts ≡ length qs

@@ -1,7 +1,7 @@
 -- Buckets that are filled by the holders of arguments have what is kept of the transitions.
-use Rattle.std.proofs.Common.{◌≡◌, ℕ, zero, suc, ◌+◌, ◌<◌, ◌≤◌, Bool, true, false, if◌then◌else◌, nat_eq, List, [], ◌∷◌, ◌++◌, map, length, get_or, take, slice_get, slice_set, Option, None, Some, Vec, Global, refl, ap, ap₂, sym, subst, ◌∙◌, append-nil, append_assoc, length-append, add-one, arith}
-use Rattle.std.specs.List.{filter, flat_map}
-use Rattle.std.proofs.lemmas.List.{map-append, take_more, length-map, length-take-le}
+use Rattle.std.proofs.Common.{◌≡◌, ℕ, zero, suc, ◌+◌, ◌<◌, ◌≤◌, Bool, true, false, if◌then◌else◌, nat_eq, List, [], ◌∷◌, ◌++◌, map, length, get_or, take, slice_set, Option, None, Some, Vec, Global, refl, ap, ap₂, sym, ◌∙◌, append-nil, append_assoc, length-append, arith}
+use Rattle.std.specs.List.{filter}
+use Rattle.std.proofs.lemmas.List.{length-map, length-take-le}
 use Rattle.certificates.specs.Evidence.{Transition}
 use Rattle.automaton_runs.specs.Choices.{lists}
 use Rattle.automaton_runs.specs.Groups.{listed}

@@ -8,7 +8,7 @@ use Rattle.automaton_runs.specs.Choices.{lists}
 use Rattle.automaton_runs.specs.Sets.{IsFront, IsNamed, AreNamed}
 use Rattle.automaton_runs.specs.Tables.{numbered, with_sets, choice_at, set_at, row_if, numbered_if, named, joined, all_joined, singles, AreRowsOfSets}
 use Rattle.automaton_runs.specs.declared.table.Row as table
-use Rattle.automaton_runs.specs.Fronts.{copies_if, argument_at, kept, extended_by, extended_rows, AreTargets, AreTargetsNamed, IsTargeted}
+use Rattle.automaton_runs.specs.Fronts.{copies_if, argument_at, kept, extended_rows, AreTargets, AreTargetsNamed, IsTargeted}
 use Rattle.automaton_runs.proofs.Named.{zip_push, zip_weaker, get_map, get_later}
 
 -- a choice with the number of its set, and with the set

@@ -1,6 +1,6 @@
 -- What stands in the rows of terms and of their arguments.
-use Rattle.std.proofs.Common.{◌≡◌, ◌↔◌, ◌⊎◌, inl, inr, ⊎_elim, ℕ, zero, suc, ◌+◌, ◌<◌, List, [], ◌∷◌, ◌++◌, map, length, get_or, take, slice_get, Option, None, Some, option_and_then, Vec, Global, refl, ap, ap₂, sym, subst, ◌∙◌, append_assoc, append-nil, length-append, arith}
-use Rattle.std.specs.List.{filter, All, AllPairs, Contains}
+use Rattle.std.proofs.Common.{◌≡◌, ◌↔◌, inl, inr, ⊎_elim, ℕ, zero, suc, ◌+◌, ◌<◌, List, [], ◌∷◌, ◌++◌, map, length, get_or, take, slice_get, Option, Some, option_and_then, Vec, Global, refl, ap, ap₂, sym, subst, ◌∙◌, arith}
+use Rattle.std.specs.List.{All, AllPairs}
 use Rattle.std.proofs.lemmas.Bool.{cases_lt}
 use Rattle.std.proofs.lemmas.List.{map-append, take_more, take_all, get_or_default}
 use Rattle.std.proofs.lemmas.List.Elements.{All-nil, All-cons, All-head, All-contains}
@@ -10,7 +10,6 @@ use Rattle.rewriting.specs.Positions.{IsBefore}
 use Rattle.ctrs_classes.specs.Blames.{leaves_of}
 use Rattle.certificates.specs.Evidence.{Transition, Automaton}
 use Rattle.automata.specs.Runs.{Has, ReachBy, ReachAllBy}
-use Rattle.automata.specs.Closed.{IsChoice}
 use Rattle.term_core.specs.View.{view, views}
 use Rattle.term_core.specs.declared.terms.Term.{Term, Var, Fun}
 use Rattle.term_core.proofs.Views.{view-Var, view-Fun}
@@ -18,13 +17,13 @@ use Rattle.automaton_runs.specs.Arrivals.{IsArrivalBefore, AreArrivals, spread}
 use Rattle.automaton_runs.specs.Members.{IsIn}
 use Rattle.automaton_runs.specs.Tables.{row_if, singles, choice_at, set_at}
 use Rattle.automaton_runs.specs.Fronts.{with_arity, argument_at, kept, extended_rows, AreTargets, IsTargeted}
-use Rattle.automaton_runs.specs.Reaching.{IsOrdered, IsTable, Reaches, AreStates, of_symbol, Leaves, AreFronts}
+use Rattle.automaton_runs.specs.Reaching.{IsOrdered, Reaches, AreStates, of_symbol, Leaves, AreFronts}
 use Rattle.automaton_runs.proofs.Counted.{symbol_from, symbol_to}
 use Rattle.automaton_runs.proofs.Joined.{Row}
 use Rattle.automaton_runs.proofs.Members.{contains_in, in_contains, in_left, in_right, in_cases, in_map, in_map_back, in_flat, in_flat_back}
 use Rattle.automaton_runs.proofs.Arguments.{reach_push, reach_pop, arguments_count, choice_length, choice_lengths, choice_states, reached_choice}
 use Rattle.automaton_runs.proofs.Steps.{flat_take}
-use Rattle.automaton_runs.proofs.Tabled.{filled_by, some_in, in_get, get_in, get_below, HasArity, in_with_arity, HasArgumentIn, in_kept, Comes, extended_back, extended_in, choices, in_choices, choices_back, ordered_append, ordered_extended, in_targets, targeted_back, targeted_in, ordered_targeted, ordered_from_pairs, pairs_from_ordered}
+use Rattle.automaton_runs.proofs.Tabled.{filled_by, some_in, in_get, get_in, get_below, HasArity, in_with_arity, in_kept, Comes, extended_back, extended_in, choices, in_choices, choices_back, ordered_append, ordered_extended, in_targets, targeted_back, targeted_in, ordered_targeted, ordered_from_pairs, pairs_from_ordered}
 
 take_get : {X : Type 0} (xs : List X) (i : ℕ) (x : X) → slice_get xs i ≡ Some x → take (i + 1) xs ≡ take i xs ++ x ∷ []
 take_get xs i x e =

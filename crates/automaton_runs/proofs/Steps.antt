@@ -1,5 +1,5 @@
 -- What loops have made, with one more element.
-use Rattle.std.proofs.Common.{◌≡◌, ℕ, zero, suc, ◌+◌, ◌<◌, Bool, true, false, if◌then◌else◌, nat_eq, List, [], ◌∷◌, ◌++◌, map, length, get_or, take, slice_get, Option, None, Some, option_map, Vec, Global, refl, ap, ap₂, sym, subst, ◌∙◌, append-nil, append_assoc, add-one, arith}
+use Rattle.std.proofs.Common.{◌≡◌, ℕ, ◌+◌, ◌<◌, Bool, true, false, if◌then◌else◌, nat_eq, List, [], ◌∷◌, ◌++◌, map, length, get_or, take, slice_get, Option, Some, option_map, Vec, Global, refl, ap, sym, subst, ◌∙◌, append-nil, append_assoc, add-one}
 use Rattle.std.specs.Borrow.{Bor}
 use Rattle.std.specs.List.{filter, flat_map, AllZip}
 use Rattle.std.proofs.lemmas.List.{map-append, take_more}

@@ -1,6 +1,6 @@
 -- Rows that are extended by an argument, and rows whose transitions give way to their targets.
-use Rattle.std.proofs.Common.{◌≡◌, ◌↔◌, ◌⊎◌, inl, inr, ⊎_elim, ℕ, zero, suc, ◌+◌, ◌<◌, Bool, true, nat_eq, eq-eqb, eqb-true, List, [], ◌∷◌, ◌++◌, map, length, get_or, take, slice_get, Option, None, Some, option_map, option_and_then, refl, ap, sym, subst, ◌∙◌, append_assoc, length-append, arith}
-use Rattle.std.specs.List.{filter, flat_map, AllPairs}
+use Rattle.std.proofs.Common.{◌≡◌, ◌↔◌, inl, inr, ⊎_elim, ℕ, zero, suc, ◌<◌, true, nat_eq, eq-eqb, eqb-true, List, [], ◌∷◌, ◌++◌, map, length, get_or, slice_get, Option, None, Some, option_map, refl, ap, sym, subst, ◌∙◌, arith}
+use Rattle.std.specs.List.{filter, AllPairs}
 use Rattle.std.proofs.lemmas.Bool.{cases_lt}
 use Rattle.std.proofs.lemmas.List.{map-append}
 use Rattle.rewriting.specs.Positions.{IsBefore}

@@ -4,6 +4,7 @@ pub mod Sets
 pub mod StateSets
 pub mod Moves
 pub mod Included
+pub mod Within
 pub mod Open
 pub mod Conditions
 pub mod Accepted

@@ -1,8 +1,7 @@
 -- Moves that are kept lead to their sets still as the list of sets grows.
-use Rattle.std.proofs.Common.{◌≡◌, ◌↔◌, ℕ, ◌+◌, ◌<◌, inl, inr, ⊎_elim, Bool, true, false, ◌&&◌, cond, nat_eq, eqb-true, eq-eqb, List, [], ◌∷◌, ◌++◌, length, map, get_or, take, Option, Some, None, IfSome, slice_get, Vec, Global, refl, ap, sym, subst, ◌∙◌, arith}
+use Rattle.std.proofs.Common.{◌≡◌, ℕ, ◌+◌, ◌<◌, inl, inr, Bool, true, false, cond, nat_eq, eqb-true, eq-eqb, List, [], ◌∷◌, ◌++◌, length, get_or, take, Option, Some, None, IfSome, slice_get, Vec, Global, refl, ap, sym, subst, ◌∙◌}
 use Rattle.std.specs.Cmp.Lexicographic.{pointwise}
 use Rattle.std.specs.HashMap.{HashMap, get}
-use Rattle.std.specs.List.{AllZip}
 use Rattle.std.specs.Map.{lookup}
 use Rattle.std.proofs.lemmas.Bool.{and_parts}
 use Rattle.std.proofs.lemmas.Option.{same_Some, none-some, slice_get_within}
@@ -10,7 +9,6 @@ use Rattle.std.proofs.lemmas.Slice.Eq.{slice_eq-Decides}
 use Rattle.certificates.specs.Evidence.{Automaton}
 use Rattle.term_core.specs.View.{view}
 use Rattle.term_core.specs.declared.terms.Term.{Term, Fun}
-use Rattle.automaton_runs.specs.Members.{IsIn}
 use Rattle.tree_automata.specs.StateSets.{IsFront, sets_at, IsSetAt, AreBelow}
 use Rattle.tree_automata.specs.States.{AreStatesOf, AreAllStatesOf}
 use Rattle.tree_automata.specs.Reached.{Reached, Grows, AreReachedThrough, AreMoved, AreNumbered}

@@ -22,7 +22,7 @@ use Rattle.tree_automata.specs.Kept.{AreKeptAt}
 use Rattle.tree_automata.specs.Open.{IsRuleClosed, IsOpenAt, IsOneMet, AreKept, HaveTwins}
 use Rattle.std.proofs.Math.Seq.{split_at, take-append_seam}
 use Rattle.std.proofs.lemmas.Grind.{flat_map-append}
-use Rattle.std.proofs.lemmas.List.{length-map, map-append, take_more}
+use Rattle.std.proofs.lemmas.List.{length-map, map-append}
 use Rattle.rewriting.specs.Systems.{AreRules, IsRule, IsSystem}
 use Rattle.term_core.specs.RuleView.{rule_view}
 use Rattle.term_core.specs.declared.systems.Rule as data_rule

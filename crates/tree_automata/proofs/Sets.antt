@@ -1,5 +1,5 @@
 -- The states that are found are those that the term reaches.
-use Rattle.std.proofs.Common.{◌≡◌, ◌↔◌, ℕ, inl, ⊎_elim, Bool, true, nat_eq, eq-eqb, List, [], ◌∷◌, Option, Some, None, slice_get, Bor, Vec, Global, refl, ap, sym, subst, ◌∙◌}
+use Rattle.std.proofs.Common.{◌≡◌, ◌↔◌, ℕ, inl, ⊎_elim, true, nat_eq, eq-eqb, List, [], ◌∷◌, Option, Some, None, slice_get, Bor, Vec, Global, refl, ap, sym, subst, ◌∙◌}
 use Rattle.std.specs.List.{filter, flat_map, list_any}
 use Rattle.std.proofs.lemmas.Bool.{false≢true, and_parts, and_from}
 use Rattle.rewriting.specs.Terms as math

@@ -1,10 +1,10 @@
 -- Numbered sets of states: they keep their numbers as the list grows, and stay in order.
-use Rattle.std.proofs.Common.{◌≡◌, ◌↔◌, ℕ, zero, suc, ◌+◌, ◌<◌, ◌≤◌, ◌⊎◌, inl, inr, ⊎_elim, Bool, true, false, if◌then◌else◌, nat_eq, nat_cmp, eqb-true, eq-eqb, List, [], ◌∷◌, ◌++◌, length, map, get_or, take, drop, Option, Some, None, slice_get, option_map, Bor, Result, Ok, Err, MatchResult, is_ok, Vec, Global, refl, ap, sym, subst, ◌∙◌, append_assoc, append-nil, length-append, arith}
+use Rattle.std.proofs.Common.{◌≡◌, ℕ, zero, suc, ◌+◌, ◌<◌, ◌≤◌, ◌⊎◌, inl, inr, ⊎_elim, Bool, true, false, if◌then◌else◌, nat_eq, nat_cmp, eqb-true, eq-eqb, List, [], ◌∷◌, ◌++◌, length, get_or, take, drop, Option, Some, slice_get, option_map, Bor, Result, Ok, Err, MatchResult, is_ok, Vec, Global, refl, ap, sym, subst, ◌∙◌, append_assoc, append-nil, length-append, arith}
 use Rattle.std.specs.List.{list_any}
 use Rattle.std.specs.List.Sorted.{IsStrictlyIncreasing, IsBinarySearchResult}
 use Rattle.std.specs.Cmp.Lexicographic.{pointwise}
 use Rattle.std.proofs.Math.Seq.{split_at}
-use Rattle.std.proofs.lemmas.Bool.{false≢true, cases_lt}
+use Rattle.std.proofs.lemmas.Bool.{cases_lt}
 use Rattle.std.proofs.lemmas.Grind.{get_or_default_zero}
 use Rattle.std.proofs.lemmas.List.{map-append, get_or_append_left, get_or_push, take_more}
 use Rattle.std.proofs.lemmas.List.Kept.{AllPairs-from_increasing}

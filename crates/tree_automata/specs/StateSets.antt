@@ -1,7 +1,9 @@
 -- Sets of states with numbers.
-use Rattle.std.specs.Prelude.{ℕ, ◌≡◌, ◌<◌, List, [], ◌∷◌, ◌++◌, Option, None, Some, map, slice_get, get_or}
+use Rattle.std.specs.Prelude.{ℕ, ◌≡◌, ◌<◌, Bool, ◌&&◌, nat_eq, IsTrue, List, [], ◌∷◌, ◌++◌, Option, None, Some, map, slice_get, get_or}
 use Rattle.std.specs.List.Sorted.{IsStrictlyIncreasing}
+use Rattle.std.specs.HashSet.{HashSet, contains}
 use Rattle.automaton_runs.specs.Members.{IsIn}
+use Rattle.automaton_runs.specs.Tables.{set_at as row_set}
 
 -- the second list begins with the first
 abbrev pub IsFront : {X : Type 0} → List X → List X → Type 0
@@ -42,6 +44,14 @@ abbrev pub MissingAnswers : List ℕ → List ℕ → Option ℕ → Type 0
 MissingAnswers states set None = AreWithin set states
 MissingAnswers states set (Some q) = IsFirstMissing states set q
 
+-- whether two pairs are equal
+abbrev pub same_pair : ℕ × ℕ → ℕ × ℕ → Bool
+same_pair x y = nat_eq x.0 y.0 && nat_eq x.1 y.1
+
 -- one of some states is in the set
 abbrev pub Meets : List ℕ → List ℕ → Type 0
 Meets states set = (q : ℕ) × IsIn q states × IsIn q set
+
+-- each pair has a row and the number of a set such that the row is within the set
+abbrev pub AreFoundWithin : {S : Type 0} → List (List ℕ × List ℕ) → List (List ℕ) → HashSet (ℕ × ℕ) S → Type 0
+AreFoundWithin rows sets found = (row n : ℕ) → IsTrue (contains same_pair found (row, n)) → IsSetAt sets n (λ set. AreWithin set (row_set rows row))

@@ -1,4 +1,4 @@
-ghost use Rattle.std.specs.Prelude.{◌≡◌, ◌↔◌, IfOk};
+ghost use Rattle.std.specs.Prelude.{◌≡◌, ◌<◌, ◌↔◌, IfOk, length};
 ghost use Rattle.rewriting.specs.Terms as math;
 ghost use Rattle.ctrs_classes.specs.Blames.{leaves};
 ghost use Rattle.automata.specs.Closed.{IsWide, AreNarrow};
@@ -8,6 +8,8 @@ ghost use Rattle.term_core.specs.RuleView.{rule_view};
 ghost use Rattle.cert_model.specs.EvidenceView.{automaton_view};
 ghost use Rattle.refuter.specs.Answers.{RefutesAnswers};
 ghost use Rattle.automaton_runs.specs.Arrivals.{AreArrivals, spread};
+ghost use Rattle.automaton_runs.specs.Tables.{set_at as row_set};
+ghost use Rattle.tree_automata.specs.StateSets.{set_at, MissingAnswers, AreFoundWithin};
 ghost use Rattle.tree_automata.specs.Kept.{GrowsKept};
 ghost use Rattle.tree_automata.specs.Open.{OpenAnswers, IsOpenJudged};
 
@@ -18,7 +20,34 @@ use automaton_runs::{Arrival, AutomatonIndex, StatesByChoice, occurrences, state
 use cert_model::{Automaton, EvidenceReason};
 use refuter::Refusal;
 use std::alloc::Global;
+use std::collections::HashSet;
 use term_core::{NoMemory, Rule, System};
+
+// The first state of a row that is not in the set with a number. Many rows share their states, so what was found within is
+// looked up.
+fn first_outside(
+    found: &mut HashSet<(usize, u32)>,
+    kept: &KeptSets<'_, '_>,
+    rows: &StatesByChoice,
+    row: usize,
+    number: u32,
+) -> Result<Option<u32>, NoMemory>
+    requires row { row < length rows.now }
+    requires number { number < length kept.now.sets }
+    requires found { AreFoundWithin rows.now kept.now.sets found.old }
+    ensures found { AreFoundWithin rows.now kept.now.sets found.new }
+    ensures missing { IfOk result (MissingAnswers (row_set rows.now row) (set_at kept.now.sets number)) }
+{
+    let pair = (rows.set(row), number);
+    if found.contains(&pair) {
+        return Ok(None);
+    }
+    let missing = first_missing(rows.states(row), kept.set(number));
+    if missing.is_none() {
+        found.insert(pair)?;
+    }
+    Ok(missing)
+}
 
 // The first arrival among all of the left side at which the right side is not kept.
 fn first_open_among(
@@ -33,10 +62,11 @@ fn first_open_among(
     ensures more { GrowsKept kept.old kept.new }
     ensures open { IfOk result (OpenAnswers kept.old.system kept.old.automaton (rule_view rule.now)) }
 {
+    let mut found = HashSet::new(alloc);
     for row in 0..rows.len() {
         let choice = rows.choice(row);
         let number = kept.kept(alloc, names, choice, &rule.right)?;
-        if let Some(state) = first_missing(rows.states(row), kept.set(number)) {
+        if let Some(state) = first_outside(&mut found, kept, rows, row, number)? {
             return Ok(Some(Arrival {
                 choice: Vec::from_slice(alloc, choice)?,
                 state,

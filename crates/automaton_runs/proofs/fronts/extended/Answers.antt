@@ -1,6 +1,5 @@
 use Rattle.std.proofs.Common.{◌∙◌, ◌≡◌, ap, List, Option, Vec, Global, ℕ}
 use Rattle.automaton_runs.specs.Indexed.{pointed}
-use Rattle.automaton_runs.specs.Fronts.{kept}
 use Rattle.automaton_runs.specs.Sets.{sets_of}
 use Rattle.automaton_runs.specs.Tables.{numbered, names_of, with_sets, all_joined}
 use Rattle.automaton_runs.specs.declared.table.Row.{Row}

@@ -1,4 +1,4 @@
-use Rattle.std.proofs.Common.{◌∙◌, ap, sym, true, false, List, [], ◌∷◌, ◌++◌, Vec, Global, ℕ}
+use Rattle.std.proofs.Common.{◌∙◌, ap, sym, true, false, [], ◌∷◌, ◌++◌, Vec, Global, ℕ}
 use Rattle.automaton_runs.proofs.Steps.{arity_more}
 use Rattle.automaton_runs.proofs.fronts.of_arity.Goals as goal
 use Rattle.automaton_runs.proofs.fronts.of_arity.Goals.{then-has_arity+in_ok-number_of+in_ok-push, else-has_arity}

@@ -7,7 +7,6 @@ use Rattle.automaton_runs.specs.Fronts.{with_arity, extended_rows, IsTargeted}
 use Rattle.automaton_runs.specs.Indexed.{pointed}
 use Rattle.automaton_runs.specs.Reaching.{AreStates, AreFronts, of_symbol}
 use Rattle.automaton_runs.specs.Tables.{table_of, row_if, singles}
-use Rattle.automaton_runs.proofs.Joined.{Row}
 use Rattle.automaton_runs.proofs.Reaching.{first_fronts, fronts_more, of_variable, of_symbol_over}
 use Rattle.automaton_runs.proofs.states.+states.Goals as goal
 

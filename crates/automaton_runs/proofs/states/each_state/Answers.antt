@@ -1,4 +1,4 @@
-use Rattle.std.proofs.Common.{◌∙◌, ◌≡◌, ap, Some, arith, ℕ}
+use Rattle.std.proofs.Common.{◌∙◌, ◌≡◌, ap, Some, arith}
 use Rattle.automaton_runs.specs.Sets.{sets_of}
 use Rattle.automaton_runs.specs.Tables.{numbered, singles}
 use Rattle.automaton_runs.proofs.Joined.{held_is, held_more}

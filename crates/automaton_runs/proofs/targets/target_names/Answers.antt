@@ -1,4 +1,4 @@
-use Rattle.std.proofs.Common.{◌∙◌, ◌≡◌, ap, subst, sym, ◌↔◌, ℕ, List}
+use Rattle.std.proofs.Common.{◌∙◌, ap, subst, ◌↔◌, ℕ, List}
 use Rattle.automaton_runs.specs.Fronts.{targets_of}
 use Rattle.automaton_runs.specs.Indexed.{pointed}
 use Rattle.automaton_runs.specs.Members.{IsIn}

@@ -1,6 +1,5 @@
 use Rattle.std.proofs.Common.{◌<◌, ◌≤◌, length, List, ℕ, refl, sym, subst, arith}
 use Rattle.std.proofs.lemmas.Bool.{false≢true}
-use Rattle.automaton_runs.specs.Tables.{set_at}
 use Rattle.tree_automata.specs.StateSets.{Meets}
 use Rattle.tree_automata.proofs.Open.{met_here, met_more, met_none}
 use Rattle.tree_automata.proofs.exclusion.is_one_met.Goals as goal

@@ -1,4 +1,4 @@
-use Rattle.std.proofs.Common.{◌∙◌, List, ℕ, Vec, Global, arith, ap, sym}
+use Rattle.std.proofs.Common.{◌∙◌, ℕ, Vec, Global, arith, ap, sym}
 use Rattle.std.proofs.lemmas.Bool.{false≢true}
 use Rattle.tree_automata.proofs.Included.{part_more, part_same, part_all}
 use Rattle.tree_automata.proofs.sides.including.Goals as goal

@@ -1,6 +1,5 @@
-use Rattle.std.proofs.Common.{◌∙◌, sym, subst, ℕ, List}
+use Rattle.std.proofs.Common.{◌∙◌, sym, subst}
 use Rattle.std.proofs.lemmas.Bool.{false≢true}
-use Rattle.automaton_runs.specs.Members.{IsIn}
 use Rattle.automaton_runs.proofs.Twins.{all_of}
 use Rattle.tree_automata.specs.StateSets.{AreWithin}
 use Rattle.tree_automata.proofs.Lists.{any_in, in_any}

@@ -1,4 +1,4 @@
-use Rattle.std.proofs.Common.{◌∙◌, ap, List, Vec, Global, ℕ, [], get_or, ◌≡◌}
+use Rattle.std.proofs.Common.{◌∙◌, ap, List, Vec, Global, ℕ, [], get_or}
 use Rattle.automaton_runs.specs.Choices.{lists}
 use Rattle.automaton_runs.specs.Sets.{sets_of}
 use Rattle.automaton_runs.proofs.Joined.{row_at, list_at, list_past}

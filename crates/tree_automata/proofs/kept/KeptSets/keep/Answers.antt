@@ -1,6 +1,4 @@
-use Rattle.std.proofs.Common.{refl, sym, subst, List, ℕ, ◌≡◌, Some, slice_get}
-use Rattle.certificates.specs.Evidence.{Automaton}
-use Rattle.tree_automata.specs.StateSets.{IsSetAt}
+use Rattle.std.proofs.Common.{refl, sym, subst}
 use Rattle.tree_automata.specs.Kept.{Kept, AreIncluding}
 use Rattle.tree_automata.proofs.Included.{included_stays, included_put}
 use Rattle.tree_automata.proofs.kept.KeptSets.keep.Goals as goal

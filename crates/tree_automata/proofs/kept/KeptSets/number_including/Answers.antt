@@ -1,4 +1,4 @@
-use Rattle.std.proofs.Common.{◌≡◌, Some, slice_get, sym, subst}
+use Rattle.std.proofs.Common.{◌≡◌, Some, slice_get, subst}
 use Rattle.std.proofs.lemmas.Result.{IfOk-weaker}
 use Rattle.certificates.specs.Evidence.{Automaton}
 use Rattle.tree_automata.specs.StateSets.{IsSetAt}

@@ -1,4 +1,4 @@
-use Rattle.std.proofs.Common.{◌≡◌, ◌∙◌, ◌+◌, ℕ, List, take, Some, slice_get, sym, subst}
+use Rattle.std.proofs.Common.{◌+◌, ℕ, List, take, sym, subst}
 use Rattle.std.proofs.lemmas.Result.{IfOk-weaker}
 use Rattle.automata.specs.Closed.{state_of}
 use Rattle.term_core.specs.View.{view}

@@ -1,5 +1,4 @@
-use Rattle.std.proofs.Common.{◌≡◌, ◌∙◌, List, Bor, ℕ, Vec, Global, IfOk, ap, sym, subst}
-use Rattle.certificates.specs.Evidence.{Automaton}
+use Rattle.std.proofs.Common.{◌≡◌, ◌∙◌, List, Bor, ℕ, IfOk, ap, sym, subst}
 use Rattle.automaton_runs.proofs.Twins.{all_of}
 use Rattle.tree_automata.specs.StateSets.{sets_at, AreAscending}
 use Rattle.tree_automata.specs.States.{spans}

@@ -1,5 +1,4 @@
-use Rattle.std.proofs.Common.{◌≡◌, ◌∙◌, Some, slice_get, ℕ, List, rules, arith, ap, sym, subst}
-use Rattle.std.proofs.lemmas.Grind.{common_steps}
+use Rattle.std.proofs.Common.{◌≡◌, Some, slice_get, ℕ, List, rules, subst}
 use Rattle.automaton_runs.specs.Choices.{lists}
 use Rattle.tree_automata.specs.StateSets.{IsFront}
 use Rattle.tree_automata.proofs.StateSets.{front_put, ascending_put, placed}
