@@ -9,45 +9,45 @@ use std::process::Abort;
 use std::test::Fail;
 use term_core::{Term, fits};
 
-fn move_to(
-    alloc: Global,
-    symbol: Option<u32>,
-    args: &[u32],
-    target: u32,
-) -> Result<Transition, AllocError> {
-    Ok(Transition {
-        symbol,
-        args: Vec::from_slice(alloc, args)?,
-        target,
+// A symbol, or none, with states for its arguments and the state that it leads to.
+type Move<'a> = (Option<u32>, &'a [u32], u32);
+
+fn automaton(alloc: Global, states: u32, moves: &[Move]) -> Result<Automaton, AllocError> {
+    let mut transitions = Vec::new(alloc);
+    for &(symbol, args, target) in moves {
+        let args = Vec::from_slice(alloc, args)?;
+        transitions.push(Transition {
+            symbol,
+            args,
+            target,
+        })?;
+    }
+    Ok(Automaton {
+        states,
+        accepting: Vec::new(alloc),
+        transitions,
     })
 }
 
 // Two states, f(0, 1) -> 1, f(1, 1) -> 0, a -> 0 and | 0; the others do not count.
-fn two_states(alloc: Global) -> Result<Automaton, AllocError> {
-    let transitions = [
-        move_to(alloc, Some(0), &[0, 1], 1)?,
-        move_to(alloc, Some(0), &[1, 1], 0)?,
-        move_to(alloc, Some(0), &[1, 1], 0)?,
-        move_to(alloc, Some(1), &[], 0)?,
-        move_to(alloc, None, &[], 0)?,
-        move_to(alloc, None, &[1], 1)?,
-        move_to(alloc, Some(0), &[0, 5], 1)?,
-        move_to(alloc, Some(0), &[0], 1)?,
-        move_to(alloc, Some(1), &[], 4_000_000_000)?,
-    ];
-    Ok(Automaton {
-        states: 2,
-        accepting: Vec::new(alloc),
-        transitions: Vec::from_array(alloc, transitions)?,
-    })
-}
+const TWO_STATES: &[Move<'static>] = &[
+    (Some(0), &[0, 1], 1),
+    (Some(0), &[1, 1], 0),
+    (Some(0), &[1, 1], 0),
+    (Some(1), &[], 0),
+    (None, &[], 0),
+    (None, &[1], 1),
+    (Some(0), &[0, 5], 1),
+    (Some(0), &[0], 1),
+    (Some(1), &[], 4_000_000_000),
+];
 
 fn f(alloc: Global, first: Term, second: Term) -> Result<Term, AllocError> {
     Ok(Term::Fun(0, Vec::from_array(alloc, [first, second])?))
 }
 
 fn found(rt: &impl Abort, alloc: Global, t: &Term) -> Result<Vec<Arrival>, Fail> {
-    let automaton = two_states(alloc)?;
+    let automaton = automaton(alloc, 2, TWO_STATES)?;
     let index = AutomatonIndex::new(alloc, &automaton)?;
     let names = occurrences(alloc, t)?;
     assert!(rt; fits(t));
@@ -93,25 +93,18 @@ fn symbols_without_arguments_and_variables_arrive(rt: HostRuntime) -> Result<(),
 }
 
 // Three states; g(0) and g(1) reach 1 and 2, and g(2) none; h(1, 0) reaches 0, h(2, 0) reaches 2 and 0.
-fn three_states(alloc: Global) -> Result<Automaton, AllocError> {
-    let transitions = [
-        move_to(alloc, Some(0), &[1], 2)?,
-        move_to(alloc, Some(0), &[0], 2)?,
-        move_to(alloc, Some(0), &[0], 1)?,
-        move_to(alloc, Some(0), &[1], 1)?,
-        move_to(alloc, Some(1), &[2, 0], 2)?,
-        move_to(alloc, Some(1), &[1, 0], 0)?,
-        move_to(alloc, Some(1), &[2, 0], 0)?,
-    ];
-    Ok(Automaton {
-        states: 3,
-        accepting: Vec::new(alloc),
-        transitions: Vec::from_array(alloc, transitions)?,
-    })
-}
+const THREE_STATES: &[Move<'static>] = &[
+    (Some(0), &[1], 2),
+    (Some(0), &[0], 2),
+    (Some(0), &[0], 1),
+    (Some(0), &[1], 1),
+    (Some(1), &[2, 0], 2),
+    (Some(1), &[1, 0], 0),
+    (Some(1), &[2, 0], 0),
+];
 
 fn reached(rt: &impl Abort, alloc: Global, t: &Term) -> Result<StatesByChoice, Fail> {
-    let automaton = three_states(alloc)?;
+    let automaton = automaton(alloc, 3, THREE_STATES)?;
     let index = AutomatonIndex::new(alloc, &automaton)?;
     let names = occurrences(alloc, t)?;
     assert!(rt; fits(t));
@@ -184,7 +177,7 @@ fn choices_with_the_same_states_share_their_set(rt: HostRuntime) -> Result<(), F
 #[test]
 fn only_listed_transitions_that_count_are_had(rt: HostRuntime) -> Result<(), Fail> {
     let alloc = rt.alloc();
-    let automaton = two_states(alloc)?;
+    let automaton = automaton(alloc, 2, TWO_STATES)?;
     let index = AutomatonIndex::new(alloc, &automaton)?;
     assert!(rt; index.has(Some(0), &[0, 1], 1));
     assert!(rt; index.has(None, &[], 0));

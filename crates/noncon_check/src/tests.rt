@@ -156,63 +156,91 @@ fn is_plain(apart: &NonJoin) -> bool
     }
 }
 
-// what the check answers, for a peak as it asks for
-fn judged(alloc: Global, sys: &System, peak: &Peak) -> Result<Result<(), CheckError>, Fail> {
-    if !fits(&peak.start) || !is_over(sys.arities(), &peak.start) {
-        return Err(Fail::from("no term of the system"));
+// An answer as a word with two numbers: those of an entry, or of the end and the rule of a redex that has none. The proof of
+// a test is short where its answers need not be dropped.
+type Told = (&'static str, u32, u32);
+
+const VALID: Told = ("valid", 0, 0);
+
+fn word_of_failure(reason: &EvidenceReason) -> &'static str {
+    match reason {
+        EvidenceReason::TcapUnifies => "may be met",
+        EvidenceReason::TcapLarge => "too large",
+        _ => "another failure",
     }
-    if !is_short(&peak.first) || !is_short(&peak.second) || !is_plain(&peak.apart) {
-        return Err(Fail::from("no short peak"));
-    }
-    Ok(check_peak(alloc, sys, peak))
 }
 
-// that the redex should have had an entry
-fn is_missed(found: &Result<(), CheckError>, end: u32, path: &[u32], number: u32) -> bool {
-    match found {
-        Err(CheckError::Rejected(Rejected::NotNormal { which, pos, rule })) => {
-            *which == end && pos.as_slice() == path && *rule == number
-        }
-        _ => false,
+fn word_of_place(pos: &[u32]) -> &'static str {
+    match pos {
+        [] => "missed at the root",
+        [1] => "missed at 1",
+        _ => "missed elsewhere",
     }
+}
+
+fn told_rejection(rejected: &Rejected) -> Told {
+    match rejected {
+        Rejected::SameTerm => ("same term", 0, 0),
+        Rejected::SecondBad(_) => ("second bad", 0, 0),
+        Rejected::CapsUnify => ("caps unify", 0, 0),
+        Rejected::RedexExtra { entry } => ("surplus", *entry, 0),
+        Rejected::RedexFails { entry, reason } => (word_of_failure(reason), *entry, 0),
+        Rejected::NotNormal { which, pos, rule } => (word_of_place(pos), *which, *rule),
+        _ => ("another rejection", 0, 0),
+    }
+}
+
+fn told(answer: &Result<(), CheckError>) -> Told {
+    match answer {
+        Ok(()) => VALID,
+        Err(CheckError::Rejected(rejected)) => told_rejection(rejected),
+        Err(CheckError::NoMemory) => ("no memory", 0, 0),
+    }
+}
+
+// what the check answers, for a peak as it asks for
+fn judged(alloc: Global, sys: &System, peak: &Peak) -> Told {
+    if !fits(&peak.start) || !is_over(sys.arities(), &peak.start) {
+        return ("no term of the system", 0, 0);
+    }
+    if !is_short(&peak.first) || !is_short(&peak.second) || !is_plain(&peak.apart) {
+        return ("no short peak", 0, 0);
+    }
+    told(&check_peak(alloc, sys, peak))
 }
 
 // from a by the rules 1 and 2
-fn chosen(
-    alloc: Global,
-    sys: &System,
-    second: u32,
-    apart: NonJoin,
-) -> Result<Result<(), CheckError>, Fail> {
+fn chosen(alloc: Global, sys: &System, second: u32, apart: NonJoin) -> Result<Told, Fail> {
+    let first = step(alloc, 1, Vec::new(alloc), Vec::new(alloc))?;
     let peak = Peak {
         start: constant(alloc, A),
-        first: step(alloc, 1, Vec::new(alloc), Vec::new(alloc))?,
+        first,
         second: step(alloc, second, Vec::new(alloc), Vec::new(alloc))?,
         apart,
     };
-    judged(alloc, sys, &peak)
+    Ok(judged(alloc, sys, &peak))
 }
 
 #[test]
 fn normal_forms_are_apart(rt: HostRuntime) -> Result<(), Fail> {
     let alloc = rt.alloc();
     let sys = choice(alloc, constant(alloc, B), constant(alloc, C))?;
-    let found = chosen(alloc, &sys, 2, NonJoin::Normal(Vec::new(alloc)))?;
-    assert!(rt; found.is_ok());
-    let same = chosen(alloc, &sys, 1, NonJoin::Normal(Vec::new(alloc)))?;
-    let is_same = matches!(&same, Err(CheckError::Rejected(Rejected::SameTerm)));
-    assert!(rt; is_same);
+    let none = || NonJoin::Normal(Vec::new(alloc));
+    assert_eq!(rt; chosen(alloc, &sys, 2, none())?, VALID);
+    assert_eq!(rt; chosen(alloc, &sys, 1, none())?, ("same term", 0, 0));
+    assert_eq!(rt; chosen(alloc, &sys, 3, none())?, ("second bad", 0, 0));
     let entries = Vec::from_array(alloc, [redex(1, Vec::new(alloc), 1)])?;
-    let more = chosen(alloc, &sys, 2, NonJoin::Normal(entries))?;
-    let is_more = matches!(
-        &more,
-        Err(CheckError::Rejected(Rejected::RedexExtra { entry: 1 }))
+    assert_eq!(rt;
+        chosen(alloc, &sys, 2, NonJoin::Normal(entries))?,
+        ("surplus", 1, 0)
     );
-    assert!(rt; is_more);
-    let unmade = chosen(alloc, &sys, 3, NonJoin::Normal(Vec::new(alloc)))?;
-    let is_bad = matches!(&unmade, Err(CheckError::Rejected(Rejected::SecondBad(_))));
-    assert!(rt; is_bad);
     Ok(())
+}
+
+// what the check answers to caps, where a is contracted to two terms
+fn capped(alloc: Global, left: Term, right: Term) -> Result<Told, Fail> {
+    let sys = choice(alloc, left, right)?;
+    chosen(alloc, &sys, 2, NonJoin::Caps)
 }
 
 #[test]
@@ -220,50 +248,44 @@ fn rigid_caps_are_compared(rt: HostRuntime) -> Result<(), Fail> {
     let alloc = rt.alloc();
     let left = f(alloc, constant(alloc, A))?;
     let right = g(alloc, constant(alloc, A), constant(alloc, A))?;
-    let sys = choice(alloc, left, right)?;
-    let clash = chosen(alloc, &sys, 2, NonJoin::Caps)?;
-    assert!(rt; clash.is_ok());
+    assert_eq!(rt; capped(alloc, left, right)?, VALID);
     let left = f(alloc, constant(alloc, A))?;
     let right = f(alloc, constant(alloc, B))?;
-    let sys = choice(alloc, left, right)?;
-    let found = chosen(alloc, &sys, 2, NonJoin::Caps)?;
-    let is_unified = matches!(&found, Err(CheckError::Rejected(Rejected::CapsUnify)));
-    assert!(rt; is_unified);
+    assert_eq!(rt; capped(alloc, left, right)?, ("caps unify", 0, 0));
     Ok(())
 }
 
 // f(a) to c by the rule 2, and to f(b)
-fn below(
-    alloc: Global,
-    sys: &System,
-    cond: Derivation,
-    entries: Vec<Redex>,
-) -> Result<Result<(), CheckError>, Fail> {
+fn below(alloc: Global, sys: &System, cond: Derivation, entries: Vec<Redex>) -> Result<Told, Fail> {
+    let first = step(alloc, 2, Vec::new(alloc), Vec::from_array(alloc, [cond])?)?;
     let inside = Vec::from_array(alloc, [1])?;
+    let second = step(alloc, 1, inside, Vec::new(alloc))?;
     let peak = Peak {
         start: f(alloc, constant(alloc, A))?,
-        first: step(alloc, 2, Vec::new(alloc), Vec::from_array(alloc, [cond])?)?,
-        second: step(alloc, 1, inside, Vec::new(alloc))?,
+        first,
+        second,
         apart: NonJoin::Normal(entries),
     };
-    judged(alloc, sys, &peak)
+    Ok(judged(alloc, sys, &peak))
+}
+
+// the same where the condition is met by no step, with one entry
+fn with_entry(alloc: Global, sys: &System, entry: Redex) -> Result<Told, Fail> {
+    let entries = Vec::from_array(alloc, [entry])?;
+    below(alloc, sys, nothing(alloc), entries)
 }
 
 #[test]
 fn redexes_are_refuted(rt: HostRuntime) -> Result<(), Fail> {
     let alloc = rt.alloc();
     let sys = system(alloc, constant(alloc, A))?;
-    let entries = Vec::from_array(alloc, [redex(2, Vec::new(alloc), 2)])?;
-    let found = below(alloc, &sys, nothing(alloc), entries)?;
-    assert!(rt; found.is_ok());
-    let one = redex(2, Vec::new(alloc), 2);
-    let entries = Vec::from_array(alloc, [one, redex(2, Vec::new(alloc), 2)])?;
-    let more = below(alloc, &sys, nothing(alloc), entries)?;
-    let is_more = matches!(
-        &more,
-        Err(CheckError::Rejected(Rejected::RedexExtra { entry: 2 }))
+    let root = || redex(2, Vec::new(alloc), 2);
+    assert_eq!(rt; with_entry(alloc, &sys, root())?, VALID);
+    let twice = Vec::from_array(alloc, [root(), root()])?;
+    assert_eq!(rt;
+        below(alloc, &sys, nothing(alloc), twice)?,
+        ("surplus", 2, 0)
     );
-    assert!(rt; is_more);
     Ok(())
 }
 
@@ -271,18 +293,17 @@ fn redexes_are_refuted(rt: HostRuntime) -> Result<(), Fail> {
 fn missed_redexes_are_told(rt: HostRuntime) -> Result<(), Fail> {
     let alloc = rt.alloc();
     let sys = system(alloc, constant(alloc, A))?;
-    let none = below(alloc, &sys, nothing(alloc), Vec::new(alloc))?;
-    assert!(rt; is_missed(&none, 2, &[], 2));
-    let inside = Vec::from_array(alloc, [1])?;
-    let entries = Vec::from_array(alloc, [redex(2, inside, 2)])?;
-    let elsewhere = below(alloc, &sys, nothing(alloc), entries)?;
-    assert!(rt; is_missed(&elsewhere, 2, &[], 2));
-    let entries = Vec::from_array(alloc, [redex(2, Vec::new(alloc), 1)])?;
-    let other = below(alloc, &sys, nothing(alloc), entries)?;
-    assert!(rt; is_missed(&other, 2, &[], 2));
-    let entries = Vec::from_array(alloc, [redex(1, Vec::new(alloc), 2)])?;
-    let first = below(alloc, &sys, nothing(alloc), entries)?;
-    assert!(rt; is_missed(&first, 2, &[], 2));
+    let missed = ("missed at the root", 2, 2);
+    assert_eq!(rt;
+        below(alloc, &sys, nothing(alloc), Vec::new(alloc))?,
+        missed
+    );
+    let elsewhere = redex(2, Vec::from_array(alloc, [1])?, 2);
+    assert_eq!(rt; with_entry(alloc, &sys, elsewhere)?, missed);
+    let other_rule = redex(2, Vec::new(alloc), 1);
+    assert_eq!(rt; with_entry(alloc, &sys, other_rule)?, missed);
+    let other_end = redex(1, Vec::new(alloc), 2);
+    assert_eq!(rt; with_entry(alloc, &sys, other_end)?, missed);
     Ok(())
 }
 
@@ -292,51 +313,46 @@ fn conditions_that_may_be_met_are_told(rt: HostRuntime) -> Result<(), Fail> {
     let sys = system(alloc, constant(alloc, B))?;
     let entries = Vec::from_array(alloc, [redex(2, Vec::new(alloc), 2)])?;
     let met = step(alloc, 1, Vec::new(alloc), Vec::new(alloc))?;
-    let found = below(alloc, &sys, met, entries)?;
-    let is_told = matches!(
-        &found,
-        Err(CheckError::Rejected(Rejected::RedexFails {
-            entry: 1,
-            reason: EvidenceReason::TcapUnifies
-        }))
-    );
-    assert!(rt; is_told);
+    assert_eq!(rt; below(alloc, &sys, met, entries)?, ("may be met", 1, 0));
     Ok(())
 }
 
 // g(f(a), f(b)) to g(c, f(b)) and to g(f(b), f(b))
-fn beside(
-    alloc: Global,
-    sys: &System,
-    entries: Vec<Redex>,
-) -> Result<Result<(), CheckError>, Fail> {
-    let cond = nothing(alloc);
+fn beside(alloc: Global, sys: &System, entries: Vec<Redex>) -> Result<Told, Fail> {
+    let conds = Vec::from_array(alloc, [nothing(alloc)])?;
+    let first = step(alloc, 2, Vec::from_array(alloc, [1])?, conds)?;
+    let inner = Vec::from_array(alloc, [1, 1])?;
+    let second = step(alloc, 1, inner, Vec::new(alloc))?;
     let left = f(alloc, constant(alloc, A))?;
     let right = f(alloc, constant(alloc, B))?;
-    let outer = Vec::from_array(alloc, [1])?;
-    let inner = Vec::from_array(alloc, [1, 1])?;
     let peak = Peak {
         start: g(alloc, left, right)?,
-        first: step(alloc, 2, outer, Vec::from_array(alloc, [cond])?)?,
-        second: step(alloc, 1, inner, Vec::new(alloc))?,
+        first,
+        second,
         apart: NonJoin::Normal(entries),
     };
-    judged(alloc, sys, &peak)
+    Ok(judged(alloc, sys, &peak))
+}
+
+// a redex of the rule 2 below the root
+fn inside(alloc: Global, which: u32, argument: u32) -> Result<Redex, Fail> {
+    let pos = Vec::from_array(alloc, [argument])?;
+    Ok(redex(which, pos, 2))
 }
 
 #[test]
 fn redexes_come_by_end_and_position(rt: HostRuntime) -> Result<(), Fail> {
     let alloc = rt.alloc();
     let sys = system(alloc, constant(alloc, A))?;
-    let a = redex(1, Vec::from_array(alloc, [2])?, 2);
-    let b = redex(2, Vec::from_array(alloc, [1])?, 2);
-    let c = redex(2, Vec::from_array(alloc, [2])?, 2);
-    let found = beside(alloc, &sys, Vec::from_array(alloc, [a, b, c])?)?;
-    assert!(rt; found.is_ok());
-    let a = redex(1, Vec::from_array(alloc, [2])?, 2);
-    let c = redex(2, Vec::from_array(alloc, [2])?, 2);
-    let missed = beside(alloc, &sys, Vec::from_array(alloc, [a, c])?)?;
-    assert!(rt; is_missed(&missed, 2, &[1], 2));
+    let mut entries = Vec::new(alloc);
+    entries.push(inside(alloc, 1, 2)?)?;
+    entries.push(inside(alloc, 2, 1)?)?;
+    entries.push(inside(alloc, 2, 2)?)?;
+    assert_eq!(rt; beside(alloc, &sys, entries)?, VALID);
+    let mut entries = Vec::new(alloc);
+    entries.push(inside(alloc, 1, 2)?)?;
+    entries.push(inside(alloc, 2, 2)?)?;
+    assert_eq!(rt; beside(alloc, &sys, entries)?, ("missed at 1", 2, 2));
     Ok(())
 }
 
@@ -370,47 +386,41 @@ fn large_conditions_are_told(rt: HostRuntime) -> Result<(), Fail> {
     let alloc = rt.alloc();
     let sys = large_system(alloc)?;
     let entries = Vec::from_array(alloc, [redex(2, Vec::new(alloc), 3)])?;
-    let found = chosen(alloc, &sys, 2, NonJoin::Normal(entries))?;
-    let is_told = matches!(
-        &found,
-        Err(CheckError::Rejected(Rejected::RedexFails {
-            entry: 1,
-            reason: EvidenceReason::TcapLarge
-        }))
+    assert_eq!(rt;
+        chosen(alloc, &sys, 2, NonJoin::Normal(entries))?,
+        ("too large", 1, 0)
     );
-    assert!(rt; is_told);
     Ok(())
+}
+
+// g(f(a), x) to g(c, x) and to g(f(b), x), for a variable x
+fn beside_variable(alloc: Global, sys: &System, x: u32) -> Result<Told, Fail> {
+    let conds = Vec::from_array(alloc, [nothing(alloc)])?;
+    let first = step(alloc, 2, Vec::from_array(alloc, [1])?, conds)?;
+    let inner = Vec::from_array(alloc, [1, 1])?;
+    let second = step(alloc, 1, inner, Vec::new(alloc))?;
+    let entries = Vec::from_array(alloc, [inside(alloc, 2, 1)?])?;
+    let left = f(alloc, constant(alloc, A))?;
+    let peak = Peak {
+        start: g(alloc, left, Term::Var(x))?,
+        first,
+        second,
+        apart: NonJoin::Normal(entries),
+    };
+    Ok(judged(alloc, sys, &peak))
 }
 
 #[test]
 fn the_greatest_variable_is_numbered_anew(rt: HostRuntime) -> Result<(), Fail> {
     let alloc = rt.alloc();
     let sys = system(alloc, constant(alloc, A))?;
-    let last = Term::Var(4294967295);
-    let inner = f(alloc, Term::Var(4294967295))?;
-    let left = f(alloc, constant(alloc, A))?;
-    let outer = Vec::from_array(alloc, [1])?;
-    let place = Vec::from_array(alloc, [1, 1])?;
-    let cond = nothing(alloc);
+    assert_eq!(rt; beside_variable(alloc, &sys, 4294967295)?, VALID);
     let peak = Peak {
-        start: g(alloc, left, last)?,
-        first: step(alloc, 2, outer, Vec::from_array(alloc, [cond])?)?,
-        second: step(alloc, 1, place, Vec::new(alloc))?,
-        apart: NonJoin::Normal(Vec::from_array(
-            alloc,
-            [redex(2, Vec::from_array(alloc, [1])?, 2)],
-        )?),
-    };
-    let found = judged(alloc, &sys, &peak)?;
-    assert!(rt; found.is_ok());
-    let peak = Peak {
-        start: inner,
+        start: f(alloc, Term::Var(4294967295))?,
         first: nothing(alloc),
         second: nothing(alloc),
         apart: NonJoin::Caps,
     };
-    let same = judged(alloc, &sys, &peak)?;
-    let is_unified = matches!(&same, Err(CheckError::Rejected(Rejected::CapsUnify)));
-    assert!(rt; is_unified);
+    assert_eq!(rt; judged(alloc, &sys, &peak), ("caps unify", 0, 0));
     Ok(())
 }

@@ -90,15 +90,59 @@ fn automaton(alloc: Global, states: u32) -> Result<Automaton, Fail> {
     })
 }
 
-fn reason(answer: Result<(), Refusal>) -> Result<Option<EvidenceReason>, Fail> {
-    match answer {
-        Ok(()) => Ok(None),
-        Err(Refusal::Reason(reason)) => Ok(Some(reason)),
-        Err(Refusal::NoMemory) => Err(Fail::from("no memory")),
+// An answer as a word with two numbers: those of a rule and a state. The proof of a test is short where its answers need not be
+// dropped.
+type Told = (&'static str, u32, u32);
+
+const GOOD: Told = ("good", 0, 0);
+
+fn word_of_choice(states: &[u32]) -> &'static str {
+    match states {
+        [0, 1] => "open at 0, 1",
+        [2, 0] => "open at 2, 0",
+        _ => "open elsewhere",
     }
 }
 
-// What the automaton is judged to be for the condition with a number among one.
+fn told_reason(reason: &EvidenceReason) -> Told {
+    match reason {
+        EvidenceReason::AutoNumber => ("number", 0, 0),
+        EvidenceReason::AutoAny => ("any", 0, 0),
+        EvidenceReason::AutoMisses => ("misses", 0, 0),
+        EvidenceReason::AutoReaches => ("reaches", 0, 0),
+        EvidenceReason::AutoWideRight => ("wide right side", 0, 0),
+        EvidenceReason::AutoWide { rule } => ("wide", *rule, 0),
+        EvidenceReason::AutoNotClosed {
+            rule,
+            states,
+            target,
+        } => (word_of_choice(states), *rule, *target),
+        _ => ("another reason", 0, 0),
+    }
+}
+
+fn told(answer: &Result<(), Refusal>) -> Told {
+    match answer {
+        Ok(()) => GOOD,
+        Err(Refusal::Reason(reason)) => told_reason(reason),
+        Err(Refusal::NoMemory) => ("no memory", 0, 0),
+    }
+}
+
+fn closed(alloc: Global, sys: &System, automaton: &Automaton) -> Told {
+    told(&is_closed(alloc, sys, automaton))
+}
+
+// what is said of the terms of the form of g(x, y)
+fn excluded(alloc: Global, automaton: &Automaton) -> Result<Told, Fail> {
+    let pair = binary(alloc, Term::Var(0), Term::Var(1))?;
+    if !fits(&pair) {
+        return Ok(("too large", 0, 0));
+    }
+    Ok(told(&excludes(alloc, automaton, &pair)))
+}
+
+// what the automaton is judged to be for the condition with a number among one
 fn judged(
     alloc: Global,
     sys: &System,
@@ -106,12 +150,12 @@ fn judged(
     cond: u32,
     left: Term,
     right: Term,
-) -> Result<Option<EvidenceReason>, Fail> {
+) -> Result<Told, Fail> {
     if !fits(&left) || !fits(&right) {
         return Err(Fail::from("too large"));
     }
     let conds = vec![in alloc; Cond { left, right }]?;
-    reason(AutoEvidence { cond, automaton }.refutes(alloc, sys, &conds))
+    Ok(told(&AutoEvidence { cond, automaton }.refutes(alloc, sys, &conds)))
 }
 
 #[test]
@@ -119,42 +163,19 @@ fn conditions_are_judged_in_order(rt: HostRuntime) -> Result<(), Fail> {
     let alloc = rt.alloc();
     let sys = system(alloc, unary(alloc, Term::Var(0))?)?;
     let fine = automaton(alloc, 2)?;
-    let fa = unary(alloc, constant(alloc, A))?;
+    let a = || constant(alloc, A);
+    let b = || constant(alloc, B);
+    let fa = unary(alloc, a())?;
+    assert_eq!(rt; judged(alloc, &sys, &fine, 1, fa, b())?, GOOD);
+    assert_eq!(rt; judged(alloc, &sys, &fine, 1, b(), a())?, ("misses", 0, 0));
+    assert_eq!(rt; judged(alloc, &sys, &fine, 2, a(), b())?, ("number", 0, 0));
     assert_eq!(rt;
-        judged(alloc, &sys, &fine, 1, fa, constant(alloc, B))?,
-        None
+        judged(alloc, &sys, &fine, 1, a(), Term::Var(3))?,
+        ("reaches", 0, 0)
     );
-    let missed = judged(
-        alloc,
-        &sys,
-        &fine,
-        1,
-        constant(alloc, B),
-        constant(alloc, A),
-    )?;
-    assert_eq!(rt; missed, Some(EvidenceReason::AutoMisses));
-    let number = judged(
-        alloc,
-        &sys,
-        &fine,
-        2,
-        constant(alloc, A),
-        constant(alloc, B),
-    )?;
-    assert_eq!(rt; number, Some(EvidenceReason::AutoNumber));
-    let reaches = judged(alloc, &sys, &fine, 1, constant(alloc, A), Term::Var(3))?;
-    assert_eq!(rt; reaches, Some(EvidenceReason::AutoReaches));
     let mut partial = automaton(alloc, 2)?;
     partial.transitions.truncate(4);
-    let any = judged(
-        alloc,
-        &sys,
-        &partial,
-        1,
-        constant(alloc, A),
-        constant(alloc, B),
-    )?;
-    assert_eq!(rt; any, Some(EvidenceReason::AutoAny));
+    assert_eq!(rt; judged(alloc, &sys, &partial, 1, a(), b())?, ("any", 0, 0));
     Ok(())
 }
 
@@ -163,21 +184,22 @@ fn states_are_many_only_beyond_a_million_choices(rt: HostRuntime) -> Result<(), 
     let alloc = rt.alloc();
     let sys = system(alloc, unary(alloc, Term::Var(0))?)?;
     let large = automaton(alloc, 1_000_001)?;
-    assert_eq!(rt;
-        reason(is_closed(alloc, &sys, &large))?,
-        Some(EvidenceReason::AutoWide { rule: 1 })
-    );
+    assert_eq!(rt; closed(alloc, &sys, &large), ("wide", 1, 0));
     let smaller = automaton(alloc, 1001)?;
-    assert_eq!(rt; reason(is_closed(alloc, &sys, &smaller))?, None);
-    let pair = binary(alloc, Term::Var(0), Term::Var(1))?;
-    assert!(rt; fits(&pair));
-    assert_eq!(rt;
-        reason(excludes(alloc, &smaller, &pair))?,
-        Some(EvidenceReason::AutoWideRight)
-    );
+    assert_eq!(rt; closed(alloc, &sys, &smaller), GOOD);
+    assert_eq!(rt; excluded(alloc, &smaller)?, ("wide right side", 0, 0));
     let none = automaton(alloc, 0)?;
-    assert_eq!(rt; reason(excludes(alloc, &none, &pair))?, None);
+    assert_eq!(rt; excluded(alloc, &none)?, GOOD);
     Ok(())
+}
+
+// a transition by f, and one by g
+fn by_f(alloc: Global, argument: u32, target: u32) -> Result<Transition, Fail> {
+    step(alloc, Some(F), &[argument], target)
+}
+
+fn by_g(alloc: Global, first: u32, second: u32, target: u32) -> Result<Transition, Fail> {
+    step(alloc, Some(G), &[first, second], target)
 }
 
 #[test]
@@ -185,41 +207,36 @@ fn each_occurrence_has_a_state_of_its_own(rt: HostRuntime) -> Result<(), Fail> {
     let alloc = rt.alloc();
     let sys = system(alloc, binary(alloc, Term::Var(0), Term::Var(0))?)?;
     let mut open = automaton(alloc, 2)?;
-    assert_eq!(rt; reason(is_closed(alloc, &sys, &open))?, None);
-    open.transitions.push(step(alloc, Some(G), &[1, 0], 1)?)?;
-    assert_eq!(rt; reason(is_closed(alloc, &sys, &open))?, None);
-    open.transitions.push(step(alloc, Some(G), &[0, 1], 1)?)?;
-    let why = EvidenceReason::AutoNotClosed {
-        rule: 1,
-        states: vec![in alloc; 0, 1]?,
-        target: 1,
-    };
-    assert_eq!(rt; reason(is_closed(alloc, &sys, &open))?, Some(why));
+    assert_eq!(rt; closed(alloc, &sys, &open), GOOD);
+    open.transitions.push(by_g(alloc, 1, 0, 1)?)?;
+    assert_eq!(rt; closed(alloc, &sys, &open), GOOD);
+    open.transitions.push(by_g(alloc, 0, 1, 1)?)?;
+    assert_eq!(rt; closed(alloc, &sys, &open), ("open at 0, 1", 1, 1));
     Ok(())
+}
+
+// f(f(x)) -> f(x), g(x, y) -> f(x)
+fn shared_sides(alloc: Global) -> Result<System, Fail> {
+    let twice = unary(alloc, unary(alloc, Term::Var(0))?)?;
+    let first = rule(alloc, twice, unary(alloc, Term::Var(0))?, 1);
+    let pair = binary(alloc, Term::Var(0), Term::Var(1))?;
+    let second = rule(alloc, pair, unary(alloc, Term::Var(0))?, 2);
+    two_rules(alloc, first, second)
 }
 
 #[test]
 fn rules_share_the_sets_of_their_right_sides(rt: HostRuntime) -> Result<(), Fail> {
     let alloc = rt.alloc();
-    let twice = unary(alloc, unary(alloc, Term::Var(0))?)?;
-    let pair = binary(alloc, Term::Var(0), Term::Var(1))?;
-    let first = rule(alloc, twice, unary(alloc, Term::Var(0))?, 1);
-    let second = rule(alloc, pair, unary(alloc, Term::Var(0))?, 2);
-    let sys = two_rules(alloc, first, second)?;
+    let sys = shared_sides(alloc)?;
     let mut open = automaton(alloc, 3)?;
-    open.transitions.push(step(alloc, Some(F), &[1], 2)?)?;
-    open.transitions.push(step(alloc, Some(F), &[2], 2)?)?;
-    open.transitions.push(step(alloc, Some(G), &[1, 0], 2)?)?;
-    open.transitions.push(step(alloc, Some(G), &[1, 0], 1)?)?;
-    assert_eq!(rt; reason(is_closed(alloc, &sys, &open))?, None);
-    open.transitions.push(step(alloc, Some(G), &[2, 0], 2)?)?;
-    open.transitions.push(step(alloc, Some(G), &[2, 0], 1)?)?;
-    let why = EvidenceReason::AutoNotClosed {
-        rule: 2,
-        states: vec![in alloc; 2, 0]?,
-        target: 1,
-    };
-    assert_eq!(rt; reason(is_closed(alloc, &sys, &open))?, Some(why));
+    open.transitions.push(by_f(alloc, 1, 2)?)?;
+    open.transitions.push(by_f(alloc, 2, 2)?)?;
+    open.transitions.push(by_g(alloc, 1, 0, 2)?)?;
+    open.transitions.push(by_g(alloc, 1, 0, 1)?)?;
+    assert_eq!(rt; closed(alloc, &sys, &open), GOOD);
+    open.transitions.push(by_g(alloc, 2, 0, 2)?)?;
+    open.transitions.push(by_g(alloc, 2, 0, 1)?)?;
+    assert_eq!(rt; closed(alloc, &sys, &open), ("open at 2, 0", 2, 1));
     Ok(())
 }
 
@@ -230,21 +247,15 @@ fn a_variable_is_kept_at_the_states_that_include_its_own(rt: HostRuntime) -> Res
     let sys = one_rule(alloc, rule(alloc, pair, Term::Var(0), 2))?;
     let mut open = automaton(alloc, 3)?;
     open.transitions.push(step(alloc, Some(A), &[], 2)?)?;
-    open.transitions.push(step(alloc, Some(F), &[1], 2)?)?;
+    open.transitions.push(by_f(alloc, 1, 2)?)?;
     for argument in [1, 2] {
         for target in [1, 2] {
-            open.transitions
-                .push(step(alloc, Some(G), &[argument, 0], target)?)?;
+            open.transitions.push(by_g(alloc, argument, 0, target)?)?;
         }
     }
-    assert_eq!(rt; reason(is_closed(alloc, &sys, &open))?, None);
-    open.transitions.push(step(alloc, Some(F), &[2], 2)?)?;
-    let why = EvidenceReason::AutoNotClosed {
-        rule: 1,
-        states: vec![in alloc; 2, 0]?,
-        target: 1,
-    };
-    assert_eq!(rt; reason(is_closed(alloc, &sys, &open))?, Some(why));
+    assert_eq!(rt; closed(alloc, &sys, &open), GOOD);
+    open.transitions.push(by_f(alloc, 2, 2)?)?;
+    assert_eq!(rt; closed(alloc, &sys, &open), ("open at 2, 0", 1, 1));
     Ok(())
 }
 
