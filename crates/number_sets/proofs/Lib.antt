@@ -1,0 +1,4 @@
+pub mod Members
+pub mod Bits
+pub mod Fronts
+pub mod Rows

@@ -1,0 +1,5 @@
+pub mod Members
+pub mod Sets
+pub mod Words
+pub mod Relation
+pub mod NumberedView
