@@ -69,3 +69,21 @@ reach_pop M (u ∷ ts) t xs [] q (before, after, e, one, others) = absurd (none 
 reach_pop M (u ∷ ts) t xs (p ∷ qs) q (before, after, e, one, others) =
     let r = reach_pop M ts t after qs q others in
     (before ++ r.0, r.1, e ∙ ap (λ (l : List ℕ). before ++ l) r.2 ∙ sym (append_assoc before r.0 r.1), (before, r.0, refl, one, r.3), r.4)
+
+-- some arguments before others
+pub reach_append : (M : Moves) (ts us : List Term) (cs ds qs ps : List ℕ) → ReachAllBy M (views ts) cs qs → ReachAllBy M (views us) ds ps → ReachAllBy M (views (ts ++ us)) (cs ++ ds) (qs ++ ps)
+reach_append M [] us cs ds qs ps r s =
+    subst (λ (l : List ℕ). ReachAllBy M (views us) (l ++ ds) (qs ++ ps)) (sym r.0) (subst (λ (l : List ℕ). ReachAllBy M (views us) ds (l ++ ps)) (sym r.1) s)
+reach_append M (t ∷ ts) us cs ds [] ps r s = absurd r
+reach_append M (t ∷ ts) us cs ds (q ∷ qs) ps (before, after, e, one, others) s =
+    (before, after ++ ds, ap (λ (l : List ℕ). l ++ ds) e ∙ append_assoc before after ds, one, reach_append M ts us after ds qs ps others s)
+
+-- and back
+pub reach_split : (M : Moves) (ts us : List Term) (xs qs ps : List ℕ) → length ts ≡ length qs → ReachAllBy M (views (ts ++ us)) xs (qs ++ ps)
+    → (cs ds : List ℕ) × (xs ≡ cs ++ ds) × ReachAllBy M (views ts) cs qs × ReachAllBy M (views us) ds ps
+reach_split M [] us xs [] ps l r = ([], xs, refl, (refl, refl), r)
+reach_split M [] us xs (q ∷ qs) ps l r = absurd (omega arith)
+reach_split M (t ∷ ts) us xs [] ps l r = absurd (omega arith)
+reach_split M (t ∷ ts) us xs (q ∷ qs) ps l (before, after, e, one, others) =
+    let r = reach_split M ts us after qs ps (omega arith) others in
+    (before ++ r.0, r.1, e ∙ ap (λ (m : List ℕ). before ++ m) r.2 ∙ sym (append_assoc before r.0 r.1), (before, r.0, refl, one, r.3), r.4)

@@ -1,12 +1,13 @@
 pub mod Members
 pub mod Named
-pub mod Joined
+pub mod Numbering
 pub mod Steps
-pub mod Buckets
-pub mod Tabled
+pub mod Marking
 pub mod Comparisons
 pub mod Counted
+pub mod Tabled
 pub mod Arguments
+pub mod Ground
 pub mod Reaching
 pub mod Twins
 pub mod Widths

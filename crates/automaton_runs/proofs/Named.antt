@@ -1,14 +1,11 @@
 -- Sets that get numbers.
-use Rattle.std.proofs.Common.{◌≡◌, ℕ, zero, suc, ◌+◌, ◌<◌, Bool, true, false, if◌then◌else◌, List, [], ◌∷◌, ◌++◌, map, length, get_or, take, slice_get, Option, None, Some, Vec, Global, ap, sym, subst, ◌∙◌, append_assoc, append-nil}
-use Rattle.std.proofs.Common.{OnOk, Result, Ok, Err}
+use Rattle.std.proofs.Common.{◌≡◌, ℕ, zero, suc, ◌+◌, ◌<◌, List, [], ◌∷◌, ◌++◌, map, length, get_or, take, slice_get, Option, None, Some, Vec, Global, ap, sym, subst, ◌∙◌, append_assoc, append-nil}
 use Rattle.std.specs.List.{AllZip}
 use Rattle.std.proofs.lemmas.List.{map-append, take_more}
-use Rattle.automaton_runs.specs.Choices.{lists}
-use Rattle.automaton_runs.specs.Sets.{IsFront, IsNamed, AreNamed}
-
-pub always : {T E P : Type 0} (r : Result T E) → P → OnOk r P
-always (Ok v) p = p
-always (Err e) p = tt
+use Rattle.number_sets.specs.Members.{IsFront}
+use Rattle.number_sets.specs.Sets.{members}
+use Rattle.number_sets.specs.declared.words.NumberSet.{NumberSet}
+use Rattle.automaton_runs.specs.Tables.{IsNamed, AreBacksNamed, ArePairsNamed, names_of}
 
 pub zip_push : {A B : Type 0} (R : A → B → Type 0) (ls : List A) (bs : List B) (a : A) (b : B) → AllZip R ls bs → R a b → AllZip R (ls ++ a ∷ []) (bs ++ b ∷ [])
 zip_push R [] [] a b z h = (h, tt)
@@ -22,7 +19,7 @@ zip_weaker R S [] (d ∷ bs) f z = absurd z
 zip_weaker R S (c ∷ ls) [] f z = absurd z
 zip_weaker R S (c ∷ ls) (d ∷ bs) f z = (f c d z.0, zip_weaker R S ls bs f z.1)
 
-pub get_append : {X : Type 0} (xs ys : List X) (m : ℕ) (x : X) → slice_get xs m ≡ Some x → slice_get (xs ++ ys) m ≡ Some x
+get_append : {X : Type 0} (xs ys : List X) (m : ℕ) (x : X) → slice_get xs m ≡ Some x → slice_get (xs ++ ys) m ≡ Some x
 get_append [] ys m x e = absurd (cc)
 get_append (z ∷ xs) ys zero x e = e
 get_append (z ∷ xs) ys (suc m) x e = get_append xs ys m x e
@@ -38,22 +35,43 @@ front_refl xs = ([], sym (append-nil xs))
 pub front_trans : (xs ys zs : List (List ℕ)) → IsFront xs ys → IsFront ys zs → IsFront xs zs
 front_trans xs ys zs (a, e) (b, d) = (a ++ b, d ∙ ap (λ (ws : List (List ℕ)). ws ++ b) e ∙ append_assoc xs a b)
 
--- a list put last, or not
-pub front_inserted : (b : Bool) (old new : List (Vec ℕ Global)) (v : Vec ℕ Global) → new ≡ (if b then old else (old ++ v ∷ [])) → IsFront (lists old) (lists new)
-front_inserted true old new v e = subst (λ (ks : List (Vec ℕ Global)). IsFront (lists old) (lists ks)) (sym e) (front_refl (lists old))
-front_inserted false old new v e = (v.items ∷ [], ap lists e ∙ map-append (λ (w : Vec ℕ Global). w.items) old (v ∷ []))
-
 -- a number keeps its set
 pub get_later : (xs ys : List (List ℕ)) (m : ℕ) (x : List ℕ) → IsFront xs ys → slice_get xs m ≡ Some x → slice_get ys m ≡ Some x
 get_later xs ys m x (rest, e) h = ap (λ (ws : List (List ℕ)). slice_get ws m) e ∙ get_append xs rest m x h
 
-pub named_later : (old new : List (List ℕ)) → IsFront old new → (name : Option ℕ) (xs : List ℕ) → IsNamed old name xs → IsNamed new name xs
+named_later : (old new : List (List ℕ)) → IsFront old new → (name : Option ℕ) (xs : List ℕ) → IsNamed old name xs → IsNamed new name xs
 named_later old new f None xs n = n
 named_later old new f (Some m) xs n = (get_later old new m xs f n.0, n.1)
 
-pub are_named_later : (old new : List (List ℕ)) → IsFront old new → (names : List (Option ℕ)) (xss : List (List ℕ)) → AreNamed old names xss → AreNamed new names xss
-are_named_later old new f names xss z = zip_weaker (IsNamed old) (IsNamed new) names xss (named_later old new f) z
+-- the number of a set to which R relates the back
+abbrev pub HasName : (List ℕ → List ℕ → Type 0) → List (List ℕ) → Option ℕ → List ℕ → Type 0
+HasName R sets name back = (set : List ℕ) × R back set × IsNamed sets name set
 
-pub lists_more : (vs : List (Vec ℕ Global)) (i : ℕ) (v : Vec ℕ Global) → i < length vs → v ≡ get_or vs i v → lists (take (i + 1) vs) ≡ lists (take i vs) ++ v.items ∷ []
-lists_more vs i v h e =
-    ap lists (take_more vs i v h ∙ ap (λ (w : Vec ℕ Global). take i vs ++ w ∷ []) (sym e)) ∙ map-append (λ (w : Vec ℕ Global). w.items) (take i vs) (v ∷ [])
+backs_later : (R : List ℕ → List ℕ → Type 0) (old new : List (List ℕ)) → IsFront old new → (names : List (Option ℕ)) (backs : List (List ℕ)) → AreBacksNamed R old names backs → AreBacksNamed R new names backs
+backs_later R old new f names backs z = zip_weaker (HasName R old) (HasName R new) names backs (λ name back h. (h.0, h.1, named_later old new f name h.0 h.2)) z
+
+pub backs_weaker : (R S : List ℕ → List ℕ → Type 0) (sets : List (List ℕ)) (names : List (Option ℕ)) (backs : List (List ℕ)) → ((back set : List ℕ) → R back set → S back set)
+    → AreBacksNamed R sets names backs → AreBacksNamed S sets names backs
+backs_weaker R S sets names backs f z = zip_weaker (HasName R sets) (HasName S sets) names backs (λ name back h. (h.0, f back h.0 h.1, h.2)) z
+
+members_more : (vs : List NumberSet) (i : ℕ) (v : NumberSet) → i < length vs → v ≡ get_or vs i v → map members (take (i + 1) vs) ≡ map members (take i vs) ++ members v ∷ []
+members_more vs i v h e = ap (map members) (take_more vs i v h ∙ ap (λ (w : NumberSet). take i vs ++ w ∷ []) (sym e)) ∙ map-append members (take i vs) (v ∷ [])
+
+module _ (old new : List (List ℕ)) (front : IsFront old new) (vs : List NumberSet) (i : ℕ) (v : NumberSet) (inside : i < length vs) (is : v ≡ get_or vs i v) where
+  -- one more name in a line
+  pub line_more : (R : List ℕ → List ℕ → Type 0) (names all : List (Option ℕ)) (name : Option ℕ) (set : List ℕ) → AreBacksNamed R old names (map members (take i vs)) → R (members v) set → IsNamed new name set
+      → all ≡ names ++ name ∷ [] → AreBacksNamed R new all (map members (take (i + 1) vs))
+  line_more R names all name set z r n put =
+      subst (λ (l : List (List ℕ)). AreBacksNamed R new all l) (sym (members_more vs i v inside is))
+      (subst (λ (l : List (Option ℕ)). AreBacksNamed R new l (map members (take i vs) ++ members v ∷ [])) (sym put)
+      (zip_push (HasName R new) names (map members (take i vs)) name (members v) (backs_later R old new front names (map members (take i vs)) z) (set, r, n)))
+
+  -- one more line
+  pub lines_more : (R : List ℕ → List ℕ → List ℕ → Type 0) (backs : List (List ℕ)) (lines all : List (Vec (Option ℕ) Global)) (line : Vec (Option ℕ) Global) → ArePairsNamed R old (names_of lines) (map members (take i vs)) backs
+      → AreBacksNamed (R (members v)) new line.items backs → all ≡ lines ++ line ∷ [] → ArePairsNamed R new (names_of all) (map members (take (i + 1) vs)) backs
+  lines_more R backs lines all line z n put =
+      let Q : List (List ℕ) → List (Option ℕ) → List ℕ → Type 0 = λ sets names numbers. AreBacksNamed (R numbers) sets names backs in
+      subst (λ (l : List (List ℕ)). AllZip (Q new) (names_of all) l) (sym (members_more vs i v inside is))
+      (subst (λ (l : List (List (Option ℕ))). AllZip (Q new) l (map members (take i vs) ++ members v ∷ [])) (sym (ap names_of put ∙ map-append (λ (w : Vec (Option ℕ) Global). w.items) lines (line ∷ [])))
+      (zip_push (Q new) (names_of lines) (map members (take i vs)) line.items (members v)
+      (zip_weaker (Q old) (Q new) (names_of lines) (map members (take i vs)) (λ names numbers y. backs_later (R numbers) old new front names backs y) z) n))

@@ -3,11 +3,10 @@ pub mod Groups
 pub mod Counting
 pub mod Indexed
 pub mod IndexView
-pub mod Choices
 pub mod Arrivals
-pub mod Sets
+pub mod Marks
+pub mod MarkView
 pub mod Tables
-pub mod Fronts
-pub mod Buckets
+pub mod JoinedRows
 pub mod Reaching
 pub mod Twins

@@ -1,15 +1,14 @@
 // Runs of tree automata on terms: the states that a term reaches by choices of states for its variable occurrences.
 #![tactic(auto)]
 
-mod fronts;
+mod first;
 mod groups;
 mod index;
-mod kept;
+mod joined;
+mod marks;
 mod runs;
-mod sets;
 mod states;
 mod table;
-mod targets;
 #[cfg(test)]
 mod tests;
 mod width;

@@ -41,7 +41,8 @@ fn all_arrivals(alloc: Global, found: &StatesByChoice) -> Result<Vec<Arrival>, N
 {
     let mut rows = Vec::new(alloc);
     for row in 0..found.len() {
-        put_arrivals(alloc, found.choice(row), found.states(row), &mut rows)?;
+        let states = found.states(row).numbers(alloc)?;
+        put_arrivals(alloc, found.choice(row), &states, &mut rows)?;
     }
     Ok(rows)
 }

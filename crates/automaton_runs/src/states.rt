@@ -5,14 +5,16 @@ ghost use Rattle.rewriting.specs.Positions.{IsBefore};
 ghost use Rattle.ctrs_classes.specs.Blames.{leaves};
 ghost use Rattle.term_core.specs.View.{view};
 ghost use Rattle.automaton_runs.specs.Arrivals.{AreArrivals, spread};
-ghost use Rattle.automaton_runs.specs.Tables.{table_of, choice_at, set_at, singles};
-ghost use Rattle.automaton_runs.specs.Reaching.{AreStates, AreFronts};
+ghost use Rattle.number_sets.specs.Sets.{members};
+ghost use Rattle.automaton_runs.specs.Tables.{table_of, choice_at, set_at};
+ghost use Rattle.automaton_runs.specs.Reaching.{AreStates, AreFronts, AreGroundAfter};
 
-use crate::fronts::{extended, first_front};
+use crate::first::{each_state, first_row, last_open};
 use crate::index::AutomatonIndex;
-use crate::sets::Sets;
-use crate::table::{Row, Table, rows_of_sets};
-use crate::targets::with_targets;
+use crate::joined::joined;
+use crate::marks::Mark;
+use crate::table::{Table, rows_of_sets};
+use number_sets::NumberSet;
 use std::alloc::Global;
 use std::marker::Model;
 use term_core::{NoMemory, Term};
@@ -52,10 +54,10 @@ impl StatesByChoice {
         self.found.choice(row)
     }
 
-    /// The states that the term reaches by the choice of a row, in order.
-    pub fn states(&self, row: usize) -> &[u32]
+    /// The states that the term reaches by the choice of a row.
+    pub fn states(&self, row: usize) -> &NumberSet
         requires { row < length self.now }
-        ensures { result.now ≡ set_at self.now row }
+        ensures { members result.now ≡ set_at self.now row }
     {
         self.found.set(row)
     }
@@ -70,20 +72,6 @@ impl StatesByChoice {
     }
 }
 
-// A variable reaches each state by the choice of it.
-fn each_state(alloc: Global, states: u32) -> Result<Table, NoMemory>
-    ensures { IfOk result (λ table. table_of table ≡ singles states) }
-{
-    let mut sets = Sets::new(alloc);
-    let mut rows = Vec::with_capacity(alloc, states as usize)?;
-    for state in 0..states {
-        let set = sets.number(Vec::from_array(alloc, [state])?)?;
-        let choice = Vec::from_array(alloc, [state])?;
-        rows.push(Row { choice, set })?;
-    }
-    Ok(Table { rows, sets })
-}
-
 #[cycle(states)]
 fn states_of(alloc: Global, index: &AutomatonIndex<'_>, t: &Term) -> Result<Table, NoMemory>
     ensures { IfOk result (λ table. AreStates index.now (view t.now) (table_of table)) }
@@ -91,27 +79,59 @@ fn states_of(alloc: Global, index: &AutomatonIndex<'_>, t: &Term) -> Result<Tabl
     match t {
         Term::Var(_) => each_state(alloc, index.states()),
         Term::Fun(f, args) => {
-            let fronts = fronts_of(alloc, index, *f, args)?;
-            with_targets(alloc, index.with_symbol(*f), fronts)
+            let transitions = index.with_symbol(*f);
+            if args.is_empty() {
+                return first_row(alloc, transitions, 0, Mark::Target);
+            }
+            let last = last_open(args);
+            let fronts = fronts_of(alloc, index, *f, args, last)?;
+            let backs = states_of(alloc, index, &args[last])?;
+            joined(alloc, transitions, last, Mark::Target, &fronts, &backs)
         }
     }
 }
 
-// The choices for the arguments of a symbol, with the numbers of its transitions from states that these reach.
+// The choices for the arguments before the last one with variables, with the numbers of the transitions from states that
+// these arguments and those after it reach. Sets of numbers are large, so there is none for the choices of all arguments.
 #[cycle(states)]
 fn fronts_of(
     alloc: Global,
     index: &AutomatonIndex<'_>,
     f: u32,
     args: &[Term],
+    last: usize,
 ) -> Result<Table, NoMemory>
-    ensures { IfOk result (λ table. AreFronts index.now f args.now (length args.now) (table_of table)) }
+    requires within { last < length args.now }
+    requires ground { AreGroundAfter last args.now }
+    ensures { IfOk result (λ table. AreFronts index.now f args.now last last (table_of table)) }
 {
     let transitions = index.with_symbol(f);
-    let mut fronts = first_front(alloc, transitions, args.len())?;
-    'arguments: for i in 0..args.len() {
+    let mut fronts = ground_fronts(alloc, index, f, args, last)?;
+    'earlier: for i in 0..last {
         let backs = states_of(alloc, index, &args[i])?;
-        fronts = extended(alloc, transitions, i, &fronts, &backs)?;
+        fronts = joined(alloc, transitions, i, Mark::Number, &fronts, &backs)?;
+    }
+    Ok(fronts)
+}
+
+// The same for no argument before it.
+#[cycle(states)]
+fn ground_fronts(
+    alloc: Global,
+    index: &AutomatonIndex<'_>,
+    f: u32,
+    args: &[Term],
+    last: usize,
+) -> Result<Table, NoMemory>
+    requires within { last < length args.now }
+    requires ground { AreGroundAfter last args.now }
+    ensures { IfOk result (λ table. AreFronts index.now f args.now last 0 (table_of table)) }
+{
+    let transitions = index.with_symbol(f);
+    let mut fronts = first_row(alloc, transitions, args.len(), Mark::Number)?;
+    'later: for i in last + 1..args.len() {
+        let backs = states_of(alloc, index, &args[i])?;
+        fronts = joined(alloc, transitions, i, Mark::Number, &fronts, &backs)?;
     }
     Ok(fronts)
 }

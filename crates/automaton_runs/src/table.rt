@@ -1,7 +1,8 @@
 ghost use Rattle.std.specs.Prelude.{◌≡◌, ◌<◌, [], length, replicate, IfOk, slice_index_or, slice_set};
-ghost use Rattle.automaton_runs.specs.Tables.{numbered, table_of, choice_at, set_at, AreRowsOfSets};
+ghost use Rattle.number_sets.specs.Sets.{members};
+ghost use Rattle.automaton_runs.specs.Tables.{numbered, table_of, choice_at, set_at, AreRowsOfSets, AreAscending};
 
-use crate::sets::Sets;
+use number_sets::{NumberSet, NumberedSets};
 use std::alloc::Global;
 use term_core::NoMemory;
 
@@ -16,7 +17,7 @@ pub(crate) struct Row {
 #[derive(Debug, Drop)]
 pub(crate) struct Table {
     pub(crate) rows: Vec<Row>,
-    pub(crate) sets: Sets,
+    pub(crate) sets: NumberedSets,
 }
 
 // The new number that stands at an old one.
@@ -49,7 +50,8 @@ fn put_row(set: u32, row: usize, names: &mut Vec<Option<usize>>)
 
 // The last row that has each set.
 pub(crate) fn rows_of_sets(alloc: Global, table: &Table) -> Result<Vec<Option<usize>>, NoMemory>
-    ensures { IfOk result (λ names. AreRowsOfSets (numbered table.now.rows.items) names.items) }
+    ensures rows { IfOk result (λ names. AreRowsOfSets (numbered table.now.rows.items) names.items) }
+    ensures ascending { AreAscending table.now.sets }
 {
     let mut names = no_rows(alloc, table.sets.all().len())?;
     for row in 0..table.rows.len() {
@@ -85,13 +87,10 @@ impl Table {
         }
     }
 
-    pub(crate) fn set(&self, row: usize) -> &[u32]
+    pub(crate) fn set(&self, row: usize) -> &NumberSet
         requires { row < length (table_of self.now) }
-        ensures { result.now ≡ set_at (table_of self.now) row }
+        ensures { members result.now ≡ set_at (table_of self.now) row }
     {
-        match self.sets.all().get(self.rows[row].set as usize) {
-            Some(numbers) => numbers,
-            None => &[],
-        }
+        self.sets.set(self.rows[row].set)
     }
 }

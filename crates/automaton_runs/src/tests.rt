@@ -112,17 +112,22 @@ fn reached(rt: &impl Abort, alloc: Global, t: &Term) -> Result<StatesByChoice, F
     Ok(states_by_choice(alloc, &index, t)?)
 }
 
-fn are_rows(found: &StatesByChoice, wanted: &[(&[u32], &[u32])]) -> bool {
+fn are_rows(
+    alloc: Global,
+    found: &StatesByChoice,
+    wanted: &[(&[u32], &[u32])],
+) -> Result<bool, Fail> {
     if found.len() != wanted.len() {
-        return false;
+        return Ok(false);
     }
     for row in 0..found.len() {
         let (choice, states) = wanted[row];
-        if found.choice(row) != choice || found.states(row) != states {
-            return false;
+        let reached = found.states(row).numbers(alloc)?;
+        if found.choice(row) != choice || *reached != *states {
+            return Ok(false);
         }
     }
-    true
+    Ok(true)
 }
 
 fn reaches(
@@ -132,7 +137,7 @@ fn reaches(
     wanted: &[(&[u32], &[u32])],
 ) -> Result<bool, Fail> {
     let found = reached(rt, alloc, t)?;
-    Ok(are_rows(&found, wanted))
+    are_rows(alloc, &found, wanted)
 }
 
 fn g(alloc: Global, argument: Term) -> Result<Term, AllocError> {
