@@ -1,19 +1,17 @@
 -- Accepted states, marks, and the states 0.
-use Rattle.std.proofs.Common.{◌≡◌, ◌↔◌, ℕ, zero, suc, ◌+◌, ◌<◌, ◌≤◌, ◌⊎◌, inl, inr, ⊎_elim, Bool, true, List, [], ◌∷◌, length, get_or, set, take, replicate, Some, None, slice_get, IsTrue, Bor, refl, ap, sym, subst, ◌∙◌, arith}
+use Rattle.std.proofs.Common.{◌≡◌, ◌↔◌, ℕ, zero, suc, ◌+◌, ◌<◌, ◌≤◌, ◌⊎◌, inl, inr, ⊎_elim, Bool, true, List, [], ◌∷◌, length, get_or, set, take, replicate, Some, IsTrue, Bor, refl, ap, sym, subst, ◌∙◌, arith}
 use Rattle.std.specs.List.{filter}
-use Rattle.std.proofs.lemmas.Option.{slice_get_within}
 use Rattle.rewriting.specs.Terms.{Term}
-use Rattle.rewriting.specs.Rules.{System}
 use Rattle.certificates.specs.Evidence.{Transition, Automaton}
-use Rattle.automata.specs.Runs.{Has, RunsFrom0, IsAccepting}
-use Rattle.automata.specs.Closed.{AcceptsAll, state_of}
+use Rattle.automata.specs.Runs.{Has, RunsFrom0}
+use Rattle.automata.specs.Closed.{state_of}
 use Rattle.automata.specs.Evidence.{IsAccepted}
 use Rattle.cert_model.specs.EvidenceView.{transition_view}
 use Rattle.cert_model.specs.declared.evidence.Transition as cert
 use Rattle.automaton_runs.specs.Members.{IsIn}
 use Rattle.automaton_runs.specs.Counting.{chosen, symbol_key}
 use Rattle.automaton_runs.specs.Indexed.{pointed}
-use Rattle.automaton_runs.proofs.Members.{in_contains, in_map, in_map_back}
+use Rattle.automaton_runs.proofs.Members.{contains_in, in_contains, in_map, in_map_back}
 use Rattle.automaton_runs.proofs.Counted.{symbol_from, symbol_to}
 use Rattle.automaton_runs.proofs.Twins.{all_of}
 use Rattle.tree_automata.specs.States.{AreStatesOf}
@@ -54,16 +52,25 @@ last_in xs i h = subst (λ (n : ℕ). IsIn (get_or xs i 0) (take n xs)) (let e :
     go (y ∷ ys) zero h = inl refl
     go (y ∷ ys) (suc j) h = inr (go ys j (omega arith))
 
-module _ (a : Automaton) (states : List ℕ) (i : ℕ) where
-  pub accepting_here : i < length states → get_or states i 0 < a.states → IsIn (get_or states i 0) a.accepting → IsOneAccepting a states
-  accepting_here inside low there = (get_or states i 0, at_in states i _ inside (itself states i 0 inside), (in_contains _ a.accepting there, low))
+module _ (a : Automaton) (states listed : List ℕ) (same : listed ≡ a.accepting) (i : ℕ) where
+  pub accepting_here : i < length listed → get_or listed i 0 < a.states → IsIn (get_or listed i 0) states → IsOneAccepting a states
+  accepting_here inside low there = (get_or listed i 0, there, (in_contains _ a.accepting (subst (IsIn (get_or listed i 0)) same (at_in listed i _ inside (itself listed i 0 inside))), low))
 
-  pub none_more : i < length states → ((q : ℕ) → IsIn q (take i states) → IsAccepting a q → ⊥) → (IsAccepting a (get_or states i 0) → ⊥) → (q : ℕ) → IsIn q (take (i + 1) states) → IsAccepting a q → ⊥
-  none_more inside front never q h acc =
-      ⊎_elim (λ k. front q k acc) (λ e. never (subst (IsAccepting a) e acc)) (in_front states i (get_or states i 0) q inside (itself states i 0 inside) h)
+  pub none_more : i < length listed → ((q : ℕ) → IsIn q (take i listed) → q < a.states → IsIn q states → ⊥) → (get_or listed i 0 < a.states → IsIn (get_or listed i 0) states → ⊥)
+      → (q : ℕ) → IsIn q (take (i + 1) listed) → q < a.states → IsIn q states → ⊥
+  none_more inside front never q h low there =
+      ⊎_elim (λ k. front q k low there) (λ e. never (subst (λ (p : ℕ). p < a.states) e low) (subst (λ (p : ℕ). IsIn p states) e there))
+      (in_front listed i (get_or listed i 0) q inside (itself listed i 0 inside) h)
 
-  pub none_at_all : length states ≤ i → ((q : ℕ) → IsIn q (take i states) → IsAccepting a q → ⊥) → IsOneAccepting a states → ⊥
-  none_at_all past front (q, h, acc) = front q (subst (λ (l : List ℕ). IsIn q l) (sym (all_of states i past)) h) acc
+  pub none_at_all : length listed ≤ i → ((q : ℕ) → IsIn q (take i listed) → q < a.states → IsIn q states → ⊥) → IsOneAccepting a states → ⊥
+  none_at_all past front (q, there, acc) = front q (subst (IsIn q) (sym (all_of listed i past)) (subst (IsIn q) (sym same) (contains_in q a.accepting acc.0))) acc.1 there
+
+-- numbers that are put into a set
+pub taken_more : (xs : List ℕ) (i q : ℕ) (old new : List ℕ) → i < length xs → (IsIn q new ↔ (IsIn q old ⊎ (q ≡ get_or xs i 0))) → (IsIn q old ↔ IsIn q (take i xs)) → IsIn q new ↔ IsIn q (take (i + 1) xs)
+taken_more xs i q old new inside put front = (
+  λ h. ⊎_elim (λ k. front_more xs i q (front.0 k)) (λ e. subst (λ (p : ℕ). IsIn p (take (i + 1) xs)) (sym e) (last_in xs i inside)) (put.0 h),
+  λ h. put.1 (⊎_elim (λ k. inl (front.1 k)) (λ e. inr e) (in_front xs i (get_or xs i 0) q inside (itself xs i 0 inside) h)),
+)
 
 -- states 0
 module _ (a : Automaton) (f n : ℕ) (refs : List (Bor cert.Transition)) (is : pointed refs ≡ filter (chosen symbol_key a.states f) a.transitions) (i : ℕ) where
@@ -90,9 +97,6 @@ module _ (a : Automaton) (f n : ℕ) (refs : List (Bor cert.Transition)) (is : p
       let t : Transition = record { symbol = Some f; arguments = replicate n 0; target = 0 } in
       let there = subst (λ (l : List Transition). IsIn t l) (sym is) (symbol_to a f (replicate n 0) 0 has) in
       front t (subst (λ (l : List (Bor cert.Transition)). IsIn t (pointed l)) (sym (all_of refs i past)) there) refl refl
-
-pub symbols_all : (sys : System) (a : Automaton) (n : ℕ) → length sys.arities ≤ n → ((g k : ℕ) → g < n → slice_get sys.arities g ≡ Some k → Has a (Some g) (replicate k 0) 0) → Has a None [] 0 → AcceptsAll sys a
-symbols_all sys a n past front none = record { symbols = λ g k e. (let low = slice_get_within sys.arities g k e in front g k (omega arith) e); variables = none }
 
 -- marks
 marked_set : (marks : List Bool) (q p : ℕ) → q < length marks → IsMarked (set marks q true) p ↔ (IsMarked marks p ⊎ (p ≡ q))

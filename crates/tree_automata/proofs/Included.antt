@@ -1,24 +1,19 @@
 -- Sets of the states at which right sides are kept.
-use Rattle.std.proofs.Common.{◌≡◌, ◌↔◌, ℕ, ◌+◌, ◌<◌, ◌≤◌, inl, ⊎_elim, Bool, true, false, cond, nat_eq, eqb-true, List, [], ◌∷◌, ◌++◌, Option, Some, None, IfSome, refl, ap, sym, subst, ◌∙◌, arith}
+use Rattle.std.proofs.Common.{◌≡◌, ◌↔◌, ℕ, ◌+◌, ◌<◌, ◌≤◌, ◌⊎◌, inl, inr, ⊎_elim, Bool, true, false, cond, nat_eq, eqb-true, List, Option, Some, None, IfSome, refl, ap, sym, subst, ◌∙◌, arith}
 use Rattle.std.specs.HashMap.{HashMap, get}
-use Rattle.std.specs.List.Sorted.{IsStrictlyIncreasing}
 use Rattle.std.specs.Map.{lookup}
 use Rattle.std.proofs.lemmas.Bool.{cases_lt}
-use Rattle.std.proofs.lemmas.Option.{same_Some, none-some}
+use Rattle.std.proofs.lemmas.Option.{same_Some}
 use Rattle.rewriting.specs.Terms.{Term}
 use Rattle.rewriting.specs.Rules.{System}
 use Rattle.certificates.specs.Evidence.{Automaton}
 use Rattle.automata.specs.Runs.{Has}
 use Rattle.automata.specs.Closed.{Includes, state_of}
 use Rattle.automaton_runs.specs.Members.{IsIn}
-use Rattle.automaton_runs.proofs.Members.{in_left, in_right, in_cases}
 use Rattle.tree_automata.specs.StateSets.{set_at, IsSetAt}
 use Rattle.tree_automata.specs.Reached.{Reached, Grows}
 use Rattle.tree_automata.specs.Kept.{Kept, GrowsKept, AreIncluding, AreKeptAt}
-use Rattle.tree_automata.proofs.StateSets.{front_refl, front_trans, set_stays, at_number, ascending_push}
-
-pub grows_refl : (k : Kept) → GrowsKept k k
-grows_refl k = record { system = refl; automaton = refl; sets = front_refl k.sets }
+use Rattle.tree_automata.proofs.StateSets.{front_trans, set_stays, at_number}
 
 pub grows_trans : (k l m : Kept) → GrowsKept k l → GrowsKept l m → GrowsKept k m
 grows_trans k l m g h = record { system = h.system ∙ g.system; automaton = h.automaton ∙ g.automaton; sets = front_trans k.sets l.sets m.sets g.sets h.sets }
@@ -26,9 +21,6 @@ grows_trans k l m g h = record { system = h.system ∙ g.system; automaton = h.a
 -- what is kept for states
 abbrev pub AreFound : {S : Type 0} → System → Reached → HashMap ℕ ℕ S → Type 0
 AreFound sys r found = (p n : ℕ) → get nat_eq found p ≡ Some n → IsSetAt r.sets n (AreIncluding sys r.automaton p)
-
-pub none_included : {S : Type 0} (sys : System) (r : Reached) (found : HashMap ℕ ℕ S) → found.entries ≡ [] → AreFound sys r found
-none_included sys r found empty p n e = absurd (none-some n (sym (ap (lookup (nat_eq p)) empty) ∙ e))
 
 included_grows : (sys : System) (r s : Reached) (p n : ℕ) → Grows r s → IsSetAt r.sets n (AreIncluding sys r.automaton p) → IsSetAt s.sets n (AreIncluding sys s.automaton p)
 included_grows sys r s p n g h =
@@ -55,39 +47,34 @@ pub looked_up : {S : Type 0} (sys : System) (r : Reached) (found : HashMap ℕ �
 looked_up sys r found k p None same is all = tt
 looked_up sys r found k p (Some n) same is all = subst (λ (l : Kept). IsSetAt l.sets n (AreIncluding l.system l.automaton p)) same (all p n (sym is))
 
--- the states below a number that include p, in order
-pub record IsPart (sys : System) (a : Automaton) (p i : ℕ) (set : List ℕ) : Type 0 where
-  pub ascending : IsStrictlyIncreasing set
-  pub including : (q : ℕ) → IsIn q set ↔ ((q < i) × Includes sys (Has a) q p)
+-- the states below a number that include p
+abbrev pub IsPart : System → Automaton → ℕ → ℕ → List ℕ → Type 0
+IsPart sys a p i set = (q : ℕ) → IsIn q set ↔ ((q < i) × Includes sys (Has a) q p)
 
 module _ (sys : System) (a : Automaton) (p i : ℕ) (set new : List ℕ) (part : IsPart sys a p i set) where
-  pub part_more : new ≡ set ++ i ∷ [] → Includes sys (Has a) i p → IsPart sys a p (i + 1) new
-  part_more e here =
-      subst (IsPart sys a p (i + 1)) (sym e) (record { ascending = ascending_push set i part.ascending (λ k h. ((part.including k).0 h).0); including = λ q. (into q, λ (low, twins). back q low twins) })
+  pub part_more : ((q : ℕ) → IsIn q new ↔ (IsIn q set ⊎ (q ≡ i))) → Includes sys (Has a) i p → IsPart sys a p (i + 1) new
+  part_more put here q = (λ h. into ((put q).0 h), λ (low, twins). (put q).1 (back low twins))
     where
-      into : (q : ℕ) → IsIn q (set ++ i ∷ []) → (q < i + 1) × Includes sys (Has a) q p
-      into q h =
-          ⊎_elim (λ k. let b = (part.including q).0 k in let low = b.0 in (omega arith, b.1))
-          (λ k. ⊎_elim (λ (f : q ≡ i). (omega arith, subst (λ (r : ℕ). Includes sys (Has a) r p) (sym f) here)) (λ f. absurd f) k) (in_cases q set (i ∷ []) h)
+      into : IsIn q set ⊎ (q ≡ i) → (q < i + 1) × Includes sys (Has a) q p
+      into (inl k) = let b = (part q).0 k in let low = b.0 in (omega arith, b.1)
+      into (inr f) = (omega arith, subst (λ (r : ℕ). Includes sys (Has a) r p) (sym f) here)
 
-      back : (q : ℕ) → q < i + 1 → Includes sys (Has a) q p → IsIn q (set ++ i ∷ [])
-      back q low twins =
-          ⊎_elim (λ (l : q < i). in_left q set (i ∷ []) ((part.including q).1 (l, twins))) (λ (l : i ≤ q). let f : q ≡ i = omega arith in in_right q set (i ∷ []) (inl f)) (cases_lt q i)
+      back : q < i + 1 → Includes sys (Has a) q p → IsIn q set ⊎ (q ≡ i)
+      back low twins = ⊎_elim (λ (l : q < i). inl ((part q).1 (l, twins))) (λ (l : i ≤ q). let f : q ≡ i = omega arith in inr f) (cases_lt q i)
 
   pub part_same : new ≡ set → (Includes sys (Has a) i p → ⊥) → IsPart sys a p (i + 1) new
-  part_same e never =
-      subst (IsPart sys a p (i + 1)) (sym e) (record { ascending = part.ascending; including = λ q. (into q, λ (low, twins). back q low twins) })
+  part_same e never q = subst (λ (l : List ℕ). IsIn q l ↔ ((q < i + 1) × Includes sys (Has a) q p)) (sym e) (into, λ (low, twins). back low twins)
     where
-      into : (q : ℕ) → IsIn q set → (q < i + 1) × Includes sys (Has a) q p
-      into q h = let b = (part.including q).0 h in let low = b.0 in (omega arith, b.1)
+      into : IsIn q set → (q < i + 1) × Includes sys (Has a) q p
+      into h = let b = (part q).0 h in let low = b.0 in (omega arith, b.1)
 
-      back : (q : ℕ) → q < i + 1 → Includes sys (Has a) q p → IsIn q set
-      back q low twins =
-          ⊎_elim (λ (l : q < i). (part.including q).1 (l, twins))
+      back : q < i + 1 → Includes sys (Has a) q p → IsIn q set
+      back low twins =
+          ⊎_elim (λ (l : q < i). (part q).1 (l, twins))
           (λ (l : i ≤ q). let f : q ≡ i = omega arith in absurd (never (subst (λ (r : ℕ). Includes sys (Has a) r p) f twins))) (cases_lt q i)
 
 pub part_all : (sys : System) (a : Automaton) (p i : ℕ) (set : List ℕ) → IsPart sys a p i set → a.states ≡ i → AreIncluding sys a p set
-part_all sys a p i set part e q = subst (λ (n : ℕ). IsIn q set ↔ ((q < n) × Includes sys (Has a) q p)) (sym e) (part.including q)
+part_all sys a p i set part e q = subst (λ (n : ℕ). IsIn q set ↔ ((q < n) × Includes sys (Has a) q p)) (sym e) (part q)
 
 -- the set that is read by its number
 pub kept_read : (k : Kept) (sys : System) (a : Automaton) (names choice ns cs : List ℕ) (t : Term) (sets : List (List ℕ)) (n : ℕ) (set : List ℕ) → k.system ≡ sys → k.automaton ≡ a → names ≡ ns → choice ≡ cs

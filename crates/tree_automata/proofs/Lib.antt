@@ -1,5 +1,6 @@
 pub mod Lists
 pub mod Looked
+pub mod Ends
 pub mod Sets
 pub mod StateSets
 pub mod Moves

@@ -1,5 +1,5 @@
 -- How many choices there are; transitions and their twins.
-use Rattle.std.proofs.Common.{◌≡◌, ℕ, ◌+◌, ◌<◌, ◌≤◌, ◌^◌, ⊎_elim, List, length, get_or, take, false, IsTrue, Bor, ap, sym, subst, ◌∙◌, arith}
+use Rattle.std.proofs.Common.{◌≡◌, ℕ, ◌+◌, ◌<◌, ◌≤◌, ◌^◌, ⊎_elim, List, length, get_or, take, false, IsTrue, Bor, ap, sym, subst, ◌∙◌}
 use Rattle.std.specs.List.{filter}
 use Rattle.std.proofs.lemmas.Bool.{false≢true}
 use Rattle.rewriting.specs.Terms.{Term}
@@ -27,12 +27,6 @@ wide_by a t n names e l h = subst (λ (k : ℕ). 1000000 < a.states ^ k) (e ∙ 
 
 pub narrow_by : (a : Automaton) (t : Term) (n : ℕ) (names : List ℕ) → n ≡ length names → names ≡ leaves t → (1000000 < a.states ^ n → IsTrue false) → IsWide a t → ⊥
 narrow_by a t n names e l h w = false≢true (h (subst (λ (k : ℕ). 1000000 < a.states ^ k) (sym (e ∙ ap length l)) w))
-
-pub few_by : (a : Automaton) (t : Term) → (IsWide a t → ⊥) → a.states ^ length (leaves t) ≤ 1000000
-few_by a t h = go (a.states ^ length (leaves t)) h
-  where
-    go : (n : ℕ) → (1000000 < n → ⊥) → n ≤ 1000000
-    go n k = omega arith
 
 module _ (sys : System) (a : Automaton) (q p : ℕ) (refs : List (Bor cert.Transition)) (is : pointed refs ≡ filter (chosen target_key a.states p) a.transitions) (i : ℕ) where
   pub twin_missing : (x : Bor cert.Transition) → i < length refs → x ≡ get_or refs i x → IsHead sys x.now.symbol x.now.args.items → (Has a x.now.symbol x.now.args.items q → ⊥) → Includes sys (Has a) q p → ⊥

@@ -1,13 +1,9 @@
 -- Lists of numbers and lists side by side.
-use Rattle.std.proofs.Common.{◌≡◌, ◌↔◌, ℕ, zero, suc, ◌+◌, ◌<◌, ◌⊎◌, inl, inr, ⊎_elim, Bool, true, false, ◌||◌, nat_eq, eqb-true, eq-eqb, eqb, List, [], ◌∷◌, ◌++◌, length, map, get_or, take, Some, slice_get, refl, ap, sym, subst, ◌∙◌, arith}
-use Rattle.std.specs.List.{list_any, AllZip, dedup}
-use Rattle.std.specs.List.Sorted.{IsPermutation}
+use Rattle.std.proofs.Common.{◌≡◌, ℕ, zero, suc, ◌+◌, ◌<◌, ◌⊎◌, inl, inr, ⊎_elim, Bool, true, false, ◌||◌, nat_eq, eqb-true, eq-eqb, List, [], ◌∷◌, ◌++◌, length, map, get_or, take, Some, slice_get, refl, ap, sym, subst, ◌∙◌, arith}
+use Rattle.std.specs.List.{list_any, AllZip}
 use Rattle.std.proofs.lemmas.Bool.{false≢true, or_cases}
 use Rattle.std.proofs.lemmas.List.{take_more}
-use Rattle.std.proofs.lemmas.List.Kept.{Contains-dedup_nat, Contains-from_dedup}
-use Rattle.std.proofs.lemmas.List.Sorted.{IsPermutation-sym, Contains-permutation}
 use Rattle.automaton_runs.specs.Members.{IsIn}
-use Rattle.automaton_runs.proofs.Members.{contains_in, in_contains}
 
 or_first : (a b : Bool) → a ≡ true → (a || b) ≡ true
 or_first true b e = refl
@@ -26,13 +22,6 @@ in_any q [] h = absurd h
 in_any q (y ∷ ys) (inl e) = or_first (nat_eq y q) _ (eq-eqb y q (sym e))
 in_any q (y ∷ ys) (inr h) = or_second (nat_eq y q) _ (in_any q ys h)
 
--- numbers that are sorted, each once
-pub same_numbers : (old sorted new : List ℕ) → IsPermutation old sorted → new ≡ dedup eqb sorted → (q : ℕ) → IsIn q new ↔ IsIn q old
-same_numbers old sorted new moved is q = (
-  λ h. contains_in q old (Contains-permutation sorted old q (IsPermutation-sym old sorted moved) (Contains-from_dedup eqb sorted q (in_contains q (dedup eqb sorted) (subst (λ (l : List ℕ). IsIn q l) is h)))),
-  λ h. subst (λ (l : List ℕ). IsIn q l) (sym is) (contains_in q (dedup eqb sorted) (Contains-dedup_nat sorted q (Contains-permutation old sorted q moved (in_contains q old h)))),
-)
-
 zip_push : {X Y : Type 0} (R : X → Y → Type 0) (xs : List X) (ys : List Y) (x : X) (y : Y) → AllZip R xs ys → R x y → AllZip R (xs ++ x ∷ []) (ys ++ y ∷ [])
 zip_push R [] [] x y z h = (h, tt)
 zip_push R [] (d ∷ ys) x y z h = absurd z
@@ -49,11 +38,6 @@ pub mapped_at : {X Y : Type 0} (f : X → Y) (xs : List X) (i : ℕ) (x : X) →
 mapped_at f [] i x h e = absurd (omega arith)
 mapped_at f (y ∷ ys) zero x h e = ap (λ z. Some (f z)) (sym e)
 mapped_at f (y ∷ ys) (suc i) x h e = mapped_at f ys i x (omega arith) e
-
-pub mapped_within : {X Y : Type 0} (f : X → Y) (xs : List X) (i : ℕ) (y : Y) → slice_get (map f xs) i ≡ Some y → i < length xs
-mapped_within f [] i y e = absurd (cc)
-mapped_within f (x ∷ xs) zero y e = omega arith
-mapped_within f (x ∷ xs) (suc i) y e = let low = mapped_within f xs i y e in omega arith
 
 any_default : {X : Type 0} (xs : List X) (i : ℕ) (d e : X) → i < length xs → get_or xs i d ≡ get_or xs i e
 any_default [] i d e h = absurd (omega arith)
@@ -79,9 +63,3 @@ pub at_place : {X : Type 0} (xs : List X) (i : ℕ) (d : X) → i < length xs �
 at_place [] i d h = absurd (omega arith)
 at_place (y ∷ ys) zero d h = inl refl
 at_place (y ∷ ys) (suc i) d h = inr (at_place ys i d (omega arith))
-
-pub taken_map : {X Y : Type 0} (f : X → Y) (xs : List X) (i : ℕ) → map f (take i xs) ≡ take i (map f xs)
-taken_map f [] zero = refl
-taken_map f [] (suc i) = refl
-taken_map f (x ∷ xs) zero = refl
-taken_map f (x ∷ xs) (suc i) = ap (λ l. f x ∷ l) (taken_map f xs i)

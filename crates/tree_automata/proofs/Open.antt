@@ -1,7 +1,7 @@
 -- The first right side that is not kept.
 use Rattle.std.proofs.Common.{◌≡◌, ◌↔◌, ℕ, zero, suc, ◌+◌, ◌<◌, ◌≤◌, ◌⊎◌, inl, inr, ⊎_elim, List, [], ◌∷◌, ◌++◌, length, map, get_or, take, drop, Some, slice_get, refl, ap, sym, subst, ◌∙◌, append_assoc, length-append, arith}
-use Rattle.std.specs.List.{All, AllPairs, Contains, filter}
-use Rattle.std.proofs.lemmas.Bool.{cases_lt, cases_order}
+use Rattle.std.specs.List.{All, AllPairs, filter}
+use Rattle.std.proofs.lemmas.Bool.{cases_lt}
 use Rattle.std.proofs.lemmas.Option.{slice_get_within}
 use Rattle.std.proofs.lemmas.List.Elements.{All-head}
 use Rattle.rewriting.specs.Terms as math
@@ -14,15 +14,15 @@ use Rattle.automata.specs.Closed.{IsChoice, state_of, Includes, IsRuleKept, IsCl
 use Rattle.automaton_runs.specs.Arrivals.{IsArrivalBefore, AreArrivals, spread}
 use Rattle.automaton_runs.specs.Members.{IsIn}
 use Rattle.automaton_runs.specs.Counting.{chosen, target_key}
-use Rattle.automaton_runs.proofs.Members.{contains_in, in_contains, in_left, in_right, in_cases, in_map, in_map_back, in_flat, in_flat_back}
+use Rattle.automaton_runs.proofs.Members.{contains_in, in_contains, in_right, in_cases, in_map, in_map_back, in_flat, in_flat_back}
 use Rattle.automaton_runs.proofs.Twins.{all_of}
 use Rattle.automaton_runs.specs.Tables.{choice_at, set_at}
-use Rattle.tree_automata.specs.StateSets.{IsFirstMissing, Meets}
+use Rattle.tree_automata.specs.StateSets.{IsLacking, Meets}
 use Rattle.tree_automata.specs.Kept.{AreKeptAt}
 use Rattle.tree_automata.specs.Open.{IsRuleClosed, IsOpenAt, IsOneMet, AreKept, HaveTwins}
-use Rattle.std.proofs.Math.Seq.{split_at, take-append_seam}
+use Rattle.std.proofs.Math.Seq.{split_at}
 use Rattle.std.proofs.lemmas.Grind.{flat_map-append}
-use Rattle.std.proofs.lemmas.List.{length-map, map-append}
+use Rattle.std.proofs.lemmas.List.{length-map, get_or_append_left}
 use Rattle.rewriting.specs.Systems.{AreRules, IsRule, IsSystem}
 use Rattle.term_core.specs.RuleView.{rule_view}
 use Rattle.term_core.specs.declared.systems.Rule as data_rule
@@ -51,33 +51,6 @@ row_asym cs ds p q (inl a) (inr (e, b)) = let same : IsBefore cs cs = subst (λ 
 row_asym cs ds p q (inr (e, a)) (inl b) = let same : IsBefore ds ds = subst (λ (l : List ℕ). IsBefore ds l) e b in before_asym ds ds same same
 row_asym cs ds p q (inr (e, a)) (inr (f, b)) = omega arith
 
-in_take : (rows : List Row) (i j : ℕ) (x : Row) → j < i → j < length rows → get_or rows j x ≡ x → IsIn x (take i rows)
-in_take [] i j x l h e = absurd (omega arith)
-in_take (r ∷ rows) zero j x l h e = absurd (omega arith)
-in_take (r ∷ rows) (suc i) zero x l h e = inl (sym e)
-in_take (r ∷ rows) (suc i) (suc j) x l h e = inr (in_take rows i j x (omega arith) (omega arith) e)
-
-get_any : (xs : List Row) (k : ℕ) (a b : Row) → k < length xs → get_or xs k a ≡ get_or xs k b
-get_any [] k a b h = absurd (omega arith)
-get_any (z ∷ zs) zero a b h = refl
-get_any (z ∷ zs) (suc k) a b h = get_any zs k a b (omega arith)
-
--- in a list in order, what is before the element at a place stands in the front
-pub before_place : (rows : List Row) (i : ℕ) (x y : Row) → AllPairs IsArrivalBefore rows → i < length rows → y ≡ get_or rows i y → Contains rows x → IsArrivalBefore x y → IsIn x (take i rows)
-before_place rows i x y sorted inside is (j, low, at) before = go (cases_order j i)
-  where
-    go : (j ≡ i) ⊎ ((j < i) ⊎ (i < j)) → IsIn x (take i rows)
-    go (inl e) =
-        let here : get_or rows i x ≡ x = subst (λ (k : ℕ). get_or rows k x ≡ x) e at in
-        let same : y ≡ x = is ∙ get_any rows i y x inside ∙ here in
-        absurd (row_asym x.0 y.0 x.1 y.1 before (subst (λ (z : Row). IsArrivalBefore z x) (sym same) (subst (λ (z : Row). IsArrivalBefore x z) same before)))
-    go (inr (inl l)) = in_take rows i j x l low at
-    go (inr (inr l)) =
-        let after = sorted i j x l low in
-        let back : IsArrivalBefore (get_or rows i x) x = subst (λ (z : Row). IsArrivalBefore (get_or rows i x) z) at after in
-        let same : get_or rows i x ≡ y = get_any rows i x y inside ∙ sym is in
-        absurd (row_asym x.0 y.0 x.1 y.1 before (subst (λ (z : Row). IsArrivalBefore z x) same back))
-
 reached_state : (a : Automaton) (t : math.Term) (cs : List ℕ) (q : ℕ) → IsChoice a.states t cs → ReachBy (Has a) t cs q → q < a.states
 reached_state a (math.var x) cs q choice r = All-head (λ p. p < a.states) q [] (subst (All (λ p. p < a.states)) r choice.states)
 reached_state a (math.app f ts) cs q choice (qs, has, r) = has.target
@@ -92,15 +65,26 @@ from_spread found cs q h =
     let m = in_map_back (λ (p : ℕ). (b.0.0, p)) (cs, q) b.0.1 b.2 in
     (b.0, b.1, ap (λ (x : Row). x.0) m.2, subst (λ (p : ℕ). IsIn p b.0.1) (sym (ap (λ (x : Row). x.1) m.2)) m.1)
 
-place_of : (A B : List Row) (y d : Row) → get_or (A ++ y ∷ B) (length A) d ≡ y
-place_of [] B y d = refl
-place_of (x ∷ A) B y d = place_of A B y d
+get_any : (xs : List Row) (k : ℕ) (a b : Row) → k < length xs → get_or xs k a ≡ get_or xs k b
+get_any [] k a b h = absurd (omega arith)
+get_any (z ∷ zs) zero a b h = refl
+get_any (z ∷ zs) (suc k) a b h = get_any zs k a b (omega arith)
 
--- in a list in order, what is before an element stands in the front
-before_split : (A B : List Row) (x y : Row) → AllPairs IsArrivalBefore (A ++ y ∷ B) → Contains (A ++ y ∷ B) x → IsArrivalBefore x y → IsIn x A
-before_split A B x y sorted there before =
-    let inside : length A < length (A ++ y ∷ B) = omega (arith, length-append A (y ∷ B)) in
-    subst (λ (l : List Row). IsIn x l) (take-append_seam A (y ∷ B)) (before_place (A ++ y ∷ B) (length A) x y sorted inside (sym (place_of A B y y)) there before)
+at_right : (xs ys : List Row) (j : ℕ) (d : Row) → get_or (xs ++ ys) (length xs + j) d ≡ get_or ys j d
+at_right [] ys j d = ap (λ (k : ℕ). get_or ys k d) (let e : 0 + j ≡ j = omega arith in e)
+at_right (x ∷ xs) ys j d = ap (λ (k : ℕ). get_or (x ∷ xs ++ ys) k d) (let e : suc (length xs) + j ≡ suc (length xs + j) = omega arith in e) ∙ at_right xs ys j d
+
+-- in a list in order, what stands in the front is before what stands behind it
+before_behind : (xs ys : List Row) (x y : Row) → AllPairs IsArrivalBefore (xs ++ ys) → IsIn x xs → IsIn y ys → IsArrivalBefore x y
+before_behind xs ys x y sorted h k =
+    let a = in_contains x xs h in
+    let b = in_contains y ys k in
+    let low = a.1 in
+    let under = b.1 in
+    let long = length-append xs ys in
+    subst (λ (z : Row). IsArrivalBefore x z) (at_right xs ys b.0 y ∙ b.2)
+    (subst (λ (z : Row). IsArrivalBefore z (get_or (xs ++ ys) (length xs + b.0) y)) (get_or_append_left xs ys y a.0 low ∙ get_any xs a.0 y x low ∙ a.2)
+    (sorted a.0 (length xs + b.0) y (omega arith) (omega arith)))
 
 module _ (sys : System) (a : Automaton) (r : Rule) (found : List Found) (all : AreArrivals a r.left (spread found)) where
   -- the right side is kept by a row's choice at those of its states that are in the set
@@ -126,38 +110,52 @@ module _ (sys : System) (a : Automaton) (r : Rule) (found : List Found) (all : A
 
   -- the first state of a row at which the right side is not kept
   pub open_here : (i : ℕ) (set : List ℕ) (q : ℕ) → i < length found → AreKept sys a r (spread (take i found)) → AreKeptAt sys a (state_of (leaves r.left) (choice_at found i)) r.right set
-      → IsFirstMissing (set_at found i) set q → IsOpenAt sys a r (choice_at found i) q
+      → IsLacking (set_at found i) set q → IsOpenAt sys a r (choice_at found i) q
   open_here i set q inside front kept first =
-      let cs = choice_at found i in
-      let A = spread (take i found) ++ map (λ (p : ℕ). (cs, p)) first.before in
-      let B = map (λ (p : ℕ). (cs, p)) first.after ++ spread (drop (suc i) found) in
-      let within = λ (p : ℕ) (h : IsIn p first.before). (kept_there i set inside kept p (subst (λ (l : List ℕ). IsIn p l) (sym first.split) (in_left p first.before (q ∷ first.after) h))).0 (first.within p h) in
-      let itself : IsIn q (set_at found i) = subst (λ (l : List ℕ). IsIn q l) (sym first.split) (in_right q first.before (q ∷ first.after) (inl refl)) in
-      let there = all.each cs q (in_contains {X = Row} (cs, q) (spread found) (in_spread found (get_or found i ([], [])) q (at_place found i ([], []) inside) itself)) in
+      let there = all.each cs q (in_contains {X = Row} (cs, q) (spread found) (in_spread found (get_or found i ([], [])) q (at_place found i ([], []) inside) first.inside)) in
       record {
         choice = there.0;
         reached = there.1;
-        fails = λ k. first.missing ((kept_there i set inside kept q itself).1 k);
+        fails = λ k. first.lacking ((kept_there i set inside kept q first.inside).1 k);
         earlier = λ ds p choice reach before.
-            early front within ds p (in_cases {X = Row} (ds, p) (spread (take i found)) (map (λ (s : ℕ). (cs, s)) first.before)
-            (before_split A B (ds, p) (cs, q) (subst (AllPairs IsArrivalBefore) (parts i q inside first.before first.after first.split) all.sorted)
-            (subst (λ (l : List Row). Contains l (ds, p)) (parts i q inside first.before first.after first.split) (all.complete ds p choice reach)) before));
+            early ds p before (in_cases {X = Row} (ds, p) (front_rows ++ here) behind (subst (λ (l : List Row). IsIn {X = Row} (ds, p) l) parts (contains_in {X = Row} (ds, p) (spread found) (all.complete ds p choice reach))));
       }
     where
-      early : AreKept sys a r (spread (take i found)) → ((p : ℕ) → IsIn p first.before → IsRuleKept sys (Has a) r (choice_at found i) p) → (ds : List ℕ) (p : ℕ)
-          → IsIn {X = Row} (ds, p) (spread (take i found)) ⊎ IsIn {X = Row} (ds, p) (map (λ (s : ℕ). (choice_at found i, s)) first.before) → IsRuleKept sys (Has a) r ds p
-      early front within ds p (inl h) = front ds p h
-      early front within ds p (inr h) =
-          let m = in_map_back (λ (s : ℕ). (choice_at found i, s)) (ds, p) first.before h in
-          subst (λ (x : Row). IsRuleKept sys (Has a) r x.0 x.1) (sym m.2) (within m.0 m.1)
+      cs : List ℕ
+      cs = choice_at found i
 
-      parts : (i q : ℕ) → i < length found → (before after : List ℕ) → set_at found i ≡ before ++ q ∷ after
-          → spread found ≡ (spread (take i found) ++ map (λ (p : ℕ). (choice_at found i, p)) before) ++ (choice_at found i, q) ∷ (map (λ (p : ℕ). (choice_at found i, p)) after ++ spread (drop (suc i) found))
-      parts i q inside before after split =
+      front_rows : List Row
+      front_rows = spread (take i found)
+
+      here : List Row
+      here = map (λ (p : ℕ). (cs, p)) (set_at found i)
+
+      behind : List Row
+      behind = spread (drop (suc i) found)
+
+      parts : spread found ≡ (front_rows ++ here) ++ behind
+      parts =
           ap spread (split_at found i ([], []) inside) ∙ flat_map-append (λ (x : Found). map (λ (p : ℕ). (x.0, p)) x.1) (take i found) (get_or found i ([], []) ∷ drop (suc i) found)
-          ∙ ap (λ (l : List ℕ). spread (take i found) ++ (map (λ (p : ℕ). (choice_at found i, p)) l ++ spread (drop (suc i) found))) split
-          ∙ ap (λ (l : List Row). spread (take i found) ++ (l ++ spread (drop (suc i) found))) (map-append (λ (p : ℕ). (choice_at found i, p)) before (q ∷ after))
-          ∙ simp append_assoc
+          ∙ sym (append_assoc front_rows here behind)
+
+      itself : IsIn {X = Row} (cs, q) here
+      itself = in_map (λ (p : ℕ). (cs, p)) q (set_at found i) first.inside
+
+      -- of one choice, the state is before q
+      below : (p : ℕ) → IsIn p (set_at found i) → IsArrivalBefore (cs, p) (cs, q) → IsRuleKept sys (Has a) r cs p
+      below p h (inl l) = absurd (before_asym cs cs l l)
+      below p h (inr l) = (kept_there i set inside kept p h).0 (first.earlier p h l.1)
+
+      early : (ds : List ℕ) (p : ℕ) → IsArrivalBefore (ds, p) (cs, q) → IsIn {X = Row} (ds, p) (front_rows ++ here) ⊎ IsIn {X = Row} (ds, p) behind → IsRuleKept sys (Has a) r ds p
+      early ds p before (inr h) =
+          absurd
+          (row_asym ds cs p q before
+          (before_behind (front_rows ++ here) behind (cs, q) (ds, p) (subst (AllPairs IsArrivalBefore) parts all.sorted) (in_right {X = Row} (cs, q) front_rows here itself) h))
+      early ds p before (inl h) =
+          ⊎_elim (λ k. front ds p k)
+          (λ k.
+          let m = in_map_back (λ (s : ℕ). (cs, s)) (ds, p) (set_at found i) k in
+          subst (λ (x : Row). IsRuleKept sys (Has a) r x.0 x.1) (sym m.2) (below m.0 m.1 (subst (λ (x : Row). IsArrivalBefore x (cs, q)) m.2 before))) (in_cases {X = Row} (ds, p) front_rows here h)
 
 module _ (P : Rule → Type 0) where
   pub each_more : (rs : List Rule) (i : ℕ) (r : Rule) → slice_get rs i ≡ Some r → P r → ((k : ℕ) (q : Rule) → k < i → slice_get rs k ≡ Some q → P q)

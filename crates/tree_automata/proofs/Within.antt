@@ -1,34 +1,22 @@
 -- Sets of states that were found within others.
 use Rattle.std.proofs.Common.{◌≡◌, ℕ, ◌<◌, Bool, true, false, ◌&&◌, cond, nat_eq, eqb-true, IsTrue, is_some, not, Option, None, Some, List, [], length, refl, ap, sym, subst, ◌∙◌}
-use Rattle.std.specs.List.{list_any}
 use Rattle.std.specs.HashSet.{HashSet, contains}
 use Rattle.std.proofs.lemmas.Bool.{false≢true}
 use Rattle.std.proofs.lemmas.Option.{slice_get-get_or}
 use Rattle.automaton_runs.specs.Tables.{set_at as row_set}
-use Rattle.tree_automata.specs.StateSets.{IsFront, set_at, IsSetAt, AreWithin, MissingAnswers, same_pair, AreFoundWithin}
-use Rattle.tree_automata.proofs.StateSets.{set_stays, at_number}
+use Rattle.tree_automata.specs.StateSets.{set_at, IsSetAt, AreWithin, LackingAnswers, same_pair, AreFoundWithin}
+use Rattle.tree_automata.proofs.StateSets.{at_number}
 
 both : (a b : Bool) → a && b ≡ true → (a ≡ true) × (b ≡ true)
 both true b e = (refl, e)
 both false b e = absurd (false≢true e)
 
--- no state is missing
-pub none_missing : (states set row_states numbered : List ℕ) (o : Option ℕ) (b : Bool) → is_some o ≡ not b → b ≡ true → states ≡ row_states → set ≡ numbered → MissingAnswers states set o → AreWithin numbered row_states
-none_missing states set row_states numbered None b e f s t h = subst (λ (ks : List ℕ). AreWithin ks row_states) t (subst (AreWithin set) s h)
-none_missing states set row_states numbered (Some q) b e f s t h = absurd (false≢true (sym (e ∙ ap not f)))
+-- no state is lacking
+pub none_lacking : (states set row_states numbered : List ℕ) (o : Option ℕ) (b : Bool) → is_some o ≡ not b → b ≡ true → states ≡ row_states → set ≡ numbered → LackingAnswers states set o → AreWithin numbered row_states
+none_lacking states set row_states numbered None b e f s t h = subst (λ (ks : List ℕ). AreWithin ks row_states) t (subst (AreWithin set) s h)
+none_lacking states set row_states numbered (Some q) b e f s t h = absurd (false≢true (sym (e ∙ ap not f)))
 
 module _ {S : Type 0} (rows : List (List ℕ × List ℕ)) where
-  pub none_within : (sets : List (List ℕ)) (found : HashSet (ℕ × ℕ) S) → found.keys ≡ [] → AreFoundWithin rows sets found
-  none_within sets found empty row n h = absurd (false≢true (subst (λ (ks : List (ℕ × ℕ)). IsTrue (list_any (same_pair (row, n)) ks)) empty h))
-
-  -- sets keep their numbers
-  pub within_stays : (old new : List (List ℕ)) (found : HashSet (ℕ × ℕ) S) → IsFront old new → AreFoundWithin rows old found → AreFoundWithin rows new found
-  within_stays old new found front all row n h = set_stays old new front n (λ set. AreWithin set (row_set rows row)) (all row n h)
-
-  -- the same pairs
-  pub within_same : (sets : List (List ℕ)) (old new : HashSet (ℕ × ℕ) S) → new.keys ≡ old.keys → AreFoundWithin rows sets old → AreFoundWithin rows sets new
-  within_same sets old new same all row n h = all row n (subst (λ (ks : List (ℕ × ℕ)). IsTrue (list_any (same_pair (row, n)) ks)) same h)
-
   -- what was found for a row with the same states
   pub within_known : (sets : List (List ℕ)) (found : HashSet (ℕ × ℕ) S) (row other n : ℕ) → AreFoundWithin rows sets found → row_set rows other ≡ row_set rows row → IsTrue (contains same_pair found (other, n))
       → AreWithin (set_at sets n) (row_set rows row)

@@ -1,6 +1,5 @@
 pub mod States
 pub mod StateSets
-pub mod StateSetsView
 pub mod Reached
 pub mod ReachedView
 pub mod Kept

@@ -1,13 +1,10 @@
 -- Sets of states with numbers.
-use Rattle.std.specs.Prelude.{ℕ, ◌≡◌, ◌<◌, Bool, ◌&&◌, nat_eq, IsTrue, List, [], ◌∷◌, ◌++◌, Option, None, Some, map, slice_get, get_or}
-use Rattle.std.specs.List.Sorted.{IsStrictlyIncreasing}
+use Rattle.std.specs.Prelude.{ℕ, ◌≡◌, ◌<◌, Bool, ◌&&◌, nat_eq, IsTrue, List, [], Some, map, slice_get, get_or}
 use Rattle.std.specs.HashSet.{HashSet, contains}
 use Rattle.automaton_runs.specs.Members.{IsIn}
 use Rattle.automaton_runs.specs.Tables.{set_at as row_set}
-
--- the second list begins with the first
-abbrev pub IsFront : {X : Type 0} → List X → List X → Type 0
-IsFront {X} xs ys = (rest : List X) × (ys ≡ xs ++ rest)
+pub use Rattle.number_sets.specs.Members.{IsFront}
+pub use Rattle.number_sets.specs.Sets.{Meets, LackingAnswers, IsLacking}
 
 -- the set with a number, and those with some numbers
 abbrev pub set_at : List (List ℕ) → ℕ → List ℕ
@@ -20,10 +17,6 @@ sets_at sets ns = map (set_at sets) ns
 abbrev pub IsSetAt : List (List ℕ) → ℕ → (List ℕ → Type 0) → Type 0
 IsSetAt sets n P = (set : List ℕ) × (slice_get sets n ≡ Some set) × P set
 
--- the states of each set are in order
-abbrev pub AreAscending : List (List ℕ) → Type 0
-AreAscending sets = (set : List ℕ) → IsIn set sets → IsStrictlyIncreasing set
-
 -- each number is below n
 abbrev pub AreBelow : ℕ → List ℕ → Type 0
 AreBelow n ns = (k : ℕ) → IsIn k ns → k < n
@@ -32,25 +25,9 @@ AreBelow n ns = (k : ℕ) → IsIn k ns → k < n
 abbrev pub AreWithin : List ℕ → List ℕ → Type 0
 AreWithin set states = (q : ℕ) → IsIn q states → IsIn q set
 
--- the first of some states that is not in the set
-pub record IsFirstMissing (states set : List ℕ) (q : ℕ) : Type 0 where
-  pub before : List ℕ
-  pub after : List ℕ
-  pub split : states ≡ before ++ q ∷ after
-  pub within : AreWithin set before
-  pub missing : IsIn q set → ⊥
-
-abbrev pub MissingAnswers : List ℕ → List ℕ → Option ℕ → Type 0
-MissingAnswers states set None = AreWithin set states
-MissingAnswers states set (Some q) = IsFirstMissing states set q
-
 -- whether two pairs are equal
 abbrev pub same_pair : ℕ × ℕ → ℕ × ℕ → Bool
 same_pair x y = nat_eq x.0 y.0 && nat_eq x.1 y.1
-
--- one of some states is in the set
-abbrev pub Meets : List ℕ → List ℕ → Type 0
-Meets states set = (q : ℕ) × IsIn q states × IsIn q set
 
 -- each pair has a row and the number of a set such that the row is within the set
 abbrev pub AreFoundWithin : {S : Type 0} → List (List ℕ × List ℕ) → List (List ℕ) → HashSet (ℕ × ℕ) S → Type 0

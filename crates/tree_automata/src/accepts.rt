@@ -1,4 +1,5 @@
 ghost use Rattle.std.specs.Prelude.{◌≡◌, ◌↔◌, ◌<◌, ℕ, [], None, Some, length, replicate, IfOk, OnOk, IsTrue};
+ghost use Rattle.number_sets.specs.Sets.{members};
 ghost use Rattle.rewriting.specs.Terms as math;
 ghost use Rattle.certificates.specs.Evidence as evidence;
 ghost use Rattle.automata.specs.Runs.{Has, RunsFrom0};
@@ -12,6 +13,7 @@ ghost use Rattle.tree_automata.specs.Accepts.{AreMarked, IsMarked, IsOneAcceptin
 use crate::reached::ReachedSets;
 use automaton_runs::AutomatonIndex;
 use cert_model::Automaton;
+use number_sets::NumberSet;
 use std::alloc::Global;
 use term_core::{NoMemory, System, Term};
 
@@ -55,11 +57,11 @@ pub(crate) fn accepts_all(index: &AutomatonIndex<'_>, sys: &System) -> bool
 }
 
 // Whether one of the states is accepting.
-fn is_one_accepting(states: &[u32], a: &Automaton) -> bool
-    ensures { IsTrue result ↔ IsOneAccepting (automaton_view a.now) states.now }
+fn is_one_accepting(states: &NumberSet, a: &Automaton) -> bool
+    ensures { IsTrue result ↔ IsOneAccepting (automaton_view a.now) (members states.now) }
 {
-    for q in states {
-        if *q < a.states && a.accepting.contains(q) {
+    for q in &a.accepting {
+        if *q < a.states && states.has(*q) {
             return true;
         }
     }
@@ -115,7 +117,7 @@ impl Runs for Automaton {
         let mut reached = ReachedSets::new(alloc, &index);
         let number = reached.number_of(alloc, &[], &[], t)?;
         let states = reached.set(number);
-        mark_all(states, out);
+        mark_all(&states.numbers(alloc)?, out);
         Ok(is_one_accepting(states, self))
     }
 }

@@ -9,12 +9,11 @@ ghost use Rattle.cert_model.specs.EvidenceView.{automaton_view};
 ghost use Rattle.refuter.specs.Answers.{RefutesAnswers};
 ghost use Rattle.automaton_runs.specs.Arrivals.{AreArrivals, spread};
 ghost use Rattle.automaton_runs.specs.Tables.{set_at as row_set};
-ghost use Rattle.tree_automata.specs.StateSets.{set_at, MissingAnswers, AreFoundWithin};
+ghost use Rattle.tree_automata.specs.StateSets.{set_at, LackingAnswers, AreFoundWithin};
 ghost use Rattle.tree_automata.specs.Kept.{GrowsKept};
 ghost use Rattle.tree_automata.specs.Open.{OpenAnswers, IsOpenJudged};
 
 use crate::kept::KeptSets;
-use crate::state_sets::first_missing;
 use crate::width::judge_widths;
 use automaton_runs::{Arrival, AutomatonIndex, StatesByChoice, occurrences, states_by_choice};
 use cert_model::{Automaton, EvidenceReason};
@@ -36,13 +35,13 @@ fn first_outside(
     requires number { number < length kept.now.sets }
     requires found { AreFoundWithin rows.now kept.now.sets found.old }
     ensures found { AreFoundWithin rows.now kept.now.sets found.new }
-    ensures missing { IfOk result (MissingAnswers (row_set rows.now row) (set_at kept.now.sets number)) }
+    ensures missing { IfOk result (LackingAnswers (row_set rows.now row) (set_at kept.now.sets number)) }
 {
     let pair = (rows.set(row), number);
     if found.contains(&pair) {
         return Ok(None);
     }
-    let missing = first_missing(rows.states(row), kept.set(number));
+    let missing = rows.states(row).first_lacking(kept.set(number));
     if missing.is_none() {
         found.insert(pair)?;
     }

@@ -1,5 +1,5 @@
 ghost use Rattle.std.specs.Prelude.{◌≡◌, ◌↔◌, ℕ, IfOk, IsTrue};
-ghost use Rattle.std.specs.List.Sorted.{IsStrictlyIncreasing};
+ghost use Rattle.number_sets.specs.Sets.{members};
 ghost use Rattle.rewriting.specs.Terms as math;
 ghost use Rattle.automata.specs.Evidence.{IsExclusionJudged};
 ghost use Rattle.term_core.specs.View.{view};
@@ -9,47 +9,33 @@ ghost use Rattle.automaton_runs.specs.Members.{IsIn};
 ghost use Rattle.tree_automata.specs.StateSets.{Meets};
 ghost use Rattle.tree_automata.specs.Open.{IsOneMet};
 
-use crate::state_sets::has;
-use crate::states::keep_once;
 use crate::width::MAX_CHOICES;
 use automaton_runs::{
     AutomatonIndex, StatesByChoice, has_more_choices, occurrences, states_by_choice,
 };
 use cert_model::{Automaton, EvidenceReason};
+use number_sets::NumberSet;
 use refuter::Refusal;
 use std::alloc::Global;
 use term_core::{NoMemory, Term};
 
-// The numbers in order, each once.
-fn in_order(alloc: Global, numbers: &[u32]) -> Result<Vec<u32>, NoMemory>
-    ensures same { IfOk result (λ set. (q : ℕ) → IsIn q set.items ↔ IsIn q numbers.now) }
-    ensures ascending { IfOk result (λ set. IsStrictlyIncreasing set.items) }
+// The set of some numbers.
+fn set_of(alloc: Global, numbers: &[u32]) -> Result<NumberSet, NoMemory>
+    ensures { IfOk result (λ set. (q : ℕ) → IsIn q (members set) ↔ IsIn q numbers.now) }
 {
-    let mut set = Vec::from_slice(alloc, numbers)?;
-    keep_once(&mut set)?;
+    let mut set = NumberSet::new(alloc);
+    for number in numbers {
+        set.insert(*number)?;
+    }
     Ok(set)
 }
 
-// Whether one of the states is in the set.
-fn meets(states: &[u32], set: &[u32]) -> bool
-    requires { IsStrictlyIncreasing set.now }
-    ensures { IsTrue result ↔ Meets states.now set.now }
-{
-    for state in states {
-        if has(set, *state) {
-            return true;
-        }
-    }
-    false
-}
-
 // Whether a row has a state in the set.
-fn is_one_met(rows: &StatesByChoice, set: &[u32]) -> bool
-    requires { IsStrictlyIncreasing set.now }
-    ensures { IsTrue result ↔ IsOneMet rows.now set.now }
+fn is_one_met(rows: &StatesByChoice, set: &NumberSet) -> bool
+    ensures { IsTrue result ↔ IsOneMet rows.now (members set.now) }
 {
     for row in 0..rows.len() {
-        if meets(rows.states(row), set) {
+        if rows.states(row).meets(set) {
             return true;
         }
     }
@@ -68,7 +54,7 @@ pub fn excludes(alloc: Global, a: &Automaton, t: &Term) -> Result<(), Refusal>
     }
     let index = AutomatonIndex::new(alloc, a)?;
     let rows = states_by_choice(alloc, &index, t)?;
-    let accepting = in_order(alloc, &a.accepting)?;
+    let accepting = set_of(alloc, &a.accepting)?;
     if is_one_met(&rows, &accepting) {
         return Err(Refusal::Reason(EvidenceReason::AutoReaches));
     }

@@ -1,5 +1,5 @@
 ghost use Rattle.std.specs.Prelude.{◌≡◌, Some, IfOk, IfSome, slice_get};
-ghost use Rattle.std.specs.List.Sorted.{IsStrictlyIncreasing};
+ghost use Rattle.number_sets.specs.Sets.{members};
 ghost use Rattle.automata.specs.Closed.{state_of};
 ghost use Rattle.term_core.specs.View.{view};
 ghost use Rattle.tree_automata.specs.StateSets.{set_at, IsSetAt};
@@ -10,6 +10,7 @@ use crate::reached::ReachedSets;
 use crate::sides::including;
 use crate::states::state_at;
 use automaton_runs::AutomatonIndex;
+use number_sets::NumberSet;
 use std::alloc::Global;
 use std::collections::HashMap;
 use std::marker::Model;
@@ -56,9 +57,8 @@ impl<'i, 'a> KeptSets<'i, 'a> {
     }
 
     // The states in the set with a number.
-    pub(crate) fn set(&self, number: u32) -> &[u32]
-        ensures value { result.now ≡ set_at self.now.sets number }
-        ensures ascending { IsStrictlyIncreasing result.now }
+    pub(crate) fn set(&self, number: u32) -> &NumberSet
+        ensures { members result.now ≡ set_at self.now.sets number }
     {
         self.reached.set(number)
     }
@@ -70,11 +70,10 @@ impl<'i, 'a> KeptSets<'i, 'a> {
     }
 
     // Keeps the set of the states that include p.
-    fn keep(&mut self, p: u32, set: Vec<u32>) -> Result<u32, NoMemory>
-        requires ascending { IsStrictlyIncreasing set.items }
-        requires including { AreIncluding self.old.system self.old.automaton p set.items }
+    fn keep(&mut self, p: u32, set: NumberSet) -> Result<u32, NoMemory>
+        requires { AreIncluding self.old.system self.old.automaton p (members set) }
         ensures more { GrowsKept self.old self.new }
-        ensures place { IfOk result (λ n. slice_get self.new.sets n ≡ Some set.items) }
+        ensures place { IfOk result (λ n. slice_get self.new.sets n ≡ Some (members set)) }
     {
         let number = self.reached.number(set)?;
         self.including.insert(p, number)?;

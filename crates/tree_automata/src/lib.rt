@@ -8,7 +8,6 @@ mod exclusion;
 mod kept;
 mod reached;
 mod sides;
-mod state_sets;
 mod states;
 #[cfg(test)]
 mod tests;

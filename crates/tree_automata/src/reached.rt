@@ -1,14 +1,14 @@
-ghost use Rattle.std.specs.Prelude.{◌≡◌, Some, IfOk, IfSome, OnOk, length, slice_get, [], map};
-ghost use Rattle.std.specs.List.Sorted.{IsStrictlyIncreasing};
+ghost use Rattle.std.specs.Prelude.{◌≡◌, ◌++◌, ◌∷◌, Some, IfOk, IfSome, length, slice_get, [], map};
+ghost use Rattle.number_sets.specs.Sets.{members};
 ghost use Rattle.automata.specs.Closed.{state_of};
 ghost use Rattle.term_core.specs.View.{view};
-ghost use Rattle.tree_automata.specs.StateSets.{set_at, sets_at, IsSetAt, AreBelow, AreAscending};
+ghost use Rattle.tree_automata.specs.StateSets.{set_at, sets_at, IsSetAt, AreBelow};
 ghost use Rattle.tree_automata.specs.Reached.{Grows, AreReachedThrough, AreMoved, AreNumbered};
-ghost use Rattle.tree_automata.specs.States.{AreStatesOf, spans};
+ghost use Rattle.tree_automata.specs.States.{AreStatesOf, AreEnds};
 
-use crate::state_sets::StateSets;
-use crate::states::{alone, reached_through, state_at};
+use crate::states::{constant_states, ends_after, state_at};
 use automaton_runs::AutomatonIndex;
+use number_sets::{NumberRelation, NumberSet, NumberedSets};
 use std::alloc::Global;
 use std::collections::HashMap;
 use std::marker::Model;
@@ -25,8 +25,10 @@ pub(crate) struct Move {
 #[derive(Drop)]
 pub(crate) struct ReachedSets<'i, 'a> {
     index: &'i AutomatonIndex<'a>,
-    sets: StateSets,
+    sets: NumberedSets,
     moves: HashMap<Move, u32>,
+    // By a symbol with the sets of all arguments but the last: where it leads by the last.
+    ends: HashMap<Move, NumberRelation>,
 }
 
 impl<'i, 'a> Model for ReachedSets<'i, 'a> {
@@ -34,11 +36,11 @@ impl<'i, 'a> Model for ReachedSets<'i, 'a> {
 
     ghost Value = { Reached };
 
-    ghost use Rattle.tree_automata.specs.ReachedView.{reached_view, AreMovesFound};
+    ghost use Rattle.tree_automata.specs.ReachedView.{reached_view, AreAllFound};
 
     ghost view = { reached_view };
 
-    ghost invariant = { AreMovesFound };
+    ghost invariant = { AreAllFound };
 }
 
 impl<'i, 'a> ReachedSets<'i, 'a> {
@@ -48,8 +50,9 @@ impl<'i, 'a> ReachedSets<'i, 'a> {
     {
         ReachedSets {
             index,
-            sets: StateSets::new(alloc),
+            sets: NumberedSets::new(alloc),
             moves: HashMap::new(alloc),
+            ends: HashMap::new(alloc),
         }
     }
 
@@ -60,18 +63,16 @@ impl<'i, 'a> ReachedSets<'i, 'a> {
     }
 
     // The states in the set with a number.
-    pub(crate) fn set(&self, number: u32) -> &[u32]
-        ensures value { result.now ≡ set_at self.now.sets number }
-        ensures ascending { IsStrictlyIncreasing result.now }
+    pub(crate) fn set(&self, number: u32) -> &NumberSet
+        ensures { members result.now ≡ set_at self.now.sets number }
     {
         self.sets.set(number)
     }
 
     // The number of a set.
-    pub(crate) fn number(&mut self, set: Vec<u32>) -> Result<u32, NoMemory>
-        requires { IsStrictlyIncreasing set.items }
+    pub(crate) fn number(&mut self, set: NumberSet) -> Result<u32, NoMemory>
         ensures more { Grows self.old self.new }
-        ensures place { IfOk result (λ n. slice_get self.new.sets n ≡ Some set.items) }
+        ensures place { IfOk result (λ n. slice_get self.new.sets n ≡ Some (members set)) }
     {
         self.sets.number(set)
     }
@@ -82,25 +83,58 @@ impl<'i, 'a> ReachedSets<'i, 'a> {
         self.moves.get(step).copied()
     }
 
-    // The states that the symbol reaches from the sets.
-    fn found(&self, alloc: Global, step: &Move) -> Result<Vec<u32>, NoMemory>
-        ensures reached { IfOk result (λ states. AreReachedThrough self.now.automaton step.now.symbol (sets_at self.now.sets step.now.args.items) states.items) }
-        ensures ascending { IfOk result (λ states. IsStrictlyIncreasing states.items) }
+    // Where the symbol leads from the sets, by one more argument.
+    fn ends_of(&self, alloc: Global, start: &Move) -> Result<NumberRelation, NoMemory>
+        ensures { IfOk result (λ ends. AreEnds self.now.automaton start.now.symbol (sets_at self.now.sets start.now.args.items) ends) }
     {
-        let mut sets = Vec::with_capacity(alloc, step.args.len())?;
-        for number in &step.args {
+        let mut sets = Vec::with_capacity(alloc, start.args.len())?;
+        for number in &start.args {
             sets.push(self.set(*number))?;
         }
-        reached_through(alloc, self.index, step.symbol, &sets)
+        ends_after(alloc, self.index, start.symbol, &sets)
+    }
+
+    // The states that the symbol reaches from the sets and a last one.
+    fn end(&mut self, alloc: Global, start: Move, last: u32) -> Result<NumberSet, NoMemory>
+        requires { AreBelow (length self.old.sets) start.args.items }
+        ensures same { self.new ≡ self.old }
+        ensures reached { IfOk result (λ set. AreReachedThrough self.old.automaton start.symbol (sets_at self.old.sets start.args.items ++ set_at self.old.sets last ∷ []) (members set)) }
+    {
+        match self.ends.get(&start) {
+            Some(ends) => ends.image(alloc, self.sets.set(last)),
+            None => {
+                let ends = self.ends_of(alloc, &start)?;
+                let set = ends.image(alloc, self.sets.set(last))?;
+                self.ends.insert(start, ends)?;
+                Ok(set)
+            }
+        }
+    }
+
+    // The states that the symbol reaches from the sets.
+    fn found(&mut self, alloc: Global, step: &Move) -> Result<NumberSet, NoMemory>
+        requires { AreBelow (length self.old.sets) step.now.args.items }
+        ensures same { self.new ≡ self.old }
+        ensures reached { IfOk result (λ set. AreReachedThrough self.old.automaton step.now.symbol (sets_at self.old.sets step.now.args.items) (members set)) }
+    {
+        match step.args.as_slice() {
+            [] => constant_states(alloc, self.index, step.symbol),
+            [args @ .., last] => {
+                let start = Move {
+                    symbol: step.symbol,
+                    args: Vec::from_slice(alloc, args)?,
+                };
+                self.end(alloc, start, *last)
+            }
+        }
     }
 
     // Keeps the set that a move leads to.
-    fn keep(&mut self, step: Move, set: Vec<u32>) -> Result<u32, NoMemory>
+    fn keep(&mut self, step: Move, set: NumberSet) -> Result<u32, NoMemory>
         requires below { AreBelow (length self.old.sets) step.args.items }
-        requires ascending { IsStrictlyIncreasing set.items }
-        requires reached { AreReachedThrough self.old.automaton step.symbol (sets_at self.old.sets step.args.items) set.items }
+        requires reached { AreReachedThrough self.old.automaton step.symbol (sets_at self.old.sets step.args.items) (members set) }
         ensures more { Grows self.old self.new }
-        ensures place { IfOk result (λ n. slice_get self.new.sets n ≡ Some set.items) }
+        ensures place { IfOk result (λ n. slice_get self.new.sets n ≡ Some (members set)) }
     {
         let number = self.sets.number(set)?;
         self.moves.insert(step, number)?;
@@ -135,7 +169,7 @@ impl<'i, 'a> ReachedSets<'i, 'a> {
         ensures set { IfOk result (λ n. IsSetAt self.new.sets n (AreStatesOf self.old.automaton (state_of names.now choice.now) (view t.now))) }
     {
         match t {
-            Term::Var(x) => self.number(alone(alloc, state_at(names, choice, *x))?),
+            Term::Var(x) => self.number(NumberSet::alone(alloc, state_at(names, choice, *x))?),
             Term::Fun(f, args) => {
                 let args = self.numbers_of(alloc, names, choice, args)?;
                 self.moved(alloc, Move { symbol: *f, args })

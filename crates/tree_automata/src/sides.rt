@@ -1,11 +1,12 @@
 ghost use Rattle.std.specs.Prelude.{◌↔◌, IfOk, IsTrue};
-ghost use Rattle.std.specs.List.Sorted.{IsStrictlyIncreasing};
+ghost use Rattle.number_sets.specs.Sets.{members};
 ghost use Rattle.automata.specs.Runs.{Has};
 ghost use Rattle.automata.specs.Closed.{IsHead, Includes};
 ghost use Rattle.tree_automata.specs.Kept.{AreIncluding};
 
 use automaton_runs::AutomatonIndex;
 use cert_model::Transition;
+use number_sets::NumberSet;
 use std::alloc::Global;
 use term_core::{NoMemory, System};
 
@@ -34,20 +35,19 @@ fn includes(index: &AutomatonIndex<'_>, sys: &System, q: u32, p: u32) -> bool
     true
 }
 
-// The states that include p, in order.
+// The states that include p.
 pub(crate) fn including(
     alloc: Global,
     index: &AutomatonIndex<'_>,
     sys: &System,
     p: u32,
-) -> Result<Vec<u32>, NoMemory>
-    ensures including { IfOk result (λ set. AreIncluding sys.now index.now p set.items) }
-    ensures ascending { IfOk result (λ set. IsStrictlyIncreasing set.items) }
+) -> Result<NumberSet, NoMemory>
+    ensures { IfOk result (λ set. AreIncluding sys.now index.now p (members set)) }
 {
-    let mut set = Vec::new(alloc);
+    let mut set = NumberSet::new(alloc);
     for q in 0..index.states() {
         if includes(index, sys, q, p) {
-            set.push(q)?;
+            set.insert(q)?;
         }
     }
     Ok(set)

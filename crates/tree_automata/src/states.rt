@@ -1,15 +1,16 @@
-ghost use Rattle.std.specs.Prelude.{◌≡◌, ◌↔◌, ◌++◌, ◌∷◌, [], ℕ, IfOk, OnOk};
-ghost use Rattle.std.specs.List.Sorted.{IsStrictlyIncreasing};
+ghost use Rattle.std.specs.Prelude.{◌≡◌, ◌↔◌, ◌⊎◌, [], Some, ℕ, IfOk, OnOk};
+ghost use Rattle.automata.specs.Runs.{Has};
 ghost use Rattle.automata.specs.Closed.{state_of};
+ghost use Rattle.cert_model.specs.EvidenceView.{transition_view};
+ghost use Rattle.number_sets.specs.Sets.{members};
+ghost use Rattle.number_sets.specs.Relation.{Relates};
 ghost use Rattle.automaton_runs.specs.Members.{IsIn};
 ghost use Rattle.automaton_runs.specs.Indexed.{pointed};
-ghost use Rattle.tree_automata.specs.StateSets.{AreAscending};
-ghost use Rattle.tree_automata.specs.States.{spans, all_in, targets, targets_by_first};
-ghost use Rattle.tree_automata.specs.Reached.{AreReachedThrough};
+ghost use Rattle.tree_automata.specs.States.{spans, last_of, IsEnd, HaveEnd, HaveEndByFirst, AreEnds};
 
-use crate::state_sets::has;
 use automaton_runs::AutomatonIndex;
 use cert_model::Transition;
+use number_sets::{NumberRelation, NumberSet};
 use std::alloc::Global;
 use term_core::NoMemory;
 
@@ -32,107 +33,114 @@ pub(crate) fn state_at(names: &[u32], states: &[u32], x: u32) -> u32
     }
 }
 
-// The set of one state.
-pub(crate) fn alone(alloc: Global, state: u32) -> Result<Vec<u32>, NoMemory>
-    ensures { IfOk result (λ set. set.items ≡ state ∷ []) }
+// The last of some states, where those before it are in the sets at their places.
+fn last_after(sets: &[&NumberSet], states: &[u32]) -> Option<u32>
+    ensures { result ≡ last_of (spans sets.now) states.now }
 {
-    Ok(Vec::from_array(alloc, [state])?)
-}
-
-// Whether each state is in the set at its place.
-fn are_in(states: &[u32], sets: &[&[u32]]) -> bool
-    requires { AreAscending (spans sets.now) }
-    ensures { result ≡ all_in (spans sets.now) states.now }
-{
-    match sets {
-        [] => states.is_empty(),
-        [set, sets @ ..] => match states {
-            [] => false,
-            [state, states @ ..] => has(set, *state) && are_in(states, sets),
+    match states {
+        [] => None,
+        [state, states @ ..] => match sets {
+            [] => {
+                if states.is_empty() {
+                    Some(*state)
+                } else {
+                    None
+                }
+            }
+            [set, sets @ ..] => {
+                if set.has(*state) {
+                    last_after(sets, states)
+                } else {
+                    None
+                }
+            }
         },
     }
 }
 
-// Puts the targets of the transitions of the symbol from states in the sets last.
-fn put_targets(
+// Relates the last argument of a transition to its target, where it is of the symbol and its other arguments are in the sets.
+fn put_end(
+    alloc: Global,
+    transition: &Transition,
+    f: u32,
+    sets: &[&NumberSet],
+    ends: &mut NumberRelation,
+) -> Result<(), NoMemory>
+    ensures { OnOk result ((p q : ℕ) → Relates ends.new p q ↔ (Relates ends.old p q ⊎ IsEnd f (spans sets.now) (transition_view transition.now) p q)) }
+{
+    if transition.symbol == Some(f) {
+        if let Some(last) = last_after(sets, &transition.args) {
+            ends.insert(alloc, last, transition.target)?;
+        }
+    }
+    Ok(())
+}
+
+fn put_ends(
+    alloc: Global,
     transitions: &[&Transition],
     f: u32,
-    sets: &[&[u32]],
-    out: &mut Vec<u32>,
+    sets: &[&NumberSet],
+    ends: &mut NumberRelation,
 ) -> Result<(), NoMemory>
-    requires { AreAscending (spans sets.now) }
-    ensures { OnOk result (out.new.items ≡ out.old.items ++ targets f (spans sets.now) (pointed transitions.now)) }
+    ensures { OnOk result ((p q : ℕ) → Relates ends.new p q ↔ (Relates ends.old p q ⊎ HaveEnd f (spans sets.now) (pointed transitions.now) p q)) }
 {
     for transition in transitions {
-        if transition.symbol == Some(f) && are_in(&transition.args, sets) {
-            out.push(transition.target)?;
-        }
+        put_end(alloc, transition, f, sets, ends)?;
     }
     Ok(())
 }
 
 // The same for the transitions whose first argument is one of these states.
-fn put_targets_by_first(
+fn put_ends_by_first(
+    alloc: Global,
     index: &AutomatonIndex<'_>,
     firsts: &[u32],
     f: u32,
-    sets: &[&[u32]],
-    out: &mut Vec<u32>,
+    sets: &[&NumberSet],
+    ends: &mut NumberRelation,
 ) -> Result<(), NoMemory>
-    requires { AreAscending (spans sets.now) }
-    ensures { OnOk result (out.new.items ≡ out.old.items ++ targets_by_first index.now firsts.now f (spans sets.now)) }
+    ensures { OnOk result ((p q : ℕ) → Relates ends.new p q ↔ (Relates ends.old p q ⊎ HaveEndByFirst index.now firsts.now f (spans sets.now) p q)) }
 {
     for first in firsts {
-        put_targets(index.with_first(*first), f, sets, out)?;
+        put_ends(alloc, index.with_first(*first), f, sets, ends)?;
     }
     Ok(())
 }
 
-// Puts the numbers in order, each once.
-pub(crate) fn keep_once(numbers: &mut Vec<u32>) -> Result<(), NoMemory>
-    ensures same { OnOk result ((q : ℕ) → IsIn q numbers.new.items ↔ IsIn q numbers.old.items) }
-    ensures ascending { OnOk result (IsStrictlyIncreasing numbers.new.items) }
-{
-    numbers.sort()?;
-    numbers.dedup();
-    Ok(())
-}
-
-// The targets of the transitions of the symbol from states in the sets.
-fn all_targets(
+// The states that the symbol reaches from arguments in the sets, by a last argument behind these.
+pub(crate) fn ends_after(
     alloc: Global,
     index: &AutomatonIndex<'_>,
     f: u32,
-    sets: &[&[u32]],
-) -> Result<Vec<u32>, NoMemory>
-    requires { AreAscending (spans sets.now) }
-    ensures { IfOk result (λ states. AreReachedThrough index.now f (spans sets.now) states.items) }
+    sets: &[&NumberSet],
+) -> Result<NumberRelation, NoMemory>
+    ensures { IfOk result (AreEnds index.now f (spans sets.now)) }
 {
-    let mut out = Vec::new(alloc);
+    let mut ends = NumberRelation::new(alloc);
     match sets.first() {
-        None => {
-            put_targets(index.with_symbol(f), f, sets, &mut out)?;
-            Ok(out)
-        }
-        Some(firsts) => {
-            put_targets_by_first(index, firsts, f, sets, &mut out)?;
-            Ok(out)
+        None => put_ends(alloc, index.with_symbol(f), f, sets, &mut ends)?,
+        Some(set) => {
+            let firsts = set.numbers(alloc)?;
+            put_ends_by_first(alloc, index, &firsts, f, sets, &mut ends)?;
         }
     }
+    Ok(ends)
 }
 
-// The states that the symbol reaches from arguments in the sets, in order.
-pub(crate) fn reached_through(
+// The states that the symbol reaches without arguments.
+pub(crate) fn constant_states(
     alloc: Global,
     index: &AutomatonIndex<'_>,
     f: u32,
-    sets: &[&[u32]],
-) -> Result<Vec<u32>, NoMemory>
-    requires { AreAscending (spans sets.now) }
-    ensures reached { IfOk result (λ states. AreReachedThrough index.now f (spans sets.now) states.items) }
-    ensures ascending { IfOk result (λ states. IsStrictlyIncreasing states.items) }
+) -> Result<NumberSet, NoMemory>
+    ensures { IfOk result (λ states. (q : ℕ) → IsIn q (members states) ↔ Has index.now (Some f) [] q) }
 {
-    let mut states = all_targets(alloc, index, f, sets)?;
-    keep_once(&mut states)?;
+    let mut states = NumberSet::new(alloc);
+    for transition in index.with_symbol(f) {
+        if transition.args.is_empty() {
+            states.insert(transition.target)?;
+        }
+    }
     Ok(states)
 }

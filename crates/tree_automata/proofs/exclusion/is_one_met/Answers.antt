@@ -1,5 +1,6 @@
 use Rattle.std.proofs.Common.{◌<◌, ◌≤◌, length, List, ℕ, refl, sym, subst, arith}
 use Rattle.std.proofs.lemmas.Bool.{false≢true}
+use Rattle.number_sets.specs.Sets.{members}
 use Rattle.tree_automata.specs.StateSets.{Meets}
 use Rattle.tree_automata.proofs.Open.{met_here, met_more, met_none}
 use Rattle.tree_automata.proofs.exclusion.is_one_met.Goals as goal
@@ -10,7 +11,7 @@ returns-then-meets c =
     let low = c.loop-row-test.true in
     let long = c.len-row-end.ensures in
     let inside : c.loop-row.row < length rows = omega arith in (
-      λ _. met_here rows c.args.set.now c.loop-row.row inside (subst (λ (l : List ℕ). Meets l c.args.set.now) c.states.ensures (c.if-meets.ensures.0 refl)),
+      λ _. met_here rows (members c.args.set.now) c.loop-row.row inside (subst (λ (l : List ℕ). Meets l (members c.args.set.now)) c.states.ensures (c.if-meets.ensures.0 refl)),
       λ _. refl,
     )
 
@@ -20,7 +21,7 @@ loop-row-preserved c =
     let low = c.loop-row-test.true in
     let long = c.len-row-end.ensures in
     let inside : c.loop-row.row < length rows = omega arith in
-    met_more rows c.args.set.now c.loop-row.row inside c.loop-row.invariant (λ h. false≢true (c.if-meets.ensures.1 (subst (λ (l : List ℕ). Meets l c.args.set.now) (sym c.states.ensures) h)))
+    met_more rows (members c.args.set.now) c.loop-row.row inside c.loop-row.invariant (λ h. false≢true (c.if-meets.ensures.1 (subst (λ (l : List ℕ). Meets l (members c.args.set.now)) (sym c.states.ensures) h)))
 
 pub returns : goal.returns
 returns c =
@@ -29,5 +30,5 @@ returns c =
     let long = c.len-row-end.ensures in
     let over : length rows ≤ c.loop-row.row = omega arith in (
       λ h. absurd (false≢true h),
-      λ h. absurd (met_none rows c.args.set.now c.loop-row.row over c.loop-row.invariant h),
+      λ h. absurd (met_none rows (members c.args.set.now) c.loop-row.row over c.loop-row.invariant h),
     )

@@ -1,4 +1,4 @@
-use Rattle.std.proofs.Common.{◌+◌, ℕ, List, take, sym, subst}
+use Rattle.std.proofs.Common.{List, subst}
 use Rattle.std.proofs.lemmas.Result.{IfOk-weaker}
 use Rattle.automata.specs.Closed.{state_of}
 use Rattle.term_core.specs.View.{view}
@@ -28,7 +28,6 @@ numbers_of-loop-arg-preserved t c =
     let e = state_of c.args.names.now c.args.choice.now in record {
       more = grows_trans c.args.self.now c.loop-arg.self c.number_of.new.self c.loop-arg.invariant.more c.in_ok-number_of.ensures.more;
       sets =
-          subst (λ (l : List ℕ). AreNumbered c.number_of.new.self e (take (c.loop-arg.arg-index + 1) c.args.args.now) l) (sym c.in_ok-push.ensures.items)
-          (numbered_more c.loop-arg.self c.number_of.new.self e c.args.args.now c.loop-arg.numbers.items c.loop-arg.arg-index c.arg-item.result c.in_ok-number_of.field-0 c.in_ok-number_of.ensures.more
-          c.loop-arg-test.true c.arg-item.is c.loop-arg.invariant.sets c.in_ok-number_of.ensures.set);
+          numbered_more c.loop-arg.self c.number_of.new.self e c.args.args.now c.loop-arg.numbers.items c.push.new.self.items c.loop-arg.arg-index c.arg-item.result c.in_ok-number_of.field-0 c.in_ok-number_of.ensures.more
+          c.loop-arg-test.true c.arg-item.is c.in_ok-push.ensures.items c.loop-arg.invariant.sets c.in_ok-number_of.ensures.set;
     }

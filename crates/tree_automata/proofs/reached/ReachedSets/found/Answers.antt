@@ -1,27 +1,37 @@
-use Rattle.std.proofs.Common.{◌≡◌, ◌∙◌, List, Bor, ℕ, IfOk, ap, sym, subst}
-use Rattle.automaton_runs.proofs.Twins.{all_of}
-use Rattle.tree_automata.specs.StateSets.{sets_at, AreAscending}
-use Rattle.tree_automata.specs.States.{spans}
+use Rattle.std.proofs.Common.{IfOk, List, ℕ, ◌≡◌, ◌↔◌, ◌∷◌, [], ◌++◌, ◌-◌, ◌∙◌, length, get_or, Some, ap, sym, subst, arith}
+use Rattle.std.proofs.lemmas.Result.{IfOk-weaker}
+use Rattle.automata.specs.Runs.{Has}
+use Rattle.number_sets.specs.Sets.{members}
+use Rattle.automaton_runs.specs.Members.{IsIn}
+use Rattle.tree_automata.specs.StateSets.{set_at, sets_at}
 use Rattle.tree_automata.specs.Reached.{Reached, AreReachedThrough}
-use Rattle.tree_automata.proofs.StateSets.{ascending_more, sets_more}
+use Rattle.tree_automata.proofs.Ends.{in_take, none_of, reached_none, sets_with_last}
 use Rattle.tree_automata.proofs.reached.ReachedSets.found.Goals as goal
 
-pub loop-number-preserved : goal.loop-number-preserved
-loop-number-preserved c = record {
-  ascending = ascending_more c.loop-number.sets.items c.set.result c.push.new.self.items c.in_ok-push.ensures.items c.loop-number.invariant.ascending c.set.ensures.ascending;
-  sets =
-      sets_more c.args.self.now.sets c.deref-number-items.result.now c.loop-number.number-index c.loop-number.sets.items c.push.new.self.items c.set.result c.loop-number-test.true c.in_ok-push.ensures.items
-      c.set.ensures.value c.loop-number.invariant.sets;
-}
+pub end-requires : goal.end-requires
+end-requires c k h =
+    let args = c.as_slice.result.now in
+    c.requires k (subst (λ (l : List ℕ). IsIn k l) c.as_slice.ensures.value (in_take k (length args - 1) args (subst (λ (l : List ℕ). IsIn k l) c.in_ok-from_slice-in-len1-up.ensures.items h)))
 
-pub reached_through-requires : goal.reached_through-requires
-reached_through-requires c = subst (λ (l : List (Bor (List ℕ))). AreAscending (spans l)) (sym c.deref.ensures.value) c.loop-number.invariant.ascending
+pub returns-in-empty-clause-reached : goal.returns-in-empty-clause-reached
+returns-in-empty-clause-reached c =
+    let i = c.self.inside in
+    let f = c.args.step.now.symbol in
+    let ns = c.args.step.now.args.items in
+    let empty : ns ≡ [] = sym c.as_slice.ensures.value ∙ none_of c.as_slice.result.now (omega (arith, c.in-empty.len_below)) in
+    subst (λ (r : Reached). IfOk c.constant_states.result (λ set. AreReachedThrough r.automaton f (sets_at r.sets ns) (members set))) c.self.view_is
+    (IfOk-weaker c.constant_states.result (λ set. (q : ℕ) → IsIn q (members set) ↔ Has i.index.now (Some f) [] q) (λ set. AreReachedThrough i.index.now f (sets_at i.sets ns) (members set))
+    (λ set. reached_none i.index.now f (sets_at i.sets ns) (members set) (ap (sets_at i.sets) empty)) c.constant_states.ensures)
 
-pub returns-clause-reached : goal.returns-clause-reached
-returns-clause-reached c =
-    let numbers = c.deref-number-items.result.now in
-    let sets : spans c.deref.result.now ≡ sets_at c.args.self.now.sets c.args.step.now.args.items =
-    ap spans c.deref.ensures.value ∙ c.loop-number.invariant.sets
-    ∙ ap (sets_at c.args.self.now.sets) (all_of numbers c.loop-number.number-index c.loop-number-test.false ∙ c.deref-number-items.ensures.value) in
-    subst (λ (l : List (List ℕ)). IfOk c.reached_through.result (λ states. AreReachedThrough c.args.self.now.automaton c.args.step.now.symbol l states.items)) sets
-    (subst (λ (r : Reached). IfOk c.reached_through.result (λ states. AreReachedThrough r.automaton c.args.step.now.symbol (spans c.deref.result.now) states.items)) c.self.view_is c.reached_through.ensures.reached)
+pub returns-in_ok-from_slice-in-len1-up-clause-reached :
+    goal.returns-in_ok-from_slice-in-len1-up-clause-reached
+returns-in_ok-from_slice-in-len1-up-clause-reached c =
+    let r = c.args.self.now in
+    let f = c.args.step.now.symbol in
+    let args = c.as_slice.result.now in
+    let start = c.in_ok-from_slice-in-len1-up.field-0.items in
+    let last = get_or args (length args - 1) 0 in
+    let all : sets_at r.sets start ++ set_at r.sets last ∷ [] ≡ sets_at r.sets c.args.step.now.args.items =
+    ap (λ (l : List ℕ). sets_at r.sets l ++ set_at r.sets last ∷ []) c.in_ok-from_slice-in-len1-up.ensures.items ∙ sets_with_last r.sets args c.in-len1-up.len_at_least ∙ ap (sets_at r.sets) c.as_slice.ensures.value in
+    let here : IfOk c.end.result (λ set. AreReachedThrough r.automaton f (sets_at r.sets start ++ set_at r.sets last ∷ []) (members set)) = c.end.ensures.reached in
+    subst (λ (l : List (List ℕ)). IfOk c.end.result (λ set. AreReachedThrough r.automaton f l (members set))) all here
