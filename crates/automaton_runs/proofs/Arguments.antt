@@ -19,16 +19,16 @@ arguments_count a (t ∷ ts) cs [] h = absurd h
 arguments_count a (t ∷ ts) cs (q ∷ qs) (before, after, e, one, others) = ap suc (arguments_count a ts after qs others)
 
 mutual
-  pub choice_length : (a : Automaton) (t : math.Term) (cs : List ℕ) (q : ℕ) → ReachBy (Has a) t cs q → length cs ≡ length (leaves t)
-  choice_length a (math.var x) cs q h = ap length h
-  choice_length a (math.app f ts) cs q (qs, has, r) = choice_lengths a ts cs qs r
+  pub choice_length : (M : Moves) (t : math.Term) (cs : List ℕ) (q : ℕ) → ReachBy M t cs q → length cs ≡ length (leaves t)
+  choice_length M (math.var x) cs q h = ap length h
+  choice_length M (math.app f ts) cs q (qs, has, r) = choice_lengths M ts cs qs r
 
-  pub choice_lengths : (a : Automaton) (ts : math.Terms) (cs qs : List ℕ) → ReachAllBy (Has a) ts cs qs → length cs ≡ length (leaves_of ts)
-  choice_lengths a math.nil cs qs h = ap length h.0
-  choice_lengths a (math.cons t ts) cs [] h = absurd h
-  choice_lengths a (math.cons t ts) cs (q ∷ qs) (before, after, e, one, others) =
-      let first = choice_length a t before q one in
-      let rest = choice_lengths a ts after qs others in
+  pub choice_lengths : (M : Moves) (ts : math.Terms) (cs qs : List ℕ) → ReachAllBy M ts cs qs → length cs ≡ length (leaves_of ts)
+  choice_lengths M math.nil cs qs h = ap length h.0
+  choice_lengths M (math.cons t ts) cs [] h = absurd h
+  choice_lengths M (math.cons t ts) cs (q ∷ qs) (before, after, e, one, others) =
+      let first = choice_length M t before q one in
+      let rest = choice_lengths M ts after qs others in
       let whole = ap length e in
       omega (arith, length-append before after, length-append (leaves t) (leaves_of ts))
 
@@ -46,7 +46,7 @@ mutual
 
 -- what a symbol over arguments reaches is a state, by a choice of states
 pub reached_choice : (a : Automaton) (f : ℕ) (ts : math.Terms) (cs : List ℕ) (q : ℕ) → ReachBy (Has a) (math.app f ts) cs q → IsChoice a.states (math.app f ts) cs
-reached_choice a f ts cs q (qs, has, r) = record { each = choice_lengths a ts cs qs r; states = choices_states a ts cs qs has.arguments r }
+reached_choice a f ts cs q (qs, has, r) = record { each = choice_lengths (Has a) ts cs qs r; states = choices_states a ts cs qs has.arguments r }
 
 -- one more argument
 pub reach_push : (M : Moves) (ts : List Term) (t : Term) (cs ds qs : List ℕ) (q : ℕ) → ReachAllBy M (views ts) cs qs → ReachBy M (view t) ds q → ReachAllBy M (views (ts ++ t ∷ [])) (cs ++ ds) (qs ++ q ∷ [])

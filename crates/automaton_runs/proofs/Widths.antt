@@ -20,3 +20,12 @@ more_at_last c (suc n) i k l e h one m =
     let pos : 0 < suc n = omega arith in
     let up : suc n ^ (i + 1) ≤ suc n ^ k = pow-le-pow_right pos (let q : i + 1 ≤ k = omega arith in q) in
     omega arith
+
+-- for fewer occurrences there are no more choices, but for the one choice for none
+pub power_within : (n i k l : ℕ) → i ≤ k → 1 ≤ l → n ^ k ≤ l → n ^ i ≤ l
+power_within zero zero k l h one m = omega arith
+power_within zero (suc i) k l h one m = let none : zero ^ suc i ≡ 0 = pow-suc zero i ∙ (let e : zero ^ i * 0 ≡ 0 = omega arith in e) in omega arith
+power_within (suc n) i k l h one m =
+    let pos : 0 < suc n = omega arith in
+    let up : suc n ^ i ≤ suc n ^ k = pow-le-pow_right pos h in
+    omega arith

@@ -1,11 +1,13 @@
 -- The arrivals of a term: choices of states for its variable occurrences, each with a state that the term reaches by it.
-use Rattle.std.specs.Prelude.{ℕ, ◌≡◌, ◌<◌, ◌⊎◌, List, map, Contains}
-use Rattle.std.specs.List.{AllPairs, flat_map}
+use Rattle.std.specs.Prelude.{ℕ, ◌≡◌, ◌<◌, ◌⊎◌, ◌^◌, List, length, Contains}
+use Rattle.std.specs.List.{AllPairs}
 use Rattle.rewriting.specs.Terms.{Term}
 use Rattle.rewriting.specs.Positions.{IsBefore}
+use Rattle.ctrs_classes.specs.Blames.{leaves}
 use Rattle.certificates.specs.Evidence.{Automaton}
 use Rattle.automata.specs.Runs.{Has, ReachBy}
 use Rattle.automata.specs.Closed.{IsChoice}
+use Rattle.automaton_runs.specs.Choices.{choice_at}
 use Rattle.automaton_runs.specs.declared.runs.Arrival.{Arrival}
 
 -- the choice and the state
@@ -22,6 +24,9 @@ pub record AreArrivals (a : Automaton) (t : Term) (rows : List (List ℕ × ℕ)
   pub complete : (cs : List ℕ) (q : ℕ) → IsChoice a.states t cs → ReachBy (Has a) t cs q → Contains rows (cs, q)
   pub sorted : AllPairs IsArrivalBefore rows
 
--- each choice with each of its states
-abbrev pub spread : List (List ℕ × List ℕ) → List (List ℕ × ℕ)
-spread rows = flat_map (λ row. map (λ q. (row.0, q)) row.1) rows
+-- the same for the first n choices alone
+pub record AreArrivalsBelow (a : Automaton) (t : Term) (n : ℕ) (rows : List (List ℕ × ℕ)) : Type 0 where
+  pub each : (cs : List ℕ) (q : ℕ) → Contains rows (cs, q) → (k : ℕ) × (k < n) × (cs ≡ choice_at a.states (length (leaves t)) k) × ReachBy (Has a) t cs q
+  pub complete : (k q : ℕ) → k < n → k < a.states ^ length (leaves t) → ReachBy (Has a) t (choice_at a.states (length (leaves t)) k) q
+      → Contains rows (choice_at a.states (length (leaves t)) k, q)
+  pub sorted : AllPairs IsArrivalBefore rows

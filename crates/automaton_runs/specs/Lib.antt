@@ -4,9 +4,8 @@ pub mod Counting
 pub mod Indexed
 pub mod IndexView
 pub mod Arrivals
-pub mod Marks
-pub mod MarkView
-pub mod Tables
-pub mod JoinedRows
-pub mod Reaching
+pub mod Choices
+pub mod BatchView
+pub mod Linear
+pub mod Reached
 pub mod Twins

@@ -1,11 +1,14 @@
-ghost use Rattle.std.specs.Prelude.{◌≡◌, ◌≤◌, ◌^◌, ◌++◌, length, IfOk, OnOk, map};
+ghost use Rattle.std.specs.Prelude.{◌≡◌, ◌≤◌, ◌^◌, ◌+◌, ◌++◌, length, IfOk, OnOk, map};
 ghost use Rattle.rewriting.specs.Terms as math;
 ghost use Rattle.ctrs_classes.specs.Blames.{leaves};
 ghost use Rattle.term_core.specs.View.{view};
-ghost use Rattle.automaton_runs.specs.Arrivals.{arrival_view, AreArrivals, spread};
+ghost use Rattle.automaton_runs.specs.Arrivals.{arrival_view, AreArrivals, AreArrivalsBelow};
+ghost use Rattle.automaton_runs.specs.Choices.{start};
 
+use crate::batch::{Batch, batches};
+use crate::batch_runs::reached_by_occurrences;
 use crate::index::AutomatonIndex;
-use crate::states::{StatesByChoice, states_by_choice};
+use crate::width::occurrences;
 use std::alloc::Global;
 use term_core::{NoMemory, Term};
 
@@ -35,20 +38,33 @@ fn put_arrivals(
     Ok(())
 }
 
-// The arrivals by all choices.
-fn all_arrivals(alloc: Global, found: &StatesByChoice) -> Result<Vec<Arrival>, NoMemory>
-    ensures { IfOk result (λ rows. map arrival_view rows.items ≡ spread found.now) }
+// Puts the arrivals by the choices of a batch last.
+fn put_batch(
+    alloc: Global,
+    index: &AutomatonIndex<'_>,
+    batch: &Batch,
+    t: &Term,
+    rows: &mut Vec<Arrival>,
+) -> Result<(), NoMemory>
+    requires fits { math.Fits (view t.now) }
+    requires states { batch.now.states ≡ index.now.states }
+    requires length { batch.now.length ≡ length (leaves (view t.now)) }
+    requires few { index.now.states ^ length (leaves (view t.now)) ≤ 1000000 }
+    requires before { AreArrivalsBelow index.now (view t.now) (start batch.now) (map arrival_view rows.old.items) }
+    ensures { OnOk result (AreArrivalsBelow index.now (view t.now) (start batch.now + 4096) (map arrival_view rows.new.items)) }
 {
-    let mut rows = Vec::new(alloc);
-    for row in 0..found.len() {
-        let states = found.states(row).numbers(alloc)?;
-        put_arrivals(alloc, found.choice(row), &states, &mut rows)?;
+    let by_choice = reached_by_occurrences(alloc, index, batch, t)?.converse(alloc)?;
+    for k in 0..batch.len() {
+        if let Some(states) = by_choice.row(k) {
+            let choice = batch.choice(alloc, k)?;
+            put_arrivals(alloc, &choice, &states.numbers(alloc)?, rows)?;
+        }
     }
-    Ok(rows)
+    Ok(())
 }
 
 /// The arrivals of a term: every choice of states for its variable occurrences with a state that it reaches by
-/// the choice, in order by the choice and then the state. `states_by_choice` has them in less room.
+/// the choice, in order by the choice and then the state.
 pub fn arrivals(
     alloc: Global,
     index: &AutomatonIndex<'_>,
@@ -58,6 +74,11 @@ pub fn arrivals(
     requires few { index.now.states ^ length (leaves (view t.now)) ≤ 1000000 }
     ensures { IfOk result (λ rows. AreArrivals index.now (view t.now) (map arrival_view rows.items)) }
 {
-    let found = states_by_choice(alloc, index, t)?;
-    all_arrivals(alloc, &found)
+    let length = occurrences(alloc, t)?.len();
+    let mut rows = Vec::new(alloc);
+    for number in 0..batches(index.states(), length) {
+        let batch = Batch::new(alloc, index.states(), length, number)?;
+        put_batch(alloc, index, &batch, t, &mut rows)?;
+    }
+    Ok(rows)
 }

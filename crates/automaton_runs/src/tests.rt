@@ -1,9 +1,10 @@
-//! Arrivals of terms.
+//! Batches of choices, and arrivals of terms.
 use crate::{
-    Arrival, AutomatonIndex, StatesByChoice, arrivals, has_more_choices, occurrences,
-    states_by_choice,
+    Arrival, AutomatonIndex, Batch, arrivals, batches, has_more_choices, occurrences, reached,
+    reached_by_occurrences,
 };
 use cert_model::{Automaton, Transition};
+use number_sets::NumberRelation;
 use std::alloc::{AllocError, Global};
 use std::process::Abort;
 use std::test::Fail;
@@ -103,40 +104,31 @@ const THREE_STATES: &[Move<'static>] = &[
     (Some(1), &[2, 0], 0),
 ];
 
-fn reached(rt: &impl Abort, alloc: Global, t: &Term) -> Result<StatesByChoice, Fail> {
-    let automaton = automaton(alloc, 3, THREE_STATES)?;
-    let index = AutomatonIndex::new(alloc, &automaton)?;
-    let names = occurrences(alloc, t)?;
-    assert!(rt; fits(t));
-    assert!(rt; !has_more_choices(index.states(), names.len(), 1_000_000));
-    Ok(states_by_choice(alloc, &index, t)?)
-}
+// The numbers of the choices by which a term reaches each of some states.
+type Rows<'a> = &'a [(u32, &'a [u32])];
 
-fn are_rows(
-    alloc: Global,
-    found: &StatesByChoice,
-    wanted: &[(&[u32], &[u32])],
-) -> Result<bool, Fail> {
-    if found.len() != wanted.len() {
-        return Ok(false);
-    }
-    for row in 0..found.len() {
-        let (choice, states) = wanted[row];
-        let reached = found.states(row).numbers(alloc)?;
-        if found.choice(row) != choice || *reached != *states {
+fn are_rows(alloc: Global, found: &NumberRelation, wanted: Rows<'_>) -> Result<bool, Fail> {
+    for &(state, choices) in wanted {
+        let numbers = match found.row(state) {
+            Some(row) => row.numbers(alloc)?,
+            None => Vec::new(alloc),
+        };
+        if *numbers != *choices {
             return Ok(false);
         }
     }
     Ok(true)
 }
 
-fn reaches(
-    rt: &impl Abort,
-    alloc: Global,
-    t: &Term,
-    wanted: &[(&[u32], &[u32])],
-) -> Result<bool, Fail> {
-    let found = reached(rt, alloc, t)?;
+fn reaches(rt: &impl Abort, alloc: Global, t: &Term, wanted: Rows<'_>) -> Result<bool, Fail> {
+    let automaton = automaton(alloc, 3, THREE_STATES)?;
+    let index = AutomatonIndex::new(alloc, &automaton)?;
+    let length = occurrences(alloc, t)?.len();
+    assert!(rt; fits(t));
+    assert!(rt; !has_more_choices(3, length, 1_000_000));
+    assert!(rt; batches(3, length) == 1);
+    let batch = Batch::new(alloc, 3, length, 0)?;
+    let found = reached_by_occurrences(alloc, &index, &batch, t)?;
     are_rows(alloc, &found, wanted)
 }
 
@@ -149,33 +141,57 @@ fn h(alloc: Global, first: Term, second: Term) -> Result<Term, AllocError> {
 }
 
 #[test]
-fn a_choice_has_all_its_states_in_one_row(rt: HostRuntime) -> Result<(), Fail> {
+fn states_have_the_choices_that_lead_to_them(rt: HostRuntime) -> Result<(), Fail> {
     let alloc = rt.alloc();
     let one = g(alloc, Term::Var(0))?;
-    assert!(rt; reaches(&rt, alloc, &one, &[(&[0], &[1, 2]), (&[1], &[1, 2])])?);
+    assert!(rt; reaches(&rt, alloc, &one, &[(0, &[]), (1, &[0, 1]), (2, &[0, 1])])?);
     let two = h(alloc, one, Term::Var(0))?;
-    assert!(rt; reaches(&rt, alloc, &two, &[(&[0, 0], &[0, 2]), (&[1, 0], &[0, 2])])?);
-    Ok(())
-}
-
-#[test]
-fn variables_have_each_state_and_states_without_transitions_none(
-    rt: HostRuntime,
-) -> Result<(), Fail> {
-    let alloc = rt.alloc();
-    let all: [(&[u32], &[u32]); 3] = [(&[0], &[0]), (&[1], &[1]), (&[2], &[2])];
-    assert!(rt; reaches(&rt, alloc, &Term::Var(7), &all)?);
+    assert!(rt; reaches(&rt, alloc, &two, &[(0, &[0, 3]), (1, &[]), (2, &[0, 3])])?);
+    assert!(rt;
+        reaches(
+            &rt,
+            alloc,
+            &Term::Var(7),
+            &[(0, &[0]), (1, &[1]), (2, &[2])]
+        )?
+    );
     let wrong = h(alloc, Term::Var(0), g(alloc, Term::Var(0))?)?;
-    assert!(rt; reaches(&rt, alloc, &wrong, &[])?);
+    assert!(rt; reaches(&rt, alloc, &wrong, &[(0, &[]), (1, &[]), (2, &[])])?);
     Ok(())
 }
 
 #[test]
-fn choices_with_the_same_states_share_their_set(rt: HostRuntime) -> Result<(), Fail> {
+fn a_variable_has_the_state_of_its_first_name(rt: HostRuntime) -> Result<(), Fail> {
     let alloc = rt.alloc();
-    let found = reached(&rt, alloc, &g(alloc, Term::Var(0))?)?;
-    assert_eq!(rt; found.len(), 2);
-    assert_eq!(rt; found.set(0), found.set(1));
+    let automaton = automaton(alloc, 3, THREE_STATES)?;
+    let index = AutomatonIndex::new(alloc, &automaton)?;
+    let batch = Batch::new(alloc, 3, 2, 0)?;
+    let t = h(alloc, Term::Var(5), Term::Var(5))?;
+    let found = reached(alloc, &index, &batch, &[5, 5], &t)?;
+    assert!(rt; are_rows(alloc, &found, &[(0, &[]), (2, &[])])?);
+    let t = h(alloc, Term::Var(5), Term::Var(9))?;
+    let found = reached(alloc, &index, &batch, &[5, 5], &t)?;
+    assert!(rt; are_rows(alloc, &found, &[(0, &[3, 4, 5, 6, 7, 8]), (2, &[6, 7, 8])])?);
+    Ok(())
+}
+
+#[test]
+fn choices_follow_each_other_in_batches(rt: HostRuntime) -> Result<(), Fail> {
+    let alloc = rt.alloc();
+    assert!(rt; !has_more_choices(70, 2, 1_000_000));
+    assert!(rt; batches(70, 2) == 2);
+    let first = Batch::new(alloc, 70, 2, 0)?;
+    assert!(rt; first.len() == 4096);
+    assert!(rt; first.choice(alloc, 71)?.as_slice() == [1, 1].as_slice());
+    let last = Batch::new(alloc, 70, 2, 1)?;
+    assert!(rt; last.length() == 2);
+    assert!(rt; last.len() == 804);
+    assert!(rt; last.choice(alloc, 0)?.as_slice() == [58, 36].as_slice());
+    assert!(rt; last.choice(alloc, 803)?.as_slice() == [69, 69].as_slice());
+    let none = Batch::new(alloc, 5, 0, 0)?;
+    assert!(rt; none.len() == 1);
+    assert!(rt; none.choice(alloc, 0)?.is_empty());
+    assert!(rt; batches(0, 1) == 0);
     Ok(())
 }
 

@@ -1,15 +1,15 @@
 -- The bits of words, and the numbers that they stand for.
-use Rattle.std.proofs.Common.{◌≡◌, ◌↔◌, ◌⊎◌, inl, inr, ⊎_elim, ℕ, zero, suc, ◌+◌, ◌*◌, ◌/◌, ◌%◌, ◌^◌, ◌<◌, ◌≤◌, ◌≢◌, Bool, true, false, if◌then◌else◌, nat_eq, eqb-true, eq-eqb, bit_or, bit_and, min, List, [], ◌∷◌, ◌++◌, length, get_or, Some, refl, ap, sym, subst, ◌∙◌, append-nil, arith}
+use Rattle.std.proofs.Common.{◌≡◌, ◌↔◌, ◌⊎◌, inl, inr, ⊎_elim, ℕ, zero, suc, ◌+◌, ◌*◌, ◌/◌, ◌%◌, ◌^◌, ◌<◌, ◌≤◌, ◌≢◌, Bool, true, false, if◌then◌else◌, nat_eq, eqb-true, eq-eqb, bit_or, List, [], ◌∷◌, ◌++◌, length, get_or, Some, refl, ap, sym, subst, ◌∙◌, append-nil, arith}
 use Rattle.std.specs.Int.{bit_at, w64}
 use Rattle.std.specs.List.{filter}
 use Rattle.std.proofs.Math.ListN.{set}
 use Rattle.std.proofs.lemmas.Bool.{cases_lt, cases_eq}
 use Rattle.std.proofs.lemmas.List.{get_or_past, get_or-set_same, get_or-set_other}
 use Rattle.std.proofs.lemmas.List.Elements.{filter-append}
-use Rattle.std.proofs.lemmas.Nat.Bits.{bit_at-zero, bit_at-lt, bit_at_or, bit_at_and, bit_at_set_same, bit_at_set_other, same_from_bits_below}
+use Rattle.std.proofs.lemmas.Nat.Bits.{bit_at-zero, bit_at-lt, bit_at_or, bit_at_set_same, bit_at_set_other, same_from_bits_below}
 use Rattle.number_sets.specs.Members.{IsIn}
-use Rattle.number_sets.specs.Sets.{below, is_set, members, members_below, IsLacking, Meets}
-use Rattle.number_sets.specs.Words.{AreHad, IsFirstLacking, AreApart, IsSharedBelow, AreJoined}
+use Rattle.number_sets.specs.Sets.{below, is_set, members, members_below, IsLacking}
+use Rattle.number_sets.specs.Words.{AreHad, IsFirstLacking, AreJoined}
 use Rattle.number_sets.specs.declared.words.NumberSet.{NumberSet}
 use Rattle.number_sets.proofs.Members.{in_filter, filter_in, none_in, in_below, members_ascending, same_numbers}
 
@@ -30,7 +30,7 @@ not_in_zero words q none s =
     let off : bit_at (get_or words (q / 64) 0) (q % 64) ≡ 0 = ap (λ (w : ℕ). bit_at w (q % 64)) none ∙ bit_at-zero (q % 64) in
     omega arith
 
-set_within : (words : List ℕ) (q : ℕ) → is_set words q ≡ true → q < 64 * length words
+pub set_within : (words : List ℕ) (q : ℕ) → is_set words q ≡ true → q < 64 * length words
 set_within words q s = go (cases_lt (q / 64) (length words))
   where
     go : (q / 64 < length words) ⊎ (length words ≤ q / 64) → q < 64 * length words
@@ -40,7 +40,7 @@ set_within words q s = go (cases_lt (q / 64) (length words))
 -- the numbers of words are those with a bit
 pub in_words : (words : List ℕ) (q : ℕ) → IsIn q (members_below words (64 * length words)) ↔ (is_set words q ≡ true)
 in_words words q = (
-  λ h. in_filter (is_set words) q (below (64 * length words)) h,
+  λ h. (in_filter (is_set words) q (below (64 * length words)) h).1,
   λ s. filter_in (is_set words) q (below (64 * length words)) (in_below (64 * length words) q (set_within words q s)) s,
 )
 
@@ -106,20 +106,6 @@ had_more words others p e front q low s = go (cases_lt q (64 * p))
         let joined = bit_at_or (get_or words p 0) (get_or others p 0) (q % 64) in
         let same : bit_at (bit_or (get_or words p 0) (get_or others p 0)) (q % 64) ≡ bit_at (get_or others p 0) (q % 64) = ap (λ (w : ℕ). bit_at w (q % 64)) e in
         of_bit others q p at (omega (arith, joined, same, here, bit_at-lt (get_or others p 0) (q % 64)))
-
--- words with no common bit
-pub apart_more : (words others : List ℕ) (p : ℕ) → bit_and (get_or words p 0) (get_or others p 0) ≡ 0 → AreApart words others (64 * p) → AreApart words others (64 * (p + 1))
-apart_more words others p e front q low s t = go (cases_lt q (64 * p))
-  where
-    go : (q < 64 * p) ⊎ (64 * p ≤ q) → ⊥
-    go (inl l) = front q l s t
-    go (inr l) =
-        let at : q / 64 ≡ p = omega arith in
-        let here : bit_at (get_or words p 0) (q % 64) ≡ 1 = bit_of words q p at s in
-        let there : bit_at (get_or others p 0) (q % 64) ≡ 1 = bit_of others q p at t in
-        let both = bit_at_and (get_or words p 0) (get_or others p 0) (q % 64) in
-        let none : bit_at (bit_and (get_or words p 0) (get_or others p 0)) (q % 64) ≡ 0 = ap (λ (w : ℕ). bit_at w (q % 64)) e ∙ bit_at-zero (q % 64) in
-        omega arith
 
 -- a word that gets the bits of another
 pub joined_more : (old others new : List ℕ) (p : ℕ) → p < length new → AreJoined old others new (64 * p)
@@ -205,22 +191,8 @@ module _ (s o : NumberSet) (words others : List ℕ) (here : words ≡ s.words.i
   pub had_by : (n : ℕ) → AreHad words others n → AreHad s.words.items o.words.items n
   had_by n h = subst (λ (l : List ℕ). AreHad s.words.items l n) there (subst (λ (l : List ℕ). AreHad l others n) here h)
 
-  pub apart_by : (n : ℕ) → AreApart words others n → AreApart s.words.items o.words.items n
-  apart_by n h = subst (λ (l : List ℕ). AreApart s.words.items l n) there (subst (λ (l : List ℕ). AreApart l others n) here h)
-
-  pub shared_by : (n : ℕ) → IsSharedBelow words others n true → Meets (members s) (members o)
-  shared_by n (q, a, b) = (q, (in_members s q).1 (subst (λ (l : List ℕ). is_set l q ≡ true) here a), (in_members o q).1 (subst (λ (l : List ℕ). is_set l q ≡ true) there b))
-
 pub had_all : (s o : NumberSet) (n : ℕ) → AreHad s.words.items o.words.items (64 * n) → length s.words.items ≤ n → (q : ℕ) → IsIn q (members s) → IsIn q (members o)
 had_all s o n h long q i = let set = (in_members s q).0 i in let low = set_within s.words.items q set in (in_members o q).1 (h q (omega arith) set)
-
-pub apart_all : (s o : NumberSet) (n : ℕ) → AreApart s.words.items o.words.items (64 * n) → min (length s.words.items) (length o.words.items) ≤ n → Meets (members s) (members o) → ⊥
-apart_all s o n h long (q, i, j) =
-    let a = (in_members s q).0 i in
-    let b = (in_members o q).0 j in
-    let low = set_within s.words.items q a in
-    let under = set_within o.words.items q b in
-    h q (omega arith) a b
 
 -- sets that are joined
 pub joined_first : (old others new : List ℕ) → ((k : ℕ) → get_or new k 0 ≡ get_or old k 0) → AreJoined old others new 0

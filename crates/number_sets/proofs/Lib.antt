@@ -1,4 +1,4 @@
 pub mod Members
 pub mod Bits
-pub mod Fronts
-pub mod Rows
+pub mod Shared
+pub mod Related

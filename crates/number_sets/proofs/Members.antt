@@ -9,28 +9,37 @@ use Rattle.number_sets.specs.Members.{IsIn}
 use Rattle.number_sets.specs.Sets.{below, is_set, members}
 use Rattle.number_sets.specs.declared.words.NumberSet.{NumberSet}
 
-in_contains : {X : Type 0} (x : X) (xs : List X) → IsIn x xs → Contains xs x
+pub in_contains : {X : Type 0} (x : X) (xs : List X) → IsIn x xs → Contains xs x
 in_contains x [] h = absurd h
 in_contains x (y ∷ ys) (inl e) = (0, omega arith, sym e)
 in_contains x (y ∷ ys) (inr h) = let c = in_contains x ys h in let low = c.1 in (suc c.0, omega arith, c.2)
 
-in_left : {X : Type 0} (x : X) (xs ys : List X) → IsIn x xs → IsIn x (xs ++ ys)
+pub in_left : {X : Type 0} (x : X) (xs ys : List X) → IsIn x xs → IsIn x (xs ++ ys)
 in_left x [] ys h = absurd h
 in_left x (z ∷ xs) ys (inl e) = inl e
 in_left x (z ∷ xs) ys (inr h) = inr (in_left x xs ys h)
 
-in_right : {X : Type 0} (x : X) (xs ys : List X) → IsIn x ys → IsIn x (xs ++ ys)
+pub in_right : {X : Type 0} (x : X) (xs ys : List X) → IsIn x ys → IsIn x (xs ++ ys)
 in_right x [] ys h = h
 in_right x (z ∷ xs) ys h = inr (in_right x xs ys h)
 
-filtered : {X : Type 0} (p : X → Bool) (x y : X) (fs : List X) → (IsIn x fs → p x ≡ true) → (b : Bool) → p y ≡ b → IsIn x (cond b (y ∷ fs) fs) → p x ≡ true
-filtered p x y fs rest true e (inl f) = ap p f ∙ e
-filtered p x y fs rest true e (inr h) = rest h
-filtered p x y fs rest false e h = rest h
+in_cases_in : {X : Type 0} (x y : X) (xs ys : List X) → IsIn x xs ⊎ IsIn x ys → IsIn x (y ∷ xs) ⊎ IsIn x ys
+in_cases_in x y xs ys (inl h) = inl (inr h)
+in_cases_in x y xs ys (inr h) = inr h
 
-pub in_filter : {X : Type 0} (p : X → Bool) (x : X) (xs : List X) → IsIn x (filter p xs) → p x ≡ true
+pub in_cases : {X : Type 0} (x : X) (xs ys : List X) → IsIn x (xs ++ ys) → IsIn x xs ⊎ IsIn x ys
+in_cases x [] ys h = inr h
+in_cases x (z ∷ xs) ys (inl e) = inl (inl e)
+in_cases x (z ∷ xs) ys (inr h) = in_cases_in x z xs ys (in_cases x xs ys h)
+
+filtered : {X : Type 0} (p : X → Bool) (x y : X) (ys fs : List X) → (IsIn x fs → IsIn x ys × (p x ≡ true)) → (b : Bool) → p y ≡ b → IsIn x (cond b (y ∷ fs) fs) → IsIn x (y ∷ ys) × (p x ≡ true)
+filtered p x y ys fs rest true e (inl f) = (inl f, ap p f ∙ e)
+filtered p x y ys fs rest true e (inr h) = let r = rest h in (inr r.0, r.1)
+filtered p x y ys fs rest false e h = let r = rest h in (inr r.0, r.1)
+
+pub in_filter : {X : Type 0} (p : X → Bool) (x : X) (xs : List X) → IsIn x (filter p xs) → IsIn x xs × (p x ≡ true)
 in_filter p x [] h = absurd h
-in_filter p x (y ∷ ys) h = filtered p x y (filter p ys) (λ k. in_filter p x ys k) (p y) refl h
+in_filter p x (y ∷ ys) h = filtered p x y ys (filter p ys) (λ k. in_filter p x ys k) (p y) refl h
 
 kept : {X : Type 0} (b : Bool) (x y : X) (fs : List X) → IsIn x fs → IsIn x (cond b (y ∷ fs) fs)
 kept true x y fs h = inr h

@@ -2,4 +2,3 @@ pub mod Members
 pub mod Sets
 pub mod Words
 pub mod Relation
-pub mod NumberedView

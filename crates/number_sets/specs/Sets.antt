@@ -29,7 +29,3 @@ pub record IsLacking (numbers others : List ℕ) (q : ℕ) : Type 0 where
 abbrev pub LackingAnswers : List ℕ → List ℕ → Option ℕ → Type 0
 LackingAnswers numbers others None = (q : ℕ) → IsIn q numbers → IsIn q others
 LackingAnswers numbers others (Some q) = IsLacking numbers others q
-
--- one number is in both
-abbrev pub Meets : List ℕ → List ℕ → Type 0
-Meets numbers others = (q : ℕ) × IsIn q numbers × IsIn q others

@@ -1,5 +1,5 @@
 -- What two lists of words have, number by number.
-use Rattle.std.specs.Prelude.{ℕ, ◌≡◌, ◌<◌, ◌⊎◌, ◌↔◌, Bool, true, false, List, Option, None, Some}
+use Rattle.std.specs.Prelude.{ℕ, ◌≡◌, ◌<◌, ◌⊎◌, ◌↔◌, true, List, Option, None, Some}
 use Rattle.number_sets.specs.Sets.{is_set}
 
 -- the others have each number below n
@@ -10,15 +10,6 @@ AreHad words others n = (p : ℕ) → p < n → is_set words p ≡ true → is_s
 abbrev pub IsFirstLacking : List ℕ → List ℕ → ℕ → Option ℕ → Type 0
 IsFirstLacking words others n None = AreHad words others n
 IsFirstLacking words others n (Some q) = (is_set words q ≡ true) × (is_set others q ≡ true → ⊥) × AreHad words others q
-
--- no number below n is in both
-abbrev pub AreApart : List ℕ → List ℕ → ℕ → Type 0
-AreApart words others n = (p : ℕ) → p < n → is_set words p ≡ true → is_set others p ≡ true → ⊥
-
--- whether a number below n is in both
-abbrev pub IsSharedBelow : List ℕ → List ℕ → ℕ → Bool → Type 0
-IsSharedBelow words others n true = (q : ℕ) × (is_set words q ≡ true) × (is_set others q ≡ true)
-IsSharedBelow words others n false = AreApart words others n
 
 -- the new words have what the old ones have, and what the others have below n
 abbrev pub AreJoined : List ℕ → List ℕ → List ℕ → ℕ → Type 0

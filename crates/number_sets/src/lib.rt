@@ -1,13 +1,12 @@
-// Sets of numbers as the bits of words, and lists of such sets by their own numbers.
+// Sets of numbers as the bits of words, and relations as such sets.
 #![tactic(auto)]
 
-mod numbered;
 mod relation;
+mod rows;
 mod sets;
 #[cfg(test)]
 mod tests;
 mod words;
 
-pub use numbered::NumberedSets;
-pub use relation::NumberRelation;
+pub use rows::NumberRelation;
 pub use words::NumberSet;

@@ -1,20 +1,21 @@
-ghost use Rattle.std.specs.Prelude.{◌≡◌, ◌↔◌, ◌⊎◌, ℕ, IfOk, OnOk};
+ghost use Rattle.std.specs.Prelude.{◌≡◌, ◌↔◌, ◌⊎◌, ◌<◌, ◌≤◌, ℕ, IfOk, OnOk, IsTrue, vec_len};
 ghost use Rattle.number_sets.specs.Members.{IsIn};
-ghost use Rattle.number_sets.specs.Sets.{members};
-ghost use Rattle.number_sets.specs.Relation.{Relates, IsImage};
+ghost use Rattle.number_sets.specs.Sets.{members, LackingAnswers};
+ghost use Rattle.number_sets.specs.Relation.{row_of, members_at, Relates, PairAnswers, earlier_pair};
 
+use crate::rows::NumberRelation;
 use crate::words::NumberSet;
 use std::alloc::Global;
-use std::collections::BTreeMap;
 use term_core::NoMemory;
 
-// So many rows are gone over no slower than the words of a set.
-const FEW_ROWS: usize = 32;
-
-/// A relation between numbers: for each number on its left side, the set of those on its right side.
-#[derive(Debug, Drop)]
-pub struct NumberRelation {
-    rows: BTreeMap<u32, NumberSet>,
+// The earlier of two pairs by their right numbers; the first where these are equal.
+fn earlier(first: Option<(u32, u32)>, left: u32, right: u32) -> Option<(u32, u32)>
+    ensures { result ≡ earlier_pair first left right }
+{
+    match first {
+        Some((_, least)) if least <= right => first,
+        _ => Some((left, right)),
+    }
 }
 
 impl NumberRelation {
@@ -23,57 +24,137 @@ impl NumberRelation {
         ensures { (p q : ℕ) → Relates result p q → ⊥ }
     {
         NumberRelation {
-            rows: BTreeMap::new(alloc),
+            rows: Vec::new(alloc),
         }
+    }
+
+    /// A relation of the same numbers.
+    pub fn copy(&self, alloc: Global) -> Result<NumberRelation, NoMemory>
+        ensures { IfOk result (λ r. (p q : ℕ) → Relates r p q ↔ Relates self.now p q) }
+    {
+        let mut rows = Vec::with_capacity(alloc, self.rows.len())?;
+        for row in &self.rows {
+            rows.push(row.copy(alloc)?)?;
+        }
+        Ok(NumberRelation { rows })
+    }
+
+    /// The set of the numbers to which a number is related; it may be absent where there is none.
+    pub fn row(&self, left: u32) -> Option<&NumberSet>
+        ensures { members_at result ≡ row_of self.now left }
+    {
+        self.rows.get(left as usize)
+    }
+
+    /// A bound of the numbers that are related to some.
+    pub fn lefts(&self) -> usize
+        ensures above { (p q : ℕ) → Relates self.now p q → p < result }
+        ensures most { result ≤ 4294967296 }
+    {
+        self.rows.len()
+    }
+
+    /// Whether a number is related to some.
+    pub fn has_left(&self, left: u32) -> bool
+        ensures { IsTrue result ↔ ((q : ℕ) × Relates self.now left q) }
+    {
+        match self.row(left) {
+            Some(row) => !row.is_empty(),
+            None => false,
+        }
+    }
+
+    // Makes place for so many rows.
+    fn lengthen(&mut self, alloc: Global, count: usize) -> Result<(), NoMemory>
+        requires { count ≤ 4294967296 }
+        ensures long { OnOk result (count ≤ vec_len self.new.rows) }
+        ensures same { OnOk result ((p : ℕ) → row_of self.new p ≡ row_of self.old p) }
+    {
+        'rows: for _ in self.rows.len()..count {
+            self.rows.push(NumberSet::new(alloc))?;
+        }
+        Ok(())
     }
 
     /// Relates a number to another.
     pub fn insert(&mut self, alloc: Global, left: u32, right: u32) -> Result<(), NoMemory>
         ensures { OnOk result ((p q : ℕ) → Relates self.new p q ↔ (Relates self.old p q ⊎ ((p ≡ left) × (q ≡ right)))) }
     {
-        match self.rows.get_mut(&left) {
-            Some(set) => set.insert(right),
-            None => {
-                self.rows.insert(left, NumberSet::alone(alloc, right)?)?;
-                Ok(())
-            }
-        }
+        let place = left as usize;
+        self.lengthen(alloc, place + 1)?;
+        self.rows[place].insert(right)
     }
 
-    // Goes over the rows.
-    fn image_by_rows(&self, alloc: Global, set: &NumberSet) -> Result<NumberSet, NoMemory>
-        ensures { IfOk result (λ image. IsImage self.now (members set.now) (members image)) }
+    /// Relates a number to all of a set.
+    pub fn insert_all(&mut self, alloc: Global, left: u32, set: &NumberSet) -> Result<(), NoMemory>
+        ensures { OnOk result ((p q : ℕ) → Relates self.new p q ↔ (Relates self.old p q ⊎ ((p ≡ left) × IsIn q (members set.now)))) }
     {
-        let mut image = NumberSet::new(alloc);
-        for (left, right) in &self.rows {
-            if set.has(*left) {
-                image.insert_all(right)?;
-            }
-        }
-        Ok(image)
+        let place = left as usize;
+        self.lengthen(alloc, place + 1)?;
+        self.rows[place].insert_all(set)
     }
 
-    // Goes over the numbers of the set.
-    fn image_by_numbers(&self, alloc: Global, set: &NumberSet) -> Result<NumberSet, NoMemory>
-        ensures { IfOk result (λ image. IsImage self.now (members set.now) (members image)) }
+    // The first number to which one is related here and not in the other.
+    fn first_lacking_at(&self, alloc: Global, other: &NumberRelation, left: u32) -> Option<u32>
+        ensures { LackingAnswers (row_of self.now left) (row_of other.now left) result }
     {
-        let mut image = NumberSet::new(alloc);
-        for left in set.numbers(alloc)? {
-            if let Some(right) = self.rows.get(&left) {
-                image.insert_all(right)?;
-            }
-        }
-        Ok(image)
+        let none = NumberSet::new(alloc);
+        let row = self.row(left).unwrap_or(&none);
+        row.first_lacking(other.row(left).unwrap_or(&none))
     }
 
-    /// The numbers to which one of the set is related.
-    pub fn image(&self, alloc: Global, set: &NumberSet) -> Result<NumberSet, NoMemory>
-        ensures { IfOk result (λ image. IsImage self.now (members set.now) (members image)) }
+    /// The first pair that another relation lacks, in order by the right number, then the left.
+    pub fn first_lacking(&self, alloc: Global, other: &NumberRelation) -> Option<(u32, u32)>
+        ensures { PairAnswers self.now other.now result }
     {
-        if self.rows.len() <= FEW_ROWS {
-            self.image_by_rows(alloc, set)
-        } else {
-            self.image_by_numbers(alloc, set)
+        let mut first = None;
+        for left in 0..self.lefts() {
+            let left = left as u32;
+            if let Some(right) = self.first_lacking_at(alloc, other, left) {
+                first = earlier(first, left, right);
+            }
         }
+        first
+    }
+
+    // Relates each of some numbers to all of a set.
+    fn insert_each(&mut self, alloc: Global, lefts: &[u32], set: &NumberSet) -> Result<(), NoMemory>
+        ensures { OnOk result ((p q : ℕ) → Relates self.new p q ↔ (Relates self.old p q ⊎ (IsIn p lefts.now × IsIn q (members set.now)))) }
+    {
+        for left in lefts {
+            self.insert_all(alloc, *left, set)?;
+        }
+        Ok(())
+    }
+
+    /// The relation with other numbers on its left side: those to which another relation relates the ones here.
+    pub fn carried(&self, alloc: Global, by: &NumberRelation) -> Result<NumberRelation, NoMemory>
+        ensures { IfOk result (λ r. (p q : ℕ) → Relates r p q ↔ ((s : ℕ) × Relates by.now s p × Relates self.now s q)) }
+    {
+        let mut made = NumberRelation::new(alloc);
+        for left in 0..self.lefts() {
+            let left = left as u32;
+            if let Some(row) = self.row(left) {
+                if let Some(lefts) = by.row(left) {
+                    made.insert_each(alloc, &lefts.numbers(alloc)?, row)?;
+                }
+            }
+        }
+        Ok(made)
+    }
+
+    /// The relation from right to left.
+    pub fn converse(&self, alloc: Global) -> Result<NumberRelation, NoMemory>
+        ensures { IfOk result (λ r. (p q : ℕ) → Relates r p q ↔ Relates self.now q p) }
+    {
+        let mut made = NumberRelation::new(alloc);
+        for left in 0..self.lefts() {
+            let left = left as u32;
+            if let Some(row) = self.row(left) {
+                let alone = NumberSet::alone(alloc, left)?;
+                made.insert_each(alloc, &row.numbers(alloc)?, &alone)?;
+            }
+        }
+        Ok(made)
     }
 }

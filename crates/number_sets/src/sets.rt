@@ -1,7 +1,7 @@
 ghost use Rattle.std.specs.Prelude.{◌≡◌, ◌↔◌, ◌⊎◌, ◌<◌, ◌≤◌, ◌+◌, ◌*◌, ◌∷◌, ℕ, [], get_or, vec_len, IfOk, OnOk, IsTrue};
 ghost use Rattle.number_sets.specs.Members.{IsIn};
-ghost use Rattle.number_sets.specs.Sets.{is_set, members, members_below, LackingAnswers, Meets};
-ghost use Rattle.number_sets.specs.Words.{AreHad, IsFirstLacking, AreApart, IsSharedBelow};
+ghost use Rattle.number_sets.specs.Sets.{is_set, members, members_below, LackingAnswers};
+ghost use Rattle.number_sets.specs.Words.{AreHad, IsFirstLacking};
 
 use crate::words::NumberSet;
 use std::alloc::Global;
@@ -52,20 +52,6 @@ fn first_lacking(words: &[u64], others: &[u64], place: usize) -> Option<u32>
     None
 }
 
-// Whether the words at a place have a number in common.
-fn is_shared(words: &[u64], others: &[u64], place: usize) -> bool
-    requires few { place < 67108864 }
-    requires front { AreApart words.now others.now (64 * place) }
-    ensures { IsSharedBelow words.now others.now (64 * (place + 1)) result }
-{
-    for number in place * BITS..(place + 1) * BITS {
-        if bit(words, number) && bit(others, number) {
-            return true;
-        }
-    }
-    false
-}
-
 impl NumberSet {
     /// The empty set.
     pub fn new(alloc: Global) -> NumberSet
@@ -83,6 +69,26 @@ impl NumberSet {
         let mut set = NumberSet::new(alloc);
         set.insert(number)?;
         Ok(set)
+    }
+
+    /// The set of the numbers below a count.
+    pub fn below(alloc: Global, count: u32) -> Result<NumberSet, NoMemory>
+        ensures { IfOk result (λ set. (q : ℕ) → IsIn q (members set) ↔ (q < count)) }
+    {
+        let mut set = NumberSet::new(alloc);
+        for number in 0..count {
+            set.insert(number)?;
+        }
+        Ok(set)
+    }
+
+    /// A set of the same numbers.
+    pub fn copy(&self, alloc: Global) -> Result<NumberSet, NoMemory>
+        ensures { IfOk result (λ set. members set ≡ members self.now) }
+    {
+        Ok(NumberSet {
+            words: Vec::from_slice(alloc, &self.words)?,
+        })
     }
 
     // Makes place for so many words.
@@ -115,6 +121,16 @@ impl NumberSet {
             self.words[place] |= other.words[place];
         }
         Ok(())
+    }
+
+    /// Leaves out the numbers that another set has not.
+    pub fn keep_shared(&mut self, other: &NumberSet)
+        ensures { (q : ℕ) → IsIn q (members self.new) ↔ (IsIn q (members self.old) × IsIn q (members other.now)) }
+    {
+        self.words.truncate(other.words.len());
+        for place in 0..self.words.len() {
+            self.words[place] &= word_at(&other.words, place);
+        }
     }
 
     /// Whether the set has a number.
@@ -162,19 +178,5 @@ impl NumberSet {
             }
         }
         None
-    }
-
-    /// Whether the set and another have a number in common.
-    pub fn meets(&self, other: &NumberSet) -> bool
-        ensures { IsTrue result ↔ Meets (members self.now) (members other.now) }
-    {
-        for place in 0..self.words.len().min(other.words.len()) {
-            if self.words[place] & other.words[place] != 0
-                && is_shared(&self.words, &other.words, place)
-            {
-                return true;
-            }
-        }
-        false
     }
 }

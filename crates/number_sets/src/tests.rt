@@ -1,5 +1,5 @@
 //! Sets of numbers in several words.
-use crate::{NumberRelation, NumberSet, NumberedSets};
+use crate::{NumberRelation, NumberSet};
 use std::alloc::Global;
 use std::test::Fail;
 
@@ -76,76 +76,138 @@ fn a_set_takes_in_another(rt: HostRuntime) -> Result<(), Fail> {
     Ok(())
 }
 
-// Two sets, the first number that the second lacks, and whether they meet.
-type Compared = (&'static [u32], &'static [u32], Option<u32>, bool);
+// Two sets, the first number that the second lacks, and what both have.
+type Compared = (&'static [u32], &'static [u32], Option<u32>, &'static [u32]);
 
 const COMPARED: &[Compared] = &[
-    (&[0, 63, 64], &[0, 63], Some(64), true),
-    (&[1, 70, 1000], &[1, 70, 999], Some(1000), true),
-    (&[5, 6, 7], &[5], Some(6), true),
-    (&[3, 300, 301], &[4, 300], Some(3), true),
-    (&[0, 64], &[0, 64, 128], None, true),
-    (&[2, 1000], &[3, 64, 1000], Some(2), true),
-    (&[0, 63], &[64], Some(0), false),
-    (&[0, 1000], &[1, 999], Some(0), false),
-    (&[], &[0], None, false),
-    (&[1000], &[], Some(1000), false),
+    (&[0, 63, 64], &[0, 63], Some(64), &[0, 63]),
+    (&[1, 70, 1000], &[1, 70, 999], Some(1000), &[1, 70]),
+    (&[5, 6, 7], &[5], Some(6), &[5]),
+    (&[3, 300, 301], &[4, 300], Some(3), &[300]),
+    (&[0, 64], &[0, 64, 128], None, &[0, 64]),
+    (&[2, 1000], &[3, 64, 1000], Some(2), &[1000]),
+    (&[0, 63], &[64], Some(0), &[]),
+    (&[0, 1000], &[1, 999], Some(0), &[]),
+    (&[], &[0], None, &[]),
+    (&[1000], &[], Some(1000), &[]),
 ];
 
 #[test]
 fn sets_are_compared_in_each_word(rt: HostRuntime) -> Result<(), Fail> {
     let alloc = rt.alloc();
-    for (row, (first, second, lacking, meet)) in COMPARED.iter().enumerate() {
-        let first = set(alloc, first)?;
-        let second = set(alloc, second)?;
+    for (row, (first, second, lacking, both)) in COMPARED.iter().enumerate() {
+        let mut first = set(alloc, first)?;
+        let mut second = set(alloc, second)?;
         assert!(rt; first.first_lacking(&second) == *lacking, "at row {row}");
-        assert!(rt; first.meets(&second) == *meet, "at row {row}");
-        assert!(rt; second.meets(&first) == *meet, "at row {row}");
+        let copy = second.copy(alloc)?;
+        second.keep_shared(&first);
+        assert!(rt; is_just(alloc, &second, both)?, "at row {row}");
+        first.keep_shared(&copy);
+        assert!(rt; is_just(alloc, &first, both)?, "at row {row}");
     }
     Ok(())
 }
 
 #[test]
-fn equal_sets_share_a_number(rt: HostRuntime) -> Result<(), Fail> {
+fn a_set_has_all_numbers_below_a_count(rt: HostRuntime) -> Result<(), Fail> {
     let alloc = rt.alloc();
-    let mut sets = NumberedSets::new(alloc);
-    assert!(rt; sets.number(set(alloc, &[63, 1000])?)? == 0);
-    assert!(rt; sets.number(NumberSet::new(alloc))? == 1);
-    assert!(rt; sets.number(set(alloc, &[1000, 63])?)? == 0);
-    assert!(rt; sets.number(set(alloc, &[63])?)? == 2);
-    assert!(rt; sets.number(NumberSet::new(alloc))? == 1);
-    assert!(rt; sets.all().len() == 3);
-    assert!(rt; is_just(alloc, sets.set(0), &[63, 1000])?);
-    assert!(rt; is_just(alloc, sets.set(2), &[63])?);
-    assert!(rt; sets.set(3).is_empty());
+    for count in [0, 1, 64, 65] {
+        let set = NumberSet::below(alloc, count)?;
+        let numbers = set.numbers(alloc)?;
+        assert!(rt; numbers.len() == count as usize);
+        assert!(rt; !set.has(count));
+        assert!(rt; count == 0 || set.has(count - 1));
+    }
     Ok(())
 }
 
-// Each number below `count` is related to its half, and to 640.
-fn halves(alloc: Global, count: u32) -> Result<NumberRelation, Fail> {
+fn relation(alloc: Global, pairs: &[(u32, u32)]) -> Result<NumberRelation, Fail> {
     let mut relation = NumberRelation::new(alloc);
-    for number in 0..count {
-        relation.insert(alloc, number, 640)?;
-        relation.insert(alloc, number, number / 2)?;
+    for (left, right) in pairs {
+        relation.insert(alloc, *left, *right)?;
     }
     Ok(relation)
 }
 
-#[test]
-fn a_set_has_an_image_under_few_rows_and_under_many(rt: HostRuntime) -> Result<(), Fail> {
-    let alloc = rt.alloc();
-    for count in [5, 100] {
-        let relation = halves(alloc, count)?;
-        let image = relation.image(alloc, &set(alloc, &[0, 3, 4, 1000])?)?;
-        assert!(rt; is_just(alloc, &image, &[0, 1, 2, 640])?, "at {count}");
-        assert!(rt;
-            relation.image(alloc, &set(alloc, &[1000])?)?.is_empty(),
-            "at {count}"
-        );
-        assert!(rt;
-            relation.image(alloc, &NumberSet::new(alloc))?.is_empty(),
-            "at {count}"
-        );
+fn is_row(
+    alloc: Global,
+    relation: &NumberRelation,
+    left: u32,
+    wanted: &[u32],
+) -> Result<bool, Fail> {
+    match relation.row(left) {
+        Some(row) => is_just(alloc, row, wanted),
+        None => Ok(wanted.is_empty()),
     }
+}
+
+// Each row of a relation, with a number on its left side.
+fn are_rows(
+    alloc: Global,
+    relation: &NumberRelation,
+    rows: &[(u32, &[u32])],
+) -> Result<bool, Fail> {
+    for (left, wanted) in rows {
+        if !is_row(alloc, relation, *left, wanted)?
+            || relation.has_left(*left) == wanted.is_empty()
+        {
+            return Ok(false);
+        }
+    }
+    Ok(true)
+}
+
+const PAIRS: &[(u32, u32)] = &[(2, 640), (0, 7), (2, 1), (5, 1)];
+
+const ROWS: &[(u32, &[u32])] = &[(0, &[7]), (1, &[]), (2, &[1, 640]), (5, &[1]), (6, &[])];
+
+#[test]
+fn a_relation_has_the_pairs_that_were_put_in(rt: HostRuntime) -> Result<(), Fail> {
+    let alloc = rt.alloc();
+    let mut made = relation(alloc, PAIRS)?;
+    assert!(rt; are_rows(alloc, &made, ROWS)?);
+    assert!(rt; are_rows(alloc, &made.copy(alloc)?, ROWS)?);
+    assert!(rt; made.lefts() == 6);
+    made.insert_all(alloc, 0, &set(alloc, &[7, 8])?)?;
+    made.insert_all(alloc, 9, &set(alloc, &[3])?)?;
+    assert!(rt; are_rows(alloc, &made, &[(0, &[7, 8]), (2, &[1, 640]), (9, &[3])])?);
+    assert!(rt; NumberRelation::new(alloc).lefts() == 0);
+    Ok(())
+}
+
+#[test]
+fn a_relation_is_turned_and_carried(rt: HostRuntime) -> Result<(), Fail> {
+    let alloc = rt.alloc();
+    let made = relation(alloc, PAIRS)?;
+    let turned = made.converse(alloc)?;
+    assert!(rt;
+        are_rows(
+            alloc,
+            &turned,
+            &[(1, &[2, 5]), (7, &[0]), (640, &[2]), (2, &[])]
+        )?
+    );
+    let by = relation(alloc, &[(0, 3), (0, 4), (2, 4), (5, 0), (9, 9)])?;
+    let carried = made.carried(alloc, &by)?;
+    assert!(rt;
+        are_rows(
+            alloc,
+            &carried,
+            &[(3, &[7]), (4, &[1, 7, 640]), (0, &[1]), (9, &[])]
+        )?
+    );
+    Ok(())
+}
+
+#[test]
+fn the_first_pair_is_by_its_right_number(rt: HostRuntime) -> Result<(), Fail> {
+    let alloc = rt.alloc();
+    let made = relation(alloc, PAIRS)?;
+    let none = NumberRelation::new(alloc);
+    assert!(rt; made.first_lacking(alloc, &none) == Some((2, 1)));
+    assert!(rt; made.first_lacking(alloc, &made).is_none());
+    assert!(rt; none.first_lacking(alloc, &made).is_none());
+    let other = relation(alloc, &[(2, 1), (5, 1), (0, 8)])?;
+    assert!(rt; made.first_lacking(alloc, &other) == Some((0, 7)));
     Ok(())
 }

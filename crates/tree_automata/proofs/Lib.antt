@@ -1,12 +1,8 @@
 pub mod Lists
-pub mod Looked
-pub mod Ends
-pub mod Sets
-pub mod StateSets
-pub mod Moves
 pub mod Included
-pub mod Within
+pub mod Batches
 pub mod Open
+pub mod Kept
 pub mod Conditions
 pub mod Accepted
 pub mod Listed

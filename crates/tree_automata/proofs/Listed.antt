@@ -17,7 +17,7 @@ use Rattle.automaton_runs.proofs.Members.{in_map, in_map_back}
 use Rattle.automaton_runs.proofs.Twins.{all_of}
 use Rattle.tree_automata.specs.Open.{HaveTwins}
 use Rattle.tree_automata.proofs.Lists.{in_front}
-use Rattle.tree_automata.proofs.Looked.{looked_from}
+use Rattle.automaton_runs.proofs.Looked.{looked_from}
 use Rattle.tree_automata.proofs.Open.{twins_include}
 use Rattle.tree_automata.proofs.Accepted.{at_in}
 

@@ -1,46 +1,31 @@
--- Numbered sets of the states at which right sides are kept.
-use Rattle.std.specs.Prelude.{ℕ, ◌≡◌, ◌↔◌, ◌<◌, List, Option, refl}
-use Rattle.std.specs.Coded.{Coded, code_by, coded×, coded_ℕ, coded_list, coded_option}
-use Rattle.rewriting.specs.Terms.{Term}
-use Rattle.rewriting.specs.Rules.{System}
-use Rattle.rewriting.specs.Codes.{coded_system}
-use Rattle.certificates.specs.Evidence.{Transition, Automaton}
-use Rattle.automata.specs.Runs.{Has}
-use Rattle.automata.specs.Closed.{Includes, IsKept}
-use Rattle.automaton_runs.specs.Members.{IsIn}
-use Rattle.tree_automata.specs.StateSets.{IsFront}
-
--- a system and an automaton, and sets of its states in order
-pub record Kept : Type 0 where
-  pub system : System
-  pub automaton : Automaton
-  pub sets : List (List ℕ)
-
-abbrev pub coded_transition : Coded Transition
-coded_transition =
-    code_by (Option ℕ × (List ℕ × ℕ)) (coded× (coded_option coded_ℕ) (coded× (coded_list coded_ℕ) coded_ℕ)) (λ t. (t.symbol, (t.arguments, t.target)))
-    (λ p. record { symbol = p.0; arguments = p.1.0; target = p.1.1 }) (λ _. refl)
-
-abbrev pub coded_automaton : Coded Automaton
-coded_automaton =
-    code_by (ℕ × (List ℕ × List Transition)) (coded× coded_ℕ (coded× (coded_list coded_ℕ) (coded_list coded_transition))) (λ a. (a.states, (a.accepting, a.transitions)))
-    (λ p. record { states = p.0; accepting = p.1.0; transitions = p.1.1 }) (λ _. refl)
-
-abbrev pub coded_kept : Coded Kept
-coded_kept =
-    code_by (System × (Automaton × List (List ℕ))) (coded× coded_system (coded× coded_automaton (coded_list (coded_list coded_ℕ)))) (λ k. (k.system, (k.automaton, k.sets)))
-    (λ p. record { system = p.0; automaton = p.1.0; sets = p.1.1 }) (λ _. refl)
-
--- the same system and automaton, and each set has its number still
-pub record GrowsKept (old new : Kept) : Type 0 where
-  pub system : new.system ≡ old.system
-  pub automaton : new.automaton ≡ old.automaton
-  pub sets : IsFront old.sets new.sets
+-- States that include others, and choices by which right sides are kept.
+use Rattle.std.specs.Prelude.{ℕ, ◌≡◌, ◌↔◌, ◌<◌, List, Some}
+use Rattle.rewriting.specs.Terms.{Term, var, app}
+use Rattle.rewriting.specs.Rules.{Rule, System, rule_at}
+use Rattle.certificates.specs.Evidence.{Automaton}
+use Rattle.automata.specs.Runs.{Has, Reach, at}
+use Rattle.automata.specs.Closed.{Includes, state_of}
+use Rattle.number_sets.specs.Members.{IsIn}
+use Rattle.number_sets.specs.Relation.{Relates}
+use Rattle.number_sets.specs.declared.rows.NumberRelation.{NumberRelation}
 
 -- exactly the states that include p
 abbrev pub AreIncluding : System → Automaton → ℕ → List ℕ → Type 0
 AreIncluding sys a p set = (q : ℕ) → IsIn q set ↔ ((q < a.states) × Includes sys (Has a) q p)
 
--- exactly the states at which the right side is kept, its variables having the states that e gives
-abbrev pub AreKeptAt : System → Automaton → (ℕ → ℕ) → Term → List ℕ → Type 0
-AreKeptAt sys a e t set = (q : ℕ) → q < a.states → IsIn q set ↔ IsKept sys (Has a) e t q
+-- each state is related to exactly those that include it
+abbrev pub IsInclusion : System → Automaton → NumberRelation → Type 0
+IsInclusion sys a r = (p q : ℕ) → Relates r p q ↔ ((p < a.states) × (q < a.states) × Includes sys (Has a) q p)
+
+abbrev pub IsVariable : Term → Type 0
+IsVariable (var x) = Unit {0}
+IsVariable (app f ts) = ⊥
+
+-- the relation has the states that include others, where a right side is a variable
+abbrev pub IsInclusionIfAsked : System → Automaton → NumberRelation → Type 0
+IsInclusionIfAsked sys a r = (i : ℕ) (rule : Rule) → rule_at sys i ≡ Some rule → IsVariable rule.right → IsInclusion sys a r
+
+-- the right side is kept at q, where a relation tells which states include others
+abbrev pub IsKeptBy : NumberRelation → Automaton → List ℕ → Term → List ℕ → ℕ → Type 0
+IsKeptBy r a names (var x) cs q = Relates r (state_of names cs x) q
+IsKeptBy r a names (app f ts) cs q = Reach (Has a) (at (state_of names cs)) (app f ts) q

@@ -1,8 +1,4 @@
-pub mod States
-pub mod StateSets
-pub mod Reached
-pub mod ReachedView
 pub mod Kept
-pub mod KeptView
+pub mod Batches
 pub mod Open
 pub mod Accepts

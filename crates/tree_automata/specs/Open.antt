@@ -8,7 +8,6 @@ use Rattle.automata.specs.Closed.{IsChoice, IsHead, IsRuleKept, IsClosed, IsFirs
 use Rattle.automaton_runs.specs.Arrivals.{IsArrivalBefore}
 use Rattle.automaton_runs.specs.Members.{IsIn}
 use Rattle.automaton_runs.specs.declared.runs.Arrival.{Arrival}
-use Rattle.tree_automata.specs.StateSets.{Meets}
 
 -- no left side is wide, or the first rule whose left side is
 abbrev pub IsWidthJudged : System → Automaton → Option EvidenceReason → Type 0
@@ -36,14 +35,6 @@ pub record IsOpenAt (sys : System) (a : Automaton) (r : Rule) (cs : List ℕ) (q
 abbrev pub OpenAnswers : System → Automaton → Rule → Option Arrival → Type 0
 OpenAnswers sys a r None = IsRuleClosed sys a r
 OpenAnswers sys a r (Some arrival) = IsOpenAt sys a r arrival.choice.items arrival.state
-
--- one of the rows has a state in the set
-abbrev pub IsOneMet : List (List ℕ × List ℕ) → List ℕ → Type 0
-IsOneMet rows set = (row : List ℕ × List ℕ) × IsIn row rows × Meets row.1 set
-
--- the right side is kept at each of some arrivals
-abbrev pub AreKept : System → Automaton → Rule → List (List ℕ × ℕ) → Type 0
-AreKept sys a r rows = (cs : List ℕ) (q : ℕ) → IsIn {X = List ℕ × ℕ} (cs, q) rows → IsRuleKept sys (Has a) r cs q
 
 -- each of the transitions whose head is one of the system has its twin to q
 abbrev pub HaveTwins : System → Automaton → List Transition → ℕ → Type 0

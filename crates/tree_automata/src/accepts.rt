@@ -1,19 +1,17 @@
-ghost use Rattle.std.specs.Prelude.{◌≡◌, ◌↔◌, ◌<◌, ℕ, [], None, Some, length, replicate, IfOk, OnOk, IsTrue};
-ghost use Rattle.number_sets.specs.Sets.{members};
+ghost use Rattle.std.specs.Prelude.{◌≡◌, ◌↔◌, ◌<◌, ◌≤◌, ℕ, [], None, Some, length, replicate, IfOk, OnOk, IsTrue};
+ghost use Rattle.number_sets.specs.Relation.{Relates};
 ghost use Rattle.rewriting.specs.Terms as math;
 ghost use Rattle.certificates.specs.Evidence as evidence;
-ghost use Rattle.automata.specs.Runs.{Has, RunsFrom0};
+ghost use Rattle.automata.specs.Runs.{Has, Reach, at, RunsFrom0};
 ghost use Rattle.automata.specs.Closed.{AcceptsAll};
 ghost use Rattle.automata.specs.Evidence.{IsAccepted};
 ghost use Rattle.term_core.specs.View.{view};
 ghost use Rattle.cert_model.specs.EvidenceView.{automaton_view};
-ghost use Rattle.automaton_runs.specs.Members.{IsIn};
-ghost use Rattle.tree_automata.specs.Accepts.{AreMarked, IsMarked, IsOneAccepting};
+ghost use Rattle.tree_automata.specs.Accepts.{IsMarked, IsOneAccepting};
 
-use crate::reached::ReachedSets;
-use automaton_runs::AutomatonIndex;
+use automaton_runs::{AutomatonIndex, Batch, reached};
 use cert_model::Automaton;
-use number_sets::NumberSet;
+use number_sets::NumberRelation;
 use std::alloc::Global;
 use term_core::{NoMemory, System, Term};
 
@@ -56,16 +54,28 @@ pub(crate) fn accepts_all(index: &AutomatonIndex<'_>, sys: &System) -> bool
     index.has(None, &[], 0)
 }
 
-// Whether one of the states is accepting.
-fn is_one_accepting(states: &NumberSet, a: &Automaton) -> bool
-    ensures { IsTrue result ↔ IsOneAccepting (automaton_view a.now) (members states.now) }
+// Whether one of the states that are related to some number is accepting.
+pub(crate) fn is_one_accepting(reached: &NumberRelation, a: &Automaton) -> bool
+    ensures { IsTrue result ↔ IsOneAccepting (automaton_view a.now) reached.now }
 {
     for q in &a.accepting {
-        if *q < a.states && states.has(*q) {
+        if *q < a.states && reached.has_left(*q) {
             return true;
         }
     }
     false
+}
+
+// The states that a term reaches where its variables have the state 0, each with the number 0.
+fn reached_from_0(
+    alloc: Global,
+    index: &AutomatonIndex<'_>,
+    t: &Term,
+) -> Result<NumberRelation, NoMemory>
+    ensures { IfOk result (λ r. (q k : ℕ) → Relates r q k ↔ ((k ≡ 0) × Reach (Has index.now) (at (λ x. 0)) (view t.now) q)) }
+{
+    let batch = Batch::new(alloc, 1, 0, 0)?;
+    reached(alloc, index, &batch, &[], t)
 }
 
 // Whether the term, its variables at the state 0, reaches an accepting state.
@@ -78,21 +88,18 @@ pub(crate) fn is_accepted(
     requires { index.now ≡ automaton_view a.now }
     ensures { IfOk result (λ yes. IsTrue yes ↔ IsAccepted (automaton_view a.now) (view t.now)) }
 {
-    let mut reached = ReachedSets::new(alloc, index);
-    let number = reached.number_of(alloc, &[], &[], t)?;
-    Ok(is_one_accepting(reached.set(number), a))
+    let reached = reached_from_0(alloc, index, t)?;
+    Ok(is_one_accepting(&reached, a))
 }
 
-// Marks each of the states that has a place.
-fn mark_all(states: &[u32], out: &mut [bool])
-    ensures marked { AreMarked states.now out.new }
+// Marks each of so many states that is related to some number.
+fn mark_all(reached: &NumberRelation, states: u32, out: &mut [bool])
+    requires { length out.old ≡ states }
+    ensures marked { (q : ℕ) → q < length out.new → IsMarked out.new q ↔ ((k : ℕ) × Relates reached.now q k) }
     ensures len { length out.new ≡ length out.old }
 {
-    out.fill(false);
-    for q in states {
-        if (*q as usize) < out.len() {
-            out[*q as usize] = true;
-        }
+    for q in 0..states {
+        out[q as usize] = reached.has_left(q);
     }
 }
 
@@ -114,10 +121,8 @@ impl Runs for Automaton {
 
     fn reaches(&self, alloc: Global, t: &Term, out: &mut [bool]) -> Result<bool, NoMemory> {
         let index = AutomatonIndex::new(alloc, self)?;
-        let mut reached = ReachedSets::new(alloc, &index);
-        let number = reached.number_of(alloc, &[], &[], t)?;
-        let states = reached.set(number);
-        mark_all(&states.numbers(alloc)?, out);
-        Ok(is_one_accepting(states, self))
+        let reached = reached_from_0(alloc, &index, t)?;
+        mark_all(&reached, self.states, out);
+        Ok(is_one_accepting(&reached, self))
     }
 }

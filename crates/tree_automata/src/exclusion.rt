@@ -1,45 +1,44 @@
-ghost use Rattle.std.specs.Prelude.{◌≡◌, ◌↔◌, ℕ, IfOk, IsTrue};
-ghost use Rattle.number_sets.specs.Sets.{members};
+ghost use Rattle.std.specs.Prelude.{◌≡◌, ◌↔◌, ◌≤◌, ◌*◌, ◌^◌, ℕ, length, IfOk, IsTrue};
 ghost use Rattle.rewriting.specs.Terms as math;
+ghost use Rattle.ctrs_classes.specs.Blames.{leaves};
 ghost use Rattle.automata.specs.Evidence.{IsExclusionJudged};
+ghost use Rattle.automata.specs.Closed.{Excludes};
 ghost use Rattle.term_core.specs.View.{view};
 ghost use Rattle.cert_model.specs.EvidenceView.{automaton_view};
 ghost use Rattle.refuter.specs.Answers.{RefutesAnswers};
-ghost use Rattle.automaton_runs.specs.Members.{IsIn};
-ghost use Rattle.tree_automata.specs.StateSets.{Meets};
-ghost use Rattle.tree_automata.specs.Open.{IsOneMet};
 
+use crate::accepts::is_one_accepting;
 use crate::width::MAX_CHOICES;
 use automaton_runs::{
-    AutomatonIndex, StatesByChoice, has_more_choices, occurrences, states_by_choice,
+    AutomatonIndex, Batch, batches, has_more_choices, occurrences, reached_by_occurrences,
 };
 use cert_model::{Automaton, EvidenceReason};
-use number_sets::NumberSet;
 use refuter::Refusal;
 use std::alloc::Global;
 use term_core::{NoMemory, Term};
 
-// The set of some numbers.
-fn set_of(alloc: Global, numbers: &[u32]) -> Result<NumberSet, NoMemory>
-    ensures { IfOk result (λ set. (q : ℕ) → IsIn q (members set) ↔ IsIn q numbers.now) }
+// Whether no choice of states for so many variable occurrences brings a term to an accepting state.
+fn is_excluded(
+    alloc: Global,
+    index: &AutomatonIndex<'_>,
+    a: &Automaton,
+    t: &Term,
+    occurrences: usize,
+) -> Result<bool, NoMemory>
+    requires fits { math.Fits (view t.now) }
+    requires index { index.now ≡ automaton_view a.now }
+    requires length { occurrences ≡ length (leaves (view t.now)) }
+    requires few { index.now.states ^ occurrences ≤ 1000000 }
+    ensures { IfOk result (λ yes. IsTrue yes ↔ Excludes (automaton_view a.now) (view t.now)) }
 {
-    let mut set = NumberSet::new(alloc);
-    for number in numbers {
-        set.insert(*number)?;
-    }
-    Ok(set)
-}
-
-// Whether a row has a state in the set.
-fn is_one_met(rows: &StatesByChoice, set: &NumberSet) -> bool
-    ensures { IsTrue result ↔ IsOneMet rows.now (members set.now) }
-{
-    for row in 0..rows.len() {
-        if rows.states(row).meets(set) {
-            return true;
+    for number in 0..batches(index.states(), occurrences) {
+        let batch = Batch::new(alloc, index.states(), occurrences, number)?;
+        let reached = reached_by_occurrences(alloc, index, &batch, t)?;
+        if is_one_accepting(&reached, a) {
+            return Ok(false);
         }
     }
-    false
+    Ok(true)
 }
 
 /// Whether no choice of states for its variable occurrences brings a term to an accepting state. Else
@@ -48,14 +47,12 @@ pub fn excludes(alloc: Global, a: &Automaton, t: &Term) -> Result<(), Refusal>
     requires { math.Fits (view t.now) }
     ensures { RefutesAnswers (λ o. IsExclusionJudged (automaton_view a.now) (view t.now) o) result }
 {
-    let names = occurrences(alloc, t)?;
-    if has_more_choices(a.states, names.len(), MAX_CHOICES) {
+    let length = occurrences(alloc, t)?.len();
+    if has_more_choices(a.states, length, MAX_CHOICES) {
         return Err(Refusal::Reason(EvidenceReason::AutoWideRight));
     }
     let index = AutomatonIndex::new(alloc, a)?;
-    let rows = states_by_choice(alloc, &index, t)?;
-    let accepting = set_of(alloc, &a.accepting)?;
-    if is_one_met(&rows, &accepting) {
+    if !is_excluded(alloc, &index, a, t, length)? {
         return Err(Refusal::Reason(EvidenceReason::AutoReaches));
     }
     Ok(())

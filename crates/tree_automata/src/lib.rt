@@ -5,10 +5,7 @@ mod accepts;
 mod closure;
 mod evidence;
 mod exclusion;
-mod kept;
-mod reached;
 mod sides;
-mod states;
 #[cfg(test)]
 mod tests;
 mod width;

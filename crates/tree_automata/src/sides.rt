@@ -1,14 +1,16 @@
-ghost use Rattle.std.specs.Prelude.{◌↔◌, IfOk, IsTrue};
+ghost use Rattle.std.specs.Prelude.{◌≡◌, ◌↔◌, length, IfOk, IsTrue};
 ghost use Rattle.number_sets.specs.Sets.{members};
 ghost use Rattle.automata.specs.Runs.{Has};
 ghost use Rattle.automata.specs.Closed.{IsHead, Includes};
-ghost use Rattle.tree_automata.specs.Kept.{AreIncluding};
+ghost use Rattle.term_core.specs.View.{view};
+ghost use Rattle.automaton_runs.specs.Reached.{AreWhere};
+ghost use Rattle.tree_automata.specs.Kept.{AreIncluding, IsInclusion, IsInclusionIfAsked, IsVariable, IsKeptBy};
 
-use automaton_runs::AutomatonIndex;
+use automaton_runs::{AutomatonIndex, Batch, reached};
 use cert_model::Transition;
-use number_sets::NumberSet;
+use number_sets::{NumberRelation, NumberSet};
 use std::alloc::Global;
-use term_core::{NoMemory, System};
+use term_core::{NoMemory, System, Term};
 
 // Whether the transition is for a symbol of the system with as many arguments as its arity, or for variables.
 fn is_headed(sys: &System, transition: &Transition) -> bool
@@ -36,7 +38,7 @@ fn includes(index: &AutomatonIndex<'_>, sys: &System, q: u32, p: u32) -> bool
 }
 
 // The states that include p.
-pub(crate) fn including(
+fn including(
     alloc: Global,
     index: &AutomatonIndex<'_>,
     sys: &System,
@@ -51,4 +53,63 @@ pub(crate) fn including(
         }
     }
     Ok(set)
+}
+
+// Each state with those that include it.
+fn inclusion(
+    alloc: Global,
+    index: &AutomatonIndex<'_>,
+    sys: &System,
+) -> Result<NumberRelation, NoMemory>
+    ensures { IfOk result (IsInclusion sys.now index.now) }
+{
+    let mut made = NumberRelation::new(alloc);
+    for p in 0..index.states() {
+        made.insert_all(alloc, p, &including(alloc, index, sys, p)?)?;
+    }
+    Ok(made)
+}
+
+fn is_variable(t: &Term) -> bool
+    ensures { IsTrue result ↔ IsVariable (view t.now) }
+{
+    match t {
+        Term::Var(_) => true,
+        Term::Fun(_, _) => false,
+    }
+}
+
+// Each state with those that include it, if a right side is a variable: to compare all states takes long.
+pub(crate) fn inclusion_if_asked(
+    alloc: Global,
+    index: &AutomatonIndex<'_>,
+    sys: &System,
+) -> Result<NumberRelation, NoMemory>
+    ensures { IfOk result (IsInclusionIfAsked sys.now index.now) }
+{
+    for rule in sys.rules() {
+        if is_variable(&rule.right) {
+            return inclusion(alloc, index, sys);
+        }
+    }
+    Ok(NumberRelation::new(alloc))
+}
+
+// The states at which a right side is kept, by the choices of a batch. A variable is kept where a state includes its own.
+pub(crate) fn kept(
+    alloc: Global,
+    index: &AutomatonIndex<'_>,
+    inclusion: &NumberRelation,
+    batch: &Batch,
+    names: &[u32],
+    right: &Term,
+) -> Result<NumberRelation, NoMemory>
+    requires { length names.now ≡ batch.now.length }
+    ensures { IfOk result (AreWhere batch.now (IsKeptBy inclusion.now index.now names.now (view right.now))) }
+{
+    let reached = reached(alloc, index, batch, names, right)?;
+    match right {
+        Term::Var(_) => reached.carried(alloc, inclusion),
+        Term::Fun(_, _) => Ok(reached),
+    }
 }

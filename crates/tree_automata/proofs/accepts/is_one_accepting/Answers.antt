@@ -1,24 +1,23 @@
 use Rattle.std.proofs.Common.{refl, arith}
 use Rattle.std.proofs.lemmas.Bool.{false≢true}
 use Rattle.cert_model.specs.EvidenceView.{automaton_view}
-use Rattle.number_sets.specs.Sets.{members}
 use Rattle.tree_automata.proofs.Accepted.{accepting_here, none_more, none_at_all}
 use Rattle.tree_automata.proofs.accepts.is_one_accepting.Goals as goal
-use Rattle.tree_automata.proofs.accepts.is_one_accepting.Goals.{else-q-a-via-then-q-a+else-has, else-q-a-via-else-q-a}
+use Rattle.tree_automata.proofs.accepts.is_one_accepting.Goals.{else-q-a-via-then-q-a+else-has_left, else-q-a-via-else-q-a}
 
 pub loop-q-preserved : goal.loop-q-preserved
 loop-q-preserved c =
-    none_more (automaton_view c.args.a.now) (members c.args.states.now) c.deref-q-items.result.now c.deref-q-items.ensures.value c.loop-q.q-index c.loop-q-test.true c.loop-q.invariant
+    none_more (automaton_view c.args.a.now) c.args.reached.now c.deref-q-items.result.now c.deref-q-items.ensures.value c.loop-q.q-index c.loop-q-test.true c.loop-q.invariant
     (λ low there.
     elim c.else-q-a.branch [
-      | else-q-a-via-then-q-a+else-has w ↦ false≢true (w.if-has.ensures.1 there)
+      | else-q-a-via-then-q-a+else-has_left w ↦ false≢true (w.if-has_left.ensures.1 there)
       | else-q-a-via-else-q-a w ↦ omega (arith, w.if-q-a.false)
     ])
 
-pub returns-then-has : goal.returns-then-has
-returns-then-has c = (
+pub returns-then-has_left : goal.returns-then-has_left
+returns-then-has_left c = (
   λ _.
-      accepting_here (automaton_view c.args.a.now) (members c.args.states.now) c.deref-q-items.result.now c.deref-q-items.ensures.value c.loop-q.q-index c.loop-q-test.true c.if-q-a.true (c.if-has.ensures.0 refl),
+      accepting_here (automaton_view c.args.a.now) c.args.reached.now c.deref-q-items.result.now c.deref-q-items.ensures.value c.loop-q.q-index c.loop-q-test.true c.if-q-a.true (c.if-has_left.ensures.0 refl),
   λ _. refl,
 )
 
@@ -27,5 +26,5 @@ returns c = (
   λ h. absurd (false≢true h),
   λ h.
       absurd
-      (none_at_all (automaton_view c.args.a.now) (members c.args.states.now) c.deref-q-items.result.now c.deref-q-items.ensures.value c.loop-q.q-index c.loop-q-test.false c.loop-q.invariant h),
+      (none_at_all (automaton_view c.args.a.now) c.args.reached.now c.deref-q-items.result.now c.deref-q-items.ensures.value c.loop-q.q-index c.loop-q-test.false c.loop-q.invariant h),
 )

@@ -1,15 +1,17 @@
-use Rattle.std.proofs.Common.{◌+◌, sym, subst, List, Bool, take}
-use Rattle.tree_automata.specs.Accepts.{AreMarked}
-use Rattle.tree_automata.proofs.Accepted.{mark_more, mark_same}
+use Rattle.std.proofs.Common.{◌<◌, ℕ, length, refl, arith}
+use Rattle.number_sets.specs.Relation.{Relates}
+use Rattle.tree_automata.proofs.Accepted.{mark_more}
 use Rattle.tree_automata.proofs.accepts.mark_all.Goals as goal
-use Rattle.tree_automata.proofs.accepts.mark_all.Goals.{then-q-out, else-q-out}
 
 pub loop-q-preserved : goal.loop-q-preserved
 loop-q-preserved c =
-    elim c.if-q-out.branch [
-      | then-q-out w ↦
-          mark_more c.args.states.now c.loop-q.q-index c.loop-q.out c.if-q-out.out c.loop-q-test.true c.loop-q.invariant w.if-q-out.true w.out-is c.if-q-out.auto.out
-      | else-q-out w ↦
-          subst (λ (l : List Bool). AreMarked (take (c.loop-q.q-index + 1) c.args.states.now) l) (sym w.out-is)
-          (mark_same c.args.states.now c.loop-q.q-index c.loop-q.out c.loop-q-test.true c.loop-q.invariant w.if-q-out.false)
-    ]
+    let long = c.loop-q.auto.out in
+    let asked = c.requires in
+    let inside : c.loop-q.q < length c.loop-q.out = omega arith in
+    mark_more (λ q. (k : ℕ) × Relates c.args.reached.now q k) c.loop-q.out _ c.loop-q.q c.has_left.result inside c.loop-q.invariant refl c.has_left.ensures
+
+pub returns-clause-marked : goal.returns-clause-marked
+returns-clause-marked c = λ q low.
+    let long = c.loop-q.auto.out in
+    let asked = c.requires in
+    c.loop-q.invariant q (omega arith)

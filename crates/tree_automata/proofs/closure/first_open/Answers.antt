@@ -1,9 +1,16 @@
-use Rattle.std.proofs.Common.{subst, IfOk}
-use Rattle.certificates.specs.Evidence.{Automaton}
-use Rattle.term_core.specs.RuleView.{rule_view}
-use Rattle.tree_automata.specs.Open.{OpenAnswers}
+use Rattle.std.proofs.Common.{◌≡◌, ◌≤◌, ◌*◌, ◌^◌, ◌∙◌, ℕ, length, ap, ap₂, subst}
+use Rattle.ctrs_classes.specs.Blames.{leaves}
+use Rattle.term_core.specs.View.{view}
+use Rattle.tree_automata.specs.Kept.{IsKeptBy}
+use Rattle.tree_automata.proofs.Batches.{throughout, past_all}
 use Rattle.tree_automata.proofs.closure.first_open.Goals as goal
 
-pub returns-clause-open : goal.returns-clause-open
-returns-clause-open c =
-    subst (λ (a : Automaton). IfOk c.first_open_among.result (OpenAnswers c.args.kept.now.system a (rule_view c.args.rule.now))) c.requires.automaton c.first_open_among.ensures.open
+pub returns : goal.returns
+returns c =
+    let a = c.args.index.now in
+    let t = view c.args.rule.now.left in
+    let names = c.in_ok-names.names in
+    let count : c.states.result ^ c.len.result ≡ a.states ^ length (leaves t) = ap₂ (λ (n m : ℕ). n ^ m) c.states.ensures (c.len.ensures ∙ names.ok.0 ∙ ap length c.in_ok-names.ensures) in
+    throughout a t (IsKeptBy c.args.inclusion.now a (leaves t) (view c.args.rule.now.right)) (4096 * c.loop-number.number)
+    (subst (λ (n : ℕ). n ≤ 4096 * c.loop-number.number) count (past_all c.batches-number-end.result (c.states.result ^ c.len.result) c.loop-number.number c.batches-number-end.ensures c.loop-number-test.false))
+    c.loop-number.invariant

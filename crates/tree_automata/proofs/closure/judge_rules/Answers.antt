@@ -1,7 +1,7 @@
-use Rattle.std.proofs.Common.{◌+◌, ◌∙◌, ℕ, refl, ap, subst}
-use Rattle.rewriting.specs.Rules.{System}
+use Rattle.std.proofs.Common.{◌+◌, ℕ, refl, ap, subst}
 use Rattle.term_core.specs.RuleView.{rule_view}
 use Rattle.tree_automata.specs.Open.{IsRuleClosed, OpenAnswers}
+use Rattle.tree_automata.proofs.Kept.{open_answers}
 use Rattle.tree_automata.proofs.Open.{rule_stands, rules_past, left_fits, numbered, all_closed, first_open_of, each_more}
 use Rattle.tree_automata.proofs.closure.judge_rules.Goals as goal
 
@@ -21,21 +21,21 @@ returns-in-Some c =
     let a = c.args.index.now in
     let r = rule_view c.rule-item.result in
     let at = rule_stands sys c.rules-rule-items.result.now c.rules.rule-index c.rule-item.result c.rules-rule-items.ensures.rules c.rules-test.true c.rule-item.is in
+    let asked = c.in_ok-inclusion.ensures (c.rules.rule-index + 1) r (numbered sys c.rules.rule-index (c.rules.rule-index + 1) r refl at) in
     first_open_of sys a c.rules.rule-index (c.rules.number + 1) r c.in-Some.arrival.choice.items c.in-Some.arrival.state (ap (λ (k : ℕ). k + 1) c.rules.invariant.counted) at
-    (subst (OpenAnswers sys a r) c.in-Some.is (subst (λ (s : System). OpenAnswers s a r c.in_ok-first_open.field-0) c.rules.invariant.system c.in_ok-first_open.ensures.open)) c.rules.invariant.closed
+    (subst (OpenAnswers sys a r) c.in-Some.is (open_answers sys a c.in_ok-inclusion.inclusion r asked c.in_ok-first_open.field-0 c.in_ok-first_open.ensures)) c.rules.invariant.closed
 
 pub rules-preserved : goal.rules-preserved
 rules-preserved c =
     let sys = c.args.sys.now in
     let a = c.args.index.now in
     let r = rule_view c.rule-item.result in
-    let at = rule_stands sys c.rules-rule-items.result.now c.rules.rule-index c.rule-item.result c.rules-rule-items.ensures.rules c.rules-test.true c.rule-item.is in record {
+    let at = rule_stands sys c.rules-rule-items.result.now c.rules.rule-index c.rule-item.result c.rules-rule-items.ensures.rules c.rules-test.true c.rule-item.is in
+    let asked = c.in_ok-inclusion.ensures (c.rules.rule-index + 1) r (numbered sys c.rules.rule-index (c.rules.rule-index + 1) r refl at) in record {
       counted = ap (λ (k : ℕ). k + 1) c.rules.invariant.counted;
-      automaton = c.in_ok-first_open.ensures.more.automaton ∙ c.rules.invariant.automaton;
-      system = c.in_ok-first_open.ensures.more.system ∙ c.rules.invariant.system;
       closed =
           each_more (IsRuleClosed sys a) sys.rules c.rules.rule-index r at
-          (subst (OpenAnswers sys a r) c.in-None.is (subst (λ (s : System). OpenAnswers s a r c.in_ok-first_open.field-0) c.rules.invariant.system c.in_ok-first_open.ensures.open)) c.rules.invariant.closed;
+          (subst (OpenAnswers sys a r) c.in-None.is (open_answers sys a c.in_ok-inclusion.inclusion r asked c.in_ok-first_open.field-0 c.in_ok-first_open.ensures)) c.rules.invariant.closed;
     }
 
 pub returns : goal.returns

@@ -6,7 +6,5 @@ use Rattle.tree_automata.proofs.closure.judge_rules.Given as goal
 abbrev pub invariant-rules : goal.invariant-rules
 invariant-rules l = record {
   counted : l.number ≡ l.rule-index;
-  automaton : l.kept.automaton ≡ l.index;
-  system : l.kept.system ≡ l.sys;
   closed : (k : ℕ) (r : Rule) → k < l.rule-index → slice_get l.sys.rules k ≡ Some r → IsRuleClosed l.sys l.index r;
 }

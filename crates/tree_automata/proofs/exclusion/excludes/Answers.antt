@@ -1,33 +1,24 @@
-use Rattle.std.proofs.Common.{◌∙◌, ◌↔◌, List, ℕ, refl, subst}
-use Rattle.std.proofs.lemmas.Bool.{false≢true}
-use Rattle.certificates.specs.Evidence.{Automaton}
+use Rattle.std.proofs.Common.{◌≡◌, ◌∙◌, true, false, sym, rules}
+use Rattle.std.proofs.lemmas.Bool.{false≢true, not-true, not-false}
 use Rattle.term_core.specs.View.{view}
 use Rattle.cert_model.specs.EvidenceView.{automaton_view}
-use Rattle.automaton_runs.specs.Arrivals.{AreArrivals, spread}
-use Rattle.automaton_runs.specs.Members.{IsIn}
-use Rattle.number_sets.specs.Sets.{members}
-use Rattle.tree_automata.proofs.Open.{excluded, not_excluded}
 use Rattle.tree_automata.proofs.Listed.{narrow_by}
 use Rattle.tree_automata.proofs.exclusion.excludes.Goals as goal
 
-pub returns-then-is_one_met : goal.returns-then-is_one_met
-returns-then-is_one_met c =
+pub returns-then-not-branch : goal.returns-then-not-branch
+returns-then-not-branch c =
     let a = automaton_view c.args.a.now in
     let t = view c.args.t.now in
-    let rows = c.in_ok-rows.rows in
-    let all = subst (λ (i : Automaton). AreArrivals i t (spread rows)) c.in_ok-index.ensures c.in_ok-rows.ensures.exact in
-    let met = c.if-is_one_met.ensures.0 refl in (
-      narrow_by a t c.len.result c.in_ok-names.names.items (c.len.ensures ∙ c.in_ok-names.names.ok.0) c.in_ok-names.ensures c.if-has_more_choices.ensures.1,
-      not_excluded a t rows all (members c.in_ok-accepting.accepting) (λ q. subst (λ (l : List ℕ). IsIn q (members c.in_ok-accepting.accepting) ↔ IsIn q l) c.deref.ensures.value (c.in_ok-accepting.ensures q)) met,
+    let answer : c.in_ok-is_excluded.field-0 ≡ false = search (rules, not-true) in (
+      narrow_by a t c.len-length.result c.in_ok-occurrences.field-0.items (c.len-length.ensures ∙ c.in_ok-occurrences.field-0.ok.0) c.in_ok-occurrences.ensures c.if-has_more_choices.ensures.1,
+      λ ex. false≢true (sym answer ∙ c.in_ok-is_excluded.ensures.1 ex),
     )
 
 pub returns : goal.returns
 returns c =
     let a = automaton_view c.args.a.now in
     let t = view c.args.t.now in
-    let rows = c.in_ok-rows.rows in
-    let all = subst (λ (i : Automaton). AreArrivals i t (spread rows)) c.in_ok-index.ensures c.in_ok-rows.ensures.exact in (
-      narrow_by a t c.len.result c.in_ok-names.names.items (c.len.ensures ∙ c.in_ok-names.names.ok.0) c.in_ok-names.ensures c.if-has_more_choices.ensures.1,
-      excluded a t rows all (members c.in_ok-accepting.accepting) (λ q. subst (λ (l : List ℕ). IsIn q (members c.in_ok-accepting.accepting) ↔ IsIn q l) c.deref.ensures.value (c.in_ok-accepting.ensures q))
-          (λ h. false≢true (c.if-is_one_met.ensures.1 h)),
+    let answer : c.in_ok-is_excluded.field-0 ≡ true = search (rules, not-false) in (
+      narrow_by a t c.len-length.result c.in_ok-occurrences.field-0.items (c.len-length.ensures ∙ c.in_ok-occurrences.field-0.ok.0) c.in_ok-occurrences.ensures c.if-has_more_choices.ensures.1,
+      c.in_ok-is_excluded.ensures.0 answer,
     )

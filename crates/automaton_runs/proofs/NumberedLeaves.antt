@@ -1,0 +1,116 @@
+-- A term with its variable occurrences numbered: a state for each number is a choice.
+use Rattle.std.proofs.Common.{◌≡◌, ◌↔◌, ℕ, zero, suc, ◌+◌, ◌<◌, Bool, false, nat_eq, if◌then◌else◌, List, [], ◌∷◌, ◌++◌, length, get_or, take, drop, refl, ap, sym, subst, ◌∙◌, arith, length-append, length-drop}
+use Rattle.std.proofs.lemmas.List.{get_or_append_left, get_or-append-add, take-append-drop}
+use Rattle.std.proofs.lemmas.Bool.{eq-eqb, ne_eqb}
+use Rattle.std.proofs.Math.Seq.{length-take-le}
+use Rattle.rewriting.specs.Terms.{Term, Terms, var, app, nil, cons}
+use Rattle.ctrs_classes.specs.Blames.{leaves, leaves_of}
+use Rattle.automata.specs.Runs.{Moves, Reach, ReachAll, at, ReachBy, ReachAllBy}
+use Rattle.automata.specs.Closed.{state_of}
+use Rattle.number_sets.specs.Sets.{below}
+use Rattle.automaton_runs.specs.Linear.{linear, linear_all}
+use Rattle.automaton_runs.proofs.Arguments.{choice_length}
+
+pub length_below : (n : ℕ) → length (below n) ≡ n
+length_below zero = refl
+length_below (suc n) = omega (arith, length-append (below n) (n ∷ []), length_below n)
+
+-- n numbers from i on
+abbrev run : ℕ → ℕ → List ℕ
+run i zero = []
+run i (suc n) = i ∷ run (suc i) n
+
+run_push : (n i : ℕ) → run i (suc n) ≡ run i n ++ (i + n) ∷ []
+run_push zero i = let e : i ≡ i + zero = omega arith in ap (λ (k : ℕ). k ∷ []) e
+run_push (suc n) i =
+    let e : suc i + n ≡ i + suc n = omega arith in
+    ap (λ (l : List ℕ). i ∷ l) (run_push n (suc i)) ∙ ap (λ (k : ℕ). i ∷ (run (suc i) n ++ k ∷ [])) e
+
+below_run : (n : ℕ) → below n ≡ run 0 n
+below_run zero = refl
+below_run (suc n) =
+    let e : n ≡ 0 + n = omega arith in
+    ap (λ (l : List ℕ). l ++ n ∷ []) (below_run n) ∙ ap (λ (k : ℕ). run 0 n ++ k ∷ []) e ∙ sym (run_push n 0)
+
+run_state : (cs : List ℕ) (i k : ℕ) → k < length cs → state_of (run i (length cs)) cs (i + k) ≡ get_or cs k 0
+run_state [] i k h = absurd (omega arith)
+run_state (c ∷ cs) i zero h =
+    let same : i + zero ≡ i = omega arith in
+    ap (λ (b : Bool). if b then c else state_of (run (suc i) (length cs)) cs (i + zero)) (eq-eqb (i + zero) i same)
+run_state (c ∷ cs) i (suc k) h =
+    let other : nat_eq (i + suc k) i ≡ false = ne_eqb (i + suc k) i (λ e. omega arith) in
+    let place : i + suc k ≡ suc i + k = omega arith in
+    ap (λ (b : Bool). if b then c else state_of (run (suc i) (length cs)) cs (i + suc k)) other
+    ∙ ap (state_of (run (suc i) (length cs)) cs) place ∙ run_state cs (suc i) k (omega arith)
+
+-- e has the states of a choice from the number i on
+abbrev Gives : (ℕ → ℕ) → ℕ → List ℕ → Type 0
+Gives e i cs = (k : ℕ) → k < length cs → e (i + k) ≡ get_or cs k 0
+
+gives_below : (cs : List ℕ) → Gives (state_of (below (length cs)) cs) 0 cs
+gives_below cs k h = ap (λ (l : List ℕ). state_of l cs (0 + k)) (below_run (length cs)) ∙ run_state cs 0 k h
+
+gives_left : (e : ℕ → ℕ) (i : ℕ) (cs ds : List ℕ) → Gives e i (cs ++ ds) → Gives e i cs
+gives_left e i cs ds g k h = g k (omega (arith, length-append cs ds)) ∙ get_or_append_left cs ds 0 k h
+
+gives_right : (e : ℕ → ℕ) (i n : ℕ) (cs ds : List ℕ) → length cs ≡ n → Gives e i (cs ++ ds) → Gives e (i + n) ds
+gives_right e i n cs ds l g k h =
+    let place : (i + n) + k ≡ i + (length cs + k) = omega arith in
+    ap e place ∙ g (length cs + k) (omega (arith, length-append cs ds)) ∙ get_or-append-add cs ds k 0
+
+of_variable : (e : ℕ → ℕ) (i : ℕ) (cs : List ℕ) (q : ℕ) → Gives e i cs → cs ≡ q ∷ [] → q ≡ e i
+of_variable e i cs q g h =
+    let one : length cs ≡ 1 = ap length h in
+    let place : i + 0 ≡ i = omega arith in
+    sym (ap (λ (l : List ℕ). get_or l 0 0) h) ∙ sym (g 0 (omega arith)) ∙ ap e place
+
+to_variable : (e : ℕ → ℕ) (i : ℕ) (cs : List ℕ) (q : ℕ) → length cs ≡ 1 → Gives e i cs → q ≡ e i → cs ≡ q ∷ []
+to_variable e i [] q l g h = absurd (omega arith)
+to_variable e i (c ∷ []) q l g h =
+    let place : i ≡ i + 0 = omega arith in ap (λ (p : ℕ). p ∷ []) (sym (h ∙ ap e place ∙ g 0 (omega arith)))
+to_variable e i (c ∷ d ∷ cs) q l g h = absurd (omega arith)
+
+mutual
+  linear_back : (M : Moves) (e : ℕ → ℕ) (i : ℕ) (t : Term) (cs : List ℕ) (q : ℕ) → Gives e i cs → ReachBy M t cs q → Reach M (at e) (linear i t) q
+  linear_back M e i (var x) cs q g h = of_variable e i cs q g h
+  linear_back M e i (app f ts) cs q g (qs, m, r) = (qs, m, linear_back_all M e i ts cs qs g r)
+
+  linear_back_all : (M : Moves) (e : ℕ → ℕ) (i : ℕ) (ts : Terms) (cs qs : List ℕ) → Gives e i cs → ReachAllBy M ts cs qs → ReachAll M (at e) (linear_all i ts) qs
+  linear_back_all M e i nil cs qs g h = h.1
+  linear_back_all M e i (cons t ts) cs [] g h = absurd h
+  linear_back_all M e i (cons t ts) cs (q ∷ qs) g (before, after, is, one, others) =
+      let g2 : Gives e i (before ++ after) = subst (Gives e i) is g in (
+        linear_back M e i t before q (gives_left e i before after g2) one,
+        linear_back_all M e (i + length (leaves t)) ts after qs (gives_right e i (length (leaves t)) before after (choice_length M t before q one) g2) others,
+      )
+
+mutual
+  linear_to : (M : Moves) (e : ℕ → ℕ) (i : ℕ) (t : Term) (cs : List ℕ) (q : ℕ) → length cs ≡ length (leaves t) → Gives e i cs → Reach M (at e) (linear i t) q → ReachBy M t cs q
+  linear_to M e i (var x) cs q l g h = to_variable e i cs q l g h
+  linear_to M e i (app f ts) cs q l g (qs, m, r) = (qs, m, linear_to_all M e i ts cs qs l g r)
+
+  linear_to_all : (M : Moves) (e : ℕ → ℕ) (i : ℕ) (ts : Terms) (cs qs : List ℕ) → length cs ≡ length (leaves_of ts) → Gives e i cs → ReachAll M (at e) (linear_all i ts) qs → ReachAllBy M ts cs qs
+  linear_to_all M e i nil [] qs l g h = (refl, h)
+  linear_to_all M e i nil (c ∷ cs) qs l g h = absurd (omega arith)
+  linear_to_all M e i (cons t ts) cs [] l g h = absurd h
+  linear_to_all M e i (cons t ts) cs (q ∷ qs) l g (one, others) =
+      let n = length (leaves t) in
+      let all = length-append (leaves t) (leaves_of ts) in
+      let whole : take n cs ++ drop n cs ≡ cs = take-append-drop n cs in
+      let first : length (take n cs) ≡ n = length-take-le n cs (omega arith) in
+      let rest : length (drop n cs) ≡ length (leaves_of ts) = omega (arith, length-drop n cs) in
+      let g2 : Gives e i (take n cs ++ drop n cs) = subst (Gives e i) (sym whole) g in (
+        take n cs,
+        drop n cs,
+        sym whole,
+        linear_to M e i t (take n cs) q first (gives_left e i (take n cs) (drop n cs) g2) one,
+        linear_to_all M e (i + n) ts (drop n cs) qs rest (gives_right e i n (take n cs) (drop n cs) first g2) others,
+      )
+
+-- a term reaches a state by a choice just where the numbered term reaches it with the choice's states for the numbers
+pub reach_linear : (M : Moves) (t : Term) (cs : List ℕ) (q : ℕ) → length cs ≡ length (leaves t)
+    → Reach M (at (state_of (below (length cs)) cs)) (linear 0 t) q ↔ ReachBy M t cs q
+reach_linear M t cs q l = (
+  linear_to M (state_of (below (length cs)) cs) 0 t cs q l (gives_below cs),
+  linear_back M (state_of (below (length cs)) cs) 0 t cs q (gives_below cs),
+)
