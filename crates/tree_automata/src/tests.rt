@@ -100,6 +100,7 @@ fn word_of_choice(states: &[u32]) -> &'static str {
     match states {
         [0, 1] => "open at 0, 1",
         [2, 0] => "open at 2, 0",
+        [99, 98] => "open at 99, 98",
         _ => "open elsewhere",
     }
 }
@@ -225,7 +226,7 @@ fn shared_sides(alloc: Global) -> Result<System, Fail> {
 }
 
 #[test]
-fn rules_share_the_sets_of_their_right_sides(rt: HostRuntime) -> Result<(), Fail> {
+fn the_second_rule_may_be_open(rt: HostRuntime) -> Result<(), Fail> {
     let alloc = rt.alloc();
     let sys = shared_sides(alloc)?;
     let mut open = automaton(alloc, 3)?;
@@ -237,6 +238,22 @@ fn rules_share_the_sets_of_their_right_sides(rt: HostRuntime) -> Result<(), Fail
     open.transitions.push(by_g(alloc, 2, 0, 2)?)?;
     open.transitions.push(by_g(alloc, 2, 0, 1)?)?;
     assert_eq!(rt; closed(alloc, &sys, &open), ("open at 2, 0", 2, 1));
+    Ok(())
+}
+
+// The last choices of 100 states for two occurrences are past the first 8,192.
+#[test]
+fn a_late_choice_may_be_open(rt: HostRuntime) -> Result<(), Fail> {
+    let alloc = rt.alloc();
+    let pair = binary(alloc, Term::Var(0), Term::Var(1))?;
+    let sys = one_rule(alloc, rule(alloc, pair, unary(alloc, Term::Var(0))?, 2))?;
+    let mut open = automaton(alloc, 100)?;
+    assert_eq!(rt; closed(alloc, &sys, &open), GOOD);
+    assert_eq!(rt; excluded(alloc, &open)?, GOOD);
+    open.transitions.push(by_g(alloc, 99, 99, 1)?)?;
+    open.transitions.push(by_g(alloc, 99, 98, 1)?)?;
+    assert_eq!(rt; closed(alloc, &sys, &open), ("open at 99, 98", 1, 1));
+    assert_eq!(rt; excluded(alloc, &open)?, ("reaches", 0, 0));
     Ok(())
 }
 
