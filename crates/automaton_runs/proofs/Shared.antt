@@ -7,14 +7,10 @@ use Rattle.number_sets.specs.declared.words.NumberSet.{NumberSet}
 use Rattle.automaton_runs.specs.Reached.{AreRelated}
 use Rattle.automaton_runs.proofs.Zips.{zip_length, zip_step, zip_all, zip_at, any_default}
 
-at_is : (qs : List ℕ) (i : ℕ) → i < length qs → get_or qs i 0 ≡ get_or qs i (get_or qs i 0)
+pub at_is : (qs : List ℕ) (i : ℕ) → i < length qs → get_or qs i 0 ≡ get_or qs i (get_or qs i 0)
 at_is qs i h = any_default qs i 0 (get_or qs i 0) h
 
 module _ (all : List ℕ) (rs : List NumberRelation) (qs : List ℕ) where
-  -- relations and states that are not as many share nothing
-  pub unlike : (set : List ℕ) → set ≡ [] → (length rs ≡ length qs → ⊥) → (k : ℕ) → IsIn k set ↔ (IsIn k all × AreRelated rs qs k)
-  unlike set none never k = (λ h. absurd (subst (IsIn k) none h), λ (n, z). absurd (never (zip_length (λ r q. Relates r q k) rs qs z)))
-
   module _ (alike : length rs ≡ length qs) (i : ℕ) (r : NumberRelation) (inside : i < length rs) (is : r ≡ get_or rs i r) where
     -- a state that is related to nothing
     pub no_row : (set : List ℕ) (o : Option (Bor NumberSet)) → set ≡ [] → o ≡ None → members_at o ≡ row_of r (get_or qs i 0) → (k : ℕ) → IsIn k set ↔ (IsIn k all × AreRelated rs qs k)
@@ -37,3 +33,10 @@ module _ (all : List ℕ) (rs : List NumberRelation) (qs : List ℕ) where
   pub shared_all : (i : ℕ) (set : List ℕ) → length rs ≤ i → length rs ≡ length qs → ((k : ℕ) → IsIn k set ↔ (IsIn k all × AreRelated (take i rs) (take i qs) k)) → (k : ℕ) → IsIn k set ↔ (IsIn k all × AreRelated rs qs k)
   shared_all i set past alike front k =
       let w = zip_all (λ r q. Relates r q k) rs qs i past (omega (arith, alike)) in (λ h. let f = (front k).0 h in (f.0, w.0 f.1), λ (n, z). (front k).1 (n, w.1 z))
+
+-- a state that one of the relations lacks
+pub not_related : (rs : List NumberRelation) (qs : List ℕ) (i : ℕ) (r : NumberRelation) → i < length rs → r ≡ get_or rs i r → (((k : ℕ) × Relates r (get_or qs i 0) k) → ⊥) → length rs ≡ length qs → (k : ℕ) → AreRelated rs qs k → ⊥
+not_related rs qs i r inside is never alike k z = never (k, zip_at (λ r q. Relates r q k) rs qs i r (get_or qs i 0) inside is (at_is qs i (omega (arith, alike))) z)
+
+pub as_many : (rs : List NumberRelation) (qs : List ℕ) (k : ℕ) → AreRelated rs qs k → length rs ≡ length qs
+as_many rs qs k z = zip_length (λ r q. Relates r q k) rs qs z

@@ -1,4 +1,4 @@
-ghost use Rattle.std.specs.Prelude.{◌≡◌, ◌↔◌, ◌⊎◌, ◌<◌, ℕ, length, IfOk, OnOk};
+ghost use Rattle.std.specs.Prelude.{◌≡◌, ◌↔◌, ◌⊎◌, ◌<◌, ℕ, length, IfOk, OnOk, IsTrue};
 ghost use Rattle.std.specs.List.{AllZip};
 ghost use Rattle.rewriting.specs.Terms as math;
 ghost use Rattle.ctrs_classes.specs.Blames.{leaves};
@@ -19,6 +19,22 @@ use number_sets::{NumberRelation, NumberSet};
 use std::alloc::Global;
 use term_core::{NoMemory, Term};
 
+// Whether each of some relations has the state at its place: else they share no number, and no set need be made.
+fn are_lefts(args: &[NumberRelation], states: &[u32]) -> bool
+    ensures asked { (k : ℕ) → AreRelated args.now states.now k → IsTrue result }
+    ensures alike { IsTrue result → length args.now ≡ length states.now }
+{
+    if args.len() != states.len() {
+        return false;
+    }
+    for place in 0..args.len() {
+        if !args[place].has_left(states[place]) {
+            return false;
+        }
+    }
+    true
+}
+
 // The numbers of a set that each of some relations has at the state at its place.
 fn shared(
     alloc: Global,
@@ -26,11 +42,9 @@ fn shared(
     args: &[NumberRelation],
     states: &[u32],
 ) -> Result<NumberSet, NoMemory>
+    requires { length args.now ≡ length states.now }
     ensures { IfOk result (λ set. (k : ℕ) → IsIn k (members set) ↔ (IsIn k (members all.now) × AreRelated args.now states.now k)) }
 {
-    if args.len() != states.len() {
-        return Ok(NumberSet::new(alloc));
-    }
     let mut set = all.copy(alloc)?;
     for place in 0..args.len() {
         match args[place].row(states[place]) {
@@ -52,7 +66,7 @@ fn put_transition(
 ) -> Result<(), NoMemory>
     ensures { OnOk result ((q k : ℕ) → Relates made.new q k ↔ (Relates made.old q k ⊎ Leads f (members all.now) args.now (transition_view transition.now) q k)) }
 {
-    if transition.symbol == Some(f) {
+    if transition.symbol == Some(f) && are_lefts(args, &transition.args) {
         let set = shared(alloc, all, args, &transition.args)?;
         if !set.is_empty() {
             made.insert_all(alloc, transition.target, &set)?;

@@ -141,6 +141,9 @@ module _ (a : Automaton) (t : Term) (b : Batch) (states : b.states ≡ a.states)
         subst (λ (x : Batch). IsFirstFailure a t P (choice_of x k) q) (sym same_batch)
         (first_failure a t P b.number left own front right (subst (λ (x : Batch). AreWhere x P right) same_batch kept) q k first)
 
+  pub batch_empty : (P : List ℕ → ℕ → Type 0) → HoldsBelow a t P (start b) → ((q k : ℕ) → Relates left q k → ⊥) → HoldsBelow a t P (start b + 4096)
+  batch_empty P front none = below_more a t P b.number left own front (λ k q holds h. absurd (none q k h))
+
   pub batch_accepts : IsOneAccepting a left → Excludes a t → ⊥
   batch_accepts = not_excluded a t b.number left own
 
