@@ -1,4 +1,4 @@
-// The automaton that grows from a term until it is closed under the rules.
+//! The automaton that grows from a term until it is closed under the rules.
 #![tactic(auto)]
 
 ghost use Rattle.std.specs.Prelude.{◌≡◌, ◌≤◌, [], ◌∷◌, map, length, IfOk};
@@ -18,8 +18,6 @@ mod limits;
 mod ordered;
 mod rounds;
 mod sides;
-#[cfg(test)]
-mod tests;
 
 use crate::limits::{check_widths, count_states};
 use crate::rounds::{round, start};

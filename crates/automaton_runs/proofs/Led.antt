@@ -1,8 +1,7 @@
 -- Where transitions lead by the numbers that relations have at their arguments.
-use Rattle.std.proofs.Common.{◌≡◌, ◌↔◌, ◌⊎◌, inl, inr, ⊎_elim, ℕ, ◌+◌, ◌<◌, ◌≤◌, nat_eq, eqb-true, true, List, [], ◌∷◌, ◌++◌, map, length, get_or, take, filter, Option, None, Some, slice_get, refl, ap, sym, subst, ◌∙◌, arith}
+use Rattle.std.proofs.Common.{◌≡◌, ◌↔◌, ◌⊎◌, inl, inr, ⊎_elim, ℕ, ◌+◌, ◌<◌, ◌≤◌, nat_eq, eqb-true, true, List, [], ◌∷◌, ◌++◌, filter, Option, None, Some, slice_get, refl, ap, sym, subst, arith}
 use Rattle.std.specs.Option.{option_eq}
 use Rattle.std.proofs.lemmas.Bool.{false≢true, cases_lt}
-use Rattle.std.proofs.lemmas.List.{take_more, map-append}
 use Rattle.std.proofs.lemmas.Option.{same_Some, none-some}
 use Rattle.certificates.specs.Evidence.{Transition, Automaton}
 use Rattle.automata.specs.Runs.{Has}
@@ -76,9 +75,6 @@ module _ (f : ℕ) (all : List ℕ) (rs : List NumberRelation) (t : Transition) 
 
   pub lead_empty : set ≡ [] → (q k : ℕ) → Relates old q k ↔ (Relates old q k ⊎ Leads f all rs t q k)
   lead_empty none q k = (inl, λ h. ⊎_elim (λ r. r) (λ (l : Leads f all rs t q k). absurd (subst (IsIn k) none ((shared k).1 (l.number, l.arguments)))) h)
-
-pub mapped_more : {X Y : Type 0} (f : X → Y) (xs : List X) (i : ℕ) (x : X) → i < length xs → x ≡ get_or xs i x → map f (take (i + 1) xs) ≡ map f (take i xs) ++ f x ∷ []
-mapped_more f xs i x inside is = ap (map f) (take_more xs i x inside) ∙ map-append f (take i xs) (get_or xs i x ∷ []) ∙ ap (λ z. map f (take i xs) ++ f z ∷ []) (sym is)
 
 -- the states below a bound, one more at a time
 module _ {A B : Type 0} (P : ℕ → Type 0) (n : ℕ) (front : A ↔ (B ⊎ ((s : ℕ) × (s < n) × P s))) where

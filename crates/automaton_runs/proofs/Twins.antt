@@ -10,8 +10,7 @@ use Rattle.std.specs.BTreeSet.{insert_key}
 use Rattle.std.specs.declared.cmp.Ordering.TheVariants.{Less, Equal, Greater}
 use Rattle.std.proofs.lemmas.Bool.{false≢true, or_cases}
 use Rattle.std.proofs.lemmas.Cmp.{tied_itself, nat_list_cmp_total}
-use Rattle.std.proofs.Common.{zero, suc, ◌+◌, ◌<◌, ◌≤◌, length, get_or, take, arith}
-use Rattle.std.proofs.lemmas.List.{take_more, map-append}
+use Rattle.std.proofs.Common.{zero, suc, ◌+◌, ◌≤◌, length, take, arith}
 use Rattle.certificates.specs.Evidence.{Transition, Automaton}
 use Rattle.cert_model.specs.EvidenceView.{transition_view}
 use Rattle.cert_model.specs.declared.evidence.Transition as cert
@@ -141,11 +140,6 @@ pub fields : (k : Known) (t : cert.Transition) → k.symbol ≡ t.symbol → k.a
 unfolding made
 fields k t p s q =
     ap (λ (f : Option ℕ). made f k.args.now k.target) p ∙ ap (λ (qs : List ℕ). made t.symbol qs k.target) s ∙ ap (λ (r : ℕ). made t.symbol t.args.items r) q
-
--- the front of a mapped list up to a place
-pub mapped_more : {X Y : Type 0} (f : X → Y) (xs : List X) (i : ℕ) (x : X) → i < length xs → x ≡ get_or xs i x → map f (take (i + 1) xs) ≡ map f (take i xs) ++ f x ∷ []
-mapped_more {X = X} f xs i x h e =
-    ap (map f) (take_more xs i x h ∙ ap (λ (y : X). take i xs ++ y ∷ []) (sym e)) ∙ map-append f (take i xs) (x ∷ [])
 
 pub all_of : {X : Type 0} (xs : List X) (i : ℕ) → length xs ≤ i → take i xs ≡ xs
 all_of [] zero h = refl

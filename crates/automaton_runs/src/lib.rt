@@ -1,4 +1,4 @@
-// Runs of tree automata on terms: the states that a term reaches by choices of states for its variable occurrences.
+//! Runs of tree automata on terms: the states that a term reaches by choices of states for its variable occurrences.
 #![tactic(auto)]
 
 mod batch;
@@ -7,8 +7,6 @@ mod groups;
 mod index;
 mod linear;
 mod runs;
-#[cfg(test)]
-mod tests;
 mod width;
 
 pub use batch::{Batch, batches};

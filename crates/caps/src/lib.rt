@@ -1,4 +1,4 @@
-// Caps of terms, what they show, and laws over them: definitions that contracts cite.
+//! Caps of terms, what they show, and laws over them: definitions that contracts cite.
 #![tactic(auto)]
 
 ghost use Rattle.caps.specs.Laws.{CapsKeepReducts, RigidCapsKeepReducts, CapsRefute, CapsKeepApart, RigidCapsKeepApart, CapsAreUnique, JudgementsAreUnique, OutcomesAreUnique};

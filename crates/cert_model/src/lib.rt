@@ -1,4 +1,4 @@
-// Certificates and the reasons of a rejection, as plain data.
+//! Certificates and the reasons of a rejection, as plain data.
 #![tactic(auto)]
 
 mod copies;
@@ -12,6 +12,3 @@ pub use evidence::{Automaton, InfEvidence, PairEvidence, Transition};
 pub use model::{Certificate, Linear, LinearEntry, MeasureCert, NonJoin, PairEntry, Peak, Redex};
 pub use reasons::{BadStep, Blame, Class, EvidenceReason, MeasureReason, Rejected, StepReason};
 pub use term_core::Head;
-
-#[cfg(test)]
-mod tests;

@@ -32,10 +32,3 @@ pub use laws::{
 };
 pub use reader::{one_certificate, read_cert};
 pub use writer::{text_len, write_cert, written_is_read};
-
-#[cfg(test)]
-mod refusal_tests;
-#[cfg(test)]
-mod tests;
-#[cfg(test)]
-mod writer_tests;

@@ -1,2 +1,2 @@
-// Certificates as mathematical data: derivations, evidence, and the reasons of a rejection.
+//! Certificates as mathematical data: derivations, evidence, and the reasons of a rejection.
 #![tactic(auto)]

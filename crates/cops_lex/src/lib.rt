@@ -34,5 +34,3 @@ impl<T: Drop> From<AllocFailed<T>> for LexError {
 }
 
 mod scan;
-#[cfg(test)]
-mod tests;

@@ -8,8 +8,6 @@ mod names;
 mod reader;
 mod rules;
 mod terms;
-#[cfg(test)]
-mod tests;
 
 pub use names::Names;
 pub use reader::{Count, ReadError, one_reading, read_system};

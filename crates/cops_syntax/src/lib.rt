@@ -4,8 +4,6 @@
 mod blocks;
 mod reader;
 mod rules;
-#[cfg(test)]
-mod tests;
 mod tree;
 mod word;
 

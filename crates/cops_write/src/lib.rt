@@ -3,8 +3,6 @@
 
 mod name_set;
 mod terms;
-#[cfg(test)]
-mod tests;
 mod writer;
 
 pub use writer::{write_system, write_term, written_is_read};

@@ -1,4 +1,4 @@
-// The overlaps of a system, with their conditional critical pairs.
+//! The overlaps of a system, with their conditional critical pairs.
 #![tactic(auto)]
 
 ghost use Rattle.std.specs.Prelude.{◌≡◌};
@@ -7,8 +7,6 @@ ghost use Rattle.critical_pairs.specs.Answers.{OverlapsAnswers};
 mod pairs;
 mod renaming;
 mod searching;
-#[cfg(test)]
-mod tests;
 
 use crate::renaming::rename_rules;
 use crate::searching::search;

@@ -1,4 +1,4 @@
-// Derivations, replayed.
+//! Derivations, replayed.
 #![tactic(auto)]
 
 mod errors;

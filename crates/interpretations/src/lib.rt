@@ -1,4 +1,4 @@
-// Linear interpretations of unraveled systems: when one is good, why one is not, and that a good one bounds descents.
+//! Linear interpretations of unraveled systems: when one is good, why one is not, and that a good one bounds descents.
 #![tactic(auto)]
 
 ghost use Rattle.interpretations.specs.Law.{GoodInterpretationsBoundDescents};

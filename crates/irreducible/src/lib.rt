@@ -1,4 +1,4 @@
-// Whether a term is absolutely irreducible.
+//! Whether a term is absolutely irreducible.
 #![tactic(auto)]
 
 ghost use Rattle.std.specs.Prelude.{◌≡◌, ◌<◌, ◌^◌, ℕ, true};
@@ -9,8 +9,6 @@ ghost use Rattle.irreducible.specs.Answers.{IrreducibleAnswers};
 
 mod judging;
 mod lowering;
-#[cfg(test)]
-mod tests;
 
 use crate::judging::{has_small_variables, judge, rename_lefts};
 use crate::lowering::lowered;

@@ -1,4 +1,4 @@
-// Linear interpretations of the unraveled system as a measure.
+//! Linear interpretations of the unraveled system as a measure.
 #![tactic(auto)]
 
 mod rules;

@@ -1,4 +1,4 @@
-// Matching a pattern onto a subject.
+//! Matching a pattern onto a subject.
 #![tactic(auto)]
 
 ghost use Rattle.std.specs.FinMap as map;
@@ -8,8 +8,6 @@ ghost use Rattle.matching.specs.Answers.{MatchAnswers};
 mod finding;
 mod instances;
 mod normal;
-#[cfg(test)]
-mod tests;
 
 use finding::match_into;
 pub use instances::matches;

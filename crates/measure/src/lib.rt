@@ -1,4 +1,4 @@
-// Measures that bound the descents of the unraveled system.
+//! Measures that bound the descents of the unraveled system.
 #![tactic(auto)]
 
 ghost use Rattle.std.specs.Prelude.{◌≡◌};

@@ -1,11 +1,9 @@
-// Sets of numbers as the bits of words, and relations as such sets.
+//! Sets of numbers as the bits of words, and relations as such sets.
 #![tactic(auto)]
 
 mod relation;
 mod rows;
 mod sets;
-#[cfg(test)]
-mod tests;
 mod words;
 
 pub use rows::NumberRelation;

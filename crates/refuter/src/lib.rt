@@ -1,4 +1,4 @@
-// Evidence that conditions are never met.
+//! Evidence that conditions are never met.
 #![tactic(auto)]
 
 ghost use Rattle.std.specs.Prelude.{◌≡◌, ◌≤◌, Option, None, List, length, map};

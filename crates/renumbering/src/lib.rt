@@ -1,8 +1,5 @@
-// Numbering variables by first occurrence.
+//! Numbering variables by first occurrence.
 #![tactic(auto)]
-
-#[cfg(test)]
-mod tests;
 
 ghost use Rattle.std.specs.Prelude.{◌≡◌, ◌<◌, ℕ, true, [], Some, IfOk, OnOk, length, slice_get, get_or};
 ghost use Rattle.rewriting.specs.Variables.{occurs, with_new, with_variables};

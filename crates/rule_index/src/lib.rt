@@ -1,8 +1,5 @@
-// The rules of a system by the root symbols of their left sides.
+//! The rules of a system by the root symbols of their left sides.
 #![tactic(auto)]
-
-#[cfg(test)]
-mod tests;
 
 ghost use Rattle.std.specs.Prelude.{◌≡◌, ◌<◌, ◌+◌, ◌^◌, ◌++◌, ◌∷◌, ℕ, [], IfOk, OnOk, if◌then◌else◌, map, length};
 ghost use Rattle.rule_index.specs.Roots.{has_root, numbers_with_root};

@@ -1,4 +1,4 @@
-// Caps of terms, and the evidence that conditions are never met by them.
+//! Caps of terms, and the evidence that conditions are never met by them.
 #![tactic(auto)]
 
 mod capping;

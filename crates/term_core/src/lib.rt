@@ -1,4 +1,4 @@
-// Terms, positions, substitutions, rules and systems.
+//! Terms, positions, substitutions, rules and systems.
 #![tactic(auto)]
 
 mod positions;
@@ -6,8 +6,6 @@ mod soundness;
 mod subst;
 mod systems;
 mod terms;
-#[cfg(test)]
-mod tests;
 mod variables;
 
 pub use positions::{replace, subterm};

@@ -1,4 +1,4 @@
-// Tree automata as evidence that conditions are never met.
+//! Tree automata as evidence that conditions are never met.
 #![tactic(auto)]
 
 mod accepts;
@@ -6,8 +6,6 @@ mod closure;
 mod evidence;
 mod exclusion;
 mod sides;
-#[cfg(test)]
-mod tests;
 mod width;
 
 pub use accepts::Runs;

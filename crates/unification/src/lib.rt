@@ -1,11 +1,9 @@
-// Most general unifiers of lists of terms.
+//! Most general unifiers of lists of terms.
 #![tactic(auto)]
 
 mod bound;
 mod renaming;
 mod solving;
-#[cfg(test)]
-mod tests;
 
 ghost use Rattle.std.specs.Prelude.{◌≡◌, length};
 ghost use Rattle.rewriting.specs.Terms as math;

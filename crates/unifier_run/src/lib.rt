@@ -1,4 +1,4 @@
-// The run of unification with its limits on size: definitions that contracts cite, and laws over them.
+//! The run of unification with its limits on size: definitions that contracts cite, and laws over them.
 #![tactic(auto)]
 
 ghost use Rattle.unifier_run.specs.Laws.{MapsHaveTheValues, OutcomesAreUnique, UnifiersAreMostGeneral, UnifiersAreIdempotent, ClashesHaveNoUnifier};

@@ -1,11 +1,9 @@
-// The unraveling of a conditional system: a system without conditions, whose auxiliary symbols keep the conditions.
+//! The unraveling of a conditional system: a system without conditions, whose auxiliary symbols keep the conditions.
 #![tactic(auto)]
 
 mod rules;
 mod sides;
 mod symbols;
-#[cfg(test)]
-mod tests;
 
 ghost use Rattle.std.specs.Prelude.{◌≡◌};
 ghost use Rattle.unravel.specs.Answers.{UnravelAnswers};

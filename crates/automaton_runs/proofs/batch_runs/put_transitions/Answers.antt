@@ -7,7 +7,8 @@ use Rattle.cert_model.specs.declared.evidence.Transition.{Transition}
 use Rattle.automaton_runs.specs.Indexed.{pointed}
 use Rattle.automaton_runs.specs.Reached.{Leads, HaveLeads}
 use Rattle.automaton_runs.proofs.Twins.{all_of}
-use Rattle.automaton_runs.proofs.Led.{one_more, mapped_more}
+use Rattle.automaton_runs.proofs.Led.{one_more}
+use Rattle.automaton_runs.proofs.Members.{mapped_more}
 use Rattle.automaton_runs.proofs.batch_runs.put_transitions.Goals as goal
 
 pub loop-transition-preserved : goal.loop-transition-preserved

@@ -5,7 +5,8 @@ use Rattle.cert_model.specs.EvidenceView.{transition_view}
 use Rattle.automaton_runs.specs.Members.{IsIn}
 use Rattle.automaton_runs.specs.Counting.{counts}
 use Rattle.automaton_runs.specs.Twins.{known_view}
-use Rattle.automaton_runs.proofs.Twins.{known_more, mapped_more, all_of}
+use Rattle.automaton_runs.proofs.Members.{mapped_more}
+use Rattle.automaton_runs.proofs.Twins.{known_more, all_of}
 use Rattle.automaton_runs.proofs.index.known_transitions.Goals as goal
 
 pub loop-transition-preserved : goal.loop-transition-preserved

@@ -1,9 +1,9 @@
 //! Certificates that are built as values, and their texts.
-use crate::{text_len, write_cert};
 use cert_model::{
     Automaton, Certificate, Derivation, Head, InfEvidence, Linear, LinearEntry, MeasureCert,
     NonJoin, PairEntry, PairEvidence, Peak, Redex, Step, Transition,
 };
+use cert_text::{text_len, write_cert};
 use cops_read::read_system;
 use std::alloc::Global;
 use std::test::Fail;

@@ -1,4 +1,4 @@
-use crate::{Overlap, overlaps};
+use critical_pairs::{Overlap, overlaps};
 use std::alloc::Global;
 use std::test::Fail;
 use term_core::{NoMemory, Rule, System, Term, equal};

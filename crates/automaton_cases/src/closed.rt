@@ -1,12 +1,12 @@
 //! Automata against systems.
 ghost use Rattle.std.specs.Prelude.{◌≡◌, []};
 
-use crate::{AutoEvidence, Runs, excludes, is_closed};
 use cert_model::{Automaton, EvidenceReason, Transition};
 use refuter::{Refusal, Refuter};
 use std::alloc::Global;
 use std::test::Fail;
 use term_core::{Cond, Rule, System, Term, fits};
+use tree_automata::{AutoEvidence, Runs, excludes, is_closed};
 
 // The symbols: f of one argument, a, b, and g of two.
 const F: u32 = 0;

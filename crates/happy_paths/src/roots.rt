@@ -1,6 +1,6 @@
 ghost use Rattle.std.specs.Prelude.{◌≡◌, []};
 
-use crate::RuleIndex;
+use rule_index::RuleIndex;
 use std::alloc::Global;
 use std::test::Fail;
 use term_core::{Rule, System, Term};

@@ -1,4 +1,4 @@
-use crate::{Match, match_onto, match_term};
+use matching::{Match, match_onto, match_term};
 use std::test::Fail;
 use term_core::{Subst, Term, equal};
 

@@ -1,4 +1,4 @@
-use crate::{Irreducible, is_absolutely_irreducible};
+use irreducible::{Irreducible, is_absolutely_irreducible};
 use std::alloc::Global;
 use std::test::Fail;
 use term_core::{Rule, System, Term};

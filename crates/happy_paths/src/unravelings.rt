@@ -1,7 +1,7 @@
-use crate::{UnravelError, Unraveled, unravel};
 use std::alloc::Global;
 use std::test::Fail;
 use term_core::{Cond, Rule, System, Term};
+use unravel::{UnravelError, Unraveled, unravel};
 
 fn unary(alloc: Global, f: u32, t: Term) -> Result<Term, Fail> {
     Ok(Term::Fun(f, vec![in alloc; t]?))

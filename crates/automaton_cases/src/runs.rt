@@ -1,5 +1,5 @@
 //! Batches of choices, and arrivals of terms.
-use crate::{
+use automaton_runs::{
     Arrival, AutomatonIndex, Batch, arrivals, batches, has_more_choices, occurrences, reached,
     reached_by_occurrences,
 };

@@ -1,4 +1,4 @@
-use crate::{Count, Names, ReadError, read_system};
+use cops_read::{Count, Names, ReadError, read_system};
 use std::alloc::{AllocError, Global};
 use std::test::Fail;
 

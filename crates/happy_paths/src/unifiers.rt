@@ -1,7 +1,7 @@
-use crate::{Unified, unify};
 use std::alloc::Global;
 use std::test::Fail;
 use term_core::{NoMemory, Term, fits, size};
+use unification::{Unified, unify, unify_terms};
 
 // x1, .., xn against f(x0, x0), .., f(x(n-1), x(n-1))
 fn doubled(alloc: Global, n: u32) -> Result<Unified, NoMemory> {
@@ -34,6 +34,6 @@ fn a_variable_inside_the_other_side_clashes(rt: HostRuntime) -> Result<(), Fail>
     let alloc = rt.alloc();
     let x = Term::Var(0);
     let inside = Term::Fun(0, vec![in alloc; Term::Var(0)]?);
-    assert!(rt; matches!(crate::unify_terms(alloc, &x, &inside)?, Unified::Clash));
+    assert!(rt; matches!(unify_terms(alloc, &x, &inside)?, Unified::Clash));
     Ok(())
 }

@@ -1,6 +1,6 @@
 ghost use Rattle.std.specs.Prelude.{◌≡◌, []};
 
-use crate::{GrowError, grow};
+use automaton_grow::{GrowError, grow};
 use cert_model::Automaton;
 use std::alloc::{AllocError, Global};
 use std::test::Fail;

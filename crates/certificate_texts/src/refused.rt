@@ -1,7 +1,7 @@
 //! Which refusal a text has, and at which place. In a row `^` stands before the byte of the refusal, and
 //! is no byte of the text.
-use crate::tests::repeated;
-use crate::{CertCount, CertError, read_cert};
+use crate::read::repeated;
+use cert_text::{CertCount, CertError, read_cert};
 use cops_read::{Names, read_system};
 use std::alloc::{AllocError, Global};
 use std::test::Fail;

@@ -1,8 +1,8 @@
 //! Systems that are built as values, and their texts.
 ghost use Rattle.std.specs.Prelude.{◌≡◌, ◌≤◌, ◌<◌, ◌+◌, ◌^◌, length};
 
-use crate::{write_system, write_term};
 use cops_read::Names;
+use cops_write::{write_system, write_term};
 use std::alloc::Global;
 use std::test::Fail;
 use term_core::{Cond, NoMemory, Rule, System, Term, fits};

@@ -1,4 +1,4 @@
-use crate::Numbering;
+use renumbering::Numbering;
 use std::alloc::Global;
 use std::test::Fail;
 use term_core::{NoMemory, Term, equal};

@@ -1,9 +1,9 @@
-use crate::{
+use std::alloc::Global;
+use std::test::Fail;
+use term_core::{
     NoMemory, Rule, Subst, System, SystemFault, Term, TermError, equal, fits, replace, try_clone,
     vars,
 };
-use std::alloc::Global;
-use std::test::Fail;
 
 // f(first, c, last), where f is 0 and c is 1
 fn with_constant(alloc: Global, first: u32, last: u32) -> Result<Term, NoMemory> {

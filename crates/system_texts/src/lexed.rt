@@ -1,4 +1,4 @@
-use crate::{Kind, LexError, Token, tokens};
+use cops_lex::{Kind, LexError, Token, tokens};
 use std::alloc::{AllocError, Global};
 use std::test::Fail;
 

@@ -1,7 +1,5 @@
-ghost use Rattle.std.specs.Prelude.{IfOk};
-
-use crate::read_cert;
 use cert_model::{Certificate, Derivation, Step};
+use cert_text::read_cert;
 use cops_read::{Names, read_system};
 use std::alloc::{AllocError, Global};
 use std::test::Fail;

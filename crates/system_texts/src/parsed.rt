@@ -1,4 +1,4 @@
-use crate::{FileText, Node, SyntaxError, parse};
+use cops_syntax::{FileText, Node, SyntaxError, parse};
 use std::alloc::Global;
 use std::test::Fail;
 

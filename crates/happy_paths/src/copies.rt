@@ -1,5 +1,5 @@
 //! Each copy is made.
-use crate::{Automaton, Derivation, InfEvidence, PairEvidence, Step, Transition};
+use cert_model::{Automaton, Derivation, InfEvidence, PairEvidence, Step, Transition};
 use std::test::Fail;
 
 #[test]

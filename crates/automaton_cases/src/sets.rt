@@ -1,5 +1,5 @@
 //! Sets of numbers in several words.
-use crate::{NumberRelation, NumberSet};
+use number_sets::{NumberRelation, NumberSet};
 use std::alloc::Global;
 use std::test::Fail;
 
