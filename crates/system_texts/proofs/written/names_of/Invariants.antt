@@ -1,5 +1,5 @@
 use Rattle.std.proofs.Common.{◌≡◌, ◌≤◌, length, []}
-use Rattle.cops_write.proofs.tests.names_of.Given as goal
+use Rattle.system_texts.proofs.written.names_of.Given as goal
 
 abbrev pub invariant-symbols : goal.invariant-symbols
 invariant-symbols l = record { symbols : length l.names.symbols ≤ l.name-index; variables : l.names.variables ≡ [] }
