@@ -1,7 +1,7 @@
 //! Batches of choices, and arrivals of terms.
 use automaton_runs::{
-    Arrival, AutomatonIndex, Batch, arrivals, batches, has_more_choices, occurrences, reached,
-    reached_by_occurrences,
+    Arrival, AutomatonIndex, Batch, arrivals, batches, has_more_choices, occurrences,
+    possible_batches, reached, reached_by_occurrences,
 };
 use cert_model::{Automaton, Transition};
 use number_sets::NumberRelation;
@@ -192,6 +192,31 @@ fn choices_follow_each_other_in_batches(rt: HostRuntime) -> Result<(), Fail> {
     assert!(rt; none.len() == 1);
     assert!(rt; none.choice(alloc, 0)?.is_empty());
     assert!(rt; batches(0, 1) == 0);
+    Ok(())
+}
+
+// The only arrival of h(x, y) is by choice 69 * 70 + 40 = 4,870.
+const LATE: &[Move<'static>] = &[(Some(1), &[69, 40], 1)];
+
+fn has_batches(rt: &impl Abort, alloc: Global, t: &Term, wanted: &[u32]) -> Result<bool, Fail> {
+    let automaton = automaton(alloc, 70, LATE)?;
+    let index = AutomatonIndex::new(alloc, &automaton)?;
+    let length = occurrences(alloc, t)?.len();
+    assert!(rt; fits(t));
+    assert!(rt; !has_more_choices(index.states(), length, 1_000_000));
+    let possible = possible_batches(alloc, &index, t, length)?;
+    Ok(possible.numbers(alloc)?.as_slice() == wanted)
+}
+
+#[test]
+fn batches_without_arrivals_are_passed_over(rt: HostRuntime) -> Result<(), Fail> {
+    let alloc = rt.alloc();
+    assert!(rt; batches(70, 2) == 2);
+    let t = h(alloc, Term::Var(0), Term::Var(0))?;
+    assert!(rt; has_batches(&rt, alloc, &t, &[1])?);
+    let other = f(alloc, Term::Var(0), Term::Var(1))?;
+    assert!(rt; has_batches(&rt, alloc, &other, &[])?);
+    assert!(rt; has_batches(&rt, alloc, &Term::Var(7), &[0])?);
     Ok(())
 }
 

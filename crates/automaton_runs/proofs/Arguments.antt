@@ -7,7 +7,6 @@ use Rattle.rewriting.specs.Terms as math
 use Rattle.ctrs_classes.specs.Blames.{leaves, leaves_of}
 use Rattle.certificates.specs.Evidence.{Automaton}
 use Rattle.automata.specs.Runs.{Moves, Has, ReachBy, ReachAllBy}
-use Rattle.term_core.specs.declared.terms.Term.{Term}
 
 mutual
   pub choice_length : (M : Moves) (t : math.Term) (cs : List ℕ) (q : ℕ) → ReachBy M t cs q → length cs ≡ length (leaves t)

@@ -15,3 +15,4 @@ pub mod Evaluated
 pub mod NumberedTerms
 pub mod Ordered
 pub mod Arrived
+pub mod MayArrive

@@ -9,3 +9,4 @@ pub mod BatchView
 pub mod Linear
 pub mod Reached
 pub mod Twins
+pub mod Possible

@@ -61,7 +61,7 @@ pub fn batches(states: u32, length: usize) -> u32
 }
 
 // The powers of the number of states below that for all places.
-fn powers(alloc: Global, states: u32, places: usize) -> Result<Vec<u32>, NoMemory>
+pub(crate) fn powers(alloc: Global, states: u32, places: usize) -> Result<Vec<u32>, NoMemory>
     requires { states ^ places ≤ 1000000 }
     ensures long { IfOk result (λ powers. length powers.items ≡ places) }
     ensures each { IfOk result (λ powers. (i : ℕ) → i < places → slice_get powers.items i ≡ Some (states ^ i)) }

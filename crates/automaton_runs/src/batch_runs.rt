@@ -114,7 +114,7 @@ fn put_by_first(
 }
 
 // The states to which the symbol leads, by each of the numbers.
-fn reached_from(
+pub(crate) fn reached_from(
     alloc: Global,
     index: &AutomatonIndex<'_>,
     f: u32,

@@ -6,11 +6,13 @@ mod batch_runs;
 mod groups;
 mod index;
 mod linear;
+mod possible;
 mod runs;
 mod width;
 
 pub use batch::{Batch, batches};
 pub use batch_runs::{reached, reached_by_occurrences};
 pub use index::AutomatonIndex;
+pub use possible::possible_batches;
 pub use runs::{Arrival, arrivals};
 pub use width::{has_more_choices, occurrences};

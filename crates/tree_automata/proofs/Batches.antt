@@ -1,5 +1,5 @@
 -- Arrivals by the first of the choices, and the first failure among those of a batch.
-use Rattle.std.proofs.Common.{◌≡◌, ◌↔◌, ℕ, ◌+◌, ◌-◌, ◌*◌, ◌^◌, ◌<◌, ◌≤◌, ◌⊎◌, inl, inr, ⊎_elim, List, [], ◌∷◌, length, refl, ap, ap₂, sym, subst, arith}
+use Rattle.std.proofs.Common.{◌≡◌, ◌↔◌, ℕ, ◌+◌, ◌-◌, ◌*◌, ◌/◌, ◌^◌, ◌<◌, ◌≤◌, ◌⊎◌, inl, inr, ⊎_elim, List, [], ◌∷◌, length, refl, ap, ap₂, sym, subst, arith}
 use Rattle.std.proofs.lemmas.Bool.{cases_lt, cases_order}
 use Rattle.rewriting.specs.Terms.{Term}
 use Rattle.rewriting.specs.Positions.{IsBefore}
@@ -7,12 +7,15 @@ use Rattle.ctrs_classes.specs.Blames.{leaves}
 use Rattle.certificates.specs.Evidence.{Automaton}
 use Rattle.automata.specs.Runs.{Has, ReachBy, IsAccepting}
 use Rattle.automata.specs.Closed.{IsChoice, Excludes}
+use Rattle.number_sets.specs.Members.{IsIn}
 use Rattle.number_sets.specs.Relation.{Relates, IsFirstPair}
 use Rattle.number_sets.specs.declared.rows.NumberRelation.{NumberRelation}
 use Rattle.automaton_runs.specs.Arrivals.{IsArrivalBefore}
 use Rattle.automaton_runs.specs.Choices.{Batch, start, Holds, choice_of}
+use Rattle.automaton_runs.specs.Possible.{ArePossible}
 use Rattle.automaton_runs.specs.Reached.{AreWhere}
 use Rattle.automaton_runs.proofs.Choices.{length_choice, choice_below, choice_number, choices_before}
+use Rattle.automaton_runs.proofs.MayArrive.{batch_is}
 use Rattle.tree_automata.specs.Accepts.{IsOneAccepting}
 use Rattle.tree_automata.specs.Batches.{choice_for, HoldsBelow, HoldsThroughout, IsFirstFailure}
 
@@ -152,3 +155,10 @@ module _ (a : Automaton) (t : Term) (b : Batch) (states : b.states ≡ a.states)
       let next : 4096 * b.number + 4096 ≡ 4096 * (n + 1) = omega arith in
       subst (λ (m : ℕ). HoldsBelow a t (IsNot a t) m) next
       (none_below a t b.number left own (subst (λ (m : ℕ). HoldsBelow a t (IsNot a t) (4096 * m)) (sym number) front) never)
+
+-- a batch by whose choices the term arrives nowhere
+pub below_passed : (a : Automaton) (t : Term) (P : List ℕ → ℕ → Type 0) (set : List ℕ) (n : ℕ) → ArePossible a t set → (IsIn n set → ⊥) → HoldsBelow a t P (4096 * n) → HoldsBelow a t P (4096 * (n + 1))
+below_passed a t P set n possible never front k q low (inside, reach) =
+    ⊎_elim (λ (h : k < 4096 * n). front k q h (inside, reach))
+    (λ (h : 4096 * n ≤ k). let same : k / 4096 ≡ n = batch_is k n h (omega arith) in absurd (never (subst (λ (m : ℕ). IsIn m set) same (possible k q inside reach))))
+    (cases_lt k (4096 * n))

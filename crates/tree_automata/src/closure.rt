@@ -15,7 +15,7 @@ ghost use Rattle.tree_automata.specs.Open.{IsOpenJudged};
 use crate::sides::{inclusion_if_asked, kept};
 use crate::width::judge_widths;
 use automaton_runs::{
-    Arrival, AutomatonIndex, Batch, batches, occurrences, reached_by_occurrences,
+    Arrival, AutomatonIndex, Batch, batches, occurrences, possible_batches, reached_by_occurrences,
 };
 use cert_model::{Automaton, EvidenceReason};
 use number_sets::NumberRelation;
@@ -67,11 +67,14 @@ fn first_open(
     ensures { IfOk result (FailureAnswers index.now (view rule.now.left) (IsKeptBy inclusion.now index.now (leaves (view rule.now.left)) (view rule.now.right))) }
 {
     let names = occurrences(alloc, &rule.left)?;
+    let possible = possible_batches(alloc, index, &rule.left, names.len())?;
     for number in 0..batches(index.states(), names.len()) {
-        let batch = Batch::new(alloc, index.states(), names.len(), number)?;
-        let open = first_open_in(alloc, index, inclusion, rule, &names, &batch)?;
-        if open.is_some() {
-            return Ok(open);
+        if possible.has(number) {
+            let batch = Batch::new(alloc, index.states(), names.len(), number)?;
+            let open = first_open_in(alloc, index, inclusion, rule, &names, &batch)?;
+            if open.is_some() {
+                return Ok(open);
+            }
         }
     }
     Ok(None)

@@ -10,7 +10,8 @@ ghost use Rattle.refuter.specs.Answers.{RefutesAnswers};
 use crate::accepts::is_one_accepting;
 use crate::width::MAX_CHOICES;
 use automaton_runs::{
-    AutomatonIndex, Batch, batches, has_more_choices, occurrences, reached_by_occurrences,
+    AutomatonIndex, Batch, batches, has_more_choices, occurrences, possible_batches,
+    reached_by_occurrences,
 };
 use cert_model::{Automaton, EvidenceReason};
 use refuter::Refusal;
@@ -31,11 +32,14 @@ fn is_excluded(
     requires few { index.now.states ^ occurrences ≤ 1000000 }
     ensures { IfOk result (λ yes. IsTrue yes ↔ Excludes (automaton_view a.now) (view t.now)) }
 {
+    let possible = possible_batches(alloc, index, t, occurrences)?;
     for number in 0..batches(index.states(), occurrences) {
-        let batch = Batch::new(alloc, index.states(), occurrences, number)?;
-        let reached = reached_by_occurrences(alloc, index, &batch, t)?;
-        if is_one_accepting(&reached, a) {
-            return Ok(false);
+        if possible.has(number) {
+            let batch = Batch::new(alloc, index.states(), occurrences, number)?;
+            let reached = reached_by_occurrences(alloc, index, &batch, t)?;
+            if is_one_accepting(&reached, a) {
+                return Ok(false);
+            }
         }
     }
     Ok(true)
