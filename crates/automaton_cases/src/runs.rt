@@ -184,7 +184,7 @@ fn choices_follow_each_other_in_batches(rt: HostRuntime) -> Result<(), Fail> {
     assert!(rt; first.len() == 4096);
     assert!(rt; first.choice(alloc, 71)?.as_slice() == [1, 1].as_slice());
     let last = Batch::new(alloc, 70, 2, 1)?;
-    assert!(rt; last.length() == 2);
+    assert!(rt; last.occurrences() == 2);
     assert!(rt; last.len() == 804);
     assert!(rt; last.choice(alloc, 0)?.as_slice() == [58, 36].as_slice());
     assert!(rt; last.choice(alloc, 803)?.as_slice() == [69, 69].as_slice());

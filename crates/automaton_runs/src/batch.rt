@@ -134,7 +134,7 @@ impl Batch {
     }
 
     /// The number of occurrences.
-    pub fn length(&self) -> usize
+    pub fn occurrences(&self) -> usize
         ensures { result ≡ self.now.length }
     {
         self.length

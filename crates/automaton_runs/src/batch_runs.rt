@@ -181,6 +181,6 @@ pub fn reached_by_occurrences(
     requires length { batch.now.length ≡ length (leaves (view t.now)) }
     ensures { IfOk result (AreWhere batch.now (ReachBy (Has index.now) (view t.now))) }
 {
-    let names = numbers(alloc, batch.length())?;
+    let names = numbers(alloc, batch.occurrences())?;
     reached(alloc, index, batch, &names, &linear(alloc, t)?)
 }

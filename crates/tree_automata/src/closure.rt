@@ -41,7 +41,7 @@ fn first_open_in(
     ensures { IfOk result (FailureBelowAnswers index.now (view rule.now.left) (IsKeptBy inclusion.now index.now names.now (view rule.now.right)) (start batch.now + 4096)) }
 {
     let left = reached_by_occurrences(alloc, index, batch, &rule.left)?;
-    // Often a left side arrives nowhere by all the choices of a batch.
+    // A left side may arrive nowhere by a batch that is possible.
     if left.lefts() == 0 {
         return Ok(None);
     }
