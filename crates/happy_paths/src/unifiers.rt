@@ -1,7 +1,7 @@
 use std::alloc::Global;
 use std::test::Fail;
-use term_core::{NoMemory, Term, fits, size};
-use unification::{Unified, unify, unify_terms};
+use term_core::{NoMemory, Term, equal, fits, size};
+use unification::{Unified, rename, unify, unify_terms};
 
 // x1, .., xn against f(x0, x0), .., f(x(n-1), x(n-1))
 fn doubled(alloc: Global, n: u32) -> Result<Unified, NoMemory> {
@@ -35,5 +35,17 @@ fn a_variable_inside_the_other_side_clashes(rt: HostRuntime) -> Result<(), Fail>
     let x = Term::Var(0);
     let inside = Term::Fun(0, vec![in alloc; Term::Var(0)]?);
     assert!(rt; matches!(unify_terms(alloc, &x, &inside)?, Unified::Clash));
+    Ok(())
+}
+
+#[test]
+fn variables_are_renamed(rt: HostRuntime) -> Result<(), Fail> {
+    let alloc = rt.alloc();
+    let t = Term::Fun(0, vec![in alloc; Term::Var(3)]?);
+    let wanted = Term::Fun(0, vec![in alloc; Term::Var(7)]?);
+    let Ok(renamed) = rename(alloc, &t, 2, 1) else {
+        return Err(Fail::from("not renamed"));
+    };
+    assert!(rt; equal(&renamed, &wanted));
     Ok(())
 }
