@@ -2,6 +2,7 @@ pub mod Values
 pub mod Lists
 pub mod Agree
 pub mod General
+pub mod Total
 pub mod Unique
 pub mod Equal
 pub mod Maps
