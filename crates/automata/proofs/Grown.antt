@@ -3,7 +3,7 @@ use Rattle.std.proofs.Common.{ℕ, zero, suc, ◌≡◌, ◌+◌, ◌<◌, ◌�
 use Rattle.std.proofs.lemmas.List.Elements.{All-nil, All-replicate, All-contains, Contains-push}
 use Rattle.rewriting.specs.Terms.{Term, var, app}
 use Rattle.rewriting.specs.Rules.{Rule, System, rule_at}
-use Rattle.ctrs_classes.specs.Blames.{leaves}
+use Rattle.rewriting.specs.Variables.{variable_occurrences}
 use Rattle.certificates.specs.Evidence.{Transition, Automaton}
 use Rattle.automata.specs.Runs.{Has, ReachBy}
 use Rattle.automata.specs.Closed.{IsChoice, state_of, IsKept, IsClosed, AcceptsAll}
@@ -31,17 +31,17 @@ module _ (sys : System) (s : Term) (a : Automaton) (growth : IsGrowthOf sys s a)
 
   -- where a left side reaches q, the right side is kept
   right_kept : (i : ℕ) (r : Rule) (cs : List ℕ) (q : ℕ) → rule_at sys (suc i) ≡ Some r → IsChoice a.states r.left cs → ReachBy (Has a) r.left cs q
-      → (t : Term) → r.right ≡ t → IsKept sys (Has a) (state_of (leaves r.left) cs) t q
+      → (t : Term) → r.right ≡ t → IsKept sys (Has a) (state_of (variable_occurrences r.left) cs) t q
   right_kept i r cs q is choice h (var x) e = λ symbol qs head m.
       has (record { symbol = symbol; arguments = qs; target = q })
       (growth.transitions.grown_set.twins i r cs q x symbol qs is e (subst (λ n. IsChoice n r.left cs) growth.states choice) (had r.left cs q h) m.listed)
       record { plain = m.plain; arguments = m.arguments; target = end_below a.states (Has a) (λ symbol qs p k. k.target) r.left cs q choice.states h }
   right_kept i r cs q is choice h (app f ts) e =
-      let values = state_of (leaves r.left) cs in
+      let values = state_of (variable_occurrences r.left) cs in
       let n = first_state sys s i in
       let target : q < a.states = end_below a.states (Has a) (λ symbol qs p k. k.target) r.left cs q choice.states h in
       let good : All (IsGood a.states) (grown values n r.right q) =
-      grown_good a.states values (state_below a.states some_state (leaves r.left) cs choice.states) r.right n q target (enough_states i r is) in
+      grown_good a.states values (state_below a.states some_state (variable_occurrences r.left) cs choice.states) r.right n q target (enough_states i r is) in
       let back : (d : Transition) → Contains (grown values n (app f ts) q) d → Contains (grown values n r.right q) d =
       λ d c. subst (λ t. Contains (grown values n t q) d) (sym e) c in
       run_grown (Has a) values f ts n q

@@ -17,7 +17,7 @@ use Rattle.automata.specs.Runs.{Has, Reach, ReachAll, at, Runs, RunsFrom0}
 use Rattle.automata.specs.Closed.{state_of, Includes, IsKept, IsClosed, AcceptsAll, Excludes}
 use Rattle.automata.specs.Evidence.{IsAccepted, IsExclusionJudged, IsConditionJudged, not_any, misses, closure_fails, right_side, JudgedByAutomaton}
 use Rattle.automata.proofs.Splits.{split, joined, reach-mono, length-states, choice_of, state_has}
-use Rattle.ctrs_classes.specs.Blames.{leaves}
+use Rattle.rewriting.specs.Variables.{variable_occurrences}
 
 -- every term over the symbols reaches the state 0
 abbrev plain_at : Automaton → ℕ → ℕ → Type 0
@@ -52,8 +52,8 @@ contraction_kept : (sys : System) (a : Automaton) → AcceptsAll sys a → IsClo
 contraction_kept sys a any closed S u v q c h =
     let r = split (Has a) (plain_at a) c.by c.rule.left q (subst (λ z. Runs a z q) c.left h) in
     let kept = closed c.is_rule.0 c.rule r.states q c.is_rule.1 (choice_of a c.by c.rule.left q r) r.run in
-    let each = state_has (λ x p. Runs a (c.by x) p) (λ x. reaches_0 sys a any (c.by x) (c.values x)) (leaves c.rule.left) r.states r.each in
-    subst (λ z. Runs a z q) (sym c.right) (kept_instance sys a c.by (state_of (leaves c.rule.left) r.states) c.rule.right q c.values each kept)
+    let each = state_has (λ x p. Runs a (c.by x) p) (λ x. reaches_0 sys a any (c.by x) (c.values x)) (variable_occurrences c.rule.left) r.states r.each in
+    subst (λ z. Runs a z q) (sym c.right) (kept_instance sys a c.by (state_of (variable_occurrences c.rule.left) r.states) c.rule.right q c.values each kept)
 
 -- and so does a step at any place
 mutual

@@ -4,7 +4,7 @@ use Rattle.rewriting.specs.Terms.{Term, Terms, var, app, nil, cons}
 use Rattle.rewriting.specs.Substitutions.{apply, apply_all}
 use Rattle.rewriting.specs.Rules.{Condition, System}
 use Rattle.rewriting.specs.Overlaps.{condition_under, conditions_under}
-use Rattle.ctrs_classes.specs.Blames.{leaves, leaves_of}
+use Rattle.rewriting.specs.Variables.{variable_occurrences, variable_occurrences_of}
 use Rattle.certificates.specs.Evidence.{Automaton}
 use Rattle.certificates.specs.Judging.{hypothesis_at}
 use Rattle.certificates.specs.Reasons.{EvidenceReason, auto_wide_right, auto_reaches}
@@ -70,14 +70,14 @@ module _ (rho : ℕ → ℕ) where
   same_lengths (x ∷ xs) (y ∷ xs') ys ys' e f = (let shorter : length xs ≡ length xs' = cc in ap suc (same_lengths xs xs' ys ys' shorter f))
 
   mutual
-    occurrences_same : (t : Term) → length (leaves (renamed t)) ≡ length (leaves t)
+    occurrences_same : (t : Term) → length (variable_occurrences (renamed t)) ≡ length (variable_occurrences t)
     occurrences_same (var x) = refl
     occurrences_same (app f ts) = all_occurrences_same ts
 
-    all_occurrences_same : (ts : Terms) → length (leaves_of (all_renamed ts)) ≡ length (leaves_of ts)
+    all_occurrences_same : (ts : Terms) → length (variable_occurrences_of (all_renamed ts)) ≡ length (variable_occurrences_of ts)
     all_occurrences_same nil = refl
     all_occurrences_same (cons t ts) =
-        same_lengths (leaves (renamed t)) (leaves t) (leaves_of (all_renamed ts)) (leaves_of ts) (occurrences_same t) (all_occurrences_same ts)
+        same_lengths (variable_occurrences (renamed t)) (variable_occurrences t) (variable_occurrences_of (all_renamed ts)) (variable_occurrences_of ts) (occurrences_same t) (all_occurrences_same ts)
 
   module _ (a : Automaton) (t : Term) where
     accepted_to : IsAccepted a t → IsAccepted a (renamed t)

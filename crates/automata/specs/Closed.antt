@@ -5,13 +5,13 @@ use Rattle.std.specs.Prelude.{ℕ, ◌≡◌, ◌<◌, ◌⊎◌, ◌^◌, nat_e
 use Rattle.rewriting.specs.Terms.{Term, var, app}
 use Rattle.rewriting.specs.Positions.{IsBefore}
 use Rattle.rewriting.specs.Rules.{Rule, System, rule_at}
-use Rattle.ctrs_classes.specs.Blames.{leaves}
+use Rattle.rewriting.specs.Variables.{variable_occurrences}
 use Rattle.certificates.specs.Evidence.{Automaton}
 use Rattle.automata.specs.Runs.{Moves, Has, Reach, at, ReachBy, IsAccepting}
 
 -- states, n of them, for the variable occurrences of a term
 pub record IsChoice (n : ℕ) (t : Term) (cs : List ℕ) : Type 0 where
-  pub each : length cs ≡ length (leaves t)
+  pub each : length cs ≡ length (variable_occurrences t)
   pub states : All (λ q. q < n) cs
 
 -- the state of the first occurrence of x among variables with their states; 0 where it does not occur
@@ -36,7 +36,7 @@ IsKept sys M e (app f ts) q = Reach M (at e) (app f ts) q
 
 -- the variables of a right side have the states of their first occurrences in the left side, and others 0
 abbrev pub IsRuleKept : System → Moves → Rule → List ℕ → ℕ → Type 0
-IsRuleKept sys M r cs q = IsKept sys M (state_of (leaves r.left) cs) r.right q
+IsRuleKept sys M r cs q = IsKept sys M (state_of (variable_occurrences r.left) cs) r.right q
 
 -- for each rule, each choice of states and each state that the left side reaches, the right side is kept
 abbrev pub IsClosed : System → Automaton → Type 0
@@ -59,7 +59,7 @@ pub record IsFirstOpen (sys : System) (a : Automaton) (i : ℕ) (cs : List ℕ) 
 
 -- there are more than 1,000,000 choices for the term's variable occurrences
 abbrev pub IsWide : Automaton → Term → Type 0
-IsWide a t = 1000000 < a.states ^ length (leaves t)
+IsWide a t = 1000000 < a.states ^ length (variable_occurrences t)
 
 -- no left side is wide, and rule i is the first whose left side is
 abbrev pub AreNarrow : System → Automaton → Type 0

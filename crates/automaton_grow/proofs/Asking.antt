@@ -3,7 +3,7 @@ use Rattle.std.proofs.Common.{◌≡◌, ℕ, zero, suc, ◌<◌, ◌≤◌, ◌
 use Rattle.std.specs.Prelude.{Contains, slice_get}
 use Rattle.rewriting.specs.Terms.{Term, var, app, Terms, nil, cons}
 use Rattle.rewriting.specs.Rules.{Rule, System}
-use Rattle.ctrs_classes.specs.Blames.{leaves}
+use Rattle.rewriting.specs.Variables.{variable_occurrences}
 use Rattle.certificates.specs.Evidence.{Transition}
 use Rattle.automata.specs.Runs.{Moves, Has, ReachBy, ReachAllBy}
 use Rattle.automata.specs.Closed.{state_of}
@@ -40,7 +40,7 @@ rule_asked : (sys : System) (s : Term) (i : ℕ) (r : Rule) (ds : List Transitio
 rule_asked sys s i r ds d is_rule all a es g = go a.asked
   where
     e : ℕ → ℕ
-    e = state_of (leaves r.left) a.choice
+    e = state_of (variable_occurrences r.left) a.choice
 
     reached : ReachBy (moves es) r.left a.choice a.state
     reached = reach_more (moves ds) (moves es) (λ f qs q m. all (record { symbol = f; arguments = qs; target = q }) m es g) r.left a.choice a.state a.reached
@@ -127,12 +127,12 @@ least_when_closed sys s ds part closed = record { grown_set = grown_set; least =
       start = λ d h. part.basic d (for_term h);
       right = λ i r cs q d is_rule choice reached h. at i r d is_rule (record { choice = cs; state = q; is_choice = choice; reached = reached; asked = inl h });
       twins = λ i r cs q x symbol qs is_rule var_right choice reached h.
-          let c : Transition = record { symbol = symbol; arguments = qs; target = state_of (leaves r.left) cs x } in
+          let c : Transition = record { symbol = symbol; arguments = qs; target = state_of (variable_occurrences r.left) cs x } in
           at i r (record { symbol = symbol; arguments = qs; target = q }) is_rule (record {
             choice = cs;
             state = q;
             is_choice = choice;
             reached = reached;
-            asked = inr (subst (λ t. Contains (twins_of (state_of (leaves r.left) cs) t q ds) (record { symbol = symbol; arguments = qs; target = q })) (sym var_right) (twin_in (state_of (leaves r.left) cs x) q ds c h refl));
+            asked = inr (subst (λ t. Contains (twins_of (state_of (variable_occurrences r.left) cs) t q ds) (record { symbol = symbol; arguments = qs; target = q })) (sym var_right) (twin_in (state_of (variable_occurrences r.left) cs x) q ds c h refl));
           });
     }

@@ -11,7 +11,7 @@ use Rattle.automata.specs.Growth.{inner, inner_in, proper, top, tops, inside, in
 use Rattle.automaton_grow.specs.Growing.{HasStates, IsBasic, for_symbol, for_variables, for_term, twins, twins_of, IsAskedByRule}
 use Rattle.automaton_grow.proofs.Adding.{contains_cases, contains_none, contains_head, contains_tail}
 use Rattle.std.proofs.Common.{eqb-true, eq-eqb}
-use Rattle.ctrs_classes.specs.Blames.{leaves}
+use Rattle.rewriting.specs.Variables.{variable_occurrences}
 
 pub state_of_below : (xs cs : List ℕ) (x n : ℕ) → 0 < n → All (λ q. q < n) cs → state_of xs cs x < n
 state_of_below [] cs x n some all = some
@@ -128,7 +128,7 @@ pub rule_states : (n k : ℕ) (r : Rule) (ds : List Transition) (d : Transition)
 rule_states n k r ds d some room good a = go a.asked
   where
     e : ℕ → ℕ
-    e = state_of (leaves r.left) a.choice
+    e = state_of (variable_occurrences r.left) a.choice
 
     low : a.state < n
     low = reached_below n ds r.left a.choice a.state good a.is_choice.states a.reached
@@ -141,5 +141,5 @@ rule_states n k r ds d some room good a = go a.asked
         subst (HasStates n) (sym t.same) (record { plain = g.plain; arguments = g.arguments; target = low })
 
     go : Contains (grown e k r.right a.state) d ⊎ Contains (twins_of e r.right a.state ds) d → HasStates n d
-    go (inl h) = grown_states e n (λ x. state_of_below (leaves r.left) a.choice x n some a.is_choice.states) k a.state r.right d low room h
+    go (inl h) = grown_states e n (λ x. state_of_below (variable_occurrences r.left) a.choice x n some a.is_choice.states) k a.state r.right d low room h
     go (inr h) = twin r.right h

@@ -5,7 +5,7 @@ use Rattle.std.proofs.lemmas.Bool.{false≢true, and_parts, and_from, ltb-true, 
 use Rattle.std.proofs.lemmas.List.Elements.{All-nil, All-cons, All-head, All-tail}
 use Rattle.certificates.specs.Evidence.{Transition, Automaton}
 use Rattle.automata.specs.Runs.{Has, IsPlain}
-use Rattle.automaton_runs.specs.Members.{IsIn}
+use Rattle.rewriting.specs.Lists.{IsAmong}
 use Rattle.automaton_runs.specs.Counting.{are_below, is_plain, counts, is_number, chosen, symbol_key}
 use Rattle.automaton_runs.proofs.Members.{contains_in, in_contains, in_filter, filter_in}
 
@@ -29,7 +29,7 @@ plain_to None [] h = refl
 plain_to None (q ∷ qs) h = absurd (cc)
 plain_to (Some f) qs h = refl
 
-pub has_from : (a : Automaton) (t : Transition) → IsIn t a.transitions → counts a.states t ≡ true → Has a t.symbol t.arguments t.target
+pub has_from : (a : Automaton) (t : Transition) → IsAmong t a.transitions → counts a.states t ≡ true → Has a t.symbol t.arguments t.target
 has_from a t i e =
     let p = and_parts _ _ e in
     let r = and_parts _ _ p.1 in record {
@@ -48,13 +48,13 @@ number_is None q e = absurd (false≢true e)
 number_is (Some p) q e = ap Some (eqb-true p q e)
 
 -- what stands at a symbol
-pub symbol_from : (a : Automaton) (f : ℕ) (t : Transition) → IsIn t (filter (chosen symbol_key a.states f) a.transitions) → Has a (Some f) t.arguments t.target
+pub symbol_from : (a : Automaton) (f : ℕ) (t : Transition) → IsAmong t (filter (chosen symbol_key a.states f) a.transitions) → Has a (Some f) t.arguments t.target
 symbol_from a f t h =
     let i = in_filter (chosen symbol_key a.states f) t a.transitions h in
     let p = and_parts (counts a.states t) (is_number t.symbol f) i.1 in
     subst (λ (s : Option ℕ). Has a s t.arguments t.target) (number_is t.symbol f p.1) (has_from a t i.0 p.0)
 
-pub symbol_to : (a : Automaton) (f : ℕ) (qs : List ℕ) (q : ℕ) → Has a (Some f) qs q → IsIn (record { symbol = Some f; arguments = qs; target = q }) (filter (chosen symbol_key a.states f) a.transitions)
+pub symbol_to : (a : Automaton) (f : ℕ) (qs : List ℕ) (q : ℕ) → Has a (Some f) qs q → IsAmong (record { symbol = Some f; arguments = qs; target = q }) (filter (chosen symbol_key a.states f) a.transitions)
 symbol_to a f qs q h =
     let t : Transition = record { symbol = Some f; arguments = qs; target = q } in
     filter_in (chosen symbol_key a.states f) t a.transitions (contains_in t a.transitions h.listed) (and_from (counts a.states t) (nat_eq f f) (counts_has a (Some f) qs q h) (eq-eqb f f refl))

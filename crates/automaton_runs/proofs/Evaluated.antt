@@ -8,7 +8,7 @@ use Rattle.automata.specs.Closed.{state_of}
 use Rattle.term_core.specs.View.{view, views}
 use Rattle.term_core.specs.declared.terms.Term.{Term, Var, Fun}
 use Rattle.term_core.proofs.Views.{view-Var, view-Fun}
-use Rattle.number_sets.specs.Members.{IsIn}
+use Rattle.rewriting.specs.Lists.{IsAmong}
 use Rattle.number_sets.specs.Relation.{Relates}
 use Rattle.number_sets.specs.declared.rows.NumberRelation.{NumberRelation}
 use Rattle.automaton_runs.specs.Choices.{Batch, Holds, choice_of}
@@ -36,7 +36,7 @@ module _ (b : Batch) (a : Automaton) (names : List ℕ) (k : ℕ) (holds : Holds
   reach_related (t ∷ ts) (r ∷ rs) (q ∷ qs) z h = ((z.0 q k).1 (holds, h.0), reach_related ts rs qs z.1 h.1)
 
 pub symbol_reached : (b : Batch) (a : Automaton) (names : List ℕ) (t : Term) (f : ℕ) (v : Vec Term Global) (ts : List Term) (rs : List NumberRelation) (all : List ℕ) (r : NumberRelation) → t ≡ Fun f v → ts ≡ v.items
-    → AreEvaluated b a names ts rs → ((k : ℕ) → IsIn k all ↔ Holds b k) → ((q k : ℕ) → Relates r q k ↔ (IsIn k all × IsReachedFrom a f rs q k)) → AreWhere b (Reaches a names (view t)) r
+    → AreEvaluated b a names ts rs → ((k : ℕ) → IsAmong k all ↔ Holds b k) → ((q k : ℕ) → Relates r q k ↔ (IsAmong k all × IsReachedFrom a f rs q k)) → AreWhere b (Reaches a names (view t)) r
 symbol_reached b a names t f v ts rs all r is items z numbers from q k =
     let shown : view t ≡ math.app f (views ts) = ap view is ∙ view-Fun f v ∙ ap (λ (l : List Term). math.app f (views l)) (sym items) in (
       λ h.

@@ -7,13 +7,13 @@ use Rattle.std.proofs.lemmas.List.{get_or_append_left, get_or-append-add}
 use Rattle.std.proofs.lemmas.Nat.{le-div}
 use Rattle.std.proofs.lemmas.Option.{get_or_from_slice_get, slice_get_within}
 use Rattle.rewriting.specs.Terms as math
-use Rattle.ctrs_classes.specs.Blames.{leaves}
+use Rattle.rewriting.specs.Variables.{variable_occurrences}
 use Rattle.certificates.specs.Evidence.{Automaton}
 use Rattle.automata.specs.Runs.{Moves, Has, Reach, ReachAll, ReachBy, ReachAllBy}
 use Rattle.term_core.specs.View.{view, views}
 use Rattle.term_core.specs.declared.terms.Term.{Term, Var, Fun}
 use Rattle.term_core.proofs.Views.{view-Var, view-Fun}
-use Rattle.number_sets.specs.Members.{IsIn}
+use Rattle.rewriting.specs.Lists.{IsAmong}
 use Rattle.number_sets.specs.Relation.{row_of, Relates}
 use Rattle.number_sets.specs.declared.rows.NumberRelation.{NumberRelation}
 use Rattle.automaton_runs.specs.Choices.{choice_at}
@@ -63,17 +63,17 @@ remainder_more n batch first number state old new made is had d from to =
     (cases_lt d number)
 
 -- what the rows up to one have
-pub rights_more : (r : NumberRelation) (left : ℕ) (row old new : List ℕ) → row ≡ row_of r left → ((q : ℕ) → IsIn q new ↔ (IsIn q old ⊎ IsIn q row))
-    → ((p q : ℕ) → p < left → Relates r p q → IsIn q old) → (p q : ℕ) → p < left + 1 → Relates r p q → IsIn q new
+pub rights_more : (r : NumberRelation) (left : ℕ) (row old new : List ℕ) → row ≡ row_of r left → ((q : ℕ) → IsAmong q new ↔ (IsAmong q old ⊎ IsAmong q row))
+    → ((p q : ℕ) → p < left → Relates r p q → IsAmong q old) → (p q : ℕ) → p < left + 1 → Relates r p q → IsAmong q new
 rights_more r left row old new is made had p q l h =
     ⊎_elim (λ (low : p < left). (made q).1 (inl (had p q low h)))
-    (λ (high : left ≤ p). let same : p ≡ left = omega arith in (made q).1 (inr (subst (IsIn q) (sym is) (subst (λ (s : ℕ). IsIn q (row_of r s)) same h))))
+    (λ (high : left ≤ p). let same : p ≡ left = omega arith in (made q).1 (inr (subst (IsAmong q) (sym is) (subst (λ (s : ℕ). IsAmong q (row_of r s)) same h))))
     (cases_lt p left)
 
-pub rights_none : (r : NumberRelation) (left : ℕ) (set : List ℕ) → [] ≡ row_of r left → ((p q : ℕ) → p < left → Relates r p q → IsIn q set) → (p q : ℕ) → p < left + 1 → Relates r p q → IsIn q set
+pub rights_none : (r : NumberRelation) (left : ℕ) (set : List ℕ) → [] ≡ row_of r left → ((p q : ℕ) → p < left → Relates r p q → IsAmong q set) → (p q : ℕ) → p < left + 1 → Relates r p q → IsAmong q set
 rights_none r left set is had p q l h =
     ⊎_elim (λ (low : p < left). had p q low h)
-    (λ (high : left ≤ p). let same : p ≡ left = omega arith in absurd (subst (IsIn q) (sym is) (subst (λ (s : ℕ). IsIn q (row_of r s)) same h)))
+    (λ (high : left ≤ p). let same : p ≡ left = omega arith in absurd (subst (IsAmong q) (sym is) (subst (λ (s : ℕ). IsAmong q (row_of r s)) same h)))
     (cases_lt p left)
 
 -- the state of a choice at a place, by the relation there
@@ -103,7 +103,7 @@ mutual
   may_linear_all M rs k i (math.cons t ts) cs (q ∷ qs) g (before, after, is, one, others) =
       let g2 : MayGive rs k i (before ++ after) = subst (MayGive rs k i) is g in (
         may_linear M rs k i t before q (give_left rs k i before after g2) one,
-        may_linear_all M rs k (i + length (leaves t)) ts after qs (give_right rs k i (length (leaves t)) before after (choice_length M t before q one) g2) others,
+        may_linear_all M rs k (i + length (variable_occurrences t)) ts after qs (give_right rs k i (length (variable_occurrences t)) before after (choice_length M t before q one) g2) others,
       )
 
 -- the relations give the states of each choice in some batches
@@ -116,16 +116,16 @@ digits_give n m batches rs x each low j h =
     subst (λ (p : ℕ). MayHave rs (x / 4096) p (get_or (choice_at n m x) j 0)) place (r, at, subst (λ (q : ℕ). Relates r q (x / 4096)) (sym state) (digits x low))
 
 pub possible : (a : Automaton) (t u : math.Term) (batches : ℕ) (all : List ℕ) (rs : List NumberRelation) (r : NumberRelation) (set : List ℕ) → u ≡ linear 0 t
-    → ((number : ℕ) → (number < batches) ↔ (4096 * number < a.states ^ length (leaves t))) → ((k : ℕ) → IsIn k all ↔ (k < batches))
-    → AreAllDigits a.states (length (leaves t)) batches rs → MayReach a all rs u r → ((p q : ℕ) → Relates r p q → IsIn q set) → ArePossible a t set
+    → ((number : ℕ) → (number < batches) ↔ (4096 * number < a.states ^ length (variable_occurrences t))) → ((k : ℕ) → IsAmong k all ↔ (k < batches))
+    → AreAllDigits a.states (length (variable_occurrences t)) batches rs → MayReach a all rs u r → ((p q : ℕ) → Relates r p q → IsAmong q set) → ArePossible a t set
 possible a t u batches all rs r set numbered count is each may rights k q inside reach =
     let within : k / 4096 < batches = (count (k / 4096)).1 (omega arith) in
     let low : k < 4096 * batches = omega arith in
-    let cs = choice_at a.states (length (leaves t)) k in
-    let linked = may_linear (Has a) rs (k / 4096) 0 t cs q (digits_give a.states (length (leaves t)) batches rs k each low) reach in
+    let cs = choice_at a.states (length (variable_occurrences t)) k in
+    let linked = may_linear (Has a) rs (k / 4096) 0 t cs q (digits_give a.states (length (variable_occurrences t)) batches rs k each low) reach in
     rights q (k / 4096) (may q (k / 4096) ((is (k / 4096)).1 within) (subst (λ (w : math.Term). Reach (Has a) (MayHave rs (k / 4096)) w q) (sym numbered) linked))
 
-pub all_possible : (a : Automaton) (t : math.Term) (batches : ℕ) (all : List ℕ) → ((number : ℕ) → (number < batches) ↔ (4096 * number < a.states ^ length (leaves t))) → ((k : ℕ) → IsIn k all ↔ (k < batches)) → ArePossible a t all
+pub all_possible : (a : Automaton) (t : math.Term) (batches : ℕ) (all : List ℕ) → ((number : ℕ) → (number < batches) ↔ (4096 * number < a.states ^ length (variable_occurrences t))) → ((k : ℕ) → IsAmong k all ↔ (k < batches)) → ArePossible a t all
 all_possible a t batches all count is k q inside reach = (is (k / 4096)).1 ((count (k / 4096)).1 (omega arith))
 
 -- more than one batch has more than one state
@@ -159,7 +159,7 @@ pub no_place : (rs : List NumberRelation) (i : ℕ) (r : NumberRelation) → fal
 no_place rs i r outside is = let low = slice_get_within rs i r is in let high = ltb-false i (length rs) (sym outside) in omega arith
 
 module _ (a : Automaton) (all : List ℕ) (places : List NumberRelation) where
-  may_related : (ts : List Term) (made : List NumberRelation) (qs : List ℕ) (k : ℕ) → AllZip (λ t r. MayReach a all places (view t) r) ts made → IsIn k all → ReachAll (Has a) (MayHave places k) (views ts) qs → AreRelated made qs k
+  may_related : (ts : List Term) (made : List NumberRelation) (qs : List ℕ) (k : ℕ) → AllZip (λ t r. MayReach a all places (view t) r) ts made → IsAmong k all → ReachAll (Has a) (MayHave places k) (views ts) qs → AreRelated made qs k
   may_related [] [] [] k z i h = tt
   may_related [] [] (q ∷ qs) k z i h = absurd (cc)
   may_related [] (r ∷ rs) qs k z i h = absurd z
@@ -168,7 +168,7 @@ module _ (a : Automaton) (all : List ℕ) (places : List NumberRelation) where
   may_related (t ∷ ts) (r ∷ rs) (q ∷ qs) k z i h = (z.0 q k i h.0, may_related ts rs qs k z.1 i h.1)
 
   pub may_symbol : (t : Term) (f : ℕ) (v : Vec Term Global) (ts : List Term) (made : List NumberRelation) (r : NumberRelation) → t ≡ Fun f v → ts ≡ v.items → AllZip (λ t r. MayReach a all places (view t) r) ts made
-      → ((q k : ℕ) → Relates r q k ↔ (IsIn k all × IsReachedFrom a f made q k)) → MayReach a all places (view t) r
+      → ((q k : ℕ) → Relates r q k ↔ (IsAmong k all × IsReachedFrom a f made q k)) → MayReach a all places (view t) r
   may_symbol t f v ts made r is items z from q k i h =
       let shown : view t ≡ math.app f (views ts) = ap view is ∙ view-Fun f v ∙ ap (λ (l : List Term). math.app f (views l)) (sym items) in
       let p = subst (λ (u : math.Term). Reach (Has a) (MayHave places k) u q) shown h in

@@ -4,7 +4,7 @@ use Rattle.std.proofs.lemmas.List.{get_or_append_left, get_or-append-add, take-a
 use Rattle.std.proofs.lemmas.Bool.{eq-eqb, ne_eqb}
 use Rattle.std.proofs.Math.Seq.{length-take-le}
 use Rattle.rewriting.specs.Terms.{Term, Terms, var, app, nil, cons}
-use Rattle.ctrs_classes.specs.Blames.{leaves, leaves_of}
+use Rattle.rewriting.specs.Variables.{variable_occurrences, variable_occurrences_of}
 use Rattle.automata.specs.Runs.{Moves, Reach, ReachAll, at, ReachBy, ReachAllBy}
 use Rattle.automata.specs.Closed.{state_of}
 use Rattle.number_sets.specs.Sets.{below}
@@ -81,24 +81,24 @@ mutual
   linear_back_all M e i (cons t ts) cs (q ∷ qs) g (before, after, is, one, others) =
       let g2 : Gives e i (before ++ after) = subst (Gives e i) is g in (
         linear_back M e i t before q (gives_left e i before after g2) one,
-        linear_back_all M e (i + length (leaves t)) ts after qs (gives_right e i (length (leaves t)) before after (choice_length M t before q one) g2) others,
+        linear_back_all M e (i + length (variable_occurrences t)) ts after qs (gives_right e i (length (variable_occurrences t)) before after (choice_length M t before q one) g2) others,
       )
 
 mutual
-  linear_to : (M : Moves) (e : ℕ → ℕ) (i : ℕ) (t : Term) (cs : List ℕ) (q : ℕ) → length cs ≡ length (leaves t) → Gives e i cs → Reach M (at e) (linear i t) q → ReachBy M t cs q
+  linear_to : (M : Moves) (e : ℕ → ℕ) (i : ℕ) (t : Term) (cs : List ℕ) (q : ℕ) → length cs ≡ length (variable_occurrences t) → Gives e i cs → Reach M (at e) (linear i t) q → ReachBy M t cs q
   linear_to M e i (var x) cs q l g h = to_variable e i cs q l g h
   linear_to M e i (app f ts) cs q l g (qs, m, r) = (qs, m, linear_to_all M e i ts cs qs l g r)
 
-  linear_to_all : (M : Moves) (e : ℕ → ℕ) (i : ℕ) (ts : Terms) (cs qs : List ℕ) → length cs ≡ length (leaves_of ts) → Gives e i cs → ReachAll M (at e) (linear_all i ts) qs → ReachAllBy M ts cs qs
+  linear_to_all : (M : Moves) (e : ℕ → ℕ) (i : ℕ) (ts : Terms) (cs qs : List ℕ) → length cs ≡ length (variable_occurrences_of ts) → Gives e i cs → ReachAll M (at e) (linear_all i ts) qs → ReachAllBy M ts cs qs
   linear_to_all M e i nil [] qs l g h = (refl, h)
   linear_to_all M e i nil (c ∷ cs) qs l g h = absurd (omega arith)
   linear_to_all M e i (cons t ts) cs [] l g h = absurd h
   linear_to_all M e i (cons t ts) cs (q ∷ qs) l g (one, others) =
-      let n = length (leaves t) in
-      let all = length-append (leaves t) (leaves_of ts) in
+      let n = length (variable_occurrences t) in
+      let all = length-append (variable_occurrences t) (variable_occurrences_of ts) in
       let whole : take n cs ++ drop n cs ≡ cs = take-append-drop n cs in
       let first : length (take n cs) ≡ n = length-take-le n cs (omega arith) in
-      let rest : length (drop n cs) ≡ length (leaves_of ts) = omega (arith, length-drop n cs) in
+      let rest : length (drop n cs) ≡ length (variable_occurrences_of ts) = omega (arith, length-drop n cs) in
       let g2 : Gives e i (take n cs ++ drop n cs) = subst (Gives e i) (sym whole) g in (
         take n cs,
         drop n cs,
@@ -108,7 +108,7 @@ mutual
       )
 
 -- a term reaches a state by a choice just where the numbered term reaches it with the choice's states for the numbers
-pub reach_linear : (M : Moves) (t : Term) (cs : List ℕ) (q : ℕ) → length cs ≡ length (leaves t)
+pub reach_linear : (M : Moves) (t : Term) (cs : List ℕ) (q : ℕ) → length cs ≡ length (variable_occurrences t)
     → Reach M (at (state_of (below (length cs)) cs)) (linear 0 t) q ↔ ReachBy M t cs q
 reach_linear M t cs q l = (
   linear_to M (state_of (below (length cs)) cs) 0 t cs q l (gives_below cs),

@@ -3,7 +3,7 @@ use Rattle.std.specs.Prelude.{ℕ, ◌≡◌, ◌<◌, ◌⊎◌, ◌^◌, List,
 use Rattle.std.specs.List.{AllPairs}
 use Rattle.rewriting.specs.Terms.{Term}
 use Rattle.rewriting.specs.Positions.{IsBefore}
-use Rattle.ctrs_classes.specs.Blames.{leaves}
+use Rattle.rewriting.specs.Variables.{variable_occurrences}
 use Rattle.certificates.specs.Evidence.{Automaton}
 use Rattle.automata.specs.Runs.{Has, ReachBy}
 use Rattle.automata.specs.Closed.{IsChoice}
@@ -26,7 +26,7 @@ pub record AreArrivals (a : Automaton) (t : Term) (rows : List (List ℕ × ℕ)
 
 -- the same for the first n choices alone
 pub record AreArrivalsBelow (a : Automaton) (t : Term) (n : ℕ) (rows : List (List ℕ × ℕ)) : Type 0 where
-  pub each : (cs : List ℕ) (q : ℕ) → Contains rows (cs, q) → (k : ℕ) × (k < n) × (cs ≡ choice_at a.states (length (leaves t)) k) × ReachBy (Has a) t cs q
-  pub complete : (k q : ℕ) → k < n → k < a.states ^ length (leaves t) → ReachBy (Has a) t (choice_at a.states (length (leaves t)) k) q
-      → Contains rows (choice_at a.states (length (leaves t)) k, q)
+  pub each : (cs : List ℕ) (q : ℕ) → Contains rows (cs, q) → (k : ℕ) × (k < n) × (cs ≡ choice_at a.states (length (variable_occurrences t)) k) × ReachBy (Has a) t cs q
+  pub complete : (k q : ℕ) → k < n → k < a.states ^ length (variable_occurrences t) → ReachBy (Has a) t (choice_at a.states (length (variable_occurrences t)) k) q
+      → Contains rows (choice_at a.states (length (variable_occurrences t)) k, q)
   pub sorted : AllPairs IsArrivalBefore rows

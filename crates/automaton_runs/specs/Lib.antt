@@ -1,4 +1,3 @@
-pub mod Members
 pub mod Groups
 pub mod Counting
 pub mod Indexed

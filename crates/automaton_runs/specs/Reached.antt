@@ -5,7 +5,7 @@ use Rattle.rewriting.specs.Terms.{Term}
 use Rattle.certificates.specs.Evidence.{Transition, Automaton}
 use Rattle.automata.specs.Runs.{Has, Reach, at}
 use Rattle.automata.specs.Closed.{state_of}
-use Rattle.number_sets.specs.Members.{IsIn}
+use Rattle.rewriting.specs.Lists.{IsAmong}
 use Rattle.number_sets.specs.Relation.{Relates}
 use Rattle.number_sets.specs.declared.rows.NumberRelation.{NumberRelation}
 use Rattle.automaton_runs.specs.Counting.{chosen, first_key}
@@ -26,13 +26,13 @@ AreRelated rs qs k = AllZip (λ r q. Relates r q k) rs qs
 -- the transition leads by the symbol to q from states that the relations relate to k, one of some numbers
 pub record Leads (f : ℕ) (all : List ℕ) (rs : List NumberRelation) (t : Transition) (q k : ℕ) : Type 0 where
   pub symbol : t.symbol ≡ Some f
-  pub number : IsIn k all
+  pub number : IsAmong k all
   pub arguments : AreRelated rs t.arguments k
   pub target : q ≡ t.target
 
 -- one of some transitions does
 abbrev pub HaveLeads : ℕ → List ℕ → List NumberRelation → List Transition → ℕ → ℕ → Type 0
-HaveLeads f all rs ts q k = (t : Transition) × IsIn t ts × Leads f all rs t q k
+HaveLeads f all rs ts q k = (t : Transition) × IsAmong t ts × Leads f all rs t q k
 
 -- one of those among the transitions of the automaton that count and have a first argument related to some number does
 abbrev pub HaveLeadsByFirst : Automaton → NumberRelation → ℕ → List ℕ → List NumberRelation → ℕ → ℕ → Type 0

@@ -2,7 +2,7 @@
 use Rattle.std.specs.Prelude.{ℕ, ◌↔◌, List, map, filter}
 use Rattle.std.specs.BTreeSet.{BTreeSet}
 use Rattle.certificates.specs.Evidence.{Transition}
-use Rattle.automaton_runs.specs.Members.{IsIn}
+use Rattle.rewriting.specs.Lists.{IsAmong}
 use Rattle.automaton_runs.specs.Counting.{counts}
 use Rattle.automaton_runs.specs.declared.index.Known.{Known}
 
@@ -11,4 +11,4 @@ known_view k = record { symbol = k.symbol; arguments = k.args.now; target = k.ta
 
 -- the set has exactly those of the transitions that count
 abbrev pub AreKnown : ℕ → List Transition → BTreeSet Known → Type 0
-AreKnown n ts set = (t : Transition) → IsIn t (map known_view set.keys) ↔ IsIn t (filter (counts n) ts)
+AreKnown n ts set = (t : Transition) → IsAmong t (map known_view set.keys) ↔ IsAmong t (filter (counts n) ts)

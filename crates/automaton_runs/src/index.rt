@@ -4,7 +4,7 @@ ghost use Rattle.automata.specs.Runs.{Has};
 ghost use Rattle.cert_model.specs.EvidenceView.{transition_view, automaton_view};
 ghost use Rattle.automaton_runs.specs.Counting.{are_below, counts, key_of, chosen, symbol_key, first_key, target_key};
 ghost use Rattle.automaton_runs.specs.Groups.{listed};
-ghost use Rattle.automaton_runs.specs.Members.{IsIn};
+ghost use Rattle.rewriting.specs.Lists.{IsAmong};
 ghost use Rattle.automaton_runs.specs.Twins.{known_view, AreKnown};
 ghost use Rattle.automaton_runs.specs.Indexed.{key_view, pointed, IsGroupedBy};
 
@@ -120,7 +120,7 @@ fn put_known<'a>(
     transition: &'a Transition,
     known: &mut BTreeSet<Known<'a>>,
 ) -> Result<(), NoMemory>
-    ensures { OnOk result ((t : math.Transition) → IsIn t (map known_view known.new.keys) ↔ (IsIn t (map known_view known.old.keys) ⊎ ((t ≡ transition_view transition.now) × (counts states (transition_view transition.now) ≡ true)))) }
+    ensures { OnOk result ((t : math.Transition) → IsAmong t (map known_view known.new.keys) ↔ (IsAmong t (map known_view known.old.keys) ⊎ ((t ≡ transition_view transition.now) × (counts states (transition_view transition.now) ≡ true)))) }
 {
     if is_counted(states, transition) {
         known.insert(Known {

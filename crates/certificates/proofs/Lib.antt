@@ -1,3 +1,4 @@
+pub mod Blames
 pub mod Unique
 pub mod Sound
 pub mod Growth

@@ -6,7 +6,7 @@ use Rattle.rewriting.specs.Rules.{Condition, Rule, System, sides}
 use Rattle.rewriting.specs.Classes.{IsAt, known, IsStable}
 use Rattle.certificates.specs.Reasons.{Class}
 use Rattle.ctrs_classes.specs.declared.rules.Fault.{Fault}
-use Rattle.ctrs_classes.specs.Blames.{IsInClass, IsRuleBlamed, IsFirstVariable, IsFresh, IsUnstable}
+use Rattle.certificates.specs.Blames.{IsInClass, IsRuleBlamed, IsFirstVariable, IsFresh, IsUnstable}
 
 -- the rule is in the class, or what is at fault
 abbrev pub FaultAnswers : System → Class → Rule → Option Fault → Type 0

@@ -10,7 +10,8 @@ use Rattle.rewriting.specs.Terms.{Term, var, app, Terms, nil, cons}
 use Rattle.rewriting.specs.Systems.{IsRule, AreRules, IsSystem, IsWellFormed, CountsFrom, rule_variables, terms_of_rule}
 use Rattle.rewriting.specs.Signatures.{Signature, IsOver, AreOver}
 use Rattle.rewriting.specs.Variables.{occurs, occurs_in}
-use Rattle.rewriting.proofs.Variables.{IsAmong, variables_have_all}
+use Rattle.rewriting.specs.Lists.{IsAmong}
+use Rattle.rewriting.proofs.Variables.{variables_have_all}
 use Rattle.rewriting.proofs.Instances.{or_right}
 use Rattle.rewriting.proofs.Unraveled.{unraveled_well_formed}
 use Rattle.rewriting.proofs.Laws.{well_formed}

@@ -14,7 +14,8 @@ use Rattle.certificates.specs.Evidence.{InfeasibilityEvidence}
 use Rattle.certificates.specs.Judging.{Derives}
 use Rattle.certificates.specs.Reasons.{EvidenceReason, Rejection, redex_extra}
 use Rattle.cert_model.specs.ReasonView.{rejected_view}
-use Rattle.renumbering.specs.Rows.{AreDistinct, naming}
+use Rattle.rewriting.specs.Lists.{AreDistinct}
+use Rattle.renumbering.specs.Rows.{naming}
 use Rattle.term_core.specs.RuleView.{rule_view, AreCounted}
 use Rattle.term_core.specs.SystemView.{AreSound}
 use Rattle.term_core.specs.declared.systems.Rule as program

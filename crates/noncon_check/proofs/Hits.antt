@@ -4,7 +4,7 @@ use Rattle.std.proofs.lemmas.Bool.{false≢true}
 use Rattle.rewriting.specs.Substitutions.{Matches}
 use Rattle.rewriting.specs.Systems.{IsWellFormed}
 use Rattle.rewriting.proofs.Common.{Term, Terms, var, app, IsVariable, Rule, System, rule_at}
-use Rattle.rewriting.proofs.Variables.{IsAmong}
+use Rattle.rewriting.specs.Lists.{IsAmong}
 use Rattle.rule_index.specs.Roots.{has_root, rules_with_root}
 use Rattle.rule_index.proofs.Walks.{root_of, is_listed, ascending}
 use Rattle.validity.specs.Peaks.{Place, MatchesAt, IsEarlier, IsListed, IsSorted}

@@ -14,7 +14,8 @@ use Rattle.certificates.specs.Judging.{RuleMatches}
 use Rattle.certificates.specs.Reasons.{EvidenceReason}
 use Rattle.matching.proofs.Least.{least_needs, values_have, Inherits}
 use Rattle.renumbering.specs.Spread.{spread, spreading}
-use Rattle.renumbering.specs.Rows.{AreDistinct, naming}
+use Rattle.rewriting.specs.Lists.{AreDistinct}
+use Rattle.renumbering.specs.Rows.{naming}
 use Rattle.renumbering.proofs.Spreads.{spread_past, spread_one_to_one, odd_is_spread}
 use Rattle.validity.proofs.Ends.{unmoved}
 use Rattle.validity.specs.Peaks.{Place, MatchesAt, value_or_own, at_redex, IsRedexJudged}

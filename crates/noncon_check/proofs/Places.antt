@@ -4,7 +4,7 @@ use Rattle.rewriting.specs.Substitutions.{Matches}
 use Rattle.rewriting.specs.Systems.{IsWellFormed}
 use Rattle.rewriting.proofs.Common.{Term, Terms, var, app, nil, cons, IsVariable, Position, argument, System}
 use Rattle.rewriting.proofs.Positions.{within}
-use Rattle.rewriting.proofs.Variables.{IsAmong}
+use Rattle.rewriting.specs.Lists.{IsAmong}
 use Rattle.rule_index.specs.Roots.{rules_with_root}
 use Rattle.validity.specs.Peaks.{Place, MatchesAt, IsEarlier, IsListed, IsSorted}
 use Rattle.noncon_check.specs.Redexes.{hits, at_root, below, redexes, redexes_from, AreRedexesOf}

@@ -1,7 +1,8 @@
 -- One overlap after the other.
 use Rattle.std.proofs.Common.{ℕ, zero, suc, ◌≡◌, ◌+◌, ◌<◌, ◌≤◌, inl, inr, List, [], ◌∷◌, map, drop, length, slice_get, get_or, Option, None, Some, Result, Ok, Err, refl, sym, ap, ap₂, ◌∙◌, subst, subst₂, arith}
 use Rattle.rewriting.specs.Rules.{System}
-use Rattle.unifier_run.specs.Overlaps.{Overlap, triple, IsListed, AreOverlaps}
+use Rattle.rewriting.specs.Lists.{IsAmong}
+use Rattle.unifier_run.specs.Overlaps.{Overlap, triple, AreOverlaps}
 use Rattle.certificates.specs.Certificates.{PairEntry}
 use Rattle.certificates.specs.Reasons.{EvidenceReason, Rejection, pair_extra, evidence_fails}
 use Rattle.cert_model.specs.ReasonView.{rejected_view}
@@ -44,7 +45,7 @@ item_at f [] i x h e = absurd (omega (arith, h))
 item_at f (y ∷ xs) zero x h e = ap (λ z. Some (f z)) (sym e)
 item_at f (y ∷ xs) (suc i) x h e = item_at f xs i x (omega (arith, h)) e
 
-pub listed_at : (os : List Overlap) (i : ℕ) (o : Overlap) → slice_get os i ≡ Some o → IsListed o os
+pub listed_at : (os : List Overlap) (i : ℕ) (o : Overlap) → slice_get os i ≡ Some o → IsAmong o os
 listed_at [] i o e = absurd (cc)
 listed_at (q ∷ os) zero o e = inl (let same : o ≡ q = cc in same)
 listed_at (q ∷ os) (suc i) o e = inr (listed_at os i o e)

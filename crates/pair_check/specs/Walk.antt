@@ -1,7 +1,8 @@
 -- What the walk over overlaps and entries answers.
 use Rattle.std.specs.Prelude.{ℕ, ◌≡◌, ◌≢◌, ◌⊎◌, List, Option, None, Some, Result, Ok, Err}
 use Rattle.rewriting.specs.Rules.{System}
-use Rattle.unifier_run.specs.Overlaps.{Overlap, triple, IsListed, IsOverlapOf}
+use Rattle.rewriting.specs.Lists.{IsAmong}
+use Rattle.unifier_run.specs.Overlaps.{Overlap, triple, IsOverlapOf}
 use Rattle.certificates.specs.Certificates.{PairEntry}
 use Rattle.certificates.specs.Reasons.{EvidenceReason, Rejection, pair_large, too_many_pairs, evidence_fails}
 use Rattle.cert_model.specs.ReasonView.{rejected_view}
@@ -15,7 +16,7 @@ use Rattle.validity.specs.Entries.{triple_of, AreSettled, IsMissing, AreNotSettl
 
 -- each of them is an overlap of the system
 abbrev pub EachIsOverlap : System → List Overlap → Type 0
-EachIsOverlap sys os = (o : Overlap) → IsListed o os → IsOverlapOf sys o
+EachIsOverlap sys os = (o : Overlap) → IsAmong o os → IsOverlapOf sys o
 
 -- the overlap should have had an entry
 abbrev pub MissingAnswers : Overlap → CheckError → Type 0

@@ -7,7 +7,8 @@ ghost use Rattle.rewriting.specs.Substitutions.{apply};
 ghost use Rattle.rewriting.specs.Unifiers.{odd};
 ghost use Rattle.term_core.specs.View.{view};
 ghost use Rattle.renumbering.specs.Spread.{spreading};
-ghost use Rattle.renumbering.specs.Rows.{IsFront, AreDistinct, naming, IsNumbered};
+ghost use Rattle.rewriting.specs.Lists.{IsFront, AreDistinct};
+ghost use Rattle.renumbering.specs.Rows.{naming, IsNumbered};
 
 use indexmap::IndexSet;
 use std::alloc::Global;
@@ -26,7 +27,7 @@ impl Model for Numbering {
     ghost Value = { List ℕ };
 
     ghost use Rattle.renumbering.specs.NumberingView.{row_of};
-    ghost use Rattle.renumbering.specs.Rows.{AreDistinct};
+    ghost use Rattle.rewriting.specs.Lists.{AreDistinct};
 
     ghost view = { row_of };
 

@@ -6,7 +6,8 @@ use Rattle.rewriting.specs.Substitutions.{Substitution, apply, apply_all, compos
 use Rattle.rewriting.specs.Unifiers.{even, odd}
 use Rattle.rewriting.specs.Rules.{Condition, System, left_sides, right_sides}
 use Rattle.rewriting.proofs.Instances.{apply_all-apply_all, apply_all-agree}
-use Rattle.renumbering.specs.Rows.{AreDistinct, naming}
+use Rattle.rewriting.specs.Lists.{AreDistinct}
+use Rattle.renumbering.specs.Rows.{naming}
 use Rattle.unifier_run.specs.Run.{Outcome, IsOutcome}
 use Rattle.unifier_run.proofs.Renamed.{renamed_outcome, stays, names, runs_with_names}
 use Rattle.caps.specs.Caps.{Cap, Caps, node, any, holes, filled, all_filled, constants, IsTop, IsCapOf, AreCapsOf}

@@ -1,7 +1,7 @@
 -- A row of numbers, with numbers past all of them behind it, is one to one.
 use Rattle.std.proofs.Common.{ℕ, zero, suc, ◌≡◌, ◌+◌, ◌<◌, ◌≤◌, Bool, true, false, nat_lt, if◌then◌else◌, List, [], ◌∷◌, length, get_or, refl, arith}
 use Rattle.std.proofs.lemmas.Bool.{ltb-true, lt-ltb}
-use Rattle.renumbering.specs.Rows.{AreDistinct}
+use Rattle.rewriting.specs.Lists.{AreDistinct}
 
 abbrev pub total : List ℕ → ℕ
 total [] = 0

@@ -7,7 +7,7 @@ use Rattle.rewriting.specs.Unifiers.{even, odd}
 use Rattle.rewriting.specs.Signatures.{IsOver, AreOver}
 use Rattle.rewriting.specs.Rules.{Rule, System, rule_at}
 use Rattle.rewriting.specs.Systems.{IsSystem}
-use Rattle.renumbering.specs.Rows.{AreDistinct}
+use Rattle.rewriting.specs.Lists.{AreDistinct}
 use Rattle.unifier_run.specs.Run.{Outcome, unifier, clash, too_large, IsOutcome}
 use Rattle.unifier_run.specs.Overlaps.{IsOutcomeOf}
 use Rattle.unifier_run.specs.Irreducible.{IsFirstRule, DoRulesClash}

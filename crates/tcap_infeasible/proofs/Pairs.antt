@@ -5,7 +5,7 @@ use Rattle.rewriting.specs.Terms.{Term, var, app, nil, cons, size, Fits}
 use Rattle.rewriting.specs.Substitutions.{apply, apply_all}
 use Rattle.rewriting.specs.Rules.{System}
 use Rattle.rewriting.specs.Systems.{IsSystem, IsWellFormed}
-use Rattle.renumbering.specs.Rows.{AreDistinct, IsFront}
+use Rattle.rewriting.specs.Lists.{AreDistinct, IsFront}
 use Rattle.unifier_run.specs.Run.{Outcome, unifier, clash, too_large, IsOutcome}
 use Rattle.unifier_run.proofs.Renamed.{renamed, all_renamed, renamed_outcome, stays, names, runs_to, runs_with_names}
 use Rattle.caps.specs.Caps.{Cap, Caps, hole, kept, any, node, no_caps, caps, holes, holes_in, filled, all_filled, constants, IsCapOf, IsCapLarge}

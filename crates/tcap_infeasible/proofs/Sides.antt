@@ -7,7 +7,8 @@ use Rattle.rewriting.specs.Terms.{Terms, var, app, nil, cons, size, size_all, Fi
 use Rattle.rewriting.specs.Variables.{with_new, with_variables, with_variables_of}
 use Rattle.rewriting.specs.Rules.{System, left_sides, right_sides}
 use Rattle.certificates.specs.Sizes.{DoConditionsFit}
-use Rattle.renumbering.specs.Rows.{AreDistinct, IsFront, IsNumbered}
+use Rattle.rewriting.specs.Lists.{AreDistinct, IsFront}
+use Rattle.renumbering.specs.Rows.{IsNumbered}
 use Rattle.renumbering.proofs.Numbered.{AreNumbered, numbered_none, numbered_more}
 use Rattle.caps.specs.Caps.{any, AreCapsOf, AreCapsLarge, IsCapLarge}
 use Rattle.term_core.specs.View.{view, views}

@@ -11,19 +11,20 @@ use Rattle.cert_model.specs.EvidenceView.{transition_view}
 use Rattle.cert_model.specs.declared.evidence.Transition as cert
 use Rattle.number_sets.specs.Relation.{Relates}
 use Rattle.number_sets.specs.declared.rows.NumberRelation.{NumberRelation}
-use Rattle.automaton_runs.specs.Members.{IsIn}
+use Rattle.rewriting.specs.Lists.{IsAmong}
 use Rattle.automaton_runs.specs.Counting.{chosen, symbol_key}
 use Rattle.automaton_runs.specs.Indexed.{pointed}
 use Rattle.automaton_runs.specs.Choices.{Batch}
 use Rattle.automaton_runs.specs.Reached.{AreWhere, Reaches}
-use Rattle.automaton_runs.proofs.Members.{contains_in, in_contains, in_map, in_map_back}
+use Rattle.rewriting.proofs.Lists.{among_map, among_of_map}
+use Rattle.automaton_runs.proofs.Members.{contains_in, in_contains}
 use Rattle.automaton_runs.proofs.Counted.{symbol_from, symbol_to}
 use Rattle.automaton_runs.proofs.Twins.{all_of}
 use Rattle.tree_automata.specs.Accepts.{IsOneAccepting, IsMarked}
 use Rattle.tree_automata.proofs.Lists.{in_front}
 
 -- the element at a place
-pub at_in : {X : Type 0} (xs : List X) (i : ℕ) (x : X) → i < length xs → x ≡ get_or xs i x → IsIn x xs
+pub at_in : {X : Type 0} (xs : List X) (i : ℕ) (x : X) → i < length xs → x ≡ get_or xs i x → IsAmong x xs
 at_in [] i x h e = absurd (omega arith)
 at_in (y ∷ ys) zero x h e = inl e
 at_in (y ∷ ys) (suc i) x h e = inr (at_in ys i x (omega arith) e)
@@ -41,42 +42,42 @@ itself (y ∷ ys) (suc i) d h = go ys i (omega arith)
 -- one of the listed states is related to some number
 module _ (a : Automaton) (r : NumberRelation) (listed : List ℕ) (same : listed ≡ a.accepting) (i : ℕ) where
   pub accepting_here : i < length listed → get_or listed i 0 < a.states → ((k : ℕ) × Relates r (get_or listed i 0) k) → IsOneAccepting a r
-  accepting_here inside low (k, there) = (get_or listed i 0, k, there, (in_contains _ a.accepting (subst (IsIn (get_or listed i 0)) same (at_in listed i _ inside (itself listed i 0 inside))), low))
+  accepting_here inside low (k, there) = (get_or listed i 0, k, there, (in_contains _ a.accepting (subst (IsAmong (get_or listed i 0)) same (at_in listed i _ inside (itself listed i 0 inside))), low))
 
-  pub none_more : i < length listed → ((q k : ℕ) → IsIn q (take i listed) → q < a.states → Relates r q k → ⊥) → (get_or listed i 0 < a.states → ((k : ℕ) × Relates r (get_or listed i 0) k) → ⊥)
-      → (q k : ℕ) → IsIn q (take (i + 1) listed) → q < a.states → Relates r q k → ⊥
+  pub none_more : i < length listed → ((q k : ℕ) → IsAmong q (take i listed) → q < a.states → Relates r q k → ⊥) → (get_or listed i 0 < a.states → ((k : ℕ) × Relates r (get_or listed i 0) k) → ⊥)
+      → (q k : ℕ) → IsAmong q (take (i + 1) listed) → q < a.states → Relates r q k → ⊥
   none_more inside front never q k h low there =
       ⊎_elim (λ f. front q k f low there) (λ e. never (subst (λ (p : ℕ). p < a.states) e low) (k, subst (λ (p : ℕ). Relates r p k) e there))
       (in_front listed i (get_or listed i 0) q inside (itself listed i 0 inside) h)
 
-  pub none_at_all : length listed ≤ i → ((q k : ℕ) → IsIn q (take i listed) → q < a.states → Relates r q k → ⊥) → IsOneAccepting a r → ⊥
-  none_at_all past front (q, k, there, acc) = front q k (subst (IsIn q) (sym (all_of listed i past)) (subst (IsIn q) (sym same) (contains_in q a.accepting acc.0))) acc.1 there
+  pub none_at_all : length listed ≤ i → ((q k : ℕ) → IsAmong q (take i listed) → q < a.states → Relates r q k → ⊥) → IsOneAccepting a r → ⊥
+  none_at_all past front (q, k, there, acc) = front q k (subst (IsAmong q) (sym (all_of listed i past)) (subst (IsAmong q) (sym same) (contains_in q a.accepting acc.0))) acc.1 there
 
 -- states 0
 module _ (a : Automaton) (f n : ℕ) (refs : List (Bor cert.Transition)) (is : pointed refs ≡ filter (chosen symbol_key a.states f) a.transitions) (i : ℕ) where
   pub zero_here : (x : Bor cert.Transition) → i < length refs → x ≡ get_or refs i x → x.now.args.items ≡ replicate n 0 → x.now.target ≡ 0 → Has a (Some f) (replicate n 0) 0
   zero_here x inside here zeros target =
       let t = transition_view x.now in
-      let there : IsIn t (pointed refs) = in_map (λ (r : Bor cert.Transition). transition_view r.now) x refs (at_in refs i x inside here) in
-      let has = symbol_from a f t (subst (λ (l : List Transition). IsIn t l) is there) in
+      let there : IsAmong t (pointed refs) = among_map (λ (r : Bor cert.Transition). transition_view r.now) x refs (at_in refs i x inside here) in
+      let has = symbol_from a f t (subst (λ (l : List Transition). IsAmong t l) is there) in
       subst (λ (q : ℕ). Has a (Some f) (replicate n 0) q) target (subst (λ (qs : List ℕ). Has a (Some f) qs x.now.target) zeros has)
 
-  pub zero_more : (x : Bor cert.Transition) → i < length refs → x ≡ get_or refs i x → ((t : Transition) → IsIn t (pointed (take i refs)) → t.arguments ≡ replicate n 0 → t.target ≡ 0 → ⊥)
-      → (x.now.args.items ≡ replicate n 0 → x.now.target ≡ 0 → ⊥) → (t : Transition) → IsIn t (pointed (take (i + 1) refs)) → t.arguments ≡ replicate n 0 → t.target ≡ 0 → ⊥
+  pub zero_more : (x : Bor cert.Transition) → i < length refs → x ≡ get_or refs i x → ((t : Transition) → IsAmong t (pointed (take i refs)) → t.arguments ≡ replicate n 0 → t.target ≡ 0 → ⊥)
+      → (x.now.args.items ≡ replicate n 0 → x.now.target ≡ 0 → ⊥) → (t : Transition) → IsAmong t (pointed (take (i + 1) refs)) → t.arguments ≡ replicate n 0 → t.target ≡ 0 → ⊥
   zero_more x inside here front never t h zeros target =
       let view : Bor cert.Transition → Transition = λ r. transition_view r.now in
-      let b = in_map_back view t (take (i + 1) refs) h in
-      ⊎_elim (λ k. front t (subst (λ (u : Transition). IsIn u (pointed (take i refs))) (sym b.2) (in_map view b.0 (take i refs) k)) zeros target)
+      let b = among_of_map view t (take (i + 1) refs) h in
+      ⊎_elim (λ k. front t (subst (λ (u : Transition). IsAmong u (pointed (take i refs))) (sym b.2) (among_map view b.0 (take i refs) k)) zeros target)
       (λ e.
       let same : t ≡ transition_view x.now = b.2 ∙ ap view e in
       never (ap (λ (u : Transition). u.arguments) (sym same) ∙ zeros) (ap (λ (u : Transition). u.target) (sym same) ∙ target))
       (in_front refs i x b.0 inside here b.1)
 
-  pub zero_nowhere : length refs ≤ i → ((t : Transition) → IsIn t (pointed (take i refs)) → t.arguments ≡ replicate n 0 → t.target ≡ 0 → ⊥) → Has a (Some f) (replicate n 0) 0 → ⊥
+  pub zero_nowhere : length refs ≤ i → ((t : Transition) → IsAmong t (pointed (take i refs)) → t.arguments ≡ replicate n 0 → t.target ≡ 0 → ⊥) → Has a (Some f) (replicate n 0) 0 → ⊥
   zero_nowhere past front has =
       let t : Transition = record { symbol = Some f; arguments = replicate n 0; target = 0 } in
-      let there = subst (λ (l : List Transition). IsIn t l) (sym is) (symbol_to a f (replicate n 0) 0 has) in
-      front t (subst (λ (l : List (Bor cert.Transition)). IsIn t (pointed l)) (sym (all_of refs i past)) there) refl refl
+      let there = subst (λ (l : List Transition). IsAmong t l) (sym is) (symbol_to a f (replicate n 0) 0 has) in
+      front t (subst (λ (l : List (Bor cert.Transition)). IsAmong t (pointed l)) (sym (all_of refs i past)) there) refl refl
 
 -- marks
 set_here : (marks : List Bool) (q : ℕ) (b : Bool) → q < length marks → slice_get (set marks q b) q ≡ Some b

@@ -3,11 +3,11 @@ use Rattle.std.proofs.Common.{◌≡◌, ◌↔◌, ℕ, ◌+◌, ◌-◌, ◌*�
 use Rattle.std.proofs.lemmas.Bool.{cases_lt, cases_order}
 use Rattle.rewriting.specs.Terms.{Term}
 use Rattle.rewriting.specs.Positions.{IsBefore}
-use Rattle.ctrs_classes.specs.Blames.{leaves}
+use Rattle.rewriting.specs.Variables.{variable_occurrences}
 use Rattle.certificates.specs.Evidence.{Automaton}
 use Rattle.automata.specs.Runs.{Has, ReachBy, IsAccepting}
 use Rattle.automata.specs.Closed.{IsChoice, Excludes}
-use Rattle.number_sets.specs.Members.{IsIn}
+use Rattle.rewriting.specs.Lists.{IsAmong}
 use Rattle.number_sets.specs.Relation.{Relates, IsFirstPair}
 use Rattle.number_sets.specs.declared.rows.NumberRelation.{NumberRelation}
 use Rattle.automaton_runs.specs.Arrivals.{IsArrivalBefore}
@@ -37,16 +37,16 @@ is_batch b n m s l = let both : record { states = b.states; length = b.length; n
 
 module _ (a : Automaton) (t : Term) where
   abbrev pub count : ℕ
-  count = a.states ^ length (leaves t)
+  count = a.states ^ length (variable_occurrences t)
 
   abbrev pub batch_at : ℕ → Batch
-  batch_at number = record { states = a.states; length = length (leaves t); number = number }
+  batch_at number = record { states = a.states; length = length (variable_occurrences t); number = number }
 
   pub choice_is : (k : ℕ) → k < count → IsChoice a.states t (choice_for a t k)
-  choice_is k h = record { each = length_choice a.states (length (leaves t)) k; states = choice_below a.states (length (leaves t)) k h }
+  choice_is k h = record { each = length_choice a.states (length (variable_occurrences t)) k; states = choice_below a.states (length (variable_occurrences t)) k h }
 
   pub number_of : (cs : List ℕ) → IsChoice a.states t cs → (k : ℕ) × (k < count) × (choice_for a t k ≡ cs)
-  number_of cs choice = choice_number a.states (length (leaves t)) cs choice.each choice.states
+  number_of cs choice = choice_number a.states (length (variable_occurrences t)) cs choice.each choice.states
 
   module _ (P : List ℕ → ℕ → Type 0) where
     pub throughout : (n : ℕ) → count ≤ n → HoldsBelow a t P n → HoldsThroughout a t P
@@ -104,9 +104,9 @@ module _ (a : Automaton) (t : Term) where
                 (within last i p (omega arith, omega arith) (subst (λ (n : ℕ). ReachBy (Has a) t (choice_for a t n) p) (sym same) reach) (inl (omega arith))))
                 (cases_lt j (4096 * number))
             by last j p inside reach (inl less) (inr (inr more)) =
-                absurd (before_asym (choice_for a t j) (choice_for a t (4096 * number + k)) less (choices_before a.states (length (leaves t)) (4096 * number + k) j more inside))
+                absurd (before_asym (choice_for a t j) (choice_for a t (4096 * number + k)) less (choices_before a.states (length (variable_occurrences t)) (4096 * number + k) j more inside))
             by last j p inside reach (inr (same, less)) (inr (inr more)) =
-                absurd (before_itself (choice_for a t (4096 * number + k)) (choice_for a t j) (sym same) (choices_before a.states (length (leaves t)) (4096 * number + k) j more inside))
+                absurd (before_itself (choice_for a t (4096 * number + k)) (choice_for a t j) (sym same) (choices_before a.states (length (variable_occurrences t)) (4096 * number + k) j more inside))
 
   abbrev pub IsNot : List ℕ → ℕ → Type 0
   IsNot cs q = IsAccepting a q → ⊥
@@ -128,9 +128,9 @@ pub past_all : (batches count n : ℕ) → ((number : ℕ) → (number < batches
 past_all batches count n few past = ⊎_elim (λ (h : 4096 * n < count). let less = (few n).1 h in absurd (omega arith)) (λ (h : count ≤ 4096 * n). h) (cases_lt (4096 * n) count)
 
 -- the same for a batch as a program has it
-module _ (a : Automaton) (t : Term) (b : Batch) (states : b.states ≡ a.states) (long : b.length ≡ length (leaves t)) (left : NumberRelation) (reached : AreWhere b (ReachBy (Has a) t) left) where
+module _ (a : Automaton) (t : Term) (b : Batch) (states : b.states ≡ a.states) (long : b.length ≡ length (variable_occurrences t)) (left : NumberRelation) (reached : AreWhere b (ReachBy (Has a) t) left) where
   same_batch : b ≡ batch_at a t b.number
-  same_batch = is_batch b a.states (length (leaves t)) states long
+  same_batch = is_batch b a.states (length (variable_occurrences t)) states long
 
   own : AreWhere (batch_at a t b.number) (ReachBy (Has a) t) left
   own = subst (λ (x : Batch). AreWhere x (ReachBy (Has a) t) left) same_batch reached
@@ -157,8 +157,8 @@ module _ (a : Automaton) (t : Term) (b : Batch) (states : b.states ≡ a.states)
       (none_below a t b.number left own (subst (λ (m : ℕ). HoldsBelow a t (IsNot a t) (4096 * m)) (sym number) front) never)
 
 -- a batch by whose choices the term arrives nowhere
-pub below_passed : (a : Automaton) (t : Term) (P : List ℕ → ℕ → Type 0) (set : List ℕ) (n : ℕ) → ArePossible a t set → (IsIn n set → ⊥) → HoldsBelow a t P (4096 * n) → HoldsBelow a t P (4096 * (n + 1))
+pub below_passed : (a : Automaton) (t : Term) (P : List ℕ → ℕ → Type 0) (set : List ℕ) (n : ℕ) → ArePossible a t set → (IsAmong n set → ⊥) → HoldsBelow a t P (4096 * n) → HoldsBelow a t P (4096 * (n + 1))
 below_passed a t P set n possible never front k q low (inside, reach) =
     ⊎_elim (λ (h : k < 4096 * n). front k q h (inside, reach))
-    (λ (h : 4096 * n ≤ k). let same : k / 4096 ≡ n = batch_is k n h (omega arith) in absurd (never (subst (λ (m : ℕ). IsIn m set) same (possible k q inside reach))))
+    (λ (h : 4096 * n ≤ k). let same : k / 4096 ≡ n = batch_is k n h (omega arith) in absurd (never (subst (λ (m : ℕ). IsAmong m set) same (possible k q inside reach))))
     (cases_lt k (4096 * n))

@@ -4,7 +4,7 @@ use Rattle.std.specs.List.{All}
 use Rattle.std.proofs.lemmas.List.Elements.{All-head, All-tail}
 use Rattle.rewriting.specs.Terms.{Term, var, app, Terms}
 use Rattle.rewriting.specs.Rules.{Rule, System}
-use Rattle.ctrs_classes.specs.Blames.{leaves}
+use Rattle.rewriting.specs.Variables.{variable_occurrences}
 use Rattle.certificates.specs.Evidence.{Automaton}
 use Rattle.automata.specs.Runs.{Has, ReachBy}
 use Rattle.automata.specs.Closed.{IsChoice, state_of, IsKept, IsRuleKept}
@@ -35,10 +35,10 @@ module _ (sys : System) (a : Automaton) (r : NumberRelation) where
       (λ h. (is.0 h).2, λ twins. is.1 (state_below a.states names cs x (omega arith) all, low, twins))
 
   module _ (rule : Rule) (asked : IsVariable rule.right → IsInclusion sys a r) where
-    pub kept_is : (cs : List ℕ) (q : ℕ) → IsChoice a.states rule.left cs → ReachBy (Has a) rule.left cs q → IsKeptBy r a (leaves rule.left) rule.right cs q ↔ IsRuleKept sys (Has a) rule cs q
-    kept_is cs q choice reach = kept_at (leaves rule.left) cs rule.right q asked choice.states (reached_state a rule.left cs q choice reach)
+    pub kept_is : (cs : List ℕ) (q : ℕ) → IsChoice a.states rule.left cs → ReachBy (Has a) rule.left cs q → IsKeptBy r a (variable_occurrences rule.left) rule.right cs q ↔ IsRuleKept sys (Has a) rule cs q
+    kept_is cs q choice reach = kept_at (variable_occurrences rule.left) cs rule.right q asked choice.states (reached_state a rule.left cs q choice reach)
 
-    pub open_answers : (o : Option Arrival) → FailureAnswers a rule.left (IsKeptBy r a (leaves rule.left) rule.right) o → OpenAnswers sys a rule o
+    pub open_answers : (o : Option Arrival) → FailureAnswers a rule.left (IsKeptBy r a (variable_occurrences rule.left) rule.right) o → OpenAnswers sys a rule o
     open_answers None all = λ cs q choice reach. (kept_is cs q choice reach).0 (all cs q choice reach)
     open_answers (Some arrival) first =
         record {

@@ -9,7 +9,7 @@ use Rattle.rewriting.specs.Rules.{Rule, System, rule_at}
 use Rattle.certificates.specs.Evidence.{Transition, Automaton}
 use Rattle.automata.specs.Runs.{Has, ReachBy}
 use Rattle.automata.specs.Closed.{IsChoice, Includes, IsRuleKept, IsClosed, IsFirstOpen, IsWide, IsFirstWide}
-use Rattle.automaton_runs.specs.Members.{IsIn}
+use Rattle.rewriting.specs.Lists.{IsAmong}
 use Rattle.automaton_runs.specs.Counting.{chosen, target_key}
 use Rattle.tree_automata.specs.Open.{IsRuleClosed, IsOpenAt, HaveTwins}
 use Rattle.std.proofs.lemmas.List.{length-map}
@@ -72,7 +72,7 @@ first_wide_of sys a i n r c e wide front =
     record { rule = r; is_rule = numbered sys i n r c e; wide = wide; earlier = λ j p l at w. each_before (λ q. IsWide a q.left → ⊥) sys i n c front j p l at w }
 
 -- twins
-pub twins_include : (sys : System) (a : Automaton) (q p : ℕ) (ts : List Transition) → ((t : Transition) → IsIn t (filter (chosen target_key a.states p) a.transitions) → IsIn t ts) → HaveTwins sys a ts q → Includes sys (Has a) q p
+pub twins_include : (sys : System) (a : Automaton) (q p : ℕ) (ts : List Transition) → ((t : Transition) → IsAmong t (filter (chosen target_key a.states p) a.transitions) → IsAmong t ts) → HaveTwins sys a ts q → Includes sys (Has a) q p
 twins_include sys a q p ts whole twins s qs head has = twins (record { symbol = s; arguments = qs; target = p }) (whole _ (looked_to a target_key p s qs p has refl)) head
 
 -- the rules of a program's system

@@ -1,7 +1,7 @@
 -- Arrivals of a term by the first of its choices, and the first arrival at which a property fails.
 use Rattle.std.specs.Prelude.{ℕ, ◌<◌, ◌^◌, List, length, Option, None, Some}
 use Rattle.rewriting.specs.Terms.{Term}
-use Rattle.ctrs_classes.specs.Blames.{leaves}
+use Rattle.rewriting.specs.Variables.{variable_occurrences}
 use Rattle.certificates.specs.Evidence.{Automaton}
 use Rattle.automata.specs.Runs.{Has, ReachBy}
 use Rattle.automata.specs.Closed.{IsChoice}
@@ -11,11 +11,11 @@ use Rattle.automaton_runs.specs.declared.runs.Arrival.{Arrival}
 
 -- the choice with a number for the variable occurrences of a term
 abbrev pub choice_for : Automaton → Term → ℕ → List ℕ
-choice_for a t k = choice_at a.states (length (leaves t)) k
+choice_for a t k = choice_at a.states (length (variable_occurrences t)) k
 
 -- the term arrives at q by the k-th of its choices
 abbrev pub Arrives : Automaton → Term → ℕ → ℕ → Type 0
-Arrives a t k q = (k < a.states ^ length (leaves t)) × ReachBy (Has a) t (choice_for a t k) q
+Arrives a t k q = (k < a.states ^ length (variable_occurrences t)) × ReachBy (Has a) t (choice_for a t k) q
 
 -- P holds at all arrivals by the first n choices
 abbrev pub HoldsBelow : Automaton → Term → (List ℕ → ℕ → Type 0) → ℕ → Type 0

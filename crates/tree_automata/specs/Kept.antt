@@ -5,13 +5,13 @@ use Rattle.rewriting.specs.Rules.{Rule, System, rule_at}
 use Rattle.certificates.specs.Evidence.{Automaton}
 use Rattle.automata.specs.Runs.{Has, Reach, at}
 use Rattle.automata.specs.Closed.{Includes, state_of}
-use Rattle.number_sets.specs.Members.{IsIn}
+use Rattle.rewriting.specs.Lists.{IsAmong}
 use Rattle.number_sets.specs.Relation.{Relates}
 use Rattle.number_sets.specs.declared.rows.NumberRelation.{NumberRelation}
 
 -- exactly the states that include p
 abbrev pub AreIncluding : System → Automaton → ℕ → List ℕ → Type 0
-AreIncluding sys a p set = (q : ℕ) → IsIn q set ↔ ((q < a.states) × Includes sys (Has a) q p)
+AreIncluding sys a p set = (q : ℕ) → IsAmong q set ↔ ((q < a.states) × Includes sys (Has a) q p)
 
 -- each state is related to exactly those that include it
 abbrev pub IsInclusion : System → Automaton → NumberRelation → Type 0

@@ -6,7 +6,7 @@ use Rattle.certificates.specs.Reasons.{EvidenceReason, auto_wide, auto_not_close
 use Rattle.automata.specs.Runs.{Has, ReachBy}
 use Rattle.automata.specs.Closed.{IsChoice, IsHead, IsRuleKept, IsClosed, IsFirstOpen, AreNarrow, IsFirstWide}
 use Rattle.automaton_runs.specs.Arrivals.{IsArrivalBefore}
-use Rattle.automaton_runs.specs.Members.{IsIn}
+use Rattle.rewriting.specs.Lists.{IsAmong}
 use Rattle.automaton_runs.specs.declared.runs.Arrival.{Arrival}
 
 -- no left side is wide, or the first rule whose left side is
@@ -38,4 +38,4 @@ OpenAnswers sys a r (Some arrival) = IsOpenAt sys a r arrival.choice.items arriv
 
 -- each of the transitions whose head is one of the system has its twin to q
 abbrev pub HaveTwins : System → Automaton → List Transition → ℕ → Type 0
-HaveTwins sys a ts q = (t : Transition) → IsIn t ts → IsHead sys t.symbol t.arguments → Has a t.symbol t.arguments q
+HaveTwins sys a ts q = (t : Transition) → IsAmong t ts → IsHead sys t.symbol t.arguments → Has a t.symbol t.arguments q

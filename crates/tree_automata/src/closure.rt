@@ -1,6 +1,6 @@
 ghost use Rattle.std.specs.Prelude.{◌≡◌, ◌+◌, ◌≤◌, ◌^◌, IfOk, length};
 ghost use Rattle.rewriting.specs.Terms as math;
-ghost use Rattle.ctrs_classes.specs.Blames.{leaves};
+ghost use Rattle.rewriting.specs.Variables.{variable_occurrences};
 ghost use Rattle.automata.specs.Closed.{IsWide, AreNarrow};
 ghost use Rattle.automata.specs.Evidence.{IsClosureJudged};
 ghost use Rattle.term_core.specs.View.{view};
@@ -34,7 +34,7 @@ fn first_open_in(
 ) -> Result<Option<Arrival>, NoMemory>
     requires fits { math.Fits (view rule.now.left) }
     requires few { index.now.states ^ length names.now ≤ 1000000 }
-    requires names { names.now ≡ leaves (view rule.now.left) }
+    requires names { names.now ≡ variable_occurrences (view rule.now.left) }
     requires states { batch.now.states ≡ index.now.states }
     requires length { batch.now.length ≡ length names.now }
     requires before { HoldsBelow index.now (view rule.now.left) (IsKeptBy inclusion.now index.now names.now (view rule.now.right)) (start batch.now) }
@@ -64,7 +64,7 @@ fn first_open(
 ) -> Result<Option<Arrival>, NoMemory>
     requires fits { math.Fits (view rule.now.left) }
     requires narrow { IsWide index.now (view rule.now.left) → ⊥ }
-    ensures { IfOk result (FailureAnswers index.now (view rule.now.left) (IsKeptBy inclusion.now index.now (leaves (view rule.now.left)) (view rule.now.right))) }
+    ensures { IfOk result (FailureAnswers index.now (view rule.now.left) (IsKeptBy inclusion.now index.now (variable_occurrences (view rule.now.left)) (view rule.now.right))) }
 {
     let names = occurrences(alloc, &rule.left)?;
     let possible = possible_batches(alloc, index, &rule.left, names.len())?;

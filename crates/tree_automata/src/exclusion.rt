@@ -1,6 +1,6 @@
 ghost use Rattle.std.specs.Prelude.{◌≡◌, ◌↔◌, ◌≤◌, ◌*◌, ◌^◌, ℕ, length, IfOk, IsTrue};
 ghost use Rattle.rewriting.specs.Terms as math;
-ghost use Rattle.ctrs_classes.specs.Blames.{leaves};
+ghost use Rattle.rewriting.specs.Variables.{variable_occurrences};
 ghost use Rattle.automata.specs.Evidence.{IsExclusionJudged};
 ghost use Rattle.automata.specs.Closed.{Excludes};
 ghost use Rattle.term_core.specs.View.{view};
@@ -28,7 +28,7 @@ fn is_excluded(
 ) -> Result<bool, NoMemory>
     requires fits { math.Fits (view t.now) }
     requires index { index.now ≡ automaton_view a.now }
-    requires length { occurrences ≡ length (leaves (view t.now)) }
+    requires length { occurrences ≡ length (variable_occurrences (view t.now)) }
     requires few { index.now.states ^ occurrences ≤ 1000000 }
     ensures { IfOk result (λ yes. IsTrue yes ↔ Excludes (automaton_view a.now) (view t.now)) }
 {

@@ -7,10 +7,9 @@ use Rattle.rewriting.specs.Variables.{occurs, occurs_in, IsWithin}
 use Rattle.rewriting.specs.Classes.{IsAt, known, IsType3Rule, IsStable}
 use Rattle.rewriting.proofs.Conditions.{Order, is_smaller, is_equal, is_greater, order}
 use Rattle.certificates.specs.Reasons.{Class, left_linear, type3, extended_oriented, right_stable, deterministic, Blame}
-use Rattle.ctrs_classes.specs.Blames.{IsAmong, AreDistinct, IsFirstVariable, IsFirstRepeated, IsFresh, IsOld, IsType3Blame, IsUnstable, IsRightStableBlame, IsDeterministicBlame, IsUndetermined, IsInClass, IsRuleBlamed}
-use Rattle.ctrs_classes.proofs.Linear.{repeated_not_linear}
-use Rattle.ctrs_classes.proofs.Prefixes.{first_occurs}
-use Rattle.ctrs_classes.proofs.Outside.{blamed_outside}
+use Rattle.rewriting.specs.Lists.{IsAmong, AreDistinct}
+use Rattle.certificates.specs.Blames.{IsFirstVariable, IsFirstRepeated, IsFresh, IsOld, IsType3Blame, IsUnstable, IsRightStableBlame, IsDeterministicBlame, IsUndetermined, IsInClass, IsRuleBlamed}
+use Rattle.certificates.proofs.Blames.{repeated_not_linear, first_occurs, blamed_outside}
 use Rattle.validity.specs.Confluence.{IsBlameOf}
 
 -- a list is split at two places: the same one, or one behind the other

@@ -7,7 +7,7 @@ use Rattle.unifier_run.specs.Overlaps.{Triple, Overlap}
 use Rattle.interpretations.specs.Judgement.{Judgement, good, not_good, unraveling_large}
 use Rattle.certificates.specs.Certificates.{PairEntry, MeasureCertificate, linear_measure, ortho_certificate, quasi_certificate, peak_certificate}
 use Rattle.certificates.specs.Reasons.{EvidenceReason, Class, left_linear, type3, extended_oriented, right_stable, deterministic, Blame, MeasureReason, Rejection, class_fails, not_irreducible, measure_fails, unraveling_large as large_unraveling, pair_large, evidence_fails}
-use Rattle.ctrs_classes.specs.Blames.{IsInClass}
+use Rattle.certificates.specs.Blames.{IsInClass}
 use Rattle.validity.specs.declared.CertKind.{CertKind}
 use Rattle.validity.specs.declared.CertKind.TheVariants.{Ortho, Quasi}
 use Rattle.validity.specs.PairEvidence.{IsPairJudged}

@@ -6,10 +6,12 @@ use Rattle.rewriting.specs.Positions.{Position, IsBefore, subterm, replace}
 use Rattle.rewriting.specs.Substitutions.{apply}
 use Rattle.rewriting.specs.Unifiers.{even, odd}
 use Rattle.rewriting.specs.Rules.{Condition, Rule, System, rule_at}
-use Rattle.rewriting.specs.Overlaps.{IsPlace, IsEarlier, CriticalPair, IsCriticalPair}
+use Rattle.rewriting.specs.Overlaps.{IsEarlierOverlap}
+use Rattle.rewriting.specs.Overlaps.{IsPlace, CriticalPair, IsCriticalPair}
 use Rattle.rewriting.proofs.Conditions.{Order, is_smaller, is_equal, is_greater, order}
 use Rattle.unifier_run.specs.Run.{Binding, value, Outcome, unifier, clash, too_large}
-use Rattle.unifier_run.specs.Overlaps.{Triple, Overlap, triple, IsOutcomeOf, DoesPairFit, IsOverlapOf, IsTooLargeAt, IsListed, IsBeforeAll, IsSorted, AreOverlapsAt, AreOverlaps, IsPairTooLarge, AreTooManyOverlaps}
+use Rattle.rewriting.specs.Lists.{IsAmong, IsBeforeAll, IsSorted}
+use Rattle.unifier_run.specs.Overlaps.{Triple, Overlap, triple, ComesBefore, IsOutcomeOf, DoesPairFit, IsOverlapOf, IsTooLargeAt, AreOverlapsAt, AreOverlaps, IsPairTooLarge, AreTooManyOverlaps}
 use Rattle.unifier_run.proofs.Unique.{runs_same}
 use Rattle.unifier_run.proofs.Triples.{earlier_not_same, earlier_not_both}
 
@@ -41,10 +43,10 @@ same_triple i k p q j l e h s =
     let whole : ℕ → Position × ℕ → Triple = λ n x. (n, x) in
     ap₂ whole e (ap₂ inside h s)
 
-order_triples : (t u : Triple) → Ordered IsEarlier t u
+order_triples : (t u : Triple) → Ordered IsEarlierOverlap t u
 order_triples (i, (p, j)) (k, (q, l)) = go (order j l) (order_positions p q) (order i k)
   where
-    go : Order j l → Ordered IsBefore p q → Order i k → Ordered IsEarlier (i, (p, j)) (k, (q, l))
+    go : Order j l → Ordered IsBefore p q → Order i k → Ordered IsEarlierOverlap (i, (p, j)) (k, (q, l))
     go (is_smaller h) o n = comes_first (inl h)
     go (is_greater h) o n = comes_last (inl h)
     go (is_equal e) (comes_first h) n = comes_first (inr (e, inl h))
@@ -62,7 +64,7 @@ before_before (i ∷ p) (l ∷ q) (n ∷ r) (inl h) (inr (e, k)) = inl (omega (a
 before_before (i ∷ p) (l ∷ q) (n ∷ r) (inr (e, h)) (inl k) = inl (omega (arith, e, k))
 before_before (i ∷ p) (l ∷ q) (n ∷ r) (inr (e, h)) (inr (f, k)) = inr (e ∙ f, before_before p q r h k)
 
-earlier_earlier : (t u v : Triple) → IsEarlier t u → IsEarlier u v → IsEarlier t v
+earlier_earlier : (t u v : Triple) → IsEarlierOverlap t u → IsEarlierOverlap u v → IsEarlierOverlap t v
 earlier_earlier (i, (p, j)) (k, (q, l)) (m, (r, n)) (inl h) (inl g) = inl (omega (arith, h, g))
 earlier_earlier (i, (p, j)) (k, (q, l)) (m, (r, n)) (inl h) (inr (e, g)) = inl (omega (arith, h, e))
 earlier_earlier (i, (p, j)) (k, (q, l)) (m, (r, n)) (inr (e, h)) (inl g) = inl (omega (arith, g, e))
@@ -161,7 +163,7 @@ module _ (sys : System) where
   known_at : (Counts : Triple → Type 0) (os : List Overlap) → AreOverlapsAt sys Counts os → (i : ℕ) (p : Position) (j : ℕ) → Counts (i, (p, j)) → Known (i, (p, j))
   known_at Counts os are i p j c s at = go (are.whole i p j s.inner s.outer s.part at c)
     where
-      go : Ran s clash ⊎ ((o : Overlap) × IsListed o os × (triple o ≡ (i, (p, j)))) → Ran s clash ⊎ ((o : Overlap) × IsOverlapOf sys o × (triple o ≡ (i, (p, j))))
+      go : Ran s clash ⊎ ((o : Overlap) × IsAmong o os × (triple o ≡ (i, (p, j)))) → Ran s clash ⊎ ((o : Overlap) × IsOverlapOf sys o × (triple o ≡ (i, (p, j))))
       go (inl h) = inl h
       go (inr (o, l, e)) = inr (o, (are.each o l).0, e)
 
@@ -185,38 +187,38 @@ module _ (sys : System) where
           n (subst DoesPairFit (gives_once i p j (spot_of a) spot a.by by o.pair pair (there o e a) large.place a.outcome h made g) a.fits)
 
   -- an overlap that counts is listed
-  listed : (Counts : Triple → Type 0) (os : List Overlap) → AreOverlapsAt sys Counts os → (o : Overlap) → IsOverlapOf sys o → Counts (triple o) → IsListed o os
+  listed : (Counts : Triple → Type 0) (os : List Overlap) → AreOverlapsAt sys Counts os → (o : Overlap) → IsOverlapOf sys o → Counts (triple o) → IsAmong o os
   listed Counts os are o a c = go (are.whole o.inner o.position o.outer a.inner a.outer a.part a.place c)
     where
-      go : IsOutcomeOf a.inner.left a.part clash ⊎ ((q : Overlap) × IsListed q os × (triple q ≡ triple o)) → IsListed o os
+      go : IsOutcomeOf a.inner.left a.part clash ⊎ ((q : Overlap) × IsAmong q os × (triple q ≡ triple o)) → IsAmong o os
       go (inl h) = absurd (unifier_or_clash a.by (runs_same a.outcome h))
-      go (inr (q, l, e)) = subst (λ z. IsListed z os) (overlap_once q o e (are.each q l).0 a) l
+      go (inr (q, l, e)) = subst (λ z. IsAmong z os) (overlap_once q o e (are.each q l).0 a) l
 
 -- a sorted list has no more members than another that has all of them
 abbrev IsPart : List Overlap → List Overlap → Type 0
-IsPart os qs = (o : Overlap) → IsListed o os → IsListed o qs
+IsPart os qs = (o : Overlap) → IsAmong o os → IsAmong o qs
 
 abbrev Before : Overlap → Overlap → Type 0
-Before o q = IsEarlier (triple o) (triple q)
+Before o q = IsEarlierOverlap (triple o) (triple q)
 
-earlier_than : (o q : Overlap) (qs : List Overlap) → IsBeforeAll o qs → IsListed q qs → Before o q
+earlier_than : (o q : Overlap) (qs : List Overlap) → IsBeforeAll ComesBefore o qs → IsAmong q qs → Before o q
 earlier_than o q [] all l = absurd l
 earlier_than o q (x ∷ qs) (h, all) (inl is) = subst (λ z. Before o z) (sym is) h
 earlier_than o q (x ∷ qs) (h, all) (inr l) = earlier_than o q qs all l
 
-rest_part : (o q : Overlap) (os qs : List Overlap) → o ≡ q → IsBeforeAll o os → IsPart (o ∷ os) (q ∷ qs) → IsPart os qs
+rest_part : (o q : Overlap) (os qs : List Overlap) → o ≡ q → IsBeforeAll ComesBefore o os → IsPart (o ∷ os) (q ∷ qs) → IsPart os qs
 rest_part o q os qs e low part x l = go (part x (inr l))
   where
-    go : (x ≡ q) ⊎ IsListed x qs → IsListed x qs
+    go : (x ≡ q) ⊎ IsAmong x qs → IsAmong x qs
     go (inl is) = absurd (earlier_not_same (triple x) (subst (λ y. Before y x) (e ∙ sym is) (earlier_than o x os low l)))
     go (inr k) = k
 
-same_head : (o q : Overlap) (os qs : List Overlap) → IsBeforeAll o os → IsBeforeAll q qs → (o ≡ q) ⊎ IsListed o qs → (q ≡ o) ⊎ IsListed q os → o ≡ q
+same_head : (o q : Overlap) (os qs : List Overlap) → IsBeforeAll ComesBefore o os → IsBeforeAll ComesBefore q qs → (o ≡ q) ⊎ IsAmong o qs → (q ≡ o) ⊎ IsAmong q os → o ≡ q
 same_head o q os qs low high (inl e) l = e
 same_head o q os qs low high (inr l) (inl e) = sym e
 same_head o q os qs low high (inr l) (inr k) = absurd (earlier_not_both (triple o) (triple q) (earlier_than o q os low k) (earlier_than q o qs high l))
 
-sorted_once : (os qs : List Overlap) → IsSorted os → IsSorted qs → IsPart os qs → IsPart qs os → os ≡ qs
+sorted_once : (os qs : List Overlap) → IsSorted ComesBefore os → IsSorted ComesBefore qs → IsPart os qs → IsPart qs os → os ≡ qs
 sorted_once [] [] a b to from = refl
 sorted_once [] (q ∷ qs) a b to from = absurd (from q (inl refl))
 sorted_once (o ∷ os) [] a b to from = absurd (to o (inl refl))
@@ -225,54 +227,54 @@ sorted_once (o ∷ os) (q ∷ qs) (low, a) (high, b) to from =
     ap₂ (λ (x : Overlap) (xs : List Overlap). x ∷ xs) e (sorted_once os qs a b (rest_part o q os qs e low to) (rest_part q o qs os (sym e) high from))
 
 -- members behind the first are not q, where the first is not
-past_head : (o q : Overlap) (os qs : List Overlap) → IsBeforeAll o os → IsBeforeAll q qs → IsListed o qs → IsPart (o ∷ os) (q ∷ qs) → IsPart (o ∷ os) qs
-past_head o q os qs low high at part x (inl e) = subst (λ z. IsListed z qs) (sym e) at
+past_head : (o q : Overlap) (os qs : List Overlap) → IsBeforeAll ComesBefore o os → IsBeforeAll ComesBefore q qs → IsAmong o qs → IsPart (o ∷ os) (q ∷ qs) → IsPart (o ∷ os) qs
+past_head o q os qs low high at part x (inl e) = subst (λ z. IsAmong z qs) (sym e) at
 past_head o q os qs low high at part x (inr l) = go (part x (inr l))
   where
-    go : (x ≡ q) ⊎ IsListed x qs → IsListed x qs
+    go : (x ≡ q) ⊎ IsAmong x qs → IsAmong x qs
     go (inl is) = absurd (earlier_not_both (triple o) (triple q) (subst (λ z. Before o z) is (earlier_than o x os low l)) (earlier_than q o qs high at))
     go (inr k) = k
 
-part_short : (os qs : List Overlap) → IsSorted os → IsSorted qs → IsPart os qs → length os ≤ length qs
+part_short : (os qs : List Overlap) → IsSorted ComesBefore os → IsSorted ComesBefore qs → IsPart os qs → length os ≤ length qs
 part_short [] qs a b part = omega arith
 part_short (o ∷ os) [] a b part = absurd (part o (inl refl))
 part_short (o ∷ os) (q ∷ qs) a b part = go (part o (inl refl)) (λ e. part_short os qs a.1 b.1 (rest_part o q os qs e a.0 part)) (λ l. part_short (o ∷ os) qs a b.1 (past_head o q os qs a.0 b.0 l part))
   where
-    go : (o ≡ q) ⊎ IsListed o qs → (o ≡ q → length os ≤ length qs) → (IsListed o qs → suc (length os) ≤ length qs) → suc (length os) ≤ suc (length qs)
+    go : (o ≡ q) ⊎ IsAmong o qs → (o ≡ q → length os ≤ length qs) → (IsAmong o qs → suc (length os) ≤ length qs) → suc (length os) ≤ suc (length qs)
     go (inl e) f g = (let h = f e in omega (arith, h))
     go (inr l) f g = (let h = g l in omega (arith, h))
 
 -- one more behind all
-before_last : (o n : Overlap) (os : List Overlap) → IsBeforeAll o os → Before o n → IsBeforeAll o (os ++ n ∷ [])
+before_last : (o n : Overlap) (os : List Overlap) → IsBeforeAll ComesBefore o os → Before o n → IsBeforeAll ComesBefore o (os ++ n ∷ [])
 before_last o n [] all h = (h, tt)
 before_last o n (q ∷ os) (a, all) h = (a, before_last o n os all h)
 
-sorted_last : (n : Overlap) (os : List Overlap) → IsSorted os → ((o : Overlap) → IsListed o os → Before o n) → IsSorted (os ++ n ∷ [])
+sorted_last : (n : Overlap) (os : List Overlap) → IsSorted ComesBefore os → ((o : Overlap) → IsAmong o os → Before o n) → IsSorted ComesBefore (os ++ n ∷ [])
 sorted_last n [] s all = (tt, tt)
 sorted_last n (o ∷ os) (low, s) all = (before_last o n os low (all o (inl refl)), sorted_last n os s (λ q l. all q (inr l)))
 
-listed_last : (n o : Overlap) (os : List Overlap) → IsListed o (os ++ n ∷ []) → IsListed o os ⊎ (o ≡ n)
+listed_last : (n o : Overlap) (os : List Overlap) → IsAmong o (os ++ n ∷ []) → IsAmong o os ⊎ (o ≡ n)
 listed_last n o [] (inl e) = inr e
 listed_last n o [] (inr l) = absurd l
 listed_last n o (q ∷ os) (inl e) = inl (inl e)
 listed_last n o (q ∷ os) (inr l) = go (listed_last n o os l)
   where
-    go : IsListed o os ⊎ (o ≡ n) → ((o ≡ q) ⊎ IsListed o os) ⊎ (o ≡ n)
+    go : IsAmong o os ⊎ (o ≡ n) → ((o ≡ q) ⊎ IsAmong o os) ⊎ (o ≡ n)
     go (inl k) = inl (inr k)
     go (inr e) = inr e
 
 module _ (sys : System) where
   -- with all overlaps up to one listed, there are fewer before it
-  fewer : (Counts : Triple → Type 0) (n : Overlap) (before os : List Overlap) → IsOverlapOf sys n → AreOverlapsAt sys (λ t. IsEarlier t (triple n)) before → AreOverlapsAt sys Counts os
-      → Counts (triple n) → ((t : Triple) → IsEarlier t (triple n) → Counts t) → suc (length before) ≤ length os
+  fewer : (Counts : Triple → Type 0) (n : Overlap) (before os : List Overlap) → IsOverlapOf sys n → AreOverlapsAt sys (λ t. IsEarlierOverlap t (triple n)) before → AreOverlapsAt sys Counts os
+      → Counts (triple n) → ((t : Triple) → IsEarlierOverlap t (triple n) → Counts t) → suc (length before) ≤ length os
   fewer Counts n before os is early are here down =
       let short = part_short (before ++ n ∷ []) os (sorted_last n before early.sorted (λ o l. (early.each o l).1)) are.sorted (λ o l. go o (listed_last n o before l)) in
       let long = length-append before (n ∷ []) in
       omega (arith, short, long)
     where
-      go : (o : Overlap) → IsListed o before ⊎ (o ≡ n) → IsListed o os
+      go : (o : Overlap) → IsAmong o before ⊎ (o ≡ n) → IsAmong o os
       go o (inl l) = let e = early.each o l in listed sys Counts os are o e.0 (down (triple o) e.1)
-      go o (inr e) = subst (λ z. IsListed z os) (sym e) (listed sys Counts os are n is here)
+      go o (inr e) = subst (λ z. IsAmong z os) (sym e) (listed sys Counts os are n is here)
 
   pub overlaps_once : (os qs : List Overlap) → AreOverlaps sys os → AreOverlaps sys qs → os ≡ qs
   overlaps_once os qs a b =
@@ -291,19 +293,19 @@ module _ (sys : System) where
   pub large_once : (i : ℕ) (p : Position) (j k : ℕ) (q : Position) (l : ℕ) → IsPairTooLarge sys i p j → IsPairTooLarge sys k q l → IsSame (i, (p, j)) (k, (q, l))
   large_once i p j k q l a b = go (order_triples (i, (p, j)) (k, (q, l)))
     where
-      go : Ordered IsEarlier (i, (p, j)) (k, (q, l)) → IsSame (i, (p, j)) (k, (q, l))
-      go (comes_first h) = absurd (not_large sys i p j a.is_large (known_at sys (λ t. IsEarlier t (k, (q, l))) b.before b.are_before i p j h))
+      go : Ordered IsEarlierOverlap (i, (p, j)) (k, (q, l)) → IsSame (i, (p, j)) (k, (q, l))
+      go (comes_first h) = absurd (not_large sys i p j a.is_large (known_at sys (λ t. IsEarlierOverlap t (k, (q, l))) b.before b.are_before i p j h))
       go (is_same e) = e
-      go (comes_last h) = absurd (not_large sys k q l b.is_large (known_at sys (λ t. IsEarlier t (i, (p, j))) a.before a.are_before k q l h))
+      go (comes_last h) = absurd (not_large sys k q l b.is_large (known_at sys (λ t. IsEarlierOverlap t (i, (p, j))) a.before a.are_before k q l h))
 
   pub large_or_many : (i : ℕ) (p : Position) (j : ℕ) → IsPairTooLarge sys i p j → AreTooManyOverlaps sys → ⊥
   large_or_many i p j large many = go (order_triples (i, (p, j)) (triple many.next))
     where
-      go : Ordered IsEarlier (i, (p, j)) (triple many.next) → ⊥
-      go (comes_first h) = not_large sys i p j large.is_large (known_at sys (λ t. IsEarlier t (triple many.next)) many.before many.are_before i p j h)
+      go : Ordered IsEarlierOverlap (i, (p, j)) (triple many.next) → ⊥
+      go (comes_first h) = not_large sys i p j large.is_large (known_at sys (λ t. IsEarlierOverlap t (triple many.next)) many.before many.are_before i p j h)
       go (is_same e) = not_large sys i p j large.is_large (λ s at. inr (many.next, many.is_overlap, sym e))
       go (comes_last h) =
-          let less = fewer (λ t. IsEarlier t (i, (p, j))) many.next many.before large.before many.is_overlap many.are_before large.are_before h (λ t e. earlier_earlier t (triple many.next) (i, (p, j)) e h) in
+          let less = fewer (λ t. IsEarlierOverlap t (i, (p, j))) many.next many.before large.before many.is_overlap many.are_before large.are_before h (λ t e. earlier_earlier t (triple many.next) (i, (p, j)) e h) in
           let top = large.few in
           let all = many.many in
           omega (arith, less, top, all)

@@ -4,7 +4,8 @@ use Rattle.rewriting.specs.Positions.{Position, subterm}
 use Rattle.rewriting.specs.Overlaps.{IsOverlap, IsCriticalPair}
 use Rattle.rewriting.proofs.Common.{nil, cons, System, rule_at, apply, even, odd}
 use Rattle.unifier_run.specs.Run.{Binding, value, unifier, clash}
-use Rattle.unifier_run.specs.Overlaps.{Overlap, triple, IsOutcomeOf, DoesPairFit, IsOverlapOf, IsListed}
+use Rattle.rewriting.specs.Lists.{IsAmong}
+use Rattle.unifier_run.specs.Overlaps.{Overlap, triple, IsOutcomeOf, DoesPairFit, IsOverlapOf}
 use Rattle.unifier_run.proofs.General.{no_unifier}
 use Rattle.certificates.specs.Certificates.{PairEntry}
 use Rattle.certificates.specs.Evidence.{PairEvidence}
@@ -27,7 +28,7 @@ pub record SettledOverlap (kind : CertKind) (sys : System) (i : ℕ) (p : Positi
   pub judged : IsPairJudged kind sys listed evidence None
 
 -- each listed overlap has valid evidence
-judged_in : (kind : CertKind) (sys : System) (os : List Overlap) (es : List PairEntry) → AreSettled kind sys os es → (o : Overlap) → IsListed o os
+judged_in : (kind : CertKind) (sys : System) (os : List Overlap) (es : List PairEntry) → AreSettled kind sys os es → (o : Overlap) → IsAmong o os
     → (e : PairEvidence) × IsPairJudged kind sys o e None
 judged_in kind sys [] es h o l = absurd l
 judged_in kind sys (q ∷ os) [] h o l = absurd h
@@ -67,7 +68,7 @@ settled_by kind sys i p j o q at_inner at_position at_outer is e judged =
 pub settled : (kind : CertKind) (sys : System) (es : List PairEntry) → DoSettle kind sys es → (i : ℕ) (p : Position) (j : ℕ) (o : IsOverlap sys i p j) → SettledOverlap kind sys i p j o
 settled kind sys es (os, all, entries) i p j o = go (all.are.whole i p j o.inner o.outer o.part o.place tt)
   where
-    go : IsOutcomeOf o.inner.left o.part clash ⊎ ((q : Overlap) × IsListed q os × (triple q ≡ (i, (p, j)))) → SettledOverlap kind sys i p j o
+    go : IsOutcomeOf o.inner.left o.part clash ⊎ ((q : Overlap) × IsAmong q os × (triple q ≡ (i, (p, j)))) → SettledOverlap kind sys i p j o
     go (inl clashes) =
         absurd (no_unifier (cons (apply even o.inner.left) nil) (cons (apply odd o.part) nil) clashes o.unifiable.0 (ap (λ z. cons z nil) o.unifiable.1))
     go (inr (q, l, e)) =

@@ -6,7 +6,7 @@ use Rattle.unifier_run.specs.Irreducible.{DoAllClash}
 use Rattle.interpretations.specs.Judgement.{Judgement, good, not_good, unraveling_large}
 use Rattle.certificates.specs.Certificates.{PairEntry}
 use Rattle.certificates.specs.Reasons.{Class, left_linear, type3, extended_oriented, right_stable, deterministic, Blame, MeasureReason, Rejection, class_fails, not_irreducible, measure_fails, unraveling_large as large_unraveling}
-use Rattle.ctrs_classes.specs.Blames.{IsBlamed}
+use Rattle.certificates.specs.Blames.{IsBlamed}
 use Rattle.validity.specs.declared.CertKind.TheVariants.{Ortho, Quasi}
 use Rattle.validity.specs.Entries.{DoSettle, DoNotSettle}
 

@@ -1,5 +1,5 @@
 use Rattle.std.proofs.Common.{◌≤◌, ◌^◌, length, map, subst, sym, arith}
-use Rattle.ctrs_classes.specs.Blames.{leaves}
+use Rattle.rewriting.specs.Variables.{variable_occurrences}
 use Rattle.term_core.specs.View.{view}
 use Rattle.term_core.specs.RuleView.{rule_view}
 use Rattle.cert_model.specs.EvidenceView.{transition_view, automaton_view}
@@ -11,8 +11,8 @@ use Rattle.automaton_grow.proofs.rounds.grow_rule.Goals as goal
 
 pub arrivals-requires-clause-few : goal.arrivals-requires-clause-few
 arrivals-requires-clause-few c =
-    let few : c.args.current.now.states ^ length (leaves (view c.args.rule.now.left)) ≤ 1000000 = omega (arith, c.requires.narrow) in
-    subst (λ z. z.states ^ length (leaves (view c.args.rule.now.left)) ≤ 1000000) (sym c.requires.index) few
+    let few : c.args.current.now.states ^ length (variable_occurrences (view c.args.rule.now.left)) ≤ 1000000 = omega (arith, c.requires.narrow) in
+    subst (λ z. z.states ^ length (variable_occurrences (view c.args.rule.now.left)) ≤ 1000000) (sym c.requires.index) few
 
 pub returns : goal.returns
 returns c =

@@ -1,6 +1,6 @@
 use Rattle.std.proofs.Common.{◌≡◌, ◌≤◌, ◌*◌, ◌^◌, ◌∙◌, ℕ, length, refl, ap₂, sym, subst}
 use Rattle.std.proofs.lemmas.Bool.{false≢true}
-use Rattle.ctrs_classes.specs.Blames.{leaves}
+use Rattle.rewriting.specs.Variables.{variable_occurrences}
 use Rattle.certificates.specs.Evidence.{Automaton}
 use Rattle.automata.specs.Closed.{Excludes}
 use Rattle.term_core.specs.View.{view}
@@ -39,7 +39,7 @@ pub returns : goal.returns
 returns c =
     let a = c.args.index.now in
     let t = view c.args.t.now in
-    let count : c.states.result ^ c.args.occurrences ≡ a.states ^ length (leaves t) = ap₂ (λ (n m : ℕ). n ^ m) c.states.ensures c.requires.length in (
+    let count : c.states.result ^ c.args.occurrences ≡ a.states ^ length (variable_occurrences t) = ap₂ (λ (n m : ℕ). n ^ m) c.states.ensures c.requires.length in (
       λ _.
           subst (λ (x : Automaton). Excludes x t) c.requires.index
           (excluded a t

@@ -1,34 +1,17 @@
 -- The first rule outside a class, and what is at fault there.
-use Rattle.std.specs.Prelude.{ℕ, suc, ◌≡◌, ◌⊎◌, ◌<◌, List, [], ◌∷◌, ◌++◌, Option, None, Some, true, false, take}
-use Rattle.rewriting.specs.Terms.{Term, Terms, var, app, nil, cons}
-use Rattle.rewriting.specs.Variables.{occurs_in, IsDisjoint, IsWithin}
+use Rattle.std.specs.Prelude.{ℕ, suc, ◌≡◌, ◌⊎◌, ◌<◌, List, ◌∷◌, ◌++◌, Option, None, Some, true, false, take}
+use Rattle.rewriting.specs.Lists.{IsAmong, AreDistinct}
+use Rattle.rewriting.specs.Terms.{Term, Terms, cons}
+use Rattle.rewriting.specs.Variables.{occurs_in, variable_occurrences, IsDisjoint, IsWithin}
 use Rattle.rewriting.specs.Rules.{Condition, Rule, System, rule_at, left_sides, right_sides, sides}
 use Rattle.rewriting.specs.Classes.{IsAt, known, IsLeftLinearRule, IsType3Rule, IsExtendedOrientedRule, IsRightStableRule, IsDeterministicRule, IsStable}
 use Rattle.certificates.specs.Reasons.{Class, left_linear, type3, extended_oriented, right_stable, deterministic, Blame}
-
--- the variables of a term as they occur, from left to right
-abbrev mutual
-  pub leaves : Term → List ℕ
-  leaves (var x) = x ∷ []
-  leaves (app f ts) = leaves_of ts
-
-  pub leaves_of : Terms → List ℕ
-  leaves_of nil = []
-  leaves_of (cons t ts) = leaves t ++ leaves_of ts
-
-abbrev pub IsAmong : ℕ → List ℕ → Type 0
-IsAmong x [] = ⊥
-IsAmong x (y ∷ ys) = (x ≡ y) ⊎ IsAmong x ys
-
-abbrev pub AreDistinct : List ℕ → Type 0
-AreDistinct [] = Unit {0}
-AreDistinct (x ∷ xs) = (IsAmong x xs → ⊥) × AreDistinct xs
 
 -- the first variable of the term, as it is read, that has the property
 pub record IsFirstVariable (P : ℕ → Type 0) (t : Term) (x : ℕ) : Type 0 where
   pub before : List ℕ
   pub after : List ℕ
-  pub split : leaves t ≡ before ++ x ∷ after
+  pub split : variable_occurrences t ≡ before ++ x ∷ after
   pub none_before : (y : ℕ) → IsAmong y before → P y → ⊥
   pub here : P x
 
@@ -36,7 +19,7 @@ pub record IsFirstVariable (P : ℕ → Type 0) (t : Term) (x : ℕ) : Type 0 wh
 pub record IsFirstRepeated (t : Term) (x : ℕ) : Type 0 where
   pub before : List ℕ
   pub after : List ℕ
-  pub split : leaves t ≡ before ++ x ∷ after
+  pub split : variable_occurrences t ≡ before ++ x ∷ after
   pub distinct : AreDistinct before
   pub again : IsAmong x before
 
