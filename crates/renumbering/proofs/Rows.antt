@@ -13,4 +13,3 @@ front_new xs x = go (list_any (nat_eq x) xs)
     go : (b : Bool) → IsFront xs (if b then xs else (xs ++ x ∷ []))
     go true = front_refl xs
     go false = (x ∷ [], refl)
-

@@ -5,7 +5,8 @@ use native.Mathlib.Decide.{ℕ_discrete, dec_le}
 use Rattle.rewriting.specs.Terms.{Term, var, app, Terms, nil, cons, count, Fits, size, size_all, depth}
 use Rattle.rewriting.specs.Substitutions.{apply, apply_all}
 use Rattle.rewriting.specs.Variables.{occurs, occurs_in, variables_of}
-use Rattle.rewriting.proofs.Variables.{IsAmong, variables_have_all}
+use Rattle.rewriting.specs.Lists.{IsAmong}
+use Rattle.rewriting.proofs.Variables.{variables_have_all}
 use Rattle.rewriting.proofs.Instances.{or_left, or_right, or_cases}
 use Rattle.rewriting.proofs.Equality.{same}
 use Rattle.unifier_run.specs.Run.{Binding, value, only, extended, DoFit, DoAllFit, Binds, Outcome, unifier, clash, too_large, Turn, ends, goes_on, Takes, side_too_large, equal_sides, occurs_inside, binding, binding_too_large, roots_differ, arguments, append, Runs, no_equation, last_equation, next_equation, IsOutcome}
@@ -211,8 +212,8 @@ one_more n m vs b fewer less s small t u ts us c hl hr fits (binds x v is free k
     let there = of_sides vs (apply (value b) t) (apply (value b) u) (apply_all (value b) ts) (apply_all (value b) us) x hl hr (binds_of _ _ x v is) in
     let few = without_fewer x vs there in
     let rest =
-        fewer (without x vs) (omega (arith, few, less)) (extended b x v) (takes_settled b (extended b x v) _ _ nil nil k (settled_fixed b s t) (settled_fixed b s u) s) ts us c
-        (after_binding vs b x v ts free inside (λ z o. hl z (or_right _ _ o))) (after_binding vs b x v us free inside (λ z o. hr z (or_right _ _ o)))
+    fewer (without x vs) (omega (arith, few, less)) (extended b x v) (takes_settled b (extended b x v) _ _ nil nil k (settled_fixed b s t) (settled_fixed b s u) s) ts us c
+    (after_binding vs b x v ts free inside (λ z o. hl z (or_right _ _ o))) (after_binding vs b x v us free inside (λ z o. hr z (or_right _ _ o)))
     in
     (rest.0, next_equation k rest.1)
 one_more n m vs b fewer less s small t u ts us c hl hr fits (opens f xs ys el er same_count k) =
