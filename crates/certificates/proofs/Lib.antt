@@ -2,3 +2,5 @@ pub mod Blames
 pub mod Unique
 pub mod Sound
 pub mod Growth
+pub mod Outcomes
+pub mod Total

@@ -10,7 +10,7 @@ use Rattle.certificates.specs.Evidence.{PairEvidence, trivial_pair, infeasible_p
 use Rattle.certificates.specs.Certificates.{PairEntry, Apartness, by_normal_forms, by_rigid_caps, Certificate, ortho_certificate, quasi_certificate, peak_certificate}
 use Rattle.certificates.specs.Sizes.{IsShort, AreStepsShort, IsStepShort, AreShort}
 use Rattle.certificates.specs.Sizes as sizes
-use Rattle.validity.specs.Entries.{IsPairShort, ArePairsShort}
+use Rattle.valid_certificates.specs.Entries.{IsPairShort, ArePairsShort}
 use Rattle.noncon_check.specs.Judges.{AreFew}
 use Rattle.cert_check.specs.Kinds.{CanBeJudged}
 use Rattle.cops_read.specs.NameTable.{NameTable}

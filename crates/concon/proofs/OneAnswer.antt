@@ -3,8 +3,8 @@ use Rattle.std.proofs.Common.{◌≡◌, ◌⊎◌, ◌≤◌, ℕ, List, length
 use Rattle.rewriting.specs.Rules.{System}
 use Rattle.certificates.specs.Certificates.{Certificate}
 use Rattle.certificates.specs.Reasons.{Rejection}
-use Rattle.validity.specs.Certificates.{IsRejected, IsValid}
-use Rattle.validity.specs.Laws.{CertificatesHaveOneAnswer}
+use Rattle.valid_certificates.specs.Certificates.{IsRejected, IsValid}
+use Rattle.valid_certificates.specs.Laws.{CertificatesHaveOneAnswer}
 use Rattle.cert_check.specs.Kinds.{verdict_of}
 use Rattle.cert_check.specs.declared.Verdict.{Verdict}
 use Rattle.cert_check.specs.declared.Verdict.TheVariants.{Yes, No}

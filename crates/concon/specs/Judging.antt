@@ -4,7 +4,7 @@ use Rattle.rewriting.specs.Rules.{System}
 use Rattle.certificates.specs.Certificates as math
 use Rattle.certificates.specs.Reasons.{Rejection}
 use Rattle.rewriting.specs.Confluence.{IsConfluent}
-use Rattle.validity.specs.Certificates.{IsValid, IsRejected}
+use Rattle.valid_certificates.specs.Certificates.{IsValid, IsRejected}
 use Rattle.cops_read.specs.NameTable.{NameTable}
 use Rattle.cert_model.specs.CertificateView.{certificate_view}
 use Rattle.cert_model.specs.declared.model.Certificate.{Certificate}

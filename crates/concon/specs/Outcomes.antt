@@ -4,8 +4,8 @@ use Rattle.rewriting.specs.Rules.{System}
 use Rattle.rewriting.specs.Confluence.{IsConfluent}
 use Rattle.certificates.specs.Certificates.{Certificate, Peak, peak_certificate}
 use Rattle.certificates.specs.Reasons.{Rejection}
-use Rattle.validity.specs.Certificates.{IsValid, IsRejected}
-use Rattle.validity.specs.Laws.{ReachesApart}
+use Rattle.valid_certificates.specs.Certificates.{IsValid, IsRejected}
+use Rattle.valid_certificates.specs.Laws.{ReachesApart}
 use Rattle.cert_check.specs.Kinds.{verdict_of}
 use Rattle.cert_check.specs.declared.Verdict.{Verdict}
 use Rattle.cert_check.specs.declared.Verdict.TheVariants as verdict
@@ -62,7 +62,7 @@ IsConfirmed file = (sys : System) × (names : NameTable) × SpellsSystem file sy
 abbrev pub IsRefuted : Bytes → Bytes → Type 0
 IsRefuted file cert =
     (sys : System) × (names : NameTable) × (peak : Peak) × SpellsSystem file sys names × SpellsCertificate cert names (peak_certificate peak)
-    × ReachesApart sys peak.start
+    × ReachesApart sys peak
 
 -- the verdict is true
 abbrev pub IsTrueOf : Bytes → Bytes → Verdict → Type 0

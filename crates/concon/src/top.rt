@@ -21,7 +21,7 @@ use cert_check::Verdict;
 use cert_text::one_answer;
 use cops_read::one_reading;
 use std::alloc::Global;
-use validity::certificates_have_one_answer;
+use valid_certificates::certificates_have_one_answer;
 
 /// Says how the program is used.
 pub fn usage() -> Reply

@@ -25,7 +25,7 @@ use Rattle.cert_model.specs.ReasonView.{evidence_reason_view}
 use Rattle.refuter.specs.Answers.{RefutesAnswers}
 use Rattle.refuter.specs.declared.Refusal.{Refusal}
 use Rattle.refuter.specs.declared.Refusal.TheVariants.{Reason, NoMemory}
-use Rattle.validity.specs.Evidence.{IsJudged}
+use Rattle.valid_certificates.specs.Evidence.{IsInfeasibilityJudged}
 use Rattle.noncon_check.specs.Judged.{value_or_new, with_new, AreJudged}
 
 same_key : (x y : ℕ) → x ≡ y → eq_by_cmp nat_cmp x y ≡ true
@@ -164,7 +164,7 @@ module _ (s : Substitution) (conds : List program_cond.Cond) (i : ℕ) (c : prog
 
 -- what is answered for conditions that fit
 pub judged_fitting : (sys : System) (ds : List program_cond.Cond) (cs : List Condition) (e : InfeasibilityEvidence) (a : Result (Unit {0}) Refusal) → map condition_view ds ≡ cs → DoConditionsFit cs
-    → RefutesAnswers (IsJudged sys (map condition_view ds) e) a → RefutesAnswers (AreJudged sys cs e) a
-judged_fitting sys ds cs e (Ok u) is fit h = inl (fit, subst (λ z. IsJudged sys z e None) is h)
-judged_fitting sys ds cs e (Err (Reason reason)) is fit h = inl (fit, subst (λ z. IsJudged sys z e (Some (evidence_reason_view reason))) is h)
+    → RefutesAnswers (IsInfeasibilityJudged sys (map condition_view ds) e) a → RefutesAnswers (AreJudged sys cs e) a
+judged_fitting sys ds cs e (Ok u) is fit h = inl (fit, subst (λ z. IsInfeasibilityJudged sys z e None) is h)
+judged_fitting sys ds cs e (Err (Reason reason)) is fit h = inl (fit, subst (λ z. IsInfeasibilityJudged sys z e (Some (evidence_reason_view reason))) is h)
 judged_fitting sys ds cs e (Err NoMemory) is fit h = tt

@@ -7,7 +7,7 @@ ghost use Rattle.term_core.specs.View.{view};
 ghost use Rattle.term_core.specs.RuleView.{rule_view, condition_view};
 ghost use Rattle.term_core.specs.SystemView.{IsSound};
 ghost use Rattle.cert_model.specs.CertificateView.{redex_view};
-ghost use Rattle.validity.specs.Peaks.{place_of};
+ghost use Rattle.valid_certificates.specs.Peaks.{entry_place};
 ghost use Rattle.noncon_check.specs.Redexes.{hits, at_root, behind, redexes};
 ghost use Rattle.noncon_check.specs.Judged.{with_new, AreJudged, IsJudgedAt};
 ghost use Rattle.noncon_check.specs.Walks.{IsAbsent, PlacesAnswer, MissedAnswers};
@@ -62,7 +62,7 @@ fn missed(alloc: Global, which: u32, path: &[u32], rule: u32) -> CheckError
 
 // Whether the entry is for this redex.
 fn is_for(entry: &Redex, which: u32, path: &[u32], rule: u32) -> bool
-    ensures { IsTrue result ↔ (place_of (redex_view entry.now) ≡ behind path.now (at_root which rule)) }
+    ensures { IsTrue result ↔ (entry_place (redex_view entry.now) ≡ behind path.now (at_root which rule)) }
 {
     entry.which == which && entry.rule == rule && entry.pos.as_slice() == path
 }
@@ -70,7 +70,7 @@ fn is_for(entry: &Redex, which: u32, path: &[u32], rule: u32) -> bool
 impl<'a> Judge<'a> {
     // The entry with this number, from 0, where it is for the redex.
     fn entry_for(&self, at: usize, path: &[u32], rule: u32) -> Option<&'a Redex>
-        ensures { MatchOption result (IsAbsent (map redex_view self.now.entries.now) at (behind path.now (at_root self.now.which rule))) (λ e. (slice_get (map redex_view self.now.entries.now) at ≡ Some (redex_view e.now)) × (place_of (redex_view e.now) ≡ behind path.now (at_root self.now.which rule))) }
+        ensures { MatchOption result (IsAbsent (map redex_view self.now.entries.now) at (behind path.now (at_root self.now.which rule))) (λ e. (slice_get (map redex_view self.now.entries.now) at ≡ Some (redex_view e.now)) × (entry_place (redex_view e.now) ≡ behind path.now (at_root self.now.which rule))) }
     {
         let entry = self.entries.get(at)?;
         if is_for(entry, self.which, path, rule) {

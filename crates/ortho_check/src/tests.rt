@@ -3,7 +3,7 @@ ghost use Rattle.std.specs.Prelude.{◌<◌, ◌≤◌, ◌+◌, IsTrue, length,
 ghost use Rattle.rewriting.specs.Systems.{condition_count};
 ghost use Rattle.term_core.specs.RuleView.{rule_view};
 ghost use Rattle.cert_model.specs.CertificateView.{pair_entry_view};
-ghost use Rattle.validity.specs.Entries.{ArePairsShort};
+ghost use Rattle.valid_certificates.specs.Entries.{ArePairsShort};
 
 use crate::{CheckError, check_ortho};
 use cert_model::{Blame, Class, EvidenceReason, InfEvidence, PairEntry, PairEvidence, Rejected};

@@ -3,8 +3,9 @@ ghost use Rattle.std.specs.Prelude.{◌≡◌, ◌<◌, ◌≤◌, ◌+◌, ◌�
 ghost use Rattle.unifier_run.specs.Overlaps.{triple, IsOverlapOf};
 ghost use Rattle.cert_model.specs.CertificateView.{pair_entry_view};
 ghost use Rattle.critical_pairs.specs.View.{overlap_view};
-ghost use Rattle.validity.specs.Entries.{triple_of, ArePairsShort};
+ghost use Rattle.valid_certificates.specs.Entries.{triple_of, ArePairsShort};
 ghost use Rattle.validity.specs.Answers.{SettleAnswers};
+ghost use Rattle.validity.specs.KindView.{kind_view};
 ghost use Rattle.pair_check.specs.Walk.{EachIsOverlap, MissingAnswers, RefusedAnswers, EntryAnswers, SettledAnswers};
 
 use crate::evidence::judge_evidence;
@@ -76,7 +77,7 @@ fn judge_entry(
     requires overlap { IsOverlapOf sys.now (overlap_view overlap.now) }
     requires few { at < 20000 }
     requires short { ArePairsShort (map pair_entry_view pairs.now) }
-    ensures { EntryAnswers kind sys.now (at + 1) (overlap_view overlap.now) (slice_get (map pair_entry_view pairs.now) at) result }
+    ensures { EntryAnswers (kind_view kind) sys.now (at + 1) (overlap_view overlap.now) (slice_get (map pair_entry_view pairs.now) at) result }
 {
     let Some(entry) = pairs.get(at) else {
         return Err(missing(alloc, overlap));
@@ -105,7 +106,7 @@ fn settle(
     requires overlaps { EachIsOverlap sys.now (map overlap_view overlaps.now) }
     requires few { length overlaps.now ≤ 20000 }
     requires short { ArePairsShort (map pair_entry_view pairs.now) }
-    ensures { SettledAnswers kind sys.now 1 (map overlap_view overlaps.now) (map pair_entry_view pairs.now) result }
+    ensures { SettledAnswers (kind_view kind) sys.now 1 (map overlap_view overlaps.now) (map pair_entry_view pairs.now) result }
 {
     for (i, overlap) in overlaps.iter().enumerate() {
         judge_entry(alloc, sys, kind, overlap, pairs, i)?;
@@ -132,7 +133,7 @@ pub fn check_pairs(
     pairs: &[PairEntry],
 ) -> Result<(), CheckError>
     requires short { ArePairsShort (map pair_entry_view pairs.now) }
-    ensures { SettleAnswers kind sys.now (map pair_entry_view pairs.now) result }
+    ensures { SettleAnswers (kind_view kind) sys.now (map pair_entry_view pairs.now) result }
 {
     match overlaps(alloc, sys) {
         Ok(found) => settle(alloc, sys, kind, &found, pairs),

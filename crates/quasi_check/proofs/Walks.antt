@@ -9,7 +9,7 @@ use Rattle.rewriting.specs.Classes.{IsAt}
 use Rattle.unifier_run.specs.Run.{Outcome, unifier, clash, too_large}
 use Rattle.unifier_run.specs.Irreducible.{DoAllClash, IsFirstOutcome}
 use Rattle.unifier_run.proofs.Unique.{runs_same}
-use Rattle.validity.specs.Confluence.{IsFirstReducible}
+use Rattle.valid_certificates.specs.Confluence.{IsFirstReducible}
 use Rattle.term_core.specs.declared.systems.Cond.{Cond}
 use Rattle.term_core.specs.RuleView.{condition_view}
 use Rattle.irreducible.specs.declared.Irreducible.{Irreducible}

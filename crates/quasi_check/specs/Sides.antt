@@ -3,7 +3,7 @@ use Rattle.std.specs.Prelude.{ℕ, suc, ◌≡◌, ◌<◌, List, Option, None, 
 use Rattle.rewriting.specs.Rules.{Condition, System}
 use Rattle.rewriting.specs.Classes.{IsAt}
 use Rattle.unifier_run.specs.Irreducible.{DoAllClash}
-use Rattle.validity.specs.Confluence.{AreRightSidesIrreducible, IsFirstReducible}
+use Rattle.valid_certificates.specs.Confluence.{AreRightSidesIrreducible, IsFirstReducible}
 use Rattle.quasi_check.specs.declared.sides.Place.{Place}
 
 -- the right side of each condition is absolutely irreducible, by the runs

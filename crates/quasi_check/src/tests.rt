@@ -4,7 +4,7 @@ ghost use Rattle.certificates.specs.Sizes.{IsShort};
 ghost use Rattle.cert_model.specs.CertificateView.{pair_entry_view};
 ghost use Rattle.cert_model.specs.DerivationView.{derivation_view};
 ghost use Rattle.cert_model.specs.EvidenceView.{pair_evidence_view};
-ghost use Rattle.validity.specs.Entries.{IsPairShort, ArePairsShort};
+ghost use Rattle.valid_certificates.specs.Entries.{IsPairShort, ArePairsShort};
 
 use crate::{CheckError, check_quasi};
 use cert_model::{
