@@ -1,239 +1,31 @@
--- Each run between lists of one length has an outcome: an equation that binds leaves fewer variables, and each other that
--- goes on leaves smaller sides (Baader and Nipkow, Term Rewriting and All That, section 4.5).
-use Rattle.std.proofs.Common.{ℕ, zero, suc, ◌≡◌, ◌≢◌, ◌+◌, ◌<◌, ◌≤◌, ◌⊎◌, inl, inr, Bool, true, false, nat_eq, if◌then◌else◌, ◌||◌, List, [], ◌∷◌, length, refl, sym, ap, ap₂, ◌∙◌, subst, arith, eqb-true, eq-eqb}
-use native.Mathlib.Decide.{ℕ_discrete, dec_le}
-use Rattle.rewriting.specs.Terms.{Term, var, app, Terms, nil, cons, count, Fits, size, size_all, depth}
-use Rattle.rewriting.specs.Substitutions.{apply, apply_all}
-use Rattle.rewriting.specs.Variables.{occurs, occurs_in, variables_of}
+-- Each run has an outcome, and each question on a system's runs an answer: whether a term is absolutely irreducible, which
+-- rule is the first that does not clash, and which overlaps there are.
+use Rattle.std.proofs.Common.{ℕ, zero, suc, ◌≡◌, ◌≢◌, ◌<◌, ◌≤◌, ◌+◌, ◌⊎◌, inl, inr, true, List, [], ◌∷◌, ◌++◌, length, Option, Some, None, refl, sym, ap, ◌∙◌, subst, subst₂, arith, append_assoc}
+use native.Mathlib.Decide.{dec_le}
+use Rattle.rewriting.specs.Terms.{Term, var, app, Terms, nil, cons, count, Fits, IsVariable}
+use Rattle.rewriting.specs.Positions.{Position, IsBefore, subterm, replace}
+use Rattle.rewriting.specs.Substitutions.{Substitution, apply, apply_all, compose}
+use Rattle.rewriting.specs.Variables.{occurs_in, variables_of}
+use Rattle.rewriting.specs.Unifiers.{IsMostGeneral, even, odd}
+use Rattle.rewriting.specs.Rules.{Rule, System, rule_at, sides}
+use Rattle.rewriting.specs.Systems.{Each}
+use Rattle.rewriting.specs.Overlaps.{IsPlace, IsEarlierOverlap, conditions_under, CriticalPair, IsCriticalPair}
 use Rattle.rewriting.specs.Lists.{IsAmong}
 use Rattle.rewriting.proofs.Variables.{variables_have_all}
-use Rattle.rewriting.proofs.Instances.{or_left, or_right, or_cases}
-use Rattle.rewriting.proofs.Equality.{same}
-use Rattle.unifier_run.specs.Run.{Binding, value, only, extended, DoFit, DoAllFit, Binds, Outcome, unifier, clash, too_large, Turn, ends, goes_on, Takes, side_too_large, equal_sides, occurs_inside, binding, binding_too_large, roots_differ, arguments, append, Runs, no_equation, last_equation, next_equation, IsOutcome}
-use Rattle.unifier_run.proofs.Values.{apply_all-extended, apply_all_nothing}
-use Rattle.unifier_run.proofs.Lists.{apply_all-append, count-apply_all, count-append}
-use Rattle.unifier_run.proofs.General.{IsSettled, settled_fixed, settled_empty, takes_settled, inj_arguments}
-
-pub do_both : {A B : Type 0} → Dec A → Dec B → Dec (A × B)
-do_both (yes a) (yes b) = yes (a, b)
-do_both (yes a) (no h) = no (λ p. h p.1)
-do_both (no h) d = no (λ p. h p.0)
-
-pub does_fit : (t : Term) → Dec (Fits t)
-does_fit t = go (dec_le (size t) 10000) (dec_le (depth t) 400)
-  where
-    go : Dec (size t ≤ 10000) → Dec (depth t ≤ 400) → Dec (Fits t)
-    go (yes a) (yes b) = yes (record { nodes = a; levels = b })
-    go (yes a) (no h) = no (λ f. h f.levels)
-    go (no h) d = no (λ f. h f.nodes)
-
-do_all_fit : (b : List Binding) → Dec (DoAllFit b)
-do_all_fit [] = yes tt
-do_all_fit (e ∷ b) = do_both (does_fit e.term) (do_all_fit b)
-
--- what becomes of an equation: the run ends, a variable is bound, or sides of smaller size take its place
-data Next (b : List Binding) (l r : Term) : Type 0 where
-  stops : (o : Outcome) → Takes b l r (ends o) → Next b l r
-  drops : Takes b l r (goes_on b nil nil) → Next b l r
-  binds : (x : ℕ) (v : Term) → Binds l r x v → occurs x v ≡ false → Takes b l r (goes_on (extended b x v) nil nil) → Next b l r
-  opens : (f : ℕ) (xs ys : Terms) → l ≡ app f xs → r ≡ app f ys → count xs ≡ count ys → Takes b l r (goes_on b xs ys) → Next b l r
-
--- a variable of the sides
-bound : (b : List Binding) (l r : Term) (x : ℕ) (v : Term) → DoFit l r → l ≢ r → Binds l r x v → Next b l r
-bound b l r x v fit differ is = go (occurs x v) refl (do_all_fit (extended b x v))
-  where
-    go : (o : Bool) → occurs x v ≡ o → Dec (DoAllFit (extended b x v)) → Next b l r
-    go true e d = stops clash (occurs_inside fit differ x v is e)
-    go false e (yes f) = binds x v is e (binding fit differ x v is e (extended b x v) refl f)
-    go false e (no h) = stops too_large (binding_too_large fit differ x v is e h)
-
-apart : (b : List Binding) (l r : Term) → DoFit l r → l ≢ r → Next b l r
-apart b (var x) r fit differ = bound b (var x) r x r fit differ (refl, refl)
-apart b (app f ts) (var y) fit differ = bound b (app f ts) (var y) y (app f ts) fit differ (refl, refl)
-apart b (app f ts) (app g us) fit differ = go (ℕ_discrete f g) (ℕ_discrete (count ts) (count us))
-  where
-    go : Dec (f ≡ g) → Dec (count ts ≡ count us) → Next b (app f ts) (app g us)
-    go (yes e) (yes c) = opens f ts us refl (ap (λ z. app z us) (sym e)) c (arguments fit differ ts us (e, c, refl, refl))
-    go (yes e) (no h) = stops clash (roots_differ fit (inr h))
-    go (no h) d = stops clash (roots_differ fit (inl h))
-
-next : (b : List Binding) (l r : Term) → Next b l r
-next b l r = go (do_both (does_fit l) (does_fit r)) (same l r)
-  where
-    go : Dec (DoFit l r) → Dec (l ≡ r) → Next b l r
-    go (no h) d = stops too_large (side_too_large h)
-    go (yes fit) (yes e) = drops (equal_sides fit e)
-    go (yes fit) (no h) = apart b l r fit h
-
--- the variables that are left to bind
-abbrev without : ℕ → List ℕ → List ℕ
-without x [] = []
-without x (y ∷ ys) = if nat_eq y x then without x ys else (y ∷ without x ys)
-
-without_less : (x : ℕ) (ys : List ℕ) → length (without x ys) ≤ length ys
-without_less x [] = omega arith
-without_less x (y ∷ ys) = go (nat_eq y x) (without_less x ys)
-  where
-    go : (b : Bool) → length (without x ys) ≤ length ys → length (if b then without x ys else (y ∷ without x ys)) ≤ suc (length ys)
-    go true h = omega (arith, h)
-    go false h = omega (arith, h)
-
-without_fewer : (x : ℕ) (ys : List ℕ) → IsAmong x ys → length (without x ys) < length ys
-without_fewer x [] h = absurd h
-without_fewer x (y ∷ ys) (inl e) = rw (eq-eqb y x (sym e)) (let h = without_less x ys in omega (arith, h))
-without_fewer x (y ∷ ys) (inr m) = go (nat_eq y x) (without_fewer x ys m)
-  where
-    go : (b : Bool) → length (without x ys) < length ys → length (if b then without x ys else (y ∷ without x ys)) < suc (length ys)
-    go true h = omega (arith, h)
-    go false h = omega (arith, h)
-
-still_has : (x z : ℕ) (ys : List ℕ) → nat_eq z x ≡ false → IsAmong z ys → IsAmong z (without x ys)
-still_has x z [] n h = h
-still_has x z (y ∷ ys) n (inl e) = subst (λ k. IsAmong z (if nat_eq k x then without x ys else (k ∷ without x ys))) e (rw n (inl refl))
-still_has x z (y ∷ ys) n (inr m) = go (nat_eq y x) (still_has x z ys n m)
-  where
-    go : (b : Bool) → IsAmong z (without x ys) → IsAmong z (if b then without x ys else (y ∷ without x ys))
-    go true h = h
-    go false h = inr h
-
--- the list has every variable of the terms
-abbrev HasAll : List ℕ → Terms → Type 0
-HasAll vs ts = (x : ℕ) → occurs_in x ts ≡ true → IsAmong x vs
-
--- a variable of an instance by one binding
-mutual
-  from_only : (x : ℕ) (v : Term) (z : ℕ) (t : Term) → occurs z (apply (only x v) t) ≡ true → (occurs z v ≡ true) ⊎ ((occurs z t ≡ true) × (nat_eq z x ≡ false))
-  from_only x v z (var y) o = go (nat_eq y x) refl o
-    where
-      go : (b : Bool) → nat_eq y x ≡ b → occurs z (if b then v else var y) ≡ true → (occurs z v ≡ true) ⊎ ((nat_eq z y ≡ true) × (nat_eq z x ≡ false))
-      go true e o = inl o
-      go false e o = inr (o, subst (λ k. nat_eq k x ≡ false) (sym (eqb-true z y o)) e)
-  from_only x v z (app f ts) o = from_only_all x v z ts o
-
-  from_only_all : (x : ℕ) (v : Term) (z : ℕ) (ts : Terms) → occurs_in z (apply_all (only x v) ts) ≡ true → (occurs z v ≡ true) ⊎ ((occurs_in z ts ≡ true) × (nat_eq z x ≡ false))
-  from_only_all x v z nil o = absurd (cc)
-  from_only_all x v z (cons t ts) o =
-      or_cases (occurs z (apply (only x v) t)) (occurs_in z (apply_all (only x v) ts)) o
-      (λ q. in_head (from_only x v z t q))
-      (λ q. in_tail (from_only_all x v z ts q))
-    where
-      in_head : (occurs z v ≡ true) ⊎ ((occurs z t ≡ true) × (nat_eq z x ≡ false)) → (occurs z v ≡ true) ⊎ ((occurs_in z (cons t ts) ≡ true) × (nat_eq z x ≡ false))
-      in_head (inl h) = inl h
-      in_head (inr (h, n)) = inr (or_left _ _ h, n)
-
-      in_tail : (occurs z v ≡ true) ⊎ ((occurs_in z ts ≡ true) × (nat_eq z x ≡ false)) → (occurs z v ≡ true) ⊎ ((occurs_in z (cons t ts) ≡ true) × (nat_eq z x ≡ false))
-      in_tail (inl h) = inl h
-      in_tail (inr (h, n)) = inr (or_right _ _ h, n)
-
--- what a variable is bound to, and the variable, are of the sides
-binds_within : (l r : Term) (x : ℕ) (v : Term) (z : ℕ) → Binds l r x v → occurs z v ≡ true → (occurs z l ≡ true) ⊎ (occurs z r ≡ true)
-binds_within (var y) r x v z (e, h) o = inr (subst (λ k. occurs z k ≡ true) h o)
-binds_within (app f ts) (var y) x v z (e, h) o = inl (subst (λ k. occurs z k ≡ true) h o)
-binds_within (app f ts) (app g us) x v z h o = absurd h
-
-binds_of : (l r : Term) (x : ℕ) (v : Term) → Binds l r x v → (occurs x l ≡ true) ⊎ (occurs x r ≡ true)
-binds_of (var y) r x v (e, h) = inl (eq-eqb x y e)
-binds_of (app f ts) (var y) x v (e, h) = inr (eq-eqb x y e)
-binds_of (app f ts) (app g us) x v h = absurd h
-
-of_sides : (vs : List ℕ) (l r : Term) (ls rs : Terms) (z : ℕ) → HasAll vs (cons l ls) → HasAll vs (cons r rs) → (occurs z l ≡ true) ⊎ (occurs z r ≡ true) → IsAmong z vs
-of_sides vs l r ls rs z hl hr (inl o) = hl z (or_left _ _ o)
-of_sides vs l r ls rs z hl hr (inr o) = hr z (or_left _ _ o)
-
--- the variables that are left after a binding
-after_binding : (vs : List ℕ) (b : List Binding) (x : ℕ) (v : Term) (ts : Terms) → occurs x v ≡ false → ((z : ℕ) → occurs z v ≡ true → IsAmong z vs) → HasAll vs (apply_all (value b) ts)
-    → HasAll (without x vs) (apply_all (value (extended b x v)) ts)
-after_binding vs b x v ts free inside all z o = go (from_only_all x v z (apply_all (value b) ts) (subst (λ k. occurs_in z k ≡ true) (apply_all-extended b x v ts) o))
-  where
-    differ : (k : Bool) → nat_eq z x ≡ k → occurs z v ≡ true → nat_eq z x ≡ false
-    differ false e h = e
-    differ true e h = absurd (let same : z ≡ x = eqb-true z x e in let bad : occurs x v ≡ true = subst (λ k. occurs k v ≡ true) same h in cc)
-
-    go : (occurs z v ≡ true) ⊎ ((occurs_in z (apply_all (value b) ts) ≡ true) × (nat_eq z x ≡ false)) → IsAmong z (without x vs)
-    go (inl h) = still_has x z vs (differ (nat_eq z x) refl h) (inside z h)
-    go (inr (h, n)) = still_has x z vs n (all z h)
-
--- arguments in the place of the sides
-occurs_in_append : (z : ℕ) (xs ts : Terms) → occurs_in z (append xs ts) ≡ true → (occurs_in z xs ≡ true) ⊎ (occurs_in z ts ≡ true)
-occurs_in_append z nil ts o = inr o
-occurs_in_append z (cons x xs) ts o = or_cases (occurs z x) (occurs_in z (append xs ts)) o (λ q. inl (or_left _ _ q)) (λ q. go (occurs_in_append z xs ts q))
-  where
-    go : (occurs_in z xs ≡ true) ⊎ (occurs_in z ts ≡ true) → (occurs_in z (cons x xs) ≡ true) ⊎ (occurs_in z ts ≡ true)
-    go (inl h) = inl (or_right _ _ h)
-    go (inr h) = inr h
-
-size_all-append : (xs ts : Terms) → size_all (append xs ts) ≡ size_all xs + size_all ts
-size_all-append nil ts = omega arith
-size_all-append (cons x xs) ts = let h = size_all-append xs ts in omega (arith, h)
-
-opened : (b : List Binding) (t : Term) (f : ℕ) (xs ts : Terms) → IsSettled b → apply (value b) t ≡ app f xs → apply_all (value b) (append xs ts) ≡ append xs (apply_all (value b) ts)
-opened b t f xs ts s e =
-    let fixed : app f (apply_all (value b) xs) ≡ app f xs = ap (apply (value b)) (sym e) ∙ (settled_fixed b s t ∙ e) in
-    apply_all-append (value b) xs ts ∙ ap (λ k. append k (apply_all (value b) ts)) (inj_arguments f f _ _ fixed)
-
-opened_has : (vs : List ℕ) (b : List Binding) (t : Term) (f : ℕ) (xs ts : Terms) → IsSettled b → apply (value b) t ≡ app f xs → HasAll vs (apply_all (value b) (cons t ts)) → HasAll vs (apply_all (value b) (append xs ts))
-opened_has vs b t f xs ts s e all z o = go (occurs_in_append z xs (apply_all (value b) ts) (subst (λ k. occurs_in z k ≡ true) (opened b t f xs ts s e) o))
-  where
-    go : (occurs_in z xs ≡ true) ⊎ (occurs_in z (apply_all (value b) ts) ≡ true) → IsAmong z vs
-    go (inl h) = all z (or_left _ _ (subst (λ k. occurs z k ≡ true) (sym e) h))
-    go (inr h) = all z (or_right _ _ h)
-
-opened_size : (b : List Binding) (t : Term) (f : ℕ) (xs ts : Terms) → IsSettled b → apply (value b) t ≡ app f xs → size_all (apply_all (value b) (append xs ts)) < size_all (apply_all (value b) (cons t ts))
-opened_size b t f xs ts s e =
-    let whole = ap size_all (opened b t f xs ts s e) ∙ size_all-append xs (apply_all (value b) ts) in
-    let one : size (apply (value b) t) ≡ suc (size_all xs) = ap size e in
-    omega (arith, whole, one)
-
-size_positive : (t : Term) → 0 < size t
-size_positive (var x) = omega arith
-size_positive (app f ts) = omega arith
-
--- where fewer than n variables are left to bind, the run has an outcome
-abbrev Ends : ℕ → Type 0
-Ends n =
-    (vs : List ℕ) → length vs < n → (b : List Binding) → IsSettled b → (ts us : Terms) → count ts ≡ count us → HasAll vs (apply_all (value b) ts) → HasAll vs (apply_all (value b) us) → (o : Outcome) × Runs b ts us o
-
--- the same with these bindings, for sides of fewer than m nodes
-abbrev EndsSmall : List ℕ → List Binding → ℕ → Type 0
-EndsSmall vs b m =
-    (ts us : Terms) → count ts ≡ count us → HasAll vs (apply_all (value b) ts) → HasAll vs (apply_all (value b) us) → size_all (apply_all (value b) ts) + size_all (apply_all (value b) us) < m
-    → (o : Outcome) × Runs b ts us o
-
-one_more : (n m : ℕ) (vs : List ℕ) (b : List Binding) → Ends n → length vs < suc n → IsSettled b → EndsSmall vs b m → (t u : Term) (ts us : Terms) → count ts ≡ count us
-    → HasAll vs (apply_all (value b) (cons t ts)) → HasAll vs (apply_all (value b) (cons u us)) → size_all (apply_all (value b) (cons t ts)) + size_all (apply_all (value b) (cons u us)) < suc m
-    → Next b (apply (value b) t) (apply (value b) u) → (o : Outcome) × Runs b (cons t ts) (cons u us) o
-one_more n m vs b fewer less s small t u ts us c hl hr fits (stops o k) = (o, last_equation k)
-one_more n m vs b fewer less s small t u ts us c hl hr fits (drops k) =
-    let p = size_positive (apply (value b) t) in
-    let rest = small ts us c (λ z o. hl z (or_right _ _ o)) (λ z o. hr z (or_right _ _ o)) (omega (arith, fits, p)) in
-    (rest.0, next_equation k rest.1)
-one_more n m vs b fewer less s small t u ts us c hl hr fits (binds x v is free k) =
-    let inside : (z : ℕ) → occurs z v ≡ true → IsAmong z vs = λ z o. of_sides vs (apply (value b) t) (apply (value b) u) (apply_all (value b) ts) (apply_all (value b) us) z hl hr (binds_within _ _ x v z is o) in
-    let there = of_sides vs (apply (value b) t) (apply (value b) u) (apply_all (value b) ts) (apply_all (value b) us) x hl hr (binds_of _ _ x v is) in
-    let few = without_fewer x vs there in
-    let rest =
-    fewer (without x vs) (omega (arith, few, less)) (extended b x v) (takes_settled b (extended b x v) _ _ nil nil k (settled_fixed b s t) (settled_fixed b s u) s) ts us c
-    (after_binding vs b x v ts free inside (λ z o. hl z (or_right _ _ o))) (after_binding vs b x v us free inside (λ z o. hr z (or_right _ _ o)))
-    in
-    (rest.0, next_equation k rest.1)
-one_more n m vs b fewer less s small t u ts us c hl hr fits (opens f xs ys el er same_count k) =
-    let more : count (append xs ts) ≡ count (append ys us) = (let p = count-append xs ts in let q = count-append ys us in omega (arith, p, q, c, same_count)) in
-    let left = opened_size b t f xs ts s el in
-    let right = opened_size b u f ys us s er in
-    let rest = small (append xs ts) (append ys us) more (opened_has vs b t f xs ts s el hl) (opened_has vs b u f ys us s er hr) (omega (arith, left, right, fits)) in
-    (rest.0, next_equation k rest.1)
-
-by_size : (n : ℕ) → Ends n → (vs : List ℕ) → length vs < suc n → (b : List Binding) → IsSettled b → (m : ℕ) → EndsSmall vs b m
-by_size n fewer vs less b s zero ts us c hl hr fits = absurd (omega (arith, fits))
-by_size n fewer vs less b s (suc m) nil nil c hl hr fits = (unifier b, no_equation)
-by_size n fewer vs less b s (suc m) nil (cons u us) c hl hr fits = absurd (omega (arith, c))
-by_size n fewer vs less b s (suc m) (cons t ts) nil c hl hr fits = absurd (omega (arith, c))
-by_size n fewer vs less b s (suc m) (cons t ts) (cons u us) c hl hr fits =
-    one_more n m vs b fewer less s (by_size n fewer vs less b s m) t u ts us (let e : count ts ≡ count us = omega (arith, c) in e) hl hr fits (next b (apply (value b) t) (apply (value b) u))
-
-by_variables : (n : ℕ) → Ends n
-by_variables zero vs less b s ts us c hl hr = absurd (omega (arith, less))
-by_variables (suc n) vs less b s ts us c hl hr = by_size n (by_variables n) vs less b s (suc (size_all (apply_all (value b) ts) + size_all (apply_all (value b) us))) ts us c hl hr (omega arith)
+use Rattle.rewriting.proofs.Instances.{or_left, or_right}
+use Rattle.rewriting.proofs.Positions.{replaceable}
+use Rattle.rewriting.proofs.Places.{subterm-apply}
+use Rattle.rewriting.proofs.Unifiers.{of_list}
+use Rattle.rewriting.proofs.Search.{FirstRule, search_rules, FirstSubterm, AllSubterms, search_subterms}
+use Rattle.unifier_run.specs.Run.{Binding, value, Outcome, unifier, clash, too_large, IsOutcome}
+use Rattle.unifier_run.specs.Overlaps.{Triple, IsOutcomeOf, Overlap, triple, DoesPairFit, IsOverlapOf, IsTooLargeAt, AreOverlapsAt, AreOverlaps, IsPairTooLarge, AreTooManyOverlaps}
+use Rattle.unifier_run.specs.Irreducible.{IsTrial, IsEarlierTrial, DoAllClash, IsFirstOutcome, IsFirstRule, DoRulesClash}
+use Rattle.unifier_run.proofs.Values.{apply_all_nothing}
+use Rattle.unifier_run.proofs.General.{settled_empty, most_general}
+use Rattle.unifier_run.proofs.Unique.{runs_same}
+use Rattle.unifier_run.proofs.Terminates.{by_variables, do_both, does_fit}
+use Rattle.unifier_run.proofs.Triples.{AreInOrder, DoesClash, AreThose, those_append, overlaps_at, overlaps_before}
+use Rattle.unifier_run.proofs.Spots.{all_triples, has_all, order_all}
 
 -- every run between lists of one length has an outcome
 pub outcome_exists : (ts us : Terms) → count ts ≡ count us → (o : Outcome) × IsOutcome ts us o
@@ -246,3 +38,255 @@ outcome_exists ts us c =
 -- so has the run between two terms
 pub outcome_of : (l r : Term) → (o : Outcome) × IsOutcome (cons l nil) (cons r nil) o
 outcome_of l r = outcome_exists (cons l nil) (cons r nil) refl
+
+-- a run that does not clash
+abbrev pub DoesNotClash : Term → Term → Type 0
+DoesNotClash left part = (o : Outcome) × (o ≢ clash) × IsOutcomeOf left part o
+
+pub clash_or_not : (left part : Term) → IsOutcomeOf left part clash ⊎ DoesNotClash left part
+clash_or_not left part = go (outcome_of (apply even left) (apply odd part))
+  where
+    go : (o : Outcome) × IsOutcomeOf left part o → IsOutcomeOf left part clash ⊎ DoesNotClash left part
+    go (clash, r) = inl r
+    go (unifier b, r) = inr (unifier b, (λ e. cc), r)
+    go (too_large, r) = inr (too_large, (λ e. cc), r)
+
+-- the rules tried on a whole term
+pub first_rule : (sys : System) (t : Term) → DoRulesClash sys t ⊎ ((o : Outcome) × (o ≢ clash) × IsFirstRule sys t o)
+first_rule sys t = go (search_rules (λ i r. IsOutcomeOf r.left t clash) (λ i r. DoesNotClash r.left t) sys (λ i r e. clash_or_not r.left t))
+  where
+    go : ((i : ℕ) (r : Rule) → rule_at sys i ≡ Some r → IsOutcomeOf r.left t clash) ⊎ FirstRule (λ i r. IsOutcomeOf r.left t clash) (λ i r. DoesNotClash r.left t) sys
+        → DoRulesClash sys t ⊎ ((o : Outcome) × (o ≢ clash) × IsFirstRule sys t o)
+    go (inl all) = inl all
+    go (inr f) =
+        inr (f.has.0, f.has.1, record { number = f.number; rule = f.found; is_rule = f.is_rule; outcome = f.has.2; before = λ i r e less. f.before i r less e })
+
+-- the rules tried on each subterm
+abbrev Clashes : System → Position → Term → Type 0
+Clashes sys p u = (IsVariable u → ⊥) → DoRulesClash sys u
+
+abbrev Stops : System → Position → Term → Type 0
+Stops sys p u = (IsVariable u → ⊥) × ((o : Outcome) × (o ≢ clash) × IsFirstRule sys u o)
+
+tried : (sys : System) (p : Position) (u : Term) → Clashes sys p u ⊎ Stops sys p u
+tried sys p (var x) = inl (λ n. absurd (n tt))
+tried sys p (app f ts) = go (first_rule sys (app f ts))
+  where
+    go : DoRulesClash sys (app f ts) ⊎ ((o : Outcome) × (o ≢ clash) × IsFirstRule sys (app f ts) o) → Clashes sys p (app f ts) ⊎ Stops sys p (app f ts)
+    go (inl all) = inl (λ n. all)
+    go (inr h) = inr ((λ v. v), h)
+
+same_part : (t : Term) (p q : Position) (u v : Term) → p ≡ q → subterm t p ≡ Some u → subterm t q ≡ Some v → u ≡ v
+same_part t p q u v e h k = (let both : subterm t p ≡ subterm t q = ap (subterm t) e in cc)
+
+-- each trial clashes, or there is a first that does not
+pub first_trial : (sys : System) (t : Term) → DoAllClash sys t ⊎ ((o : Outcome) × (o ≢ clash) × IsFirstOutcome sys t o)
+first_trial sys t = go (search_subterms (Clashes sys) (Stops sys) (tried sys) t)
+  where
+    before : (f : FirstSubterm (Clashes sys) (Stops sys) t) (first : IsFirstRule sys f.part f.has.1.0) (p : Position) (i : ℕ) (u : Term) (r : Rule) → IsTrial sys t p i u r
+        → IsEarlierTrial (p, i) (f.position, first.number) → IsOutcomeOf r.left u clash
+    before f first p i u r h (inl b) = f.before p u b h.is_part h.no_variable i r h.is_rule
+    before f first p i u r h (inr (e, less)) = subst (λ z. IsOutcomeOf r.left z clash) (sym (same_part t p f.position u f.part e h.is_part f.is_part)) (first.before i r h.is_rule less)
+
+    go : AllSubterms (Clashes sys) t ⊎ FirstSubterm (Clashes sys) (Stops sys) t → DoAllClash sys t ⊎ ((o : Outcome) × (o ≢ clash) × IsFirstOutcome sys t o)
+    go (inl all) = inl (λ p i u r h. all p u h.is_part h.no_variable i r h.is_rule)
+    go (inr f) =
+        let first = f.has.1.2 in
+        inr (
+          f.has.1.0,
+          f.has.1.1,
+          record {
+            position = f.position;
+            number = first.number;
+            part = f.part;
+            rule = first.rule;
+            trial = record { is_part = f.is_part; no_variable = f.has.0; is_rule = first.is_rule };
+            outcome = first.outcome;
+            before = before f first;
+          },
+        )
+
+pub all_clash_decided : (sys : System) (t : Term) → DoAllClash sys t ⊎ (DoAllClash sys t → ⊥)
+all_clash_decided sys t = go (first_trial sys t)
+  where
+    go : DoAllClash sys t ⊎ ((o : Outcome) × (o ≢ clash) × IsFirstOutcome sys t o) → DoAllClash sys t ⊎ (DoAllClash sys t → ⊥)
+    go (inl all) = inl all
+    go (inr (o, differs, f)) = inr (λ all. differs (runs_same f.outcome (all f.position f.number f.part f.rule f.trial)))
+
+-- every term fits, or some does not
+all_fit : (ts : Terms) → Dec (Each Fits ts)
+all_fit nil = yes tt
+all_fit (cons t ts) = do_both (does_fit t) (all_fit ts)
+
+pair_fits : (pair : CriticalPair) → Dec (DoesPairFit pair)
+pair_fits pair = go (do_both (does_fit pair.source) (does_fit pair.left)) (do_both (does_fit pair.right) (all_fit (sides pair.conditions)))
+  where
+    go : Dec (Fits pair.source × Fits pair.left) → Dec (Fits pair.right × Each Fits (sides pair.conditions)) → Dec (DoesPairFit pair)
+    go (yes a) (yes b) = yes (record { source = a.0; left = a.1; right = b.0; conditions = b.1 })
+    go (yes a) (no h) = no (λ f. h (f.right, f.conditions))
+    go (no h) d = no (λ f. h (f.source, f.left))
+
+-- what there is at a triple
+data AtTriple (sys : System) (i : ℕ) (p : Position) (j : ℕ) : Type 0 where
+  clashes : DoesClash sys (i, (p, j)) → AtTriple sys i p j
+  overlaps : (o : Overlap) → IsOverlapOf sys o → triple o ≡ (i, (p, j)) → AtTriple sys i p j
+  is_large : IsTooLargeAt sys i p j → AtTriple sys i p j
+
+module _ (sys : System) (i : ℕ) (p : Position) (j : ℕ) (inner outer : Rule) (part : Term) (place : IsPlace sys i p j inner outer part) where
+  -- the critical pair that a unifier makes
+  made : (by : List Binding) → IsOutcomeOf inner.left part (unifier by) → (pair : CriticalPair) × IsCriticalPair (value by) p inner outer part pair
+  made by run =
+      let m = value by in
+      let here = subterm-apply m (apply odd outer.left) p (apply odd part) (subterm-apply odd outer.left p part place.is_part) in
+      let r = replaceable (apply m (apply odd outer.left)) p (apply m (apply odd part)) (apply m (apply even inner.right)) here in (
+        record {
+          source = apply m (apply odd outer.left);
+          left = r.0;
+          right = apply m (apply odd outer.right);
+          conditions = conditions_under (compose even m) inner.conditions ++ conditions_under (compose odd m) outer.conditions;
+        },
+        record {
+          most_general = of_list m (apply even inner.left) (apply odd part) (most_general _ _ by run);
+          source = refl;
+          left = r.1;
+          right = refl;
+          conditions = refl;
+        },
+      )
+
+  only_place : IsOutcomeOf inner.left part clash → DoesClash sys (i, (p, j))
+  only_place run r q t k =
+      subst₂ (λ x y. IsOutcomeOf x.left y clash) (same_rule (rule_at sys i) inner r place.is_inner k.is_inner)
+      (same_part outer.left p p part t refl place.is_part (subst (λ z. subterm z.left p ≡ Some t) (same_rule (rule_at sys j) q outer k.is_outer place.is_outer) k.is_part)) run
+    where
+      same_rule : (o : Option Rule) (a b : Rule) → o ≡ Some a → o ≡ Some b → a ≡ b
+      same_rule o a b e h = (let k : Some a ≡ Some b = sym e ∙ h in cc)
+
+  with_pair : (by : List Binding) → IsOutcomeOf inner.left part (unifier by) → (pair : CriticalPair) → IsCriticalPair (value by) p inner outer part pair → Dec (DoesPairFit pair) → AtTriple sys i p j
+  with_pair by run pair critical (yes fits) =
+      overlaps (record { inner = i; position = p; outer = j; pair = pair; inner_conditions = length inner.conditions })
+      (record { inner = inner; outer = outer; part = part; place = place; by = by; outcome = run; pair = critical; fits = fits; counted = refl }) refl
+  with_pair by run pair critical (no h) = is_large (record { inner = inner; outer = outer; part = part; place = place; why = inr (by, pair, run, critical, h) })
+
+  with_outcome : (o : Outcome) → IsOutcomeOf inner.left part o → AtTriple sys i p j
+  with_outcome clash run = clashes (only_place run)
+  with_outcome too_large run = is_large (record { inner = inner; outer = outer; part = part; place = place; why = inl run })
+  with_outcome (unifier by) run = let q = made by run in with_pair by run q.0 q.1 (pair_fits q.0)
+
+  at_place : AtTriple sys i p j
+  at_place = let r = outcome_of (apply even inner.left) (apply odd part) in with_outcome r.0 r.1
+
+abbrev root : Position
+root = []
+
+-- whether an inner rule counts at a position
+does_count : (i : ℕ) (p : Position) (j : ℕ) → Dec ((p ≢ []) ⊎ (i < j))
+does_count i (k ∷ p) j = yes (inl (λ e. cc))
+does_count i [] j = go (dec_le (suc i) j)
+  where
+    not_there : (i < j → ⊥) → (p : Position) → p ≡ [] → (p ≢ []) ⊎ (i < j) → ⊥
+    not_there h p e (inl n) = n e
+    not_there h p e (inr l) = h l
+
+    go : Dec (suc i ≤ j) → Dec ((root ≢ []) ⊎ (i < j))
+    go (yes h) = yes (inr (omega (arith, h)))
+    go (no h) = no (not_there (λ l. h (omega (arith, l))) root refl)
+
+-- whether the triple is a place
+at_triple : (sys : System) (i : ℕ) (p : Position) (j : ℕ) → AtTriple sys i p j
+at_triple sys i p j = with_rules (rule_at sys i) refl (rule_at sys j) refl
+  where
+    is_variable : (t : Term) → Dec (IsVariable t)
+    is_variable (var x) = yes tt
+    is_variable (app f ts) = no (λ v. v)
+
+    with_part : (inner outer : Rule) (o : Option Term) → rule_at sys i ≡ Some inner → rule_at sys j ≡ Some outer → subterm outer.left p ≡ o → Dec ((p ≢ []) ⊎ (i < j)) → AtTriple sys i p j
+    with_part inner outer None ei ej ep d =
+        clashes (λ r q t k. absurd (let e : q ≡ outer = (let h : Some q ≡ Some outer = sym k.is_outer ∙ ej in cc) in let h = subst (λ z. subterm z.left p ≡ Some t) e k.is_part in cc))
+    with_part inner outer (Some part) ei ej ep (no n) = clashes (λ r q t k. absurd (n k.counts))
+    with_part inner outer (Some part) ei ej ep (yes c) = go (is_variable part)
+      where
+        go : Dec (IsVariable part) → AtTriple sys i p j
+        go (no n) = at_place sys i p j inner outer part (record { is_inner = ei; is_outer = ej; is_part = ep; no_variable = n; counts = c })
+        go (yes v) =
+            clashes (λ r q t k. absurd (k.no_variable (subst IsVariable (let e : q ≡ outer = (let h : Some q ≡ Some outer = sym k.is_outer ∙ ej in cc) in let h = subst (λ z. subterm z.left p ≡ Some t) e k.is_part in (let both : Some part ≡ Some t = sym ep ∙ h in cc)) v)))
+
+    with_rules : (o : Option Rule) → rule_at sys i ≡ o → (q : Option Rule) → rule_at sys j ≡ q → AtTriple sys i p j
+    with_rules None ei q ej = clashes (λ r q t k. absurd (let h = k.is_inner in cc))
+    with_rules (Some inner) ei None ej = clashes (λ r q t k. absurd (let h = k.is_outer in cc))
+    with_rules (Some inner) ei (Some outer) ej = with_part inner outer (subterm outer.left p) ei ej refl (does_count i p j)
+
+-- the list of overlaps, or why there is none
+abbrev pub Listing : System → Type 0
+Listing sys = ((os : List Overlap) × AreOverlaps sys os) ⊎ (((i : ℕ) × (p : Position) × (j : ℕ) × IsPairTooLarge sys i p j) ⊎ AreTooManyOverlaps sys)
+
+module _ (sys : System) where
+  -- the triples before, with their overlaps, and the triples that are left
+  record Reached (ts us : List Triple) (os : List Overlap) : Type 0 where
+    pub all : ts ++ us ≡ all_triples sys
+    pub those : AreThose sys ts os
+    pub few : length os ≤ 20000
+
+  ordered : (ts : List Triple) → ts ≡ all_triples sys → AreInOrder ts
+  ordered ts e = subst AreInOrder (sym e) (order_all sys)
+
+  whole : (ts : List Triple) → ts ≡ all_triples sys → (i : ℕ) (p : Position) (j : ℕ) (inner outer : Rule) (part : Term) → IsPlace sys i p j inner outer part → IsAmong (i, (p, j)) ts
+  whole ts e i p j inner outer part place = subst (IsAmong (i, (p, j))) (sym e) (has_all sys i p j inner outer part place)
+
+  at_end : (ts : List Triple) (os : List Overlap) → Reached ts [] os → Listing sys
+  at_end ts os r =
+      let e : ts ≡ all_triples sys = sym (append-nothing ts) ∙ r.all in
+      inl (os, record { are = overlaps_at sys (λ t. Unit {0}) ts os (ordered ts e) (λ t m. tt) (λ i p j inner outer part place u. whole ts e i p j inner outer part place) r.those; few = r.few })
+    where
+      append-nothing : (ts : List Triple) → ts ++ [] ≡ ts
+      append-nothing [] = refl
+      append-nothing (t ∷ ts) = ap (λ z. t ∷ z) (append-nothing ts)
+
+  large_here : (ts us : List Triple) (i : ℕ) (p : Position) (j : ℕ) (os : List Overlap) → Reached ts ((i, (p, j)) ∷ us) os → IsTooLargeAt sys i p j → Listing sys
+  large_here ts us i p j os r h =
+      inr (inl (i, p, j, record { is_large = h; before = os; are_before = overlaps_before sys ts us (i, (p, j)) os (ordered _ r.all) (whole _ r.all) r.those; few = r.few }))
+
+  many_here : (ts us : List Triple) (t : Triple) (os : List Overlap) → Reached ts (t ∷ us) os → (o : Overlap) → IsOverlapOf sys o → triple o ≡ t → 20000 ≤ length os → Listing sys
+  many_here ts us t os r o is at many =
+      inr (inr (record {
+        next = o;
+        is_overlap = is;
+        before = os;
+        are_before = subst (λ z. AreOverlapsAt sys (λ u. IsEarlierOverlap u z) os) (sym at) (overlaps_before sys ts us t os (ordered _ r.all) (whole _ r.all) r.those);
+        many = (let few = r.few in omega (arith, few, many));
+      }))
+
+  one_on : (ts us : List Triple) (t : Triple) (os qs : List Overlap) → Reached ts (t ∷ us) os → AreThose sys (t ∷ []) qs → length (os ++ qs) ≤ 20000 → Reached (ts ++ t ∷ []) us (os ++ qs)
+  one_on ts us t os qs r those few = record { all = append_assoc ts (t ∷ []) us ∙ r.all; those = those_append sys ts (t ∷ []) os qs r.those those; few = few }
+
+  appended : (os : List Overlap) (o : Overlap) → length (os ++ o ∷ []) ≡ suc (length os)
+  appended [] o = refl
+  appended (q ∷ os) o = ap suc (appended os o)
+
+  no_more : (os : List Overlap) → length (os ++ []) ≡ length os
+  no_more [] = refl
+  no_more (q ∷ os) = ap suc (no_more os)
+
+  walk : (ts us : List Triple) (os : List Overlap) → Reached ts us os → Listing sys
+  walk ts [] os r = at_end ts os r
+  walk ts ((i, (p, j)) ∷ us) os r = go (at_triple sys i p j) (λ qs. walk (ts ++ (i, (p, j)) ∷ []) us (os ++ qs))
+    where
+      more : (o : Overlap) → IsOverlapOf sys o → triple o ≡ (i, (p, j)) → Dec (suc (length os) ≤ 20000) → ((qs : List Overlap) → Reached (ts ++ (i, (p, j)) ∷ []) us (os ++ qs) → Listing sys) → Listing sys
+      more o is at (yes few) on = on (o ∷ []) (one_on ts us (i, (p, j)) os (o ∷ []) r (inr (o, [], refl, is, at, refl)) (subst (λ z. z ≤ 20000) (sym (appended os o)) few))
+      more o is at (no h) on = many_here ts us (i, (p, j)) os r o is at (not_few (length os) h)
+        where
+          not_few : (n : ℕ) → (suc n ≤ 20000 → ⊥) → 20000 ≤ n
+          not_few n h = pick (dec_le 20000 n)
+            where
+              pick : Dec (20000 ≤ n) → 20000 ≤ n
+              pick (yes k) = k
+              pick (no k) = absurd (h (omega (arith, k)))
+
+      go : AtTriple sys i p j → ((qs : List Overlap) → Reached (ts ++ (i, (p, j)) ∷ []) us (os ++ qs) → Listing sys) → Listing sys
+      go (clashes h) on = on [] (one_on ts us (i, (p, j)) os [] r (inl (h, refl)) (subst (λ z. z ≤ 20000) (sym (no_more os)) r.few))
+      go (is_large h) on = large_here ts us i p j os r h
+      go (overlaps o is at) on = more o is at (dec_le (suc (length os)) 20000) on
+
+  -- for each system, whatever its size, the list of overlaps is defined, or there is a first refusal
+  pub overlaps_total : Listing sys
+  overlaps_total = walk [] (all_triples sys) [] (record { all = refl; those = refl; few = omega arith })
