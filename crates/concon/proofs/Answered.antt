@@ -5,7 +5,7 @@ use Rattle.cc_io.specs.Errors.{IsBegunIfAny}
 use Rattle.cert_check.specs.declared.Verdict.{Verdict}
 use Rattle.concon.specs.Words.{IsCheck}
 use Rattle.concon.specs.Said.{Said}
-use Rattle.concon.specs.FileRefusals.{too_long, no_text}
+use Rattle.concon.specs.FileRefusals.{too_long, file_refusal_of}
 use Rattle.concon.specs.CertRefusals as certs
 use Rattle.concon.specs.Outcomes.{no_system, no_certificate, rejected, shown}
 use Rattle.concon.specs.Causes.{run_of, Answer, checked, file_fault, cert_fault, no_memory, said_of, IsCaused, IsRight, IsLeft}
@@ -28,7 +28,7 @@ module _ (words : List (List ℕ)) (contents : List ℕ → Option (List ℕ)) (
   answered (Err FileFault) h b (inr s) = wanting s
   answered (Err FileTooLong) h b (inl s) = (checked file cert (no_system too_long), (form, h), tt, b, s)
   answered (Err FileTooLong) h b (inr s) = wanting s
-  answered (Err (FileRefused e)) h b (inl s) = (checked file cert (no_system (no_text e)), (form, h), tt, b, s)
+  answered (Err (FileRefused e)) h b (inl s) = (checked file cert (no_system (file_refusal_of e)), (form, h), tt, b, s)
   answered (Err (FileRefused e)) h b (inr s) = wanting s
   answered (Err CertFault) h b (inl s) = (cert_fault file cert, (form, h.0, h.1), tt, tt, s)
   answered (Err CertFault) h b (inr s) = wanting s

@@ -57,13 +57,13 @@ module _ (k : Known) (file cert : Option (List ℕ)) where
   -- a text that spells a system is not refused
   read_or_refused : (bytes : List ℕ) (sys : System) (names : NameTable) (r : FileRefusal) → length bytes ≤ most_file_bytes → IsFile bytes sys names → IsFileRefused bytes r → ⊥
   read_or_refused bytes sys names too_long short f h = absurd (omega arith)
-  read_or_refused bytes sys names (no_text e) short f h = k.never bytes sys names e h.2 f h.1
+  read_or_refused bytes sys names (no_text cause at) short f h = k.never bytes sys names cause at f h.1
 
   refused_once : (bytes : List ℕ) (r s : FileRefusal) → IsFileRefused bytes r → IsFileRefused bytes s → r ≡ s
   refused_once bytes too_long too_long h g = refl
-  refused_once bytes too_long (no_text d) h g = absurd (omega (arith, g.0))
-  refused_once bytes (no_text e) too_long h g = absurd (omega (arith, h.0))
-  refused_once bytes (no_text e) (no_text d) h g = ap no_text (k.once bytes e d h.2 g.2 h.1 g.1)
+  refused_once bytes too_long (no_text d to) h g = absurd (omega (arith, g.0))
+  refused_once bytes (no_text e at) too_long h g = absurd (omega (arith, h.0))
+  refused_once bytes (no_text e at) (no_text d to) h g = let same = k.once bytes e d at to h.1 g.1 in ap₂ no_text same.0 same.1
 
   spells_or_none : (sys : System) (names : NameTable) (r : FileRefusal) → SpellsSystem (Told file) sys names → IsRefusedFile (told_or_any file) r → ⊥
   spells_or_none sys names r x y = read_or_refused x.0 sys names r x.2 x.3 (subst (λ b. IsFileRefused b r) (same_bytes file x.0 y.0 x.1 y.1) y.2)

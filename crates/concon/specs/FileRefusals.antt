@@ -1,8 +1,10 @@
 -- Why a file spells no system, and the text that says so.
 use Rattle.std.specs.Prelude.{◌≡◌, ◌≤◌, ◌<◌, ◌++◌, ℕ, List, length, codes, decimal}
-use Rattle.cops_read.specs.Answers.{IsRefusedFor}
-use Rattle.cops_read.specs.declared.reader.Count.{Count}
-use Rattle.cops_read.specs.declared.reader.Count.TheVariants.{Rules, Conditions, Arity, Nodes, Variables, Symbols}
+use Rattle.file_text.specs.Tokens.{bad_byte, long_id, open_comment}
+use Rattle.file_text.specs.Refusals.{wrong_syntax, unknown_block, repeated_block, other_condition_type, missing_rules}
+use Rattle.cops_read.specs.Refusals.{conditions_without_type, variable_with_arguments, arity_differs, left_variable, too_deep, too_many_rules, too_many_conditions, too_many_arguments, too_many_nodes, too_many_variables, too_many_symbols}
+use Rattle.cops_read.specs.File.{FileCause, no_tokens, no_tree, no_meaning, IsNoFile}
+use Rattle.cops_read.specs.Answers.{cause_of_count}
 use Rattle.cops_read.specs.declared.reader.ReadError.{ReadError}
 use Rattle.cops_read.specs.declared.reader.ReadError.TheVariants.{BadByte, IdTooLong, CommentNotClosed, Syntax, UnknownBlock, RepeatedBlock, ConditionTypeOther, MissingRules, ConditionsWithoutType, VariableWithArguments, ArityDiffers, LeftVariable, TooDeep, TooMany, NoMemory}
 
@@ -10,16 +12,37 @@ use Rattle.cops_read.specs.declared.reader.ReadError.TheVariants.{BadByte, IdToo
 abbrev pub most_file_bytes : ℕ
 most_file_bytes = 1048576
 
--- it is too long, or its text is none of a system
+-- it is too long, or refused for a cause at a place
 pub data FileRefusal : Type 0 where
   too_long : FileRefusal
-  no_text : ReadError → FileRefusal
+  no_text : FileCause → ℕ → FileRefusal
 
 abbrev pub IsFileRefused : List ℕ → FileRefusal → Type 0
 IsFileRefused bytes too_long = most_file_bytes < length bytes
-IsFileRefused bytes (no_text e) = (length bytes ≤ most_file_bytes) × IsRefusedFor bytes e × (e ≡ NoMemory → ⊥)
+IsFileRefused bytes (no_text cause at) = (length bytes ≤ most_file_bytes) × IsNoFile bytes cause at
 
--- the number of a byte
+abbrev pub cause_words : FileCause → List ℕ
+cause_words (no_tokens bad_byte) = codes "bad byte"
+cause_words (no_tokens long_id) = codes "identifier too long"
+cause_words (no_tokens open_comment) = codes "comment not closed"
+cause_words (no_tree wrong_syntax) = codes "syntax"
+cause_words (no_tree unknown_block) = codes "unknown block"
+cause_words (no_tree repeated_block) = codes "repeated block"
+cause_words (no_tree other_condition_type) = codes "condition type other"
+cause_words (no_tree missing_rules) = codes "missing rules"
+cause_words (no_meaning conditions_without_type) = codes "conditions without type"
+cause_words (no_meaning variable_with_arguments) = codes "variable with arguments"
+cause_words (no_meaning arity_differs) = codes "arity differs"
+cause_words (no_meaning left_variable) = codes "left side is a variable"
+cause_words (no_meaning too_deep) = codes "too deep"
+cause_words (no_meaning too_many_rules) = codes "too many rules"
+cause_words (no_meaning too_many_conditions) = codes "too many conditions"
+cause_words (no_meaning too_many_arguments) = codes "too many arguments"
+cause_words (no_meaning too_many_nodes) = codes "too many nodes"
+cause_words (no_meaning too_many_variables) = codes "too many variables"
+cause_words (no_meaning too_many_symbols) = codes "too many symbols"
+
+-- what the reader's errors are, and the number of a byte; want of memory is none
 abbrev pub error_place : ReadError → ℕ
 error_place (BadByte at) = at
 error_place (IdTooLong at) = at
@@ -37,30 +60,25 @@ error_place (TooDeep at) = at
 error_place (TooMany what limit at) = at
 error_place NoMemory = 0
 
-abbrev pub count_words : Count → List ℕ
-count_words Rules = codes "too many rules"
-count_words Conditions = codes "too many conditions"
-count_words Arity = codes "too many arguments"
-count_words Nodes = codes "too many nodes"
-count_words Variables = codes "too many variables"
-count_words Symbols = codes "too many symbols"
+abbrev pub error_cause : ReadError → FileCause
+error_cause (BadByte at) = no_tokens bad_byte
+error_cause (IdTooLong at) = no_tokens long_id
+error_cause (CommentNotClosed at) = no_tokens open_comment
+error_cause (Syntax at) = no_tree wrong_syntax
+error_cause (UnknownBlock at) = no_tree unknown_block
+error_cause (RepeatedBlock at) = no_tree repeated_block
+error_cause (ConditionTypeOther at) = no_tree other_condition_type
+error_cause (MissingRules at) = no_tree missing_rules
+error_cause (ConditionsWithoutType at) = no_meaning conditions_without_type
+error_cause (VariableWithArguments at) = no_meaning variable_with_arguments
+error_cause (ArityDiffers at) = no_meaning arity_differs
+error_cause (LeftVariable at) = no_meaning left_variable
+error_cause (TooDeep at) = no_meaning too_deep
+error_cause (TooMany what limit at) = no_meaning (cause_of_count what)
+error_cause NoMemory = no_tree wrong_syntax
 
-abbrev pub error_words : ReadError → List ℕ
-error_words (BadByte at) = codes "bad byte"
-error_words (IdTooLong at) = codes "identifier too long"
-error_words (CommentNotClosed at) = codes "comment not closed"
-error_words (Syntax at) = codes "syntax"
-error_words (UnknownBlock at) = codes "unknown block"
-error_words (RepeatedBlock at) = codes "repeated block"
-error_words (ConditionTypeOther at) = codes "condition type other"
-error_words (MissingRules at) = codes "missing rules"
-error_words (ConditionsWithoutType at) = codes "conditions without type"
-error_words (VariableWithArguments at) = codes "variable with arguments"
-error_words (ArityDiffers at) = codes "arity differs"
-error_words (LeftVariable at) = codes "left side is a variable"
-error_words (TooDeep at) = codes "too deep"
-error_words (TooMany what limit at) = count_words what
-error_words NoMemory = codes "no memory"
+abbrev pub file_refusal_of : ReadError → FileRefusal
+file_refusal_of e = no_text (error_cause e) (error_place e)
 
 -- the word for a file, the place, and why
 abbrev pub refused_line : List ℕ → ℕ → List ℕ → List ℕ
@@ -68,4 +86,4 @@ refused_line name at why = name ++ (codes ":" ++ (decimal at ++ (codes ": " ++ (
 
 abbrev pub file_refused_line : List ℕ → FileRefusal → List ℕ
 file_refused_line name too_long = refused_line name most_file_bytes (codes "too long")
-file_refused_line name (no_text e) = refused_line name (error_place e) (error_words e)
+file_refused_line name (no_text cause at) = refused_line name at (cause_words cause)

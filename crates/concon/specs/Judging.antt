@@ -18,7 +18,7 @@ use Rattle.cops_read.specs.declared.reader.ReadError.{ReadError}
 use Rattle.cops_read.specs.declared.reader.ReadError.TheVariants as causes
 use Rattle.cert_text.specs.declared.error.CertError.{CertError}
 use Rattle.cert_text.specs.declared.error.CertError.TheVariants as cert_causes
-use Rattle.concon.specs.FileRefusals.{too_long, no_text}
+use Rattle.concon.specs.FileRefusals.{too_long, file_refusal_of}
 use Rattle.concon.specs.CertRefusals as certs
 use Rattle.concon.specs.Said.{Said}
 use Rattle.concon.specs.Outcomes.{Bytes, no_system, no_certificate, rejected, shown, SpellsSystem, IsRefusedFile, SpellsCertificate, IsRefusedCertificate, ComesTo, IsTrueOf, said_of_outcome}
@@ -51,7 +51,7 @@ abbrev pub SystemAnswers : Bytes → Type 0 → Result (System × NameTable) Ref
 SystemAnswers file failed (Ok found) = SpellsSystem file found.0 found.1
 SystemAnswers file failed (Err refusal.FileFault) = failed
 SystemAnswers file failed (Err refusal.FileTooLong) = IsRefusedFile file too_long
-SystemAnswers file failed (Err (refusal.FileRefused e)) = IsRefusedFile file (no_text e)
+SystemAnswers file failed (Err (refusal.FileRefused e)) = IsRefusedFile file (file_refusal_of e)
 SystemAnswers file failed (Err refusal.NoMemory) = Unit {0}
 SystemAnswers file failed (Err _) = ⊥
 
@@ -83,7 +83,7 @@ abbrev pub Judged : Run → List ℕ → List ℕ → Result Verdict Refusal →
 Judged run file cert (Ok v) = ComesTo (bytes_of run file) (bytes_of run cert) (shown v) × IsTrueOf (bytes_of run file) (bytes_of run cert) v
 Judged run file cert (Err refusal.FileFault) = Failed run file
 Judged run file cert (Err refusal.FileTooLong) = ComesTo (bytes_of run file) (bytes_of run cert) (no_system too_long)
-Judged run file cert (Err (refusal.FileRefused e)) = ComesTo (bytes_of run file) (bytes_of run cert) (no_system (no_text e))
+Judged run file cert (Err (refusal.FileRefused e)) = ComesTo (bytes_of run file) (bytes_of run cert) (no_system (file_refusal_of e))
 Judged run file cert (Err refusal.CertFault) = Failed run cert × ((sys : System) × (names : NameTable) × SpellsSystem (bytes_of run file) sys names)
 Judged run file cert (Err refusal.CertTooLong) = ComesTo (bytes_of run file) (bytes_of run cert) (no_certificate certs.too_long)
 Judged run file cert (Err (refusal.CertRefused e)) = ComesTo (bytes_of run file) (bytes_of run cert) (no_certificate (certs.cert_refusal_of e))
@@ -109,7 +109,7 @@ abbrev pub Says : List ℕ → List ℕ → Result Verdict Refusal → Said → 
 Says file cert (Ok v) said = said ≡ said_of_outcome file cert (shown v)
 Says file cert (Err refusal.FileFault) said = SaysUnlessNoMemory said (said_of (file_fault file cert))
 Says file cert (Err refusal.FileTooLong) said = SaysUnlessNoMemory said (said_of_outcome file cert (no_system too_long))
-Says file cert (Err (refusal.FileRefused e)) said = SaysUnlessNoMemory said (said_of_outcome file cert (no_system (no_text e)))
+Says file cert (Err (refusal.FileRefused e)) said = SaysUnlessNoMemory said (said_of_outcome file cert (no_system (file_refusal_of e)))
 Says file cert (Err refusal.CertFault) said = SaysUnlessNoMemory said (said_of (cert_fault file cert))
 Says file cert (Err refusal.CertTooLong) said = SaysUnlessNoMemory said (said_of_outcome file cert (no_certificate certs.too_long))
 Says file cert (Err (refusal.CertRefused e)) said = SaysUnlessNoMemory said (said_of_outcome file cert (no_certificate (certs.cert_refusal_of e)))

@@ -1,8 +1,10 @@
 //! The texts of refusals.
 ghost use Rattle.std.specs.Prelude.{◌≡◌, ◌⊎◌, IfOk, [], codes};
+ghost use Rattle.cops_read.specs.Answers.{cause_of_count};
+ghost use Rattle.cops_read.specs.File.{no_meaning};
 ghost use Rattle.concon.specs.CertRefusals as certs;
 ghost use Rattle.concon.specs.FileRefusals as spec;
-ghost use Rattle.concon.specs.FileRefusals.{error_place, error_words, count_words};
+ghost use Rattle.concon.specs.FileRefusals.{error_place, error_cause, cause_words};
 ghost use Rattle.concon.specs.Replies.{said_of};
 
 use crate::pieces::{Piece, put_all};
@@ -36,7 +38,7 @@ pub fn place_of(error: &ReadError) -> usize
 }
 
 fn words_of_count(what: Count) -> &'static [u8]
-    ensures { result.now ≡ count_words what }
+    ensures { result.now ≡ cause_words (no_meaning (cause_of_count what)) }
 {
     match what {
         Count::Rules => b"too many rules",
@@ -50,7 +52,7 @@ fn words_of_count(what: Count) -> &'static [u8]
 
 /// Why a text is refused.
 pub fn words_of(error: &ReadError) -> &'static [u8]
-    ensures { result.now ≡ error_words error.now }
+    ensures { result.now ≡ cause_words (error_cause error.now) }
 {
     match error {
         ReadError::BadByte { .. } => b"bad byte",
@@ -67,7 +69,7 @@ pub fn words_of(error: &ReadError) -> &'static [u8]
         ReadError::LeftVariable { .. } => b"left side is a variable",
         ReadError::TooDeep { .. } => b"too deep",
         ReadError::TooMany { what, .. } => words_of_count(*what),
-        ReadError::NoMemory => b"no memory",
+        ReadError::NoMemory => b"syntax",
     }
 }
 

@@ -4,12 +4,12 @@ use Rattle.std.specs.Prelude.{◌==◌, ◌&&◌, if◌then◌else◌, option_ma
 use Rattle.file_text.specs.Syntax.{Phrase, Phrases, word, call, none, more, count, ConditionTree, Guard, RuleTree, conditions_of, FileTree}
 use Rattle.cops_read.specs.Meaning.{is_among, with_name, with_symbol, with_symbols, with_all_symbols, with_variables, with_all_variables, sides, phrases_of_rule, variables_of}
 use Rattle.cops_read.specs.Uses.{Spot, spots, spots_of_all, Side, side_of, Use, Event, use_of, bar_at, uses_from, term_events, condition_events, rule_events, rules_events}
-use Rattle.cops_read.specs.Refusals.{Cause, conditions_without_type, cause_or, limit_cause, variable_cause, symbol_cause, first_or, symbols_used, variables_used, cause_at, first_refusal, refusal_of}
+use Rattle.cops_read.specs.Refusals.{MeaningCause, conditions_without_type, cause_or, limit_cause, variable_cause, symbol_cause, first_or, symbols_used, variables_used, cause_at, first_refusal, refusal_of}
 use Rattle.cops_read.specs.Steps.{or_refusal, nodes, all_nodes, use_at, term_refusal, terms_refusal}
 use Rattle.cops_read.specs.RuleSteps.{side_refusal, condition_refusal, conditions_refusal, bar_refusal, rule_refusal, rules_refusal}
 
-abbrev Refusal : Type 0
-Refusal = Option (Cause × ℕ)
+abbrev Refused : Type 0
+Refused = Option (MeaningCause × ℕ)
 
 abbrev Table : Type 0
 Table = List (List ℕ × ℕ)
@@ -17,28 +17,24 @@ Table = List (List ℕ × ℕ)
 abbrev Names : Type 0
 Names = List (List ℕ)
 
-or_assoc : (a b c : Refusal) → or_refusal (or_refusal a b) c ≡ or_refusal a (or_refusal b c)
+or_assoc : (a b c : Refused) → or_refusal (or_refusal a b) c ≡ or_refusal a (or_refusal b c)
 or_assoc None b c = refl
 or_assoc (Some r) b c = refl
 
-or_nothing : (a : Refusal) → or_refusal a None ≡ a
-or_nothing None = refl
-or_nothing (Some r) = refl
-
-first_or_or : (c : Option Cause) (at : ℕ) (a b : Refusal) → first_or c at (or_refusal a b) ≡ or_refusal (first_or c at a) b
+first_or_or : (c : Option MeaningCause) (at : ℕ) (a b : Refused) → first_or c at (or_refusal a b) ≡ or_refusal (first_or c at a) b
 first_or_or None at a b = refl
 first_or_or (Some cause) at a b = refl
 
 -- equal firsts, and equal others where there is no first
-or_same : (a b x y : Refusal) → a ≡ b → (b ≡ None → x ≡ y) → or_refusal a x ≡ or_refusal b y
-or_same a None x y h g = ap (λ (o : Refusal). or_refusal o x) h ∙ g refl
-or_same a (Some r) x y h g = ap (λ (o : Refusal). or_refusal o x) h
+or_same : (a b x y : Refused) → a ≡ b → (b ≡ None → x ≡ y) → or_refusal a x ≡ or_refusal b y
+or_same a None x y h g = ap (λ (o : Refused). or_refusal o x) h ∙ g refl
+or_same a (Some r) x y h g = ap (λ (o : Refused). or_refusal o x) h
 
-pub none_first : (a b : Refusal) → or_refusal a b ≡ None → a ≡ None
+pub none_first : (a b : Refused) → or_refusal a b ≡ None → a ≡ None
 none_first None b h = refl
 none_first (Some r) b h = h
 
-pub none_then : (a b : Refusal) → or_refusal a b ≡ None → b ≡ None
+pub none_then : (a b : Refused) → or_refusal a b ≡ None → b ≡ None
 none_then None b h = h
 none_then (Some r) b h = cc
 
@@ -69,13 +65,13 @@ module _ (block : Names) where
         (first_refusal block oriented (front ++ bar_at at ∷ []) xs)) (first_refusal block oriented f ys)) (append_assoc front (bar_at at ∷ []) xs)
 
     -- these events of a rule are refused as told, and where they are not they add this to the symbols and to the rule's variables
-    pub record IsPart (rule : ℕ) (es : List Event) (refused : Table → Names → Refusal) (symbols_with : Table → Table) (names_with : Names → Names) : Type 0 where
+    pub record IsPart (rule : ℕ) (es : List Event) (refused : Table → Names → Refused) (symbols_with : Table → Table) (names_with : Names → Names) : Type 0 where
       pub refusal : (front : List Event) → first_refusal block oriented front es ≡ refused (symbols_used block [] front) (variables_used block rule [] front)
       pub symbols : (table : Table) (names : Names) → refused table names ≡ None → symbols_used block table es ≡ symbols_with table
       pub variables : (table : Table) (names : Names) → refused table names ≡ None → variables_used block rule names es ≡ names_with names
       pub others : (r : ℕ) (names : Names) → (rule == r) ≡ false → variables_used block r names es ≡ names
 
-    part_then : (rule : ℕ) (xs ys : List Event) (f g : Table → Names → Refusal) (s t : Table → Table) (v w : Names → Names) → IsPart rule xs f s v → IsPart rule ys g t w
+    part_then : (rule : ℕ) (xs ys : List Event) (f g : Table → Names → Refused) (s t : Table → Table) (v w : Names → Names) → IsPart rule xs f s v → IsPart rule ys g t w
         → IsPart rule (xs ++ ys) (λ table names. or_refusal (f table names) (g (s table) (v names))) (λ table. t (s table)) (λ names. w (v names))
     part_then rule xs ys f g s t v w p q = record {
       refusal = λ front.
@@ -94,7 +90,7 @@ module _ (block : Names) where
     part_none : (rule : ℕ) → IsPart rule [] (λ table names. None) (λ table. table) (λ names. names)
     part_none rule = record { refusal = λ front. refl; symbols = λ table names h. refl; variables = λ table names h. refl; others = λ r names h. refl }
 
-    part_as : (rule : ℕ) (xs ys : List Event) (f g : Table → Names → Refusal) (s : Table → Table) (v : Names → Names) → xs ≡ ys → ((table : Table) (names : Names) → f table names ≡ g table names)
+    part_as : (rule : ℕ) (xs ys : List Event) (f g : Table → Names → Refused) (s : Table → Table) (v : Names → Names) → xs ≡ ys → ((table : Table) (names : Names) → f table names ≡ g table names)
         → IsPart rule xs f s v → IsPart rule ys g s v
     part_as rule xs ys f g s v e h p =
         let q : IsPart rule xs g s v = record {
@@ -119,12 +115,12 @@ module _ (block : Names) where
       others = λ r names h. rw h refl;
     }
 
-    clear : (table : Table) (names : Names) (u : Use) (l : Option Cause) (b : Bool) → u.spot.node.brackets ≡ true → cause_or l (if b then variable_cause names u else symbol_cause table u) ≡ None → b ≡ false
+    clear : (table : Table) (names : Names) (u : Use) (l : Option MeaningCause) (b : Bool) → u.spot.node.brackets ≡ true → cause_or l (if b then variable_cause names u else symbol_cause table u) ≡ None → b ≡ false
     clear table names u (Some c) b e h = cc
     clear table names u None true e h = let h' = rw e at h in cc
     clear table names u None false e h = refl
 
-    unnamed : (c : Option Cause) (at : ℕ) → first_or c at None ≡ None → c ≡ None
+    unnamed : (c : Option MeaningCause) (at : ℕ) → first_or c at None ≡ None → c ≡ None
     unnamed None at h = refl
     unnamed (Some cause) at h = cc
 
@@ -230,7 +226,7 @@ module _ (block : Names) where
     part_bar rule at = record { refusal = λ front. bar_is oriented at; symbols = λ table names h. refl; variables = λ table names h. refl; others = λ r names h. refl }
 
     -- the refusal of a guard
-    abbrev guard_refusal : ℕ → Option Guard → Table → Names → Refusal
+    abbrev guard_refusal : ℕ → Option Guard → Table → Names → Refused
     guard_refusal rule None table names = None
     guard_refusal rule (Some g) table names = or_refusal (bar_refusal oriented (Some g.at)) (conditions_refusal block table names rule 1 (g.first ∷ g.others))
 

@@ -16,4 +16,5 @@ pub mod Wholes
 pub mod Readings
 pub mod Means
 pub mod Refused
+pub mod Places
 pub mod Laws

@@ -74,14 +74,6 @@ module _ {A : Type 0} (p : A → Bool) where
       by again true g = absurd (let wrong = rw g at n in cc)
       by again false g = or_len_later z xs g ∙ ap suc (again (rw g at n))
 
-  pub position_of_none : (xs : List A) → list_any p xs ≡ false → position p xs ≡ None
-  position_of_none [] n = refl
-  position_of_none (z ∷ xs) n = by (λ m. position_of_none xs m) (p z) refl
-    where
-      by : (list_any p xs ≡ false → position p xs ≡ None) → (b : Bool) → p z ≡ b → position p (z ∷ xs) ≡ None
-      by again true g = absurd (let wrong = rw g at n in cc)
-      by again false g = position_later z xs g ∙ ap (option_map (λ (i : ℕ). suc i)) (again (rw g at n))
-
 pub extends_refl : {A : Type 0} (xs : List A) → Extends xs xs
 extends_refl xs = record { rest = []; split = sym (append-nil xs) }
 
@@ -102,6 +94,3 @@ get_append (z ∷ xs) ys (suc i) x e = get_append xs ys i x e
 
 pub extends_get : {A : Type 0} (xs ys : List A) (i : ℕ) (x : A) → Extends xs ys → slice_get xs i ≡ Some x → slice_get ys i ≡ Some x
 extends_get xs ys i x e h = ap (λ (ws : List _). slice_get ws i) e.split ∙ get_append xs e.rest i x h
-
-pub extends_length : {A : Type 0} (xs ys : List A) → Extends xs ys → length xs ≤ length ys
-extends_length xs ys e = omega (arith, ap length e.split, length-append xs e.rest)

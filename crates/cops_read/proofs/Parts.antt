@@ -11,7 +11,7 @@ use Rattle.term_core.specs.declared.terms.Term.{Term}
 use Rattle.term_core.specs.declared.systems.Cond.{Cond}
 use Rattle.cops_read.specs.Meaning.{sides, with_symbols, with_all_symbols, with_variables, with_all_variables, rule_variables, IsTermOf, AreConditionsOf}
 use Rattle.cops_read.specs.Uses.{Side, side_of}
-use Rattle.cops_read.specs.Refusals.{Cause}
+use Rattle.cops_read.specs.Refusals.{MeaningCause}
 use Rattle.cops_read.specs.Steps.{Tells, or_refusal, IsRead, term_refusal}
 use Rattle.cops_read.specs.RuleSteps.{side_refusal, condition_refusal, conditions_refusal, bar_refusal, rule_refusal, IsSideRead, IsConditionRead, AreConditionsRead, IsRuleRead}
 use Rattle.cops_read.specs.declared.reader.ReadError.{ReadError}
@@ -22,20 +22,14 @@ use Rattle.cops_read.proofs.Tells.{tells_here, tells_then}
 pub whole_list : (ns : List program.Node) (p : Phrase) → IsTerm ns p → nodes_view ns ≡ flat p ++ []
 whole_list ns p h = h ∙ sym (append-nil (flat p))
 
-pub none_of_both : (o others : Option (Cause × ℕ)) → o ≡ None → others ≡ None → or_refusal o others ≡ None
-none_of_both o others h g = ap (λ (x : Option (Cause × ℕ)). or_refusal x others) h ∙ g
+pub none_of_both : (o others : Option (MeaningCause × ℕ)) → o ≡ None → others ≡ None → or_refusal o others ≡ None
+none_of_both o others h g = ap (λ (x : Option (MeaningCause × ℕ)). or_refusal x others) h ∙ g
 
 pub side_read : (block : List (List ℕ)) (table : List (List ℕ × ℕ)) (names : List (List ℕ)) (side : Side) (p : Phrase) (after : List (List ℕ × ℕ)) (later : List (List ℕ)) (t : math.Term) (next : ℕ)
     → IsRead block table names p 0 (term_refusal block table names side 1 0 0 p) after later t next → IsSideRead block table names side p after later t
 side_read block table names side p after later t next h = record { accepted = h.accepted; symbols = h.symbols; variables = h.variables; means = h.means }
 
 module _ (block : List (List ℕ)) (table : List (List ℕ × ℕ)) (names : List (List ℕ)) (rule number : ℕ) (c : ConditionTree) where
-  right_refusal : Option (Cause × ℕ)
-  right_refusal = side_refusal block (with_symbols block table c.left) (with_variables block names c.left) (side_of rule number false) c.right
-
-  pub left_fails : (e : ReadError) → Tells e (side_refusal block table names (side_of rule number false) c.left) → Tells e (condition_refusal block table names rule number c)
-  left_fails e = tells_here (side_refusal block table names (side_of rule number false) c.left) _ e
-
   module _ (middle : List (List ℕ × ℕ)) (between : List (List ℕ)) (l : math.Term) (h : IsSideRead block table names (side_of rule number false) c.left middle between l) where
     moved : side_refusal block middle between (side_of rule number false) c.right
         ≡ side_refusal block (with_symbols block table c.left) (with_variables block names c.left) (side_of rule number false) c.right
@@ -77,18 +71,14 @@ module _ (block : List (List ℕ)) (oriented : Bool) (table : List (List ℕ × 
   second_names = with_variables block first_names t.right
 
   -- the refusals of the right side, the bar and the conditions; of the bar and the conditions; of the conditions
-  abbrev last_refusal : Option (Cause × ℕ)
+  abbrev last_refusal : Option (MeaningCause × ℕ)
   last_refusal = conditions_refusal block second_symbols second_names number 1 (conditions_of t)
 
-  abbrev late_refusal : Option (Cause × ℕ)
+  abbrev late_refusal : Option (MeaningCause × ℕ)
   late_refusal = or_refusal (bar_refusal oriented (option_map (λ g. g.at) t.guard)) last_refusal
 
-  abbrev next_refusal : Option (Cause × ℕ)
+  abbrev next_refusal : Option (MeaningCause × ℕ)
   next_refusal = or_refusal (side_refusal block first_symbols first_names at_right t.right) late_refusal
-
-  pub left_part_fails : (names : List (List ℕ)) (e : ReadError) → names ≡ [] → Tells e (side_refusal block table names at_left t.left) → Tells e (rule_refusal block oriented table number t)
-  left_part_fails names e none_yet h =
-      tells_here (side_refusal block table [] at_left t.left) next_refusal e (subst (λ (v : List (List ℕ)). Tells e (side_refusal block table v at_left t.left)) none_yet h)
 
   module _ (names : List (List ℕ)) (middle : List (List ℕ × ℕ)) (between : List (List ℕ)) (l : math.Term) (none_yet : names ≡ []) (first : IsSideRead block table names at_left t.left middle between l) where
     first_read : IsSideRead block table [] at_left t.left middle between l

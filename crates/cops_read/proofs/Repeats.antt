@@ -9,7 +9,7 @@ use Rattle.term_core.specs.RuleView.{rule_view, condition_view}
 use Rattle.term_core.specs.declared.systems.Cond.{Cond}
 use Rattle.term_core.specs.declared.systems.Rule.{Rule}
 use Rattle.cops_read.specs.Meaning.{sides, phrases_of_rule, with_symbols, with_all_symbols, with_variables, with_all_variables, with_rule_symbols, rule_variables, AreConditionsOf, IsRuleOf, AreRulesOf}
-use Rattle.cops_read.specs.Refusals.{Cause}
+use Rattle.cops_read.specs.Refusals.{MeaningCause}
 use Rattle.cops_read.specs.Steps.{Tells, or_refusal}
 use Rattle.cops_read.specs.RuleSteps.{condition_refusal, conditions_refusal, rule_refusal, rules_refusal, IsConditionRead, AreConditionsRead, IsRuleRead, AreNumbersOf, AreRulesRead}
 use Rattle.cops_read.specs.declared.reader.ReadError.{ReadError}
@@ -87,9 +87,9 @@ module _ (block : List (List ℕ)) where
           let grown : Extends now after = subst (λ (x : List (List ℕ × ℕ)). Extends now x) (sym r.symbols) (extends_trans _ _ _ (symbols_extend block now c.left) (symbols_extend block middle c.right)) in
           let grown_names : Extends later latest = subst (λ (x : List (List ℕ)). Extends later x) (sym r.variables) (extends_trans _ _ _ (variables_extend block later c.left) (variables_extend block between c.right)) in
           let number : suc i + 1 ≡ (i + 1) + 1 = omega arith in
-          let further : Option (Cause × ℕ) = conditions_refusal block (with_symbols block middle c.right) (with_variables block between c.right) rule ((i + 1) + 1) left in
+          let further : Option (MeaningCause × ℕ) = conditions_refusal block (with_symbols block middle c.right) (with_variables block between c.right) rule ((i + 1) + 1) left in
           let refusal : further ≡ conditions_refusal block table names rule 1 cs =
-          ap (λ (o : Option (Cause × ℕ)). or_refusal o further) (sym r.accepted) ∙ sym (ap (conditions_refusal block now later rule (i + 1)) n.later) ∙ h.refusal in
+          ap (λ (o : Option (MeaningCause × ℕ)). or_refusal o further) (sym r.accepted) ∙ sym (ap (conditions_refusal block now later rule (i + 1)) n.later) ∙ h.refusal in
           record {
             refusal = ap₂ (λ (x : List (List ℕ × ℕ)) (v : List (List ℕ)). conditions_refusal block x v rule (suc i + 1) left) r.symbols r.variables
                 ∙ ap (λ (k : ℕ). conditions_refusal block (with_symbols block middle c.right) (with_variables block between c.right) rule k left) number ∙ refusal;
@@ -157,9 +157,9 @@ module _ (block : List (List ℕ)) where
           let t = n.item in
           let grown : Extends now after = subst (λ (x : List (List ℕ × ℕ)). Extends now x) (sym g.symbols) (all_symbols_extend block now (phrases_of_rule t)) in
           let number : suc i + 1 ≡ (i + 1) + 1 = omega arith in
-          let further : Option (Cause × ℕ) = rules_refusal block oriented (with_all_symbols block now (phrases_of_rule t)) ((i + 1) + 1) left in
+          let further : Option (MeaningCause × ℕ) = rules_refusal block oriented (with_all_symbols block now (phrases_of_rule t)) ((i + 1) + 1) left in
           let refusal : further ≡ rules_refusal block oriented table 1 ts =
-          ap (λ (o : Option (Cause × ℕ)). or_refusal o further) (sym g.accepted) ∙ sym (ap (rules_refusal block oriented now (i + 1)) n.later) ∙ h.refusal in
+          ap (λ (o : Option (MeaningCause × ℕ)). or_refusal o further) (sym g.accepted) ∙ sym (ap (rules_refusal block oriented now (i + 1)) n.later) ∙ h.refusal in
           record {
             refusal = ap (λ (x : List (List ℕ × ℕ)). rules_refusal block oriented x (suc i + 1) left) g.symbols
                 ∙ ap (λ (k : ℕ). rules_refusal block oriented (with_all_symbols block now (phrases_of_rule t)) k left) number ∙ refusal;

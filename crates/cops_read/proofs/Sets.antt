@@ -4,7 +4,7 @@ use Rattle.std.specs.Prelude.{if◌then◌else◌, ◌||◌}
 use Rattle.std.specs.List.{list_any, position_or_len}
 use Rattle.std.specs.Str.{bytes_eq}
 use Rattle.std.proofs.lemmas.Slice.Eq.{bytes_eq-Decides}
-use Rattle.cops_read.specs.Meaning.{place_of, is_among, with_name}
+use Rattle.cops_read.specs.Meaning.{name_index, is_among, with_name}
 use Rattle.cops_read.proofs.Lists.{position_of_any, position_end, or_len_of_none}
 
 abbrev pub texts : List (Bor (List ℕ)) → List (List ℕ)
@@ -31,10 +31,10 @@ texts_with ks after k e =
     ap texts e ∙ texts_if (list_any (λ j. bytes_eq k.now j.now) ks) ks k
     ∙ ap (λ (b : Bool). if b then texts ks else (texts ks ++ k.now ∷ [])) (any_is k.now ks)
 
-place_if : (names : List (List ℕ)) (name : List ℕ) (b : Bool) → is_among names name ≡ b → place_of (if b then names else (names ++ name ∷ [])) name ≡ Some (position_or_len (bytes_eq name) names)
+place_if : (names : List (List ℕ)) (name : List ℕ) (b : Bool) → is_among names name ≡ b → name_index (if b then names else (names ++ name ∷ [])) name ≡ Some (position_or_len (bytes_eq name) names)
 place_if names name true h = position_of_any (bytes_eq name) names h
 place_if names name false h = position_end (bytes_eq name) names name [] h ((bytes_eq-Decides name name).1 refl) ∙ ap Some (sym (or_len_of_none (bytes_eq name) names h))
 
 -- the place that a name has once it is there
-pub place_with : (names after : List (List ℕ)) (name : List ℕ) → after ≡ with_name names name → place_of after name ≡ Some (position_or_len (bytes_eq name) names)
-place_with names after name e = ap (λ (w : List (List ℕ)). place_of w name) e ∙ place_if names name (is_among names name) refl
+pub place_with : (names after : List (List ℕ)) (name : List ℕ) → after ≡ with_name names name → name_index after name ≡ Some (position_or_len (bytes_eq name) names)
+place_with names after name e = ap (λ (w : List (List ℕ)). name_index w name) e ∙ place_if names name (is_among names name) refl

@@ -19,7 +19,7 @@ use Rattle.rewriting.specs.Rules as rules
 use Rattle.rewriting.specs.Systems as systems
 use Rattle.rewriting.specs.Systems.{Each, terms_of_rule, CountsFrom, IsRuleOver, IsRule, AreRules, condition_count, IsSystem}
 use Rattle.cops_read.specs.NameTable.{NameTable}
-use Rattle.cops_read.specs.Meaning.{is_among, place_of, with_name, sides, phrases_of_rule, variables_of, with_variables, with_all_variables, rule_variables, IsTermOf, AreTermsOf, AreConditionsOf, IsRuleOf, AreRulesOf}
+use Rattle.cops_read.specs.Meaning.{is_among, name_index, with_name, sides, phrases_of_rule, variables_of, with_variables, with_all_variables, rule_variables, IsTermOf, AreTermsOf, AreConditionsOf, IsRuleOf, AreRulesOf}
 use Rattle.cops_read.specs.Limits.{IsSmall, IsAllowed}
 use Rattle.cops_read.specs.File.{IsSystemOf}
 use Rattle.cops_read.proofs.Lists.{Extends, extends_refl, extends_trans, extends_position, position_end, position_of_any}
@@ -92,7 +92,7 @@ new_lacks : (n : ℕ) → math.with_new (upto n) n ≡ upto (suc n)
 new_lacks n = rw (upto_lacks n n (omega arith)) refl
 
 -- the number of a variable is new where its name is
-new_name : (names longer : List (List ℕ)) (name : List ℕ) (x : ℕ) (b : Bool) → is_among names name ≡ b → Extends (if b then names else (names ++ name ∷ [])) longer → place_of longer name ≡ Some x
+new_name : (names longer : List (List ℕ)) (name : List ℕ) (x : ℕ) (b : Bool) → is_among names name ≡ b → Extends (if b then names else (names ++ name ∷ [])) longer → name_index longer name ≡ Some x
     → math.with_new (upto (length names)) x ≡ upto (length (if b then names else (names ++ name ∷ [])))
 new_name names longer name x true h e g =
     let there = position_of_any (bytes_eq name) names h in
@@ -132,7 +132,7 @@ each_fits (cons t ts) h = (fits_of t h.0, each_fits ts h.1)
 
 module _ (block : List (List ℕ)) (table : List (List ℕ × ℕ)) where
   word_variable : (names longer : List (List ℕ)) (name : List ℕ) (x : ℕ) (b : Bool) → b ≡ true → Extends (if b then with_name names name else names) longer
-      → place_of longer name ≡ Some x → math.with_new (upto (length names)) x ≡ upto (length (if b then with_name names name else names))
+      → name_index longer name ≡ Some x → math.with_new (upto (length names)) x ≡ upto (length (if b then with_name names name else names))
   word_variable names longer name x true h e g = new_name names longer name x (is_among names name) refl e g
   word_variable names longer name x false h e g = cc
 

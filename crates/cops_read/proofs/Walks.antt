@@ -10,10 +10,10 @@ use Rattle.term_core.specs.declared.terms.Term.{Term, Var, Fun}
 use Rattle.term_core.proofs.Views.{view-Var, view-Fun}
 use Rattle.cops_read.specs.Meaning.{is_among, with_symbol, with_symbols, with_all_symbols, with_variables, with_all_variables, IsTermOf, AreTermsOf}
 use Rattle.cops_read.specs.Uses.{Side, Use}
-use Rattle.cops_read.specs.Refusals.{Cause, limit_cause, cause_at, first_or, variable_cause, symbol_cause}
+use Rattle.cops_read.specs.Refusals.{MeaningCause, limit_cause, cause_at, first_or, variable_cause, symbol_cause}
 use Rattle.cops_read.specs.Steps.{Tells, or_refusal, nodes, all_nodes, use_at, term_refusal, terms_refusal, IsRead, AreRead}
 use Rattle.cops_read.specs.Heads.{IsHead}
-use Rattle.cops_read.specs.declared.heads.Head.TheVariants.{Variable, Symbol}
+use Rattle.cops_read.specs.declared.heads.VariableOrSymbol.TheVariants.{Variable, Symbol}
 use Rattle.cops_read.specs.declared.reader.ReadError.{ReadError}
 use Rattle.cops_read.proofs.Lists.{Extends}
 use Rattle.cops_read.proofs.Growth.{symbols_extend, all_symbols_extend, variables_extend, symbol_grows, terms_grow}
@@ -49,7 +49,7 @@ module _ (block : List (List ℕ)) (table : List (List ℕ × ℕ)) (names : Lis
       → IsHead block table names (use_at side depth argument before (head_of p)) after later (Variable x)
       → IsRead block table names p before (term_refusal block table names side depth argument before p) after later (var x) (before + 1)
   variable_read (word f) after later x l h = record {
-    accepted = ap (λ (c : Option Cause). first_or c f.at None) (cause_of_variable (use_at side depth argument before (head_of (word f))) l h.0 h.2.accepted);
+    accepted = ap (λ (c : Option MeaningCause). first_or c f.at None) (cause_of_variable (use_at side depth argument before (head_of (word f))) l h.0 h.2.accepted);
     symbols = h.1 ∙ (let b = h.0 in rw b refl);
     variables = h.2.added ∙ (let b = h.0 in rw b refl);
     means = (h.0, h.2.number);
@@ -88,7 +88,7 @@ module _ (block : List (List ℕ)) (table : List (List ℕ × ℕ)) (names : Lis
       let b = h.0 in
       let whole = r.symbols ∙ h.2.added in
       record {
-        accepted = ap (λ (c : Option Cause). first_or c g.at None) (cause_of_symbol (use_at side depth argument before (head_of (word g))) l h.0 h.2.accepted);
+        accepted = ap (λ (c : Option MeaningCause). first_or c g.at None) (cause_of_symbol (use_at side depth argument before (head_of (word g))) l h.0 h.2.accepted);
         symbols = whole ∙ (rw b refl);
         variables = r.variables ∙ (rw b refl);
         means = (symbol_grows block middle after g.text 0 f (subst (λ (x : List (List ℕ × ℕ)). Extends middle x) (sym r.symbols) (all_symbols_extend block middle none)) (h.0, h.2.number, h.2.arity), refl);
@@ -98,7 +98,7 @@ module _ (block : List (List ℕ)) (table : List (List ℕ × ℕ)) (names : Lis
       let cause = cause_of_symbol (use_at side depth argument before (head_of (call g ts))) l h.0 h.2.accepted in
       let refused = subst (λ (x : List (List ℕ × ℕ)). terms_refusal block x names side (depth + 1) 1 (before + 1) ts ≡ None) h.2.added r.accepted in
       record {
-        accepted = ap (λ (c : Option Cause). first_or c g.at (terms_refusal block (with_symbol table g.text (count ts)) names side (depth + 1) 1 (before + 1) ts)) cause ∙ refused;
+        accepted = ap (λ (c : Option MeaningCause). first_or c g.at (terms_refusal block (with_symbol table g.text (count ts)) names side (depth + 1) 1 (before + 1) ts)) cause ∙ refused;
         symbols = r.symbols ∙ ap (λ (x : List (List ℕ × ℕ)). with_all_symbols block x ts) h.2.added;
         variables = r.variables;
         means = (symbol_grows block middle after g.text (count ts) f (subst (λ (x : List (List ℕ × ℕ)). Extends middle x) (sym r.symbols) (all_symbols_extend block middle ts)) (h.0, h.2.number, h.2.arity), r.mean);
@@ -157,9 +157,9 @@ module _ (block : List (List ℕ)) where
           let grown : Extends now after = subst (λ (x : List (List ℕ × ℕ)). Extends now x) (sym r.symbols) (symbols_extend block now n.phrase) in
           let grown_names : Extends later latest = subst (λ (x : List (List ℕ)). Extends later x) (sym r.variables) (variables_extend block later n.phrase) in
           let place : suc i + 1 ≡ (i + 1) + 1 = omega arith in
-          let further : Option (Cause × ℕ) = terms_refusal block (with_symbols block now n.phrase) (with_variables block later n.phrase) side depth ((i + 1) + 1) (before + nodes n.phrase) left in
+          let further : Option (MeaningCause × ℕ) = terms_refusal block (with_symbols block now n.phrase) (with_variables block later n.phrase) side depth ((i + 1) + 1) (before + nodes n.phrase) left in
           let refusal : further ≡ terms_refusal block table names side depth 1 start ps =
-          ap (λ (o : Option (Cause × ℕ)). or_refusal o further) (sym r.accepted) ∙ sym (ap (terms_refusal block now later side depth (i + 1) before) n.later) ∙ h.refusal in
+          ap (λ (o : Option (MeaningCause × ℕ)). or_refusal o further) (sym r.accepted) ∙ sym (ap (terms_refusal block now later side depth (i + 1) before) n.later) ∙ h.refusal in
           let count_left = ap all_nodes n.later in
           let before_end = h.end in
           let next_end = r.end in

@@ -11,7 +11,7 @@ use Rattle.rewriting.specs.Systems.{Each}
 use Rattle.cops_read.specs.NameTable.{NameTable, number_of}
 use Rattle.cops_read.specs.Meaning.{is_among, with_name, with_symbol, sides, phrases_of_rule, variables_of, with_variables, with_all_variables, with_symbols, with_all_symbols, with_rule_symbols, rule_variables, IsTermOf, AreTermsOf, AreConditionsOf, IsRuleOf, AreRulesOf}
 use Rattle.cops_read.specs.Uses.{Side, side_of, Use}
-use Rattle.cops_read.specs.Refusals.{Cause, cause_or, limit_cause, variable_cause, symbol_cause, known_symbol_cause, arity_in, cause_at, first_or}
+use Rattle.cops_read.specs.Refusals.{MeaningCause, cause_or, limit_cause, variable_cause, symbol_cause, known_symbol_cause, arity_in, cause_at, first_or}
 use Rattle.cops_read.specs.Steps.{or_refusal, nodes, all_nodes, use_at, term_refusal, terms_refusal}
 use Rattle.cops_read.specs.RuleSteps.{side_refusal, condition_refusal, conditions_refusal, bar_refusal, rule_refusal, rules_refusal}
 use Rattle.cops_read.specs.Limits.{IsSmall, IsAllowed, IsWithinLimits}
@@ -28,19 +28,19 @@ pub record IsWithin (u : Use) : Type 0 where
 is_within : (u : Use) → limit_cause u ≡ None → IsWithin u
 is_within u h = record { rules = grind (arith, nat_tests); conditions = grind (arith, nat_tests); arguments = grind (arith, nat_tests); depth = grind (arith, nat_tests); number = grind (arith, nat_tests) }
 
-no_limit : (l other : Option Cause) → cause_or l other ≡ None → l ≡ None
+no_limit : (l other : Option MeaningCause) → cause_or l other ≡ None → l ≡ None
 no_limit None other h = refl
 no_limit (Some c) other h = cc
 
-no_other : (l other : Option Cause) → cause_or l other ≡ None → other ≡ None
+no_other : (l other : Option MeaningCause) → cause_or l other ≡ None → other ≡ None
 no_other None other h = h
 no_other (Some c) other h = cc
 
-pub no_cause : (c : Option Cause) (at : ℕ) (o : Option (Cause × ℕ)) → first_or c at o ≡ None → c ≡ None
+pub no_cause : (c : Option MeaningCause) (at : ℕ) (o : Option (MeaningCause × ℕ)) → first_or c at o ≡ None → c ≡ None
 no_cause None at o h = refl
 no_cause (Some c) at o h = cc
 
-pub no_later : (c : Option Cause) (at : ℕ) (o : Option (Cause × ℕ)) → first_or c at o ≡ None → o ≡ None
+pub no_later : (c : Option MeaningCause) (at : ℕ) (o : Option (MeaningCause × ℕ)) → first_or c at o ≡ None → o ≡ None
 no_later None at o h = h
 no_later (Some c) at o h = cc
 

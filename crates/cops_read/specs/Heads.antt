@@ -2,23 +2,23 @@
 use Rattle.std.specs.Prelude.{◌≡◌, ◌<◌, ◌≤◌, ℕ, true, false, List, Option, Some, None, Result, Ok, Err, option_map, slice_get}
 use Rattle.file_text.specs.Syntax.{Node}
 use Rattle.cops_read.specs.NameTable.{number_of}
-use Rattle.cops_read.specs.Meaning.{is_among, place_of, with_name, with_symbol}
+use Rattle.cops_read.specs.Meaning.{is_among, name_index, with_name, with_symbol}
 use Rattle.cops_read.specs.Uses.{Side, side_of, Use}
-use Rattle.cops_read.specs.Refusals.{Cause, limit_cause, variable_cause, symbol_cause, cause_at, first_or}
+use Rattle.cops_read.specs.Refusals.{MeaningCause, limit_cause, variable_cause, symbol_cause, cause_at, first_or}
 use Rattle.cops_read.specs.Answers.{most_of}
 use Rattle.cops_read.specs.Steps.{Tells, use_at}
-use Rattle.cops_read.specs.declared.heads.Place.{Place}
-use Rattle.cops_read.specs.declared.heads.Head.{Head}
-use Rattle.cops_read.specs.declared.heads.Head.TheVariants.{Variable, Symbol}
+use Rattle.cops_read.specs.declared.heads.NodePlace.{NodePlace}
+use Rattle.cops_read.specs.declared.heads.VariableOrSymbol.{VariableOrSymbol}
+use Rattle.cops_read.specs.declared.heads.VariableOrSymbol.TheVariants.{Variable, Symbol}
 use Rattle.cops_read.specs.declared.reader.Count.{Count}
 use Rattle.cops_read.specs.declared.reader.ReadError.{ReadError}
 use Rattle.cops_read.specs.declared.reader.ReadError.TheVariants.{TooMany}
 
-abbrev pub side_at : Place → Side
+abbrev pub side_at : NodePlace → Side
 side_at p = side_of p.rule p.condition p.is_left
 
 -- the use of an identifier that stands there
-abbrev pub used_at : Place → Node → Use
+abbrev pub used_at : NodePlace → Node → Use
 used_at p node = use_at (side_at p) p.depth p.argument p.before node
 
 abbrev pub WithinAnswers : Count → ℕ → ℕ → Result (Unit {0}) ReadError → Type 0
@@ -31,7 +31,7 @@ RoomAnswers what number at (Ok _) = number < most_of what
 RoomAnswers what number at (Err e) = (most_of what ≤ number) × (e ≡ TooMany what (most_of what) at)
 
 -- no cause, or the error tells it
-abbrev pub CauseAnswers : Option Cause → ℕ → Result (Unit {0}) ReadError → Type 0
+abbrev pub CauseAnswers : Option MeaningCause → ℕ → Result (Unit {0}) ReadError → Type 0
 CauseAnswers cause at (Ok _) = cause ≡ None
 CauseAnswers cause at (Err e) = Tells e (first_or cause at None)
 
@@ -39,7 +39,7 @@ CauseAnswers cause at (Err e) = Tells e (first_or cause at None)
 pub record IsVariableUsed (names : List (List ℕ)) (u : Use) (later : List (List ℕ)) (x : ℕ) : Type 0 where
   pub accepted : variable_cause names u ≡ None
   pub added : later ≡ with_name names u.spot.node.name.text
-  pub number : place_of later u.spot.node.name.text ≡ Some x
+  pub number : name_index later u.spot.node.name.text ≡ Some x
 
 abbrev pub VariableAnswers : List (List ℕ) → Use → List (List ℕ) → Result ℕ ReadError → Type 0
 VariableAnswers names u later (Ok x) = IsVariableUsed names u later x
@@ -59,10 +59,10 @@ SymbolAnswers table u after (Err e) = Tells e (first_or (symbol_cause table u) u
 -- Of the identifiers, those of the block are variables.
 module _ (block : List (List ℕ)) where
   -- a variable or a symbol
-  abbrev pub IsHead : List (List ℕ × ℕ) → List (List ℕ) → Use → List (List ℕ × ℕ) → List (List ℕ) → Head → Type 0
+  abbrev pub IsHead : List (List ℕ × ℕ) → List (List ℕ) → Use → List (List ℕ × ℕ) → List (List ℕ) → VariableOrSymbol → Type 0
   IsHead table names u after later (Variable x) = (is_among block u.spot.node.name.text ≡ true) × (after ≡ table) × IsVariableUsed names u later x
   IsHead table names u after later (Symbol f) = (is_among block u.spot.node.name.text ≡ false) × (later ≡ names) × IsSymbolUsed table u after f
 
-  abbrev pub HeadAnswers : List (List ℕ × ℕ) → List (List ℕ) → Use → List (List ℕ × ℕ) → List (List ℕ) → Result Head ReadError → Type 0
+  abbrev pub HeadAnswers : List (List ℕ × ℕ) → List (List ℕ) → Use → List (List ℕ × ℕ) → List (List ℕ) → Result VariableOrSymbol ReadError → Type 0
   HeadAnswers table names u after later (Ok head) = (limit_cause u ≡ None) × IsHead table names u after later head
   HeadAnswers table names u after later (Err e) = Tells e (first_or (cause_at block table names u) u.spot.node.name.at None)

@@ -1,4 +1,5 @@
 pub mod NameTable
+pub mod Bounds
 pub mod NamesView
 pub mod Meaning
 pub mod Uses

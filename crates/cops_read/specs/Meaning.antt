@@ -8,8 +8,8 @@ use Rattle.rewriting.specs.Rules.{Condition, Rule}
 use Rattle.cops_read.specs.NameTable.{number_of}
 
 -- where a name stands in a list
-abbrev pub place_of : List (List ℕ) → List ℕ → Option ℕ
-place_of names name = position (bytes_eq name) names
+abbrev pub name_index : List (List ℕ) → List ℕ → Option ℕ
+name_index names name = position (bytes_eq name) names
 
 abbrev pub is_among : List (List ℕ) → List ℕ → Bool
 is_among names name = list_any (bytes_eq name) names
@@ -71,7 +71,7 @@ module _ (block : List (List ℕ)) where
 
   -- The identifier is a variable, with this number.
   abbrev pub IsVariableOf : List (List ℕ) → List ℕ → ℕ → Type 0
-  IsVariableOf names name x = (is_among block name ≡ true) × (place_of names name ≡ Some x)
+  IsVariableOf names name x = (is_among block name ≡ true) × (name_index names name ≡ Some x)
 
   -- The identifier is a symbol, with this number and as many arguments as its arity.
   abbrev pub IsSymbolOf : List (List ℕ × ℕ) → List ℕ → ℕ → ℕ → Type 0

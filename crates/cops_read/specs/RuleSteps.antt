@@ -13,12 +13,12 @@ use Rattle.cops_read.specs.Meaning.{sides, phrases_of_rule, with_symbols, with_a
 use Rattle.cops_read.specs.Uses.{Side, side_of}
 use Rattle.cops_read.specs.NameTable.{NameTable}
 use Rattle.cops_read.specs.File.{IsSystemOf}
-use Rattle.cops_read.specs.Refusals.{Cause, conditions_without_type, refusal_of}
+use Rattle.cops_read.specs.Refusals.{MeaningCause, conditions_without_type, refusal_of}
 use Rattle.cops_read.specs.Steps.{Tells, or_refusal, term_refusal}
 use Rattle.cops_read.specs.declared.reader.ReadError.{ReadError}
 
 -- at a bar
-abbrev pub bar_refusal : Bool → Option ℕ → Option (Cause × ℕ)
+abbrev pub bar_refusal : Bool → Option ℕ → Option (MeaningCause × ℕ)
 bar_refusal oriented None = None
 bar_refusal oriented (Some at) = if oriented then None else Some (conditions_without_type, at)
 
@@ -29,24 +29,24 @@ BarAnswers oriented bar (Err e) = Tells e (bar_refusal oriented bar)
 -- Of the identifiers, those of the block are variables. Refusals come with the symbols and the rule's variables so far.
 module _ (block : List (List ℕ)) where
   -- in a side of a rule or of a condition
-  abbrev pub side_refusal : List (List ℕ × ℕ) → List (List ℕ) → Side → Phrase → Option (Cause × ℕ)
+  abbrev pub side_refusal : List (List ℕ × ℕ) → List (List ℕ) → Side → Phrase → Option (MeaningCause × ℕ)
   side_refusal table names side p = term_refusal block table names side 1 0 0 p
 
   -- in the condition with a number
-  abbrev pub condition_refusal : List (List ℕ × ℕ) → List (List ℕ) → ℕ → ℕ → ConditionTree → Option (Cause × ℕ)
+  abbrev pub condition_refusal : List (List ℕ × ℕ) → List (List ℕ) → ℕ → ℕ → ConditionTree → Option (MeaningCause × ℕ)
   condition_refusal table names rule number c =
       or_refusal (side_refusal table names (side_of rule number false) c.left)
       (side_refusal (with_symbols block table c.left) (with_variables block names c.left) (side_of rule number false) c.right)
 
   -- in conditions from a number on
-  abbrev pub conditions_refusal : List (List ℕ × ℕ) → List (List ℕ) → ℕ → ℕ → List ConditionTree → Option (Cause × ℕ)
+  abbrev pub conditions_refusal : List (List ℕ × ℕ) → List (List ℕ) → ℕ → ℕ → List ConditionTree → Option (MeaningCause × ℕ)
   conditions_refusal table names rule number [] = None
   conditions_refusal table names rule number (c ∷ cs) =
       or_refusal (condition_refusal table names rule number c)
       (conditions_refusal (with_symbols block (with_symbols block table c.left) c.right) (with_variables block (with_variables block names c.left) c.right) rule (number + 1) cs)
 
   -- in the rule with a number
-  abbrev pub rule_refusal : Bool → List (List ℕ × ℕ) → ℕ → RuleTree → Option (Cause × ℕ)
+  abbrev pub rule_refusal : Bool → List (List ℕ × ℕ) → ℕ → RuleTree → Option (MeaningCause × ℕ)
   rule_refusal oriented table number r =
       or_refusal (side_refusal table [] (side_of number 0 true) r.left)
       (or_refusal (side_refusal (with_symbols block table r.left) (with_variables block [] r.left) (side_of number 0 false) r.right)
@@ -54,7 +54,7 @@ module _ (block : List (List ℕ)) where
       (conditions_refusal (with_symbols block (with_symbols block table r.left) r.right) (with_variables block (with_variables block [] r.left) r.right) number 1 (conditions_of r))))
 
   -- in rules from a number on
-  abbrev pub rules_refusal : Bool → List (List ℕ × ℕ) → ℕ → List RuleTree → Option (Cause × ℕ)
+  abbrev pub rules_refusal : Bool → List (List ℕ × ℕ) → ℕ → List RuleTree → Option (MeaningCause × ℕ)
   rules_refusal oriented table number [] = None
   rules_refusal oriented table number (r ∷ rs) =
       or_refusal (rule_refusal oriented table number r) (rules_refusal oriented (with_all_symbols block table (phrases_of_rule r)) (number + 1) rs)

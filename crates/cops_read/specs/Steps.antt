@@ -7,7 +7,7 @@ use Rattle.term_core.specs.View.{view, views}
 use Rattle.term_core.specs.declared.terms.Term.{Term}
 use Rattle.cops_read.specs.Meaning.{with_symbol, with_symbols, with_all_symbols, with_variables, with_all_variables, IsTermOf, AreTermsOf}
 use Rattle.cops_read.specs.Uses.{Side, Use}
-use Rattle.cops_read.specs.Refusals.{Cause, conditions_without_type, too_deep, variable_with_arguments, left_variable, arity_differs, cause_at, first_or}
+use Rattle.cops_read.specs.Refusals.{MeaningCause, conditions_without_type, too_deep, variable_with_arguments, left_variable, arity_differs, cause_at, first_or}
 use Rattle.cops_read.specs.Answers.{cause_of_count, most_of}
 use Rattle.cops_syntax.specs.declared.reader.SyntaxError.{SyntaxError}
 use Rattle.cops_syntax.specs.declared.reader.SyntaxError.TheVariants as syntax
@@ -15,7 +15,7 @@ use Rattle.cops_read.specs.declared.reader.ReadError.{ReadError}
 use Rattle.cops_read.specs.declared.reader.ReadError.TheVariants.{BadByte, IdTooLong, CommentNotClosed, Syntax, UnknownBlock, RepeatedBlock, ConditionTypeOther, MissingRules, ConditionsWithoutType, VariableWithArguments, ArityDiffers, LeftVariable, TooDeep, TooMany, NoMemory}
 
 -- the error tells this refusal, or want of memory
-abbrev pub Tells : ReadError → Option (Cause × ℕ) → Type 0
+abbrev pub Tells : ReadError → Option (MeaningCause × ℕ) → Type 0
 Tells (BadByte at) o = ⊥
 Tells (IdTooLong at) o = ⊥
 Tells (CommentNotClosed at) o = ⊥
@@ -33,7 +33,7 @@ Tells (TooMany what limit at) o = (o ≡ Some (cause_of_count what, at)) × (lim
 Tells NoMemory o = Unit {0}
 
 -- the first refusal, or else the other
-abbrev pub or_refusal : Option (Cause × ℕ) → Option (Cause × ℕ) → Option (Cause × ℕ)
+abbrev pub or_refusal : Option (MeaningCause × ℕ) → Option (MeaningCause × ℕ) → Option (MeaningCause × ℕ)
 or_refusal (Some refusal) others = Some refusal
 or_refusal None others = others
 
@@ -55,21 +55,21 @@ use_at side depth argument before node = record { side = side; spot = record { n
 module _ (block : List (List ℕ)) where
   -- in a term of which so many identifiers stand before
   abbrev mutual
-    pub term_refusal : List (List ℕ × ℕ) → List (List ℕ) → Side → ℕ → ℕ → ℕ → Phrase → Option (Cause × ℕ)
+    pub term_refusal : List (List ℕ × ℕ) → List (List ℕ) → Side → ℕ → ℕ → ℕ → Phrase → Option (MeaningCause × ℕ)
     term_refusal table names side depth argument before (word f) =
         first_or (cause_at block table names (use_at side depth argument before record { name = f; brackets = false; arguments = 0 })) f.at None
     term_refusal table names side depth argument before (call f ts) =
         first_or (cause_at block table names (use_at side depth argument before record { name = f; brackets = true; arguments = count ts })) f.at
         (terms_refusal (with_symbol table f.text (count ts)) names side (depth + 1) 1 (before + 1) ts)
 
-    pub terms_refusal : List (List ℕ × ℕ) → List (List ℕ) → Side → ℕ → ℕ → ℕ → Phrases → Option (Cause × ℕ)
+    pub terms_refusal : List (List ℕ × ℕ) → List (List ℕ) → Side → ℕ → ℕ → ℕ → Phrases → Option (MeaningCause × ℕ)
     terms_refusal table names side depth argument before none = None
     terms_refusal table names side depth argument before (more t ts) =
         or_refusal (term_refusal table names side depth argument before t)
         (terms_refusal (with_symbols block table t) (with_variables block names t) side depth (argument + 1) (before + nodes t) ts)
 
   -- a phrase was read: what it adds to the symbols and the variables, what it means, and the identifiers up to its end
-  pub record IsRead (table : List (List ℕ × ℕ)) (names : List (List ℕ)) (p : Phrase) (before : ℕ) (refusal : Option (Cause × ℕ)) (after : List (List ℕ × ℕ)) (later : List (List ℕ)) (t : math.Term) (next : ℕ) : Type 0 where
+  pub record IsRead (table : List (List ℕ × ℕ)) (names : List (List ℕ)) (p : Phrase) (before : ℕ) (refusal : Option (MeaningCause × ℕ)) (after : List (List ℕ × ℕ)) (later : List (List ℕ)) (t : math.Term) (next : ℕ) : Type 0 where
     pub accepted : refusal ≡ None
     pub symbols : after ≡ with_symbols block table p
     pub variables : later ≡ with_variables block names p
@@ -82,7 +82,7 @@ module _ (block : List (List ℕ)) where
   TermAnswers table names side depth argument before p after later (Err e) = Tells e (term_refusal table names side depth argument before p)
 
   -- the same of a list of phrases
-  pub record AreRead (table : List (List ℕ × ℕ)) (names : List (List ℕ)) (ps : Phrases) (before : ℕ) (refusal : Option (Cause × ℕ)) (after : List (List ℕ × ℕ)) (later : List (List ℕ)) (ts : math.Terms) (next : ℕ) : Type 0 where
+  pub record AreRead (table : List (List ℕ × ℕ)) (names : List (List ℕ)) (ps : Phrases) (before : ℕ) (refusal : Option (MeaningCause × ℕ)) (after : List (List ℕ × ℕ)) (later : List (List ℕ)) (ts : math.Terms) (next : ℕ) : Type 0 where
     pub accepted : refusal ≡ None
     pub symbols : after ≡ with_all_symbols block table ps
     pub variables : later ≡ with_all_variables block names ps

@@ -10,7 +10,8 @@ use cops_syntax::{Name, Node};
 use std::alloc::Global;
 use term_core::NoMemory;
 
-const MOST_DEPTH: usize = 200;
+/// No term of a file is deeper.
+pub const MOST_DEPTH: usize = 200;
 
 // What is known while rules are read: the variables' block, the names of symbols and of the rules
 // so far, and the variables of the rule that is read.
@@ -25,7 +26,7 @@ pub(crate) struct Scope<'a> {
 // and whether in the left side; its depth, from 1; which argument begins with it, 0 at the root; and
 // how many identifiers of its term stand before it.
 #[derive(Clone, Copy)]
-pub(crate) struct Place {
+pub(crate) struct NodePlace {
     pub(crate) rule: usize,
     pub(crate) condition: usize,
     pub(crate) is_left: bool,
@@ -35,7 +36,7 @@ pub(crate) struct Place {
 }
 
 // A variable or a symbol, by its number.
-pub(crate) enum Head {
+pub(crate) enum VariableOrSymbol {
     Variable(u32),
     Symbol(u32),
 }
@@ -84,7 +85,7 @@ pub(crate) fn small(number: usize) -> Result<u32, NoMemory>
 }
 
 // Refuses a place that is beyond the limits.
-fn within_limits(node: &Node<'_>, place: Place) -> Result<(), ReadError>
+fn within_limits(node: &Node<'_>, place: NodePlace) -> Result<(), ReadError>
     requires { place.before + 1 < 2 ^ 64 }
     ensures { CauseAnswers (limit_cause (used_at place (node_view node.now))) node.now.name.at result }
 {
@@ -102,7 +103,7 @@ fn within_limits(node: &Node<'_>, place: Place) -> Result<(), ReadError>
 fn read_variable<'a>(
     variables: &mut NameSet<'a>,
     node: &Node<'a>,
-    place: Place,
+    place: NodePlace,
     name: &'a str,
 ) -> Result<u32, ReadError>
     requires { name.now ≡ node.now.name.text.now }
@@ -126,7 +127,7 @@ fn read_symbol(
     alloc: Global,
     names: &mut Names,
     node: &Node<'_>,
-    place: Place,
+    place: NodePlace,
     name: &str,
 ) -> Result<u32, ReadError>
     requires { name.now ≡ node.now.name.text.now }
@@ -152,8 +153,8 @@ pub(crate) fn read_head<'a>(
     alloc: Global,
     scope: &mut Scope<'a>,
     node: &Node<'a>,
-    place: Place,
-) -> Result<Head, ReadError>
+    place: NodePlace,
+) -> Result<VariableOrSymbol, ReadError>
     requires { place.before + 1 < 2 ^ 64 }
     ensures head { HeadAnswers scope.old.block scope.old.names.symbols scope.old.variables (used_at place (node_view node.now)) scope.new.names.symbols scope.new.variables result }
     ensures block { scope.new.block ≡ scope.old.block }
@@ -163,8 +164,8 @@ pub(crate) fn read_head<'a>(
     let name = text_of(&node.name)?;
     if scope.block.has(name) {
         let number = read_variable(&mut scope.variables, node, place, name)?;
-        return Ok(Head::Variable(number));
+        return Ok(VariableOrSymbol::Variable(number));
     }
     let number = read_symbol(alloc, &mut scope.names, node, place, name)?;
-    Ok(Head::Symbol(number))
+    Ok(VariableOrSymbol::Symbol(number))
 }

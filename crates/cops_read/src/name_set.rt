@@ -1,5 +1,5 @@
-ghost use Rattle.std.specs.Prelude.{◌≡◌, ◌<◌, [], Some, IfOk, OnOk, length};
-ghost use Rattle.cops_read.specs.Meaning.{place_of, is_among, with_name};
+ghost use Rattle.std.specs.Prelude.{◌≡◌, ◌<◌, [], Some, IfOk, OnOk, length, map};
+ghost use Rattle.cops_read.specs.Meaning.{name_index, is_among, with_name};
 ghost use Rattle.cops_read.specs.NamesView.{texts_of};
 
 use indexmap::IndexSet;
@@ -7,9 +7,9 @@ use std::alloc::Global;
 use std::marker::Model;
 use term_core::NoMemory;
 
-// Distinct names, in the order in which they came.
+/// Distinct names, in the order in which they came.
 #[derive(Drop)]
-pub(crate) struct NameSet<'a> {
+pub struct NameSet<'a> {
     names: IndexSet<&'a str>,
 }
 
@@ -24,7 +24,8 @@ impl<'a> Model for NameSet<'a> {
 }
 
 impl<'a> NameSet<'a> {
-    pub(crate) fn new(alloc: Global) -> NameSet<'a>
+    /// No name.
+    pub fn new(alloc: Global) -> NameSet<'a>
         ensures { result ≡ [] }
     {
         NameSet {
@@ -32,34 +33,45 @@ impl<'a> NameSet<'a> {
         }
     }
 
-    pub(crate) fn clear(&mut self)
+    /// Takes all names out.
+    pub fn clear(&mut self)
         ensures { self.new ≡ [] }
     {
         self.names.clear();
     }
 
-    pub(crate) fn len(&self) -> usize
+    /// How many names there are.
+    pub fn len(&self) -> usize
         ensures { result ≡ length self.now }
     {
         self.names.len()
     }
 
-    pub(crate) fn has(&self, name: &str) -> bool
+    /// Whether the name is there.
+    pub fn has(&self, name: &str) -> bool
         ensures { result ≡ is_among self.now name.now }
     {
         self.names.contains(name)
     }
 
-    // The place of a name, which is put last where it is new.
-    pub(crate) fn add(&mut self, name: &'a str) -> Result<usize, NoMemory>
+    /// The place of a name, which is put last where it is new.
+    pub fn add(&mut self, name: &'a str) -> Result<usize, NoMemory>
         ensures names { OnOk result (self.new ≡ with_name self.old name.now) }
-        ensures place { IfOk result (λ i. place_of self.new name.now ≡ Some i) }
+        ensures place { IfOk result (λ i. name_index self.new name.now ≡ Some i) }
     {
         let (place, _) = self.names.insert_full(name)?;
         Ok(place)
     }
 
-    pub(crate) fn strings(&self, alloc: Global) -> Result<Vec<String>, NoMemory>
+    /// The names in order.
+    pub fn names(&self) -> &[&'a str]
+        ensures { map (λ k. k.now) result.now ≡ self.now }
+    {
+        self.names.as_slice()
+    }
+
+    /// The names in order, each with memory of its own.
+    pub fn strings(&self, alloc: Global) -> Result<Vec<String>, NoMemory>
         ensures { IfOk result (λ v. texts_of v.items ≡ self.now) }
     {
         let mut strings = Vec::new(alloc);

@@ -1,5 +1,5 @@
 ghost use Rattle.std.specs.Prelude.{◌≡◌};
-ghost use Rattle.cops_read.specs.Answers.{most_of, ReadAnswers, OneSystem, SystemsAreSound, SystemsAreWithinLimits, OneRefusal, NeverSystemAndRefusal, SystemOrRefusal};
+ghost use Rattle.cops_read.specs.Answers.{most_of, ReadAnswers, OneSystem, SystemsAreSound, SystemsAreWithinLimits, OneRefusal, RefusalsAreWithin, NeverSystemAndRefusal, SystemOrRefusal};
 ghost use Rattle.cops_read.specs.declared.reader.ReadError.TheVariants.{NoMemory as no_memory};
 
 use crate::files::read_file;
@@ -155,13 +155,14 @@ pub fn read_system(alloc: Global, bytes: &[u8]) -> Result<(System, Names), ReadE
     read_file(alloc, &file)
 }
 
-/// A text spells one system, with one table of names, or it has one refusal other than want of memory,
-/// and never both. What it spells is a system within the limits.
+/// A text spells one system, with one table of names, or it has one refusal, and never both. What it
+/// spells is a system within the limits; the place of a refusal is within the text or at its end.
 pub fn one_reading()
     ensures one { OneSystem }
     ensures sound { SystemsAreSound }
     ensures limits { SystemsAreWithinLimits }
     ensures refusal { OneRefusal }
+    ensures within { RefusalsAreWithin }
     ensures either { NeverSystemAndRefusal }
     ensures some { SystemOrRefusal }
 {}

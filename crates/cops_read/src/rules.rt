@@ -4,7 +4,7 @@ ghost use Rattle.cops_syntax.specs.View.{IsTerm, IsCondition, AreConditions, IsR
 ghost use Rattle.cops_read.specs.Uses.{side_of};
 ghost use Rattle.cops_read.specs.RuleSteps.{SideAnswers, BarAnswers, ConditionAnswers, ConditionsAnswers, PartsAnswers, RuleAnswers, RulesAnswers};
 
-use crate::heads::{Place, Scope, small};
+use crate::heads::{NodePlace, Scope, small};
 use crate::reader::ReadError;
 use crate::terms::read_term;
 use cops_syntax::{CondText, Node, RuleText};
@@ -25,7 +25,7 @@ fn read_side<'a>(
     ensures block { scope.new.block ≡ scope.old.block }
     ensures rules { scope.new.names.variables ≡ scope.old.names.variables }
 {
-    let root = Place {
+    let root = NodePlace {
         rule,
         condition,
         is_left,

@@ -4,7 +4,7 @@ ghost use Rattle.cops_syntax.specs.View.{nodes_view, IsTerm};
 ghost use Rattle.cops_read.specs.Heads.{side_at};
 ghost use Rattle.cops_read.specs.Steps.{TermAnswers, ArgumentsAnswers};
 
-use crate::heads::{Head, Place, Scope, read_head};
+use crate::heads::{NodePlace, Scope, VariableOrSymbol, read_head};
 use crate::reader::ReadError;
 use cops_syntax::Node;
 use std::alloc::Global;
@@ -17,7 +17,7 @@ pub(crate) fn read_term<'a>(
     alloc: Global,
     scope: &mut Scope<'a>,
     nodes: &[Node<'a>],
-    place: Place,
+    place: NodePlace,
 ) -> Result<(Term, usize), ReadError>
     ensures term { (p : syntax.Phrase) (rest : List syntax.Node) → nodes_view (drop place.before nodes.now) ≡ syntax.flat p ++ rest → TermAnswers scope.old.block scope.old.names.symbols scope.old.variables (side_at place) place.depth place.argument place.before p scope.new.names.symbols scope.new.variables result }
     ensures few { OnOk result (place.rule ≤ 1000) }
@@ -28,9 +28,9 @@ pub(crate) fn read_term<'a>(
         return Err(ReadError::NoMemory);
     };
     match read_head(alloc, scope, node, place)? {
-        Head::Variable(number) => Ok((Term::Var(number), place.before + 1)),
-        Head::Symbol(number) => {
-            let first = Place {
+        VariableOrSymbol::Variable(number) => Ok((Term::Var(number), place.before + 1)),
+        VariableOrSymbol::Symbol(number) => {
+            let first = NodePlace {
                 depth: place.depth + 1,
                 argument: 1,
                 before: place.before + 1,
@@ -48,7 +48,7 @@ fn read_arguments<'a>(
     alloc: Global,
     scope: &mut Scope<'a>,
     nodes: &[Node<'a>],
-    first: Place,
+    first: NodePlace,
     count: usize,
 ) -> Result<(Vec<Term>, usize), ReadError>
     ensures terms { (ps : syntax.Phrases) (rest : List syntax.Node) → count ≡ syntax.count ps → nodes_view (drop first.before nodes.now) ≡ syntax.flat_all ps ++ rest → ArgumentsAnswers scope.old.block scope.old.names.symbols scope.old.variables (side_at first) first.depth first.before ps scope.new.names.symbols scope.new.variables result }
@@ -58,7 +58,7 @@ fn read_arguments<'a>(
     let mut terms = Vec::new(alloc);
     let mut before = first.before;
     'arguments: for argument in 0..count {
-        let place = Place {
+        let place = NodePlace {
             argument: argument + 1,
             before,
             ..first

@@ -4,8 +4,8 @@ use Rattle.std.proofs.lemmas.Slice.Eq.{bytes_eq-Decides}
 use Rattle.std.specs.Str.{bytes_eq}
 use Rattle.file_text.specs.Syntax.{Name, RuleTree, FileTree}
 use Rattle.file_text.specs.Grammar.{Word, id, left_paren, right_paren, comma, bar, arrow, equal, Block, condition_type, variables, rules, has_block, oriented_in, variables_in, rules_in}
-use Rattle.file_text.specs.Refusals.{Cause, repeated_block, unknown_block, other_condition_type}
-use Rattle.file_text.specs.Machine as machine
+use Rattle.file_text.specs.Refusals.{SyntaxCause, repeated_block, unknown_block, other_condition_type}
+use Rattle.file_text.proofs.Machine as machine
 use Rattle.cops_syntax.specs.Flat as lists
 use Rattle.cops_syntax.proofs.FlatTrees.{rules_of, reading_of, shown, step_of, close_of, can_step}
 
@@ -38,7 +38,7 @@ before (machine.in_rules bs at r) = bs
 abbrev pub blocks_of : machine.State → lists.Blocks
 blocks_of s = holding (before s) (stage_of s)
 
-abbrev pub mapped : Result machine.State Cause → Result lists.Blocks Cause
+abbrev pub mapped : Result machine.State SyntaxCause → Result lists.Blocks SyntaxCause
 mapped (Ok s) = Ok (blocks_of s)
 mapped (Err c) = Err c
 
@@ -153,10 +153,10 @@ tests bs text = record {
 }
 
 -- the block that a title begins, by three tests
-abbrev begun : List Block → ℕ → Bool → Bool → Bool → Result machine.State Cause
+abbrev begun : List Block → ℕ → Bool → Bool → Bool → Result machine.State SyntaxCause
 begun bs at a b c = cond a (Ok (machine.behind_type bs at)) (cond b (Ok (machine.in_variables bs at [])) (cond c (Ok (machine.in_rules bs at machine.no_rule)) (Err unknown_block)))
 
-abbrev entered : List Block → Bool → Bool → Bool → Result lists.Blocks Cause
+abbrev entered : List Block → Bool → Bool → Bool → Result lists.Blocks SyntaxCause
 entered bs a b c =
     let h = holding bs lists.at_title in
     cond a (lists.enter h h.oriented lists.at_type) (cond b (lists.enter h (is_some h.variables) (lists.variables [])) (cond c (lists.enter h (is_some h.rules) (lists.rules lists.no_rules)) (Err unknown_block)))
@@ -174,7 +174,7 @@ title_by bs at false false false h t = rw (t.other refl refl refl) refl
 title_of : (bs : List Block) (name : Name) → lists.title_step (holding bs lists.at_title) name ≡ mapped (machine.step (machine.behind_bracket bs) (id name))
 title_of bs name = title_by bs name.at _ _ _ _ (tests bs name.text)
 
-ok_is : (s t : machine.State) → (let r : Result machine.State Cause = Ok s in r) ≡ Ok t → s ≡ t
+ok_is : (s t : machine.State) → (let r : Result machine.State SyntaxCause = Ok s in r) ≡ Ok t → s ≡ t
 ok_is s t e = cc
 
 not_some : {A : Type 0} (o : Option A) → false ≡ is_some o → o ≡ None
@@ -285,7 +285,7 @@ rules_fresh bs at (Some rs) q t fresh e = subst IsFresh (ok_is (machine.outside 
 rules_fresh bs at None None t fresh e = absurd cc
 rules_fresh bs at None (Some r) t fresh e = subst IsFresh (ok_is (machine.in_rules bs at r) t e) fresh
 
-type_fresh : (bs : List Block) (at q : ℕ) (b : Bool) (c : Cause) (t : machine.State) → cond b (Ok (machine.behind_oriented bs at q)) (Err c) ≡ Ok t → IsFresh t
+type_fresh : (bs : List Block) (at q : ℕ) (b : Bool) (c : SyntaxCause) (t : machine.State) → cond b (Ok (machine.behind_oriented bs at q)) (Err c) ≡ Ok t → IsFresh t
 type_fresh bs at q true c t e = subst IsFresh (ok_is (machine.behind_oriented bs at q) t e) tt
 type_fresh bs at q false c t e = absurd cc
 
@@ -316,7 +316,7 @@ can_step_of (machine.in_rules bs at r) = can_step r.opens r.last
 abbrev pub file_of : FileTree → lists.File
 file_of f = record { oriented = f.oriented; variables = f.variables; rules = rules_of f.rules }
 
-abbrev pub mapped_file : Result FileTree Cause → Result lists.File Cause
+abbrev pub mapped_file : Result FileTree SyntaxCause → Result lists.File SyntaxCause
 mapped_file (Ok f) = Ok (file_of f)
 mapped_file (Err c) = Err c
 

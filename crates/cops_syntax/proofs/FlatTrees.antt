@@ -3,7 +3,7 @@ use Rattle.std.proofs.Common.{◌≡◌, ℕ, suc, ◌+◌, ◌≤◌, true, fal
 use Rattle.std.proofs.lemmas.List.{map_push, append-nil}
 use Rattle.file_text.specs.Syntax.{Name, Node, Phrase, Phrases, word, call, none, more, with_last, count, ConditionTree, RuleTree, conditions_of, flat, flat_all}
 use Rattle.file_text.specs.Grammar.{Word, id, left_paren, right_paren, comma, bar, arrow, equal}
-use Rattle.file_text.specs.Machine as machine
+use Rattle.file_text.proofs.Machine as machine
 use Rattle.cops_syntax.specs.Flat as lists
 use Rattle.cops_syntax.specs.Flat.{one_more, raised, arguments_at, IsRaisable, CanRaise}
 
@@ -15,9 +15,6 @@ rule_of r = record { left = flat r.left; right = flat r.right; bar = option_map 
 
 abbrev pub rules_of : List RuleTree → List lists.Rule
 rules_of rs = map rule_of rs
-
-abbrev pub bare_node : Name → Node
-bare_node f = record { name = f; brackets = false; arguments = 0 }
 
 abbrev pub open_node : Name → Phrases → Node
 open_node g ts = record { name = g; brackets = true; arguments = count ts }

@@ -6,9 +6,9 @@ use Rattle.file_text.specs.declared.Token.{Token}
 use Rattle.file_text.specs.Tokens.{Spells}
 use Rattle.file_text.specs.Syntax as syntax
 use Rattle.file_text.specs.Grammar as grammar
-use Rattle.file_text.specs.Refusals.{Cause, unknown_block, repeated_block, other_condition_type, wrong_syntax, missing_rules}
+use Rattle.file_text.specs.Refusals.{SyntaxCause, unknown_block, repeated_block, other_condition_type, wrong_syntax, missing_rules}
 use Rattle.file_text.specs.Texts.{word_of, place_of_token, IsNoText}
-use Rattle.file_text.specs.Machine.{State, outside, step, finish}
+use Rattle.file_text.proofs.Machine.{State, outside, step, finish}
 use Rattle.file_text.proofs.CodeSteps.{state_at, state_start, state_next, state_refused, state_ended, state_end_refused}
 use Rattle.file_text.proofs.TextLaws.{text_read, text_refused}
 use Rattle.cops_syntax.specs.Flat as lists
@@ -75,20 +75,20 @@ pub follows_can : (bytes : List ℕ) (ts : List Token) (number : ℕ) (b : Block
 follows_can bytes ts number b f = subst lists.CanStep (sym (ap (λ (c : lists.Blocks). c.stage) f.shows)) (can_step_of f.state)
 
 -- the step of the reader of trees
-same_step : (bytes : List ℕ) (ts : List Token) (number : ℕ) (b : Blocks) (v : grammar.Word) (w : grammar.Word) (r : Result lists.Blocks Cause) (f : Follows bytes ts number b)
+same_step : (bytes : List ℕ) (ts : List Token) (number : ℕ) (b : Blocks) (v : grammar.Word) (w : grammar.Word) (r : Result lists.Blocks SyntaxCause) (f : Follows bytes ts number b)
     → r ≡ lists.step_blocks (blocks_view b) v → v ≡ w → r ≡ mapped (step f.state w)
 same_step bytes ts number b v w r f e is =
     e ∙ ap (lists.step_blocks (blocks_view b)) is
     ∙ ap (λ (c : lists.Blocks). lists.step_blocks c w) f.shows
     ∙ block_step_of f.state w f.fresh
 
-mapped_ok : {P : Type 0} (b : lists.Blocks) (r : Result State Cause) → Ok b ≡ mapped r → ((t : State) → r ≡ Ok t → b ≡ blocks_of t → P) → P
+mapped_ok : {P : Type 0} (b : lists.Blocks) (r : Result State SyntaxCause) → Ok b ≡ mapped r → ((t : State) → r ≡ Ok t → b ≡ blocks_of t → P) → P
 mapped_ok b (Ok t) e k = k t refl cc
 mapped_ok b (Err c) e k = absurd cc
 
-mapped_err : (c : Cause) (r : Result State Cause) → Err c ≡ mapped r → r ≡ Err c
+mapped_err : (c : SyntaxCause) (r : Result State SyntaxCause) → Err c ≡ mapped r → r ≡ Err c
 mapped_err c (Ok t) e = absurd cc
-mapped_err c (Err d) e = let same : c ≡ d = cc in ap (λ (x : Cause). Err x) (sym same)
+mapped_err c (Err d) e = let same : c ≡ d = cc in ap (λ (x : SyntaxCause). Err x) (sym same)
 
 pub follows_next : (bytes : List ℕ) (ts : List Token) (number : ℕ) (t : Token) (b new : Blocks) (v : grammar.Word) (o : Option Refusal) → number < length ts → Follows bytes ts number b
     → v ≡ word_of bytes (get_or ts number t) → passed o new ≡ lists.step_blocks (blocks_view b) v → o ≡ None → Follows bytes ts (number + 1) new
@@ -116,16 +116,16 @@ follows_refused bytes ts number t b new v o refusal s lt f is e some =
 
 -- ---- the end
 
-same_end : (bytes : List ℕ) (ts : List Token) (number : ℕ) (b : Blocks) (r : Result lists.File Cause) (f : Follows bytes ts number b) → r ≡ lists.finish (blocks_view b) → r ≡ mapped_file (finish f.state)
+same_end : (bytes : List ℕ) (ts : List Token) (number : ℕ) (b : Blocks) (r : Result lists.File SyntaxCause) (f : Follows bytes ts number b) → r ≡ lists.finish (blocks_view b) → r ≡ mapped_file (finish f.state)
 same_end bytes ts number b r f e = e ∙ ap (λ (c : lists.Blocks). lists.finish c) f.shows ∙ finish_of f.state
 
-file_ok : {P : Type 0} (g : lists.File) (r : Result syntax.FileTree Cause) → Ok g ≡ mapped_file r → ((t : syntax.FileTree) → r ≡ Ok t → g ≡ file_of t → P) → P
+file_ok : {P : Type 0} (g : lists.File) (r : Result syntax.FileTree SyntaxCause) → Ok g ≡ mapped_file r → ((t : syntax.FileTree) → r ≡ Ok t → g ≡ file_of t → P) → P
 file_ok g (Ok t) e k = k t refl cc
 file_ok g (Err c) e k = absurd cc
 
-file_err : (c : Cause) (r : Result syntax.FileTree Cause) → Err c ≡ mapped_file r → r ≡ Err c
+file_err : (c : SyntaxCause) (r : Result syntax.FileTree SyntaxCause) → Err c ≡ mapped_file r → r ≡ Err c
 file_err c (Ok t) e = absurd cc
-file_err c (Err d) e = let same : c ≡ d = cc in ap (λ (x : Cause). Err x) (sym same)
+file_err c (Err d) e = let same : c ≡ d = cc in ap (λ (x : SyntaxCause). Err x) (sym same)
 
 at_end : (bytes : List ℕ) (ts : List Token) (number : ℕ) (b : Blocks) (f : Follows bytes ts number b) → number ≡ length ts → state_at bytes ts (length ts) ≡ Ok f.state
 at_end bytes ts number b f e = ap (state_at bytes ts) (sym e) ∙ f.reached
@@ -150,12 +150,12 @@ follows_missing bytes ts number b r refusal s end f e is =
 
 -- ---- answers
 
-refused_at : (bytes : List ℕ) (c : Cause) (at : ℕ) → IsNoText bytes c at → IsCauseOf bytes (error_at c at)
+refused_at : (bytes : List ℕ) (c : SyntaxCause) (at : ℕ) → IsNoText bytes c at → IsCauseOf bytes (error_at c at)
 refused_at bytes unknown_block at h = h
 refused_at bytes repeated_block at h = h
 refused_at bytes other_condition_type at h = h
 refused_at bytes wrong_syntax at h = h
 refused_at bytes missing_rules at h = h
 
-pub refused_as : (bytes : List ℕ) (c : Cause) (at : ℕ) (e : SyntaxError) → e ≡ error_at c at → IsNoText bytes c at → IsCauseOf bytes e
+pub refused_as : (bytes : List ℕ) (c : SyntaxCause) (at : ℕ) (e : SyntaxError) → e ≡ error_at c at → IsNoText bytes c at → IsCauseOf bytes e
 refused_as bytes c at e is h = subst (IsCauseOf bytes) (sym is) (refused_at bytes c at h)

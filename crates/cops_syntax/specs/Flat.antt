@@ -4,7 +4,7 @@ use Rattle.std.specs.Option.{option_map}
 use Rattle.std.specs.Str.{bytes_eq}
 use Rattle.file_text.specs.Syntax.{Name, Node}
 use Rattle.file_text.specs.Grammar.{Word, id, left_paren, right_paren, comma, bar, arrow, equal}
-use Rattle.file_text.specs.Refusals.{Cause, unknown_block, repeated_block, other_condition_type, wrong_syntax, missing_rules}
+use Rattle.file_text.specs.Refusals.{SyntaxCause, unknown_block, repeated_block, other_condition_type, wrong_syntax, missing_rules}
 
 -- what was read last of a term: nothing or a comma, an identifier and its bracket, an identifier alone, or a closing bracket
 pub data Last : Type 0 where
@@ -179,14 +179,14 @@ abbrev pub at_stage : Blocks → Stage → Blocks
 at_stage b s = record { oriented = b.oriented; variables = b.variables; rules = b.rules; stage = s }
 
 -- a block begins, unless there was one of its title
-abbrev pub enter : Blocks → Bool → Stage → Result Blocks Cause
+abbrev pub enter : Blocks → Bool → Stage → Result Blocks SyntaxCause
 enter b again s = if again then Err repeated_block else Ok (at_stage b s)
 
 abbrev pub no_rules : Reading
 no_rules = reading [] left_side [] [] want
 
 -- an identifier behind a block's bracket
-abbrev pub title_step : Blocks → Name → Result Blocks Cause
+abbrev pub title_step : Blocks → Name → Result Blocks SyntaxCause
 title_step b name =
     if bytes_eq name.text (codes "CONDITIONTYPE") then enter b b.oriented at_type else
     if bytes_eq name.text (codes "VAR") then enter b (is_some b.variables) (variables []) else
@@ -194,7 +194,7 @@ title_step b name =
     Err unknown_block
 
 -- an identifier behind the title of a condition type
-abbrev pub type_step : Blocks → Name → Result Blocks Cause
+abbrev pub type_step : Blocks → Name → Result Blocks SyntaxCause
 type_step b name = if bytes_eq name.text (codes "ORIENTED") then Ok (at_stage b at_type_end) else Err other_condition_type
 
 abbrev pub with_type : Blocks → Blocks
@@ -206,12 +206,12 @@ with_variables b names = record { oriented = b.oriented; variables = Some names;
 abbrev pub with_rules : Blocks → List Rule → Blocks
 with_rules b rs = record { oriented = b.oriented; variables = b.variables; rules = Some rs; stage = outside }
 
-abbrev pub variable_step : Blocks → List Name → Word → Result Blocks Cause
+abbrev pub variable_step : Blocks → List Name → Word → Result Blocks SyntaxCause
 variable_step b names (id name) = Ok (at_stage b (variables (names ++ name ∷ [])))
 variable_step b names right_paren = Ok (with_variables b names)
 variable_step b names _ = Err wrong_syntax
 
-abbrev pub or_syntax : Option Blocks → Result Blocks Cause
+abbrev pub or_syntax : Option Blocks → Result Blocks SyntaxCause
 or_syntax None = Err wrong_syntax
 or_syntax (Some b) = Ok b
 
@@ -224,17 +224,17 @@ is_close right_paren = true
 is_close _ = false
 
 -- a closing bracket behind the rules
-abbrev pub closed_step : Blocks → Reading → Result Blocks Cause
+abbrev pub closed_step : Blocks → Reading → Result Blocks SyntaxCause
 closed_step b r = or_syntax (option_map (with_rules b) (close_rule r))
 
 -- any other word in a block of rules
-abbrev pub inner_step : Blocks → Reading → Word → Result Blocks Cause
+abbrev pub inner_step : Blocks → Reading → Word → Result Blocks SyntaxCause
 inner_step b r w = or_syntax (option_map (λ q. at_stage b (rules q)) (step r w))
 
-abbrev pub rule_step : Blocks → Reading → Word → Result Blocks Cause
+abbrev pub rule_step : Blocks → Reading → Word → Result Blocks SyntaxCause
 rule_step b r w = if is_flat r.opens && is_close w then closed_step b r else inner_step b r w
 
-abbrev pub stage_step : Blocks → Stage → Word → Result Blocks Cause
+abbrev pub stage_step : Blocks → Stage → Word → Result Blocks SyntaxCause
 stage_step b outside left_paren = Ok (at_stage b at_title)
 stage_step b outside _ = Err wrong_syntax
 stage_step b at_title (id name) = title_step b name
@@ -246,7 +246,7 @@ stage_step b at_type_end _ = Err wrong_syntax
 stage_step b (variables names) w = variable_step b names w
 stage_step b (rules r) w = rule_step b r w
 
-abbrev pub step_blocks : Blocks → Word → Result Blocks Cause
+abbrev pub step_blocks : Blocks → Word → Result Blocks SyntaxCause
 step_blocks b w = stage_step b b.stage w
 
 pub record File : Type 0 where
@@ -258,16 +258,16 @@ abbrev pub names_or_none : Option (List Name) → List Name
 names_or_none None = []
 names_or_none (Some names) = names
 
-abbrev pub whole_file : Bool → Option (List Name) → Option (List Rule) → Result File Cause
+abbrev pub whole_file : Bool → Option (List Name) → Option (List Rule) → Result File SyntaxCause
 whole_file o vs None = Err missing_rules
 whole_file o vs (Some rs) = Ok record { oriented = o; variables = names_or_none vs; rules = rs }
 
-abbrev pub finish_at : Blocks → Stage → Result File Cause
+abbrev pub finish_at : Blocks → Stage → Result File SyntaxCause
 finish_at b outside = whole_file b.oriented b.variables b.rules
 finish_at b _ = Err wrong_syntax
 
 -- the file that ends here
-abbrev pub finish : Blocks → Result File Cause
+abbrev pub finish : Blocks → Result File SyntaxCause
 finish b = finish_at b b.stage
 
 -- how many arguments the identifier at this place has

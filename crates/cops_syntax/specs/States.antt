@@ -1,7 +1,7 @@
 -- What the reader holds, as lists.
 use Rattle.std.specs.Prelude.{ℕ, List, map, reverse, Bool, true, false, Option, Some, None, option_map, Result, Ok, Err}
 use Rattle.file_text.specs.Grammar as grammar
-use Rattle.file_text.specs.Refusals.{Cause, unknown_block, repeated_block, other_condition_type, wrong_syntax, missing_rules}
+use Rattle.file_text.specs.Refusals.{SyntaxCause, unknown_block, repeated_block, other_condition_type, wrong_syntax, missing_rules}
 use Rattle.cops_syntax.specs.Flat as flat
 use Rattle.cops_syntax.specs.declared.tree.CondText.{CondText}
 use Rattle.cops_syntax.specs.declared.tree.RuleText.{RuleText}
@@ -84,7 +84,7 @@ blocks_view b = record {
   stage = stage_view b.stage;
 }
 
-abbrev pub cause_of : Refusal → Cause
+abbrev pub cause_of : Refusal → SyntaxCause
 cause_of Syntax = wrong_syntax
 cause_of UnknownBlock = unknown_block
 cause_of RepeatedBlock = repeated_block
@@ -92,19 +92,19 @@ cause_of ConditionTypeOther = other_condition_type
 cause_of MissingRules = missing_rules
 
 -- what is read then, or the refusal
-abbrev pub passed : Option Refusal → Blocks → Result flat.Blocks Cause
+abbrev pub passed : Option Refusal → Blocks → Result flat.Blocks SyntaxCause
 passed None b = Ok (blocks_view b)
 passed (Some refusal) b = Err (cause_of refusal)
 
 abbrev pub file_view : FileText → flat.File
 file_view f = record { oriented = f.oriented; variables = names_view f.variables.items; rules = rules_view f.rules.items }
 
-abbrev pub ended_file : Result FileText Refusal → Result flat.File Cause
+abbrev pub ended_file : Result FileText Refusal → Result flat.File SyntaxCause
 ended_file (Ok f) = Ok (file_view f)
 ended_file (Err refusal) = Err (cause_of refusal)
 
 -- the refusal at its place
-abbrev pub error_at : Cause → ℕ → SyntaxError
+abbrev pub error_at : SyntaxCause → ℕ → SyntaxError
 error_at wrong_syntax at = error.Syntax at
 error_at unknown_block at = error.UnknownBlock at
 error_at repeated_block at = error.RepeatedBlock at

@@ -159,7 +159,7 @@ module _ (block : Names) where
 
   guard_has : (g : Option Guard) → GuardHasNames g → (l r : Phrase) → HaveNames (sides (conditions_of (record { left = l; right = r; guard = g })))
   guard_has None h l r = tt
-  guard_has (Some g) h l r = sides_have (g.first ∷ g.others) h
+  guard_has (Some g) h l r = sides_have (g.first ∷ g.others) h.1
 
   nothing_known : {C : Type 0} (n : List ℕ) → (is_among [] n ≡ true) ⊎ C → C
   nothing_known n (inl a) = absurd cc

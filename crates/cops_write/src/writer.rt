@@ -9,9 +9,8 @@ ghost use Rattle.cops_write.specs.Laws.{WrittenIsRead};
 ghost use Rattle.cops_write.specs.Numbered.{AreNumbered};
 ghost use Rattle.cops_write.specs.Text.{term_text, condition_text, conditions_text, rule_text, rules_text, rule_names, names_from, variable_names, spaced, block_text, has_conditions, type_text, system_text};
 
-use crate::name_set::NameSet;
 use crate::terms::{put, put_term, variable_name};
-use cops_read::Names;
+use cops_read::{NameSet, Names};
 use std::alloc::Global;
 use term_core::{Cond, NoMemory, Rule, System, Term};
 

@@ -4,7 +4,7 @@ use Rattle.std.specs.Option.{option_map}
 use Rattle.std.specs.Str.{bytes_eq}
 use Rattle.file_text.specs.Syntax.{Name, Phrase, Phrases, word, call, none, with_last, ConditionTree, Guard, RuleTree, FileTree}
 use Rattle.file_text.specs.Grammar.{Word, id, left_paren, right_paren, comma, bar, arrow, equal, Block, condition_type, variables, rules, has_block, oriented_in, variables_in, rules_in}
-use Rattle.file_text.specs.Refusals.{Cause, unknown_block, repeated_block, other_condition_type, wrong_syntax, missing_rules}
+use Rattle.file_text.specs.Refusals.{SyntaxCause, unknown_block, repeated_block, other_condition_type, wrong_syntax, missing_rules}
 
 -- what was read last of a term
 pub data Last : Type 0 where
@@ -127,51 +127,51 @@ pub data State : Type 0 where
   in_rules : List Block → ℕ → Reading → State
 
 -- this block ends here
-abbrev pub with_block : List Block → Block → Result State Cause
+abbrev pub with_block : List Block → Block → Result State SyntaxCause
 with_block bs b = Ok (outside (bs ++ b ∷ []))
 
-abbrev pub step_outside : List Block → Word → Result State Cause
+abbrev pub step_outside : List Block → Word → Result State SyntaxCause
 step_outside bs left_paren = Ok (behind_bracket bs)
 step_outside bs _ = Err wrong_syntax
 
 -- the block that this title begins
-abbrev pub titled : List Block → Name → Result State Cause
+abbrev pub titled : List Block → Name → Result State SyntaxCause
 titled bs name =
     if bytes_eq name.text (codes "CONDITIONTYPE") then Ok (behind_type bs name.at) else
     if bytes_eq name.text (codes "VAR") then Ok (in_variables bs name.at []) else
     if bytes_eq name.text (codes "RULES") then Ok (in_rules bs name.at no_rule) else Err unknown_block
 
-abbrev pub step_bracket : List Block → Word → Result State Cause
+abbrev pub step_bracket : List Block → Word → Result State SyntaxCause
 step_bracket bs (id name) = titled bs name
 step_bracket bs _ = Err wrong_syntax
 
-abbrev pub step_type : List Block → ℕ → Word → Result State Cause
+abbrev pub step_type : List Block → ℕ → Word → Result State SyntaxCause
 step_type bs at (id name) = if bytes_eq name.text (codes "ORIENTED") then Ok (behind_oriented bs at name.at) else Err other_condition_type
 step_type bs at _ = Err wrong_syntax
 
-abbrev pub step_oriented : List Block → ℕ → ℕ → Word → Result State Cause
+abbrev pub step_oriented : List Block → ℕ → ℕ → Word → Result State SyntaxCause
 step_oriented bs at oriented right_paren = with_block bs (condition_type at oriented)
 step_oriented bs at oriented _ = Err wrong_syntax
 
-abbrev pub step_variables : List Block → ℕ → List Name → Word → Result State Cause
+abbrev pub step_variables : List Block → ℕ → List Name → Word → Result State SyntaxCause
 step_variables bs at names (id name) = Ok (in_variables bs at (names ++ name ∷ []))
 step_variables bs at names right_paren = with_block bs (variables at names)
 step_variables bs at names _ = Err wrong_syntax
 
-abbrev pub rules_go_on : List Block → ℕ → Option Reading → Result State Cause
+abbrev pub rules_go_on : List Block → ℕ → Option Reading → Result State SyntaxCause
 rules_go_on bs at None = Err wrong_syntax
 rules_go_on bs at (Some r) = Ok (in_rules bs at r)
 
 -- the block ends with these rules, or goes on
-abbrev pub rules_or : List Block → ℕ → Option (List RuleTree) → Option Reading → Result State Cause
+abbrev pub rules_or : List Block → ℕ → Option (List RuleTree) → Option Reading → Result State SyntaxCause
 rules_or bs at (Some rs) r = with_block bs (rules at rs)
 rules_or bs at None r = rules_go_on bs at r
 
-abbrev pub step_rules : List Block → ℕ → Reading → Word → Result State Cause
+abbrev pub step_rules : List Block → ℕ → Reading → Word → Result State SyntaxCause
 step_rules bs at r w = rules_or bs at (closing r w) (step_term r.rules r.part r.opens r.last w)
 
 -- a step that lets blocks repeat
-abbrev pub step_any : State → Word → Result State Cause
+abbrev pub step_any : State → Word → Result State SyntaxCause
 step_any (outside bs) w = step_outside bs w
 step_any (behind_bracket bs) w = step_bracket bs w
 step_any (behind_type bs at) w = step_type bs at w
@@ -192,17 +192,17 @@ repeats (behind_oriented bs at oriented) w = false
 repeats (in_variables bs at names) w = false
 repeats (in_rules bs at r) w = false
 
-abbrev pub step : State → Word → Result State Cause
+abbrev pub step : State → Word → Result State SyntaxCause
 step s w = if repeats s w then Err repeated_block else step_any s w
 
 -- ---- files
 
-abbrev pub file_or_missing : List Block → Option (List RuleTree) → Result FileTree Cause
+abbrev pub file_or_missing : List Block → Option (List RuleTree) → Result FileTree SyntaxCause
 file_or_missing bs None = Err missing_rules
 file_or_missing bs (Some rs) = Ok record { oriented = oriented_in bs; variables = variables_in bs; rules = rs }
 
 -- the end of the words
-abbrev pub finish : State → Result FileTree Cause
+abbrev pub finish : State → Result FileTree SyntaxCause
 finish (outside bs) = file_or_missing bs (rules_in bs)
 finish (behind_bracket bs) = Err wrong_syntax
 finish (behind_type bs at) = Err wrong_syntax
@@ -211,19 +211,19 @@ finish (in_variables bs at names) = Err wrong_syntax
 finish (in_rules bs at r) = Err wrong_syntax
 
 -- an answer, or the refusal of the word with this number
-abbrev pub numbered : {A B : Type 0} → ℕ → (A → Result B (Cause × ℕ)) → Result A Cause → Result B (Cause × ℕ)
+abbrev pub numbered : {A B : Type 0} → ℕ → (A → Result B (SyntaxCause × ℕ)) → Result A SyntaxCause → Result B (SyntaxCause × ℕ)
 numbered n f (Ok x) = f x
 numbered n f (Err c) = Err (c, n)
 
 -- the state behind these words, of which the first has this number
-abbrev pub run : ℕ → State → List Word → Result State (Cause × ℕ)
+abbrev pub run : ℕ → State → List Word → Result State (SyntaxCause × ℕ)
 run n s [] = Ok s
 run n s (w ∷ ws) = numbered n (λ t. run (suc n) t ws) (step s w)
 
-abbrev pub finished : ℕ → Result State (Cause × ℕ) → Result FileTree (Cause × ℕ)
+abbrev pub finished : ℕ → Result State (SyntaxCause × ℕ) → Result FileTree (SyntaxCause × ℕ)
 finished n (Ok s) = numbered n (λ file. Ok file) (finish s)
 finished n (Err e) = Err e
 
 -- the file that the words spell, or the cause and the number of the word that is refused
-abbrev pub read_file : List Word → Result FileTree (Cause × ℕ)
+abbrev pub read_file : List Word → Result FileTree (SyntaxCause × ℕ)
 read_file ws = finished (length ws) (run 0 (outside []) ws)
