@@ -11,10 +11,10 @@ use denote.RattleType.{owns}
 use denote.Shadow.{pure_i}
 use denote.Triple.Entry.{alive}
 use denote.Triple.Walked.{Stays, says, walk_of, ends_at}
-use Rattle.cc_io.specs.contracts.count.Count.{the_row}
-use Rattle.cc_io.specs.contracts.count.Count.new as f
-use Rattle.cc_io.proofs.count.Count.new.Statement.{statement}
-use Rattle.cc_io.proofs.count.Count.new.Code as code
+use Rattle.cc_io.specs.contracts.count.CallCount.{the_row}
+use Rattle.cc_io.specs.contracts.count.CallCount.new as f
+use Rattle.cc_io.proofs.count.CallCount.new.Statement.{statement}
+use Rattle.cc_io.proofs.count.CallCount.new.Code as code
 
 abbrev stayed : Stays f.ended.signature.params f.ended.kept
 stayed = tt

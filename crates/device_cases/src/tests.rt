@@ -1,5 +1,7 @@
-//! Reading and writing over devices that fail, that give little at a time, and that run full.
-use super::*;
+use cc_io::{
+    CallCount, Failed, MemoryFile, MemoryShelf, MemorySink, ReadAllError, Shelf, Sink, WriteFault,
+    read_all, write_all,
+};
 use std::alloc::Global;
 use std::test::Fail;
 
@@ -95,7 +97,7 @@ struct Drips {
     begun: bool,
     faults: u64,
     given: u64,
-    counted: Count,
+    counted: CallCount,
 }
 
 impl Shelf for Drips {
@@ -147,7 +149,7 @@ fn reading_stops_soon_after_the_limit(rt: HostRuntime) -> Result<(), Fail> {
         begun: false,
         faults: 0,
         given: 0,
-        counted: Count::new(),
+        counted: CallCount::new(),
     };
     let answer = read_all(rt.alloc(), &mut drips, "drips", 10);
     assert!(rt; matches!(answer, Err(ReadAllError::TooLong { limit: 10 })));
