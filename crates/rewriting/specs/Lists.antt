@@ -1,5 +1,5 @@
 -- Lists: what is on them, lists in order, and lists that begin with another.
-use Rattle.std.specs.Prelude.{◌≡◌, ◌⊎◌, List, [], ◌∷◌, ◌++◌}
+use Rattle.std.specs.Prelude.{ℕ, ◌≡◌, ◌⊎◌, nat_eq, if◌then◌else◌, List, [], ◌∷◌, ◌++◌}
 
 -- x is on the list
 abbrev pub IsAmong : {X : Type 0} → X → List X → Type 0
@@ -24,3 +24,13 @@ IsSorted order (x ∷ xs) = IsBeforeAll order x xs × IsSorted order xs
 -- the second list begins with the first
 abbrev pub IsFront : {X : Type 0} → List X → List X → Type 0
 IsFront {X} xs ys = (rest : List X) × (ys ≡ xs ++ rest)
+
+-- a list of numbers without x
+abbrev pub without : ℕ → List ℕ → List ℕ
+without x [] = []
+without x (y ∷ ys) = if nat_eq x y then without x ys else (y ∷ without x ys)
+
+-- each number of a list where it first stands
+abbrev pub firsts : List ℕ → List ℕ
+firsts [] = []
+firsts (x ∷ xs) = x ∷ without x (firsts xs)
