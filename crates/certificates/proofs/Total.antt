@@ -6,7 +6,7 @@ use Rattle.std.specs.Prelude.{IsSome, leb}
 use Rattle.std.specs.FinMap.{empty, get}
 use native.Mathlib.Decide.{ℕ_discrete}
 use Rattle.rewriting.specs.Terms.{Fits, size, depth}
-use Rattle.rewriting.specs.Matching.{IsLeastMatch, HasNoMatch}
+use Rattle.rewriting.specs.Matching.{IsLeastMatch, HasNoMatch, Covers}
 use Rattle.rewriting.specs.Rules.{rule_at}
 use Rattle.rewriting.proofs.Common.{Term, var, app, Terms, nil, cons, Position, subterm, replace, Bindings, apply, values_of, occurs, occurs_in, Condition, Rule, System}
 use Rattle.rewriting.proofs.Equality.{same}
@@ -15,7 +15,7 @@ use Rattle.rewriting.proofs.LeastMatches.{matched}
 use Rattle.rewriting.proofs.Positions.{replaceable}
 use Rattle.certificates.specs.Derivations.{Derivation, no_steps, first_step, Step, by_rule, by_hypothesis, Derivations, no_derivations, first_derivation}
 use Rattle.certificates.specs.Reasons.{StepReason, no_such_rule, no_such_hypothesis, no_redex, wrong_count, unbound, condition_fails, too_large, BadStep}
-use Rattle.certificates.specs.Judging.{Covers, derivation_count, hypothesis_at, RuleMatches, ConditionMet, ConditionFails, left_unbound, left_large, derivation_fails, right_differs, RuleStep, RuleFails, no_rule, no_position, no_match, count_differs, conditions_fail, right_unbound, result_large, HypothesisStep, HypothesisFails, no_hypothesis, left_differs, large_result, Derives, StepsTo, AreMet, FailsFrom, StepFails, FailFrom, IsFirstBad}
+use Rattle.certificates.specs.Judging.{derivation_count, hypothesis_at, RuleMatches, ConditionMet, ConditionFails, left_unbound, left_large, derivation_fails, right_differs, RuleStep, RuleFails, no_rule, no_position, no_match, count_differs, conditions_fail, right_unbound, result_large, HypothesisStep, HypothesisFails, no_hypothesis, left_differs, large_result, Derives, StepsTo, AreMet, FailsFrom, StepFails, FailFrom, IsFirstBad}
 
 -- whether a term fits is decided
 pub fits_decided : (t : Term) → Dec (Fits t)

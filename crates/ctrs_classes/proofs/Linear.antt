@@ -40,10 +40,6 @@ mutual
 abbrev GoesOn : ℕ → List ℕ → Type 0
 GoesOn n xs = (m : ℕ) × AreFirst (with_variables_of (numbers_from 0 n) (as_terms xs)) m
 
--- each is known, or the next
-known_on : (n x : ℕ) (xs : List ℕ) → n < 2 ^ 31 → x < n → GoesOn n (x ∷ xs) → GoesOn n xs
-known_on n x xs few less (m, f) = (m, subst (λ q. AreFirst (with_variables_of q (as_terms xs)) m) (known_first n x less few).are f)
-
 next_is : (n x : ℕ) (xs : List ℕ) → n ≤ x → GoesOn n (x ∷ xs) → x ≡ n
 next_is n x xs high (m, f) = go (leb_tells x n)
   where

@@ -86,6 +86,3 @@ fits_inherits f ts k u h e = (let w = argument_within ts k u e in record { nodes
 -- they fit
 pub values_fit : (b c : Bindings) (p s : Term) → IsLeastMatch b c p s → ((x : ℕ) (t : Term) → get b x ≡ Some t → Fits t) → Fits s → (x : ℕ) (t : Term) → get c x ≡ Some t → Fits t
 values_fit b c p s m before h = values_have Fits fits_inherits b c p s m h before
-
-pub match_fits : (c : Bindings) (p s : Term) → IsLeastMatch empty c p s → Fits s → (x : ℕ) (t : Term) → get c x ≡ Some t → Fits t
-match_fits c p s m h = values_fit empty c p s m (λ x t e. absurd (nothing_bound x t e)) h

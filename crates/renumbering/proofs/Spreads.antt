@@ -48,11 +48,3 @@ naming_grows xs ys u f below = apply-agree (naming ys) (naming xs) u (λ m o. ap
 pub odd_is_spread : (xs : List ℕ) (t u : Term) → t ≡ apply (naming xs) u → ((m : ℕ) → occurs m u ≡ true → m < length xs) → apply odd t ≡ apply (spreading xs) u
 odd_is_spread xs t u e below =
     ap (apply odd) e ∙ apply-apply (naming xs) odd u ∙ apply-agree (compose (naming xs) odd) (spreading xs) u (λ m o. ap var (sym (spread_within xs m (below m o))))
-
--- and still do in a longer row
-pub odd_grows : (xs ys : List ℕ) (t u : Term) → apply odd t ≡ apply (spreading xs) u → ((m : ℕ) → occurs m u ≡ true → m < length xs) → IsFront xs ys → apply odd t ≡ apply (spreading ys) u
-odd_grows xs ys t u e below f = e ∙ sym (spreading_grows xs ys u f below)
-
--- the same by names
-pub names_grow : (xs ys : List ℕ) (t u : Term) → t ≡ apply (naming xs) u → ((m : ℕ) → occurs m u ≡ true → m < length xs) → IsFront xs ys → t ≡ apply (naming ys) u
-names_grow xs ys t u e below f = e ∙ sym (naming_grows xs ys u f below)

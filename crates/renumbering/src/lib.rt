@@ -1,4 +1,6 @@
-//! Numbering variables by first occurrence.
+//! Numbering variables by first occurrence, so that terms that differ in the names of variables alone become one.
+//!
+//! f(x7, g(x3, x7)) becomes f(x0, g(x1, x0)), and the row 7, 3 tells what the numbers stand for.
 #![tactic(auto)]
 
 ghost use Rattle.std.specs.Prelude.{◌≡◌, ◌<◌, ℕ, true, [], Some, IfOk, OnOk, length, slice_get, get_or};

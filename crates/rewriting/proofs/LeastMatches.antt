@@ -126,11 +126,14 @@ in_turn b p s ps ss (inr none) rest = inr (λ d e h. none d e h.0)
 in_turn b p s ps ss (inl (c, m)) rest = go (rest c)
   where
     go : Matches c ps ss → Matches b (cons p ps) (cons s ss)
-    go (inl (e, n)) = inl (e, record {
-      extends = λ x t h. n.extends x t (m.extends x t h);
-      solves = (Solves-extends c e p s n.extends m.solves, n.solves);
-      least = λ d f h. n.least d (m.least d f h.0) h.1;
-    })
+    go (inl (e, n)) = inl (
+      e,
+      record {
+        extends = λ x t h. n.extends x t (m.extends x t h);
+        solves = (Solves-extends c e p s n.extends m.solves, n.solves);
+        least = λ d f h. n.least d (m.least d f h.0) h.1;
+      },
+    )
     go (inr none) = inr (λ d f h. none d (m.least d f h.0) h.1)
 
 -- a term matches, with a least extension of the values, or none does

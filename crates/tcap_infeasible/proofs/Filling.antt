@@ -2,6 +2,7 @@
 use Rattle.std.proofs.Common.{ℕ, zero, suc, ◌≡◌, ◌+◌, ◌<◌, ◌≤◌, Bool, true, false, nat_lt, if◌then◌else◌, List, [], ◌∷◌, length, get_or, refl, arith}
 use Rattle.std.proofs.lemmas.Bool.{ltb-true, lt-ltb}
 use Rattle.rewriting.specs.Lists.{AreDistinct}
+use Rattle.rewriting.proofs.Lists.{distinct_at}
 
 abbrev pub total : List ℕ → ℕ
 total [] = 0
@@ -22,7 +23,7 @@ pub filling_one : (row : List ℕ) → AreDistinct row → (x y : ℕ) → filli
 filling_one row distinct x y e = go (nat_lt x (length row)) refl (nat_lt y (length row)) refl
   where
     go : (a : Bool) → nat_lt x (length row) ≡ a → (b : Bool) → nat_lt y (length row) ≡ b → x ≡ y
-    go true p true q = (let s : get_or row x 0 ≡ get_or row y 0 = rw (p, q) at e in distinct x y (ltb-true x (length row) p) (ltb-true y (length row) q) s)
+    go true p true q = (let s : get_or row x 0 ≡ get_or row y 0 = rw (p, q) at e in distinct_at row distinct x y (ltb-true x (length row) p) (ltb-true y (length row) q) s)
     go true p false q = (let s : get_or row x 0 ≡ suc (total row + y) = rw (p, q) at e in let l = below_total row x in absurd (omega (arith, s, l)))
     go false p true q = (let s : suc (total row + x) ≡ get_or row y 0 = rw (p, q) at e in let l = below_total row y in absurd (omega (arith, s, l)))
     go false p false q = (let s : suc (total row + x) ≡ suc (total row + y) = rw (p, q) at e in omega (arith, s))

@@ -190,7 +190,7 @@ answer_apart sys u v (Ok TooLarge) sound h = tt
 answer_apart sys u v (Err e) sound h = tt
 
 pub none_distinct : (row : List ℕ) → row ≡ [] → AreDistinct row
-none_distinct row e = subst AreDistinct (sym e) (λ i j h. absurd (omega (arith, h)))
+none_distinct row e = subst AreDistinct (sym e) tt
 
 pub short_row : (start row : List ℕ) (t : Term) → start ≡ [] → length row ≤ length start + size t → Fits t → length row ≤ 10000
 short_row start row t e grown fit = let none : length start ≡ 0 = ap length e in let few = fit.nodes in omega (arith, grown, none, few)

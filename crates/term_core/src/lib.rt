@@ -13,6 +13,7 @@ pub use soundness::is_over;
 pub use subst::Subst;
 pub use systems::{Cond, Head, Rule, System, SystemFault};
 pub use terms::{
-    MAX_DEPTH, MAX_NODES, NoMemory, Term, TermError, depth, equal, fits, room_after, size, try_clone,
+    MAX_DEPTH, MAX_NODES, NoMemory, Term, TermError, depth, equal, fits, room_after, size,
+    try_clone,
 };
 pub use variables::{is_linear, vars};
