@@ -1,11 +1,13 @@
 -- Without rules the only descents are moves to arguments, and sizes fall: what a measure of the tests needs.
-use Rattle.std.proofs.Common.{◌≡◌, inl, inr, ℕ, suc, zero, ◌<◌, List, [], ◌∷◌, length, map, Some, None, slice_get, ap, sym, arith}
+use Rattle.std.proofs.Common.{◌≡◌, inl, inr, ℕ, suc, zero, ◌<◌, List, [], ◌∷◌, length, map, Some, None, slice_get, ap, sym, refl, ◌∙◌, arith}
 use Rattle.rewriting.specs.Terms.{size, size_all}
 use Rattle.rewriting.specs.Systems.{IsWellFormed}
 use Rattle.rewriting.specs.Descents.{Descends, AreDescentsBounded}
 use Rattle.rewriting.specs.Unraveling.{unraveled, unraveled_rules}
 use Rattle.rewriting.proofs.Common.{Term, var, app, Terms, nil, cons, argument, argument_of, IsOver, Rule, System, rule_at}
 use Rattle.rewriting.proofs.Unraveled.{measure_bounds}
+use Rattle.interpretations.specs.Judgement.{Judgement, good, not_good, unraveling_large}
+use Rattle.quasi_check.specs.NoRules.{IsJudgedWithoutRules}
 use Rattle.term_core.specs.RuleView.{rule_view}
 use Rattle.term_core.specs.declared.systems.Rule as rules
 
@@ -33,3 +35,12 @@ no_rules_bound sys well none = measure_bounds sys well size (falls sys none)
 pub empty_rules : (rs : List rules.Rule) (qs : List Rule) → map rule_view rs ≡ qs → length rs < 1 → qs ≡ []
 empty_rules [] qs e h = sym e
 empty_rules (r ∷ rs) qs e h = absurd (omega (arith, h))
+
+-- there are rules, or there are none
+pub judged_once : (sys : System) (j k : Judgement) → IsJudgedWithoutRules sys j → IsJudgedWithoutRules sys k → j ≡ k
+judged_once sys good good h q = refl
+judged_once sys good (not_good w) h q = absurd (q.1 h)
+judged_once sys (not_good v) good h q = absurd (h.1 q)
+judged_once sys (not_good v) (not_good w) h q = ap not_good (h.0 ∙ sym q.0)
+judged_once sys (unraveling_large i) k h q = absurd h
+judged_once sys j (unraveling_large i) h q = absurd q

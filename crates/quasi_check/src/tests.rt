@@ -30,6 +30,7 @@ struct NoRules;
 
 impl Measure for NoRules {
     ghost use Rattle.quasi_check.specs.NoRules.{IsJudgedWithoutRules};
+    ghost use Rattle.quasi_check.proofs.NoRules.{judged_once, no_rules_bound};
 
     ghost judged = { λ m s j. IsJudgedWithoutRules s j };
 
@@ -40,7 +41,9 @@ impl Measure for NoRules {
         }
     }
 
-    ghost bounds = { λ m s well h. h };
+    ghost one_judgement = { λ m s j k h q. judged_once s j k h q };
+
+    ghost bounds = { λ m s well h. no_rules_bound s well h };
 }
 
 fn constant(alloc: Global, symbol: u32) -> Term {

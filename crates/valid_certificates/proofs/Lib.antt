@@ -4,9 +4,7 @@ pub mod Valid
 pub mod OneList
 pub mod OneAnswer
 pub mod Settled
-pub mod Once
 pub mod OneBlame
 pub mod OneOverlaps
 pub mod OneEvidence
-pub mod OneMeasure
 pub mod OneCertificate

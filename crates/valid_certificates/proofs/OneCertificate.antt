@@ -15,11 +15,11 @@ use Rattle.valid_certificates.specs.Entries.{AreSettled, AreNotSettled, DoSettle
 use Rattle.valid_certificates.specs.Confluence.{IsValidOrtho, IsBlameOf, IsOrthoRejected, not_left_linear, not_type3, not_oriented, not_right_stable, ortho_pairs_fail, AreRightSidesIrreducible, IsFirstReducible, IsValidQuasi, IsQuasiRejected, not_deterministic, side_is_reducible, measure_is_bad, unraveling_is_large, quasi_pairs_fail}
 use Rattle.valid_certificates.specs.Certificates.{IsMeasureJudged}
 use Rattle.valid_certificates.specs.Laws.{IsOneAnswer, CertificatesHaveOneAnswer}
-use Rattle.valid_certificates.proofs.Once.{IsOnce, or_once, test_once, with_once, once_within}
+use Rattle.rewriting.proofs.Once.{IsOnce, or_once, test_once, with_once, once_within}
 use Rattle.valid_certificates.proofs.OneAnswer.{peak_answer}
 use Rattle.valid_certificates.proofs.OneBlame.{blame_once, blame_excludes}
 use Rattle.valid_certificates.proofs.OneEvidence.{pair_judged_once}
-use Rattle.valid_certificates.proofs.OneMeasure.{measure_once}
+use Rattle.interpretations.proofs.OneJudgement.{judgement_once}
 use Rattle.valid_certificates.proofs.OneOverlaps.{overlaps_once, overlaps_or_large, overlaps_or_many, large_once, large_or_many}
 
 -- a test fails for one reason, or it holds and what follows has one answer
@@ -203,7 +203,7 @@ module _ (sys : System) where
           (class_answer deterministic _ _ (test_answer (AreRightSidesIrreducible sys) _ SideFails _ side_or_not side_once (test_answer (Is good) _ MeasureFails _ measure_or_not measure_fails_once (entries_answer quasi sys es))))
 
 measure_judged_once : (sys : System) (m : MeasureCertificate) → IsOnce Judgement (IsMeasureJudged sys m)
-measure_judged_once sys (linear_measure es) = measure_once sys es
+measure_judged_once sys (linear_measure es) = judgement_once sys es
 
 pub certificate_answer : CertificatesHaveOneAnswer
 certificate_answer sys (ortho_certificate es) = ortho_answer sys es

@@ -9,7 +9,7 @@ use Rattle.valid_certificates.specs.Peaks.{IsValidPeak, IsPeakRejected}
 
 -- what the measure of a certificate is judged to be
 abbrev pub IsMeasureJudged : System → MeasureCertificate → Judgement → Type 0
-IsMeasureJudged sys (linear_measure es) j = linear.IsJudged sys es j
+IsMeasureJudged sys (linear_measure es) j = linear.IsInterpretationJudged sys es j
 
 abbrev pub IsValid : System → Certificate → Type 0
 IsValid sys (ortho_certificate es) = IsValidOrtho sys es

@@ -7,8 +7,8 @@ use Rattle.certificates.specs.Reasons.{wrong_shape, wrong_coefficient, overflow_
 use Rattle.interpretations.specs.Size.{DoesUnravelingFit, IsFirstTooLarge}
 use Rattle.interpretations.specs.Judgement.{Judgement, good, not_good, unraveling_large}
 use Rattle.interpretations.specs.Linear.{Interpretation, coefficient, constant, HasShape, AreAllNumbersGood, Overflows, AreCoefficientsKept, Falls}
-use Rattle.interpretations.specs.Judged.{IsFirstMisshapen, IsFirstBad, FailsAt, IsFirstSmaller, IsConstantKept, IsJudged}
-use Rattle.valid_certificates.proofs.Once.{IsOnce, or_once, test_once, with_once, fact_once, once_within}
+use Rattle.interpretations.specs.Judged.{IsFirstMisshapen, IsFirstBad, FailsAt, IsFirstSmaller, IsConstantKept, IsInterpretationJudged}
+use Rattle.rewriting.proofs.Once.{IsOnce, or_once, test_once, with_once, fact_once, once_within}
 
 -- at most one number has a property that no two numbers have
 least_once : (P : ℕ → Type 0) → ((i k : ℕ) → i < k → P i → P k → ⊥) → IsOnce ℕ P
@@ -87,7 +87,7 @@ module _ (sys : System) where
     at_rule : (j : Judgement) (n : ℕ) (r : Rule) → DoesUnravelingFit sys → HasShape sys es → AreAllNumbersGood sys es → IsFirstKept (n, r) → FallCases (n, r) j → MeasureCases j
     at_rule j n r fit shape numbers first h = inr (fit, inr (shape, inr (numbers, inl ((n, r), first, h))))
 
-    measure_cases : (j : Judgement) → IsJudged sys es j → MeasureCases j
+    measure_cases : (j : Judgement) → IsInterpretationJudged sys es j → MeasureCases j
     measure_cases good (fit, h) = inr (fit, inr (h.shape, inr (h.numbers, inr (h.rules, refl))))
     measure_cases (not_good (wrong_shape m)) (fit, (k, e, h)) = inr (fit, inl (k, h, ap (λ n. not_good (wrong_shape n)) e))
     measure_cases (not_good (wrong_coefficient m)) (fit, shape, (k, e, h)) = inr (fit, inr (shape, inl (k, h, ap (λ n. not_good (wrong_coefficient n)) e)))
@@ -152,8 +152,8 @@ module _ (sys : System) where
         (with_once Judgement ℕ (IsFirstMisshapen sys es) (λ k j. j ≡ not_good (wrong_shape (suc k))) (least_once (IsFirstMisshapen sys es) shape_apart) (λ x j k h q. h ∙ sym q))
         numbers_once
 
-    pub measure_once : IsOnce Judgement (IsJudged sys es)
-    measure_once =
-        once_within Judgement (IsJudged sys es) MeasureCases measure_cases
+    pub judgement_once : IsOnce Judgement (IsInterpretationJudged sys es)
+    judgement_once =
+        once_within Judgement (IsInterpretationJudged sys es) MeasureCases measure_cases
         (test_once Judgement (DoesUnravelingFit sys) LargeCase ShapeCases (λ j h fit. h.1.here (fit h.0 h.1.rule h.1.is_rule))
         (with_once Judgement ℕ (IsFirstTooLarge sys) (λ i j. j ≡ unraveling_large i) (least_once (IsFirstTooLarge sys) large_apart) (λ x j k h q. h ∙ sym q)) shape_once)
