@@ -1,15 +1,15 @@
 -- The first variable at fault, and that a rule with something at fault is outside the class.
-use Rattle.std.proofs.Common.{ℕ, ◌≡◌, ◌⊎◌, inl, inr, ◌≤◌, ◌+◌, ◌∙◌, refl, sym, ap, ap₂, subst, arith, true, false, nat_eq, eq-eqb, if◌then◌else◌, List, [], ◌∷◌, ◌++◌, Option, None, Some}
+use Rattle.std.proofs.Common.{ℕ, ◌≡◌, inl, inr, ◌≤◌, ◌+◌, ◌∙◌, refl, sym, ap, ap₂, subst, arith, true, false, nat_eq, eq-eqb, if◌then◌else◌, List, [], ◌∷◌, ◌++◌, Option, None, Some}
 use Rattle.std.proofs.lemmas.Bool.{false≢true}
 use Rattle.rewriting.specs.Lists.{IsAmong}
 use Rattle.rewriting.specs.Terms.{Term, Terms, var, app, nil, cons}
-use Rattle.rewriting.specs.Rules.{Condition, Rule, System, sides, EachRule}
+use Rattle.rewriting.specs.Rules.{Rule, System, sides, EachRule}
 use Rattle.rewriting.specs.Variables.{occurs, occurs_in, variable_occurrences, variable_occurrences_of, occurrences, occurrences_in, IsLinear}
 use Rattle.rewriting.specs.Classes.{known, IsType3Rule, IsDeterministicRule, IsRightStableRule}
 use Rattle.rewriting.proofs.Lists.{among_middle}
 use Rattle.rewriting.proofs.Variables.{among_occurs}
 use Rattle.certificates.specs.Reasons.{Class, left_linear, type3, extended_oriented, right_stable, deterministic, Blame}
-use Rattle.certificates.specs.Blames.{IsFirstVariable, IsFirstRepeated, IsType3Blame, IsOld, IsUnstable, IsRightStableBlame, IsDeterministicBlame, IsUndetermined, IsInClass, IsRuleBlamed, IsBlamed}
+use Rattle.certificates.specs.Blames.{IsFirstVariable, IsFirstRepeated, IsType3Blame, IsOld, IsRightStableBlame, IsDeterministicBlame, IsInClass, IsRuleBlamed, IsBlamed}
 
 -- the first variable with a property occurs
 pub first_occurs : (P : ℕ → Type 0) (t : Term) (x : ℕ) → IsFirstVariable P t x → occurs x t ≡ true

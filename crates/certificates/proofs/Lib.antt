@@ -4,3 +4,5 @@ pub mod Sound
 pub mod Growth
 pub mod Outcomes
 pub mod Total
+pub mod Matched
+pub mod ClassTotal

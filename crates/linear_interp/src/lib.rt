@@ -4,8 +4,6 @@
 mod rules;
 mod shape;
 mod sums;
-#[cfg(test)]
-mod tests;
 
 ghost use Rattle.std.specs.Prelude.{map};
 ghost use Rattle.cert_model.specs.CertificateView.{linear_entry_view};
