@@ -6,18 +6,18 @@ use Rattle.std.proofs.lemmas.Result.{err_from_is_err_and}
 use Rattle.std.specs.Prelude.{IfErr}
 use Rattle.certificates.specs.Certificates.{Certificate}
 use Rattle.cops_read.specs.NameTable.{NameTable}
-use Rattle.cert_text.specs.CertificateText.{IsCertificateText}
-use Rattle.cert_text.specs.Marks.{Refusal, syntax}
-use Rattle.cert_text.specs.Refusals.{IsCertificateRefused}
-use Rattle.cert_text.specs.Items.{Item}
-use Rattle.cert_text.specs.FirstRefusal.{Left, Step, accepts, refuses, goes_on, step}
-use Rattle.cert_text.specs.declared.error.CertError.{CertError}
-use Rattle.cert_text.specs.declared.error.CertError.TheVariants.{CertSyntax, UnknownName, WrongArity, BadNumber, CertTooDeep, TooMany, NoMemory}
-use Rattle.cert_text.specs.declared.items.Item as code
-use Rattle.cert_text.specs.ReaderView.{item_view, items_view, told, stopped, IsTold, StepAnswers, step_at}
-use Rattle.cert_text.specs.CertRefusals.{IsRefusedAs}
-use Rattle.cert_text.proofs.FirstRefusals.{Reached, reached_start}
-use Rattle.cert_text.proofs.ExactReader.{weight, goes_nearer, refuses_rightly, accepts_rightly, place_within}
+use Rattle.cert_grammar.specs.CertificateText.{IsCertificateText}
+use Rattle.cert_grammar.specs.Marks.{Refusal, syntax}
+use Rattle.cert_grammar.specs.Refusals.{IsCertificateRefused}
+use Rattle.cert_grammar.specs.Items.{Item}
+use Rattle.cert_grammar.specs.FirstRefusal.{Left, Step, accepts, refuses, goes_on, step}
+use Rattle.cert_refusals.specs.declared.error.CertError.{CertError}
+use Rattle.cert_refusals.specs.declared.error.CertError.TheVariants.{CertSyntax, UnknownName, WrongArity, BadNumber, CertTooDeep, TooMany, NoMemory}
+use Rattle.cert_refusals.specs.declared.items.Item as code
+use Rattle.cert_refusals.specs.ReaderView.{item_view, items_view, told, stopped, IsTold, StepAnswers, step_at}
+use Rattle.cert_refusals.specs.CertRefusals.{IsRefusedAs}
+use Rattle.cert_laws.proofs.FirstRefusals.{Reached, reached_start}
+use Rattle.cert_laws.proofs.ExactReader.{weight, goes_nearer, refuses_rightly, accepts_rightly, place_within}
 
 abbrev pub place_of : List ℕ → List Item → List ℕ → Left
 place_of bytes items left = record { at = length bytes - length left; items = items; bytes = left }
@@ -52,10 +52,6 @@ popped before parts i e = ap items_view e ∙ ap (map item_view) (reverse-append
 pub none_left : (parts : List code.Item) → length parts ≡ 0 → items_view parts ≡ []
 none_left [] e = refl
 none_left (i ∷ parts) e = absurd (omega (arith, e))
-
--- the step at an item that is this one
-pub at_item : {A : Type 0} (names : NameTable) (at : ℕ) (i j : code.Item) (parts after : List code.Item) (bytes : List ℕ) (left : A → List ℕ) (r : Result A CertError) → i ≡ j → StepAnswers (step_at names at (item_view j) parts bytes) at bytes after left r → StepAnswers (step_at names at (item_view i) parts bytes) at bytes after left r
-at_item names at i j parts after bytes left r e h = subst (λ (x : code.Item). StepAnswers (step_at names at (item_view x) parts bytes) at bytes after left r) (sym e) h
 
 -- ---- what is told
 

@@ -15,11 +15,11 @@ use Rattle.noncon_check.specs.Judges.{AreFew}
 use Rattle.cert_check.specs.Kinds.{CanBeJudged}
 use Rattle.cops_read.specs.NameTable.{NameTable}
 use Rattle.cops_read.specs.File.{IsFile}
-use Rattle.cert_text.specs.Words.{IsSpelt, AreSpelt}
-use Rattle.cert_text.specs.Steps as steps
-use Rattle.cert_text.specs.Limits.{AreSteps, IsStep, AreDerivations, IsDerivation}
-use Rattle.cert_text.specs.EvidenceText.{IsEvidence, ArePairs}
-use Rattle.cert_text.specs.CertificateText.{IsApart, IsCertificateText}
+use Rattle.cert_grammar.specs.Words.{IsSpelt, AreSpelt}
+use Rattle.cert_grammar.specs.Steps as steps
+use Rattle.cert_grammar.specs.Limits.{AreSteps, IsStep, AreDerivations, IsDerivation}
+use Rattle.cert_grammar.specs.EvidenceText.{IsEvidence, ArePairs}
+use Rattle.cert_grammar.specs.CertificateText.{IsApart, IsCertificateText}
 
 -- terms that the names spell are over the arities of the names
 mutual

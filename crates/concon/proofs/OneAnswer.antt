@@ -12,11 +12,11 @@ use Rattle.cops_read.specs.NameTable.{NameTable}
 use Rattle.cops_read.specs.File.{IsFile}
 use Rattle.cops_read.specs.Answers.{OneSystem, OneRefusal, NeverSystemAndRefusal}
 use Rattle.concon.specs.FileRefusals.{FileRefusal, too_long, no_text, IsFileRefused, most_file_bytes}
-use Rattle.cert_text.specs.CertificateText.{IsCertificateText}
-use Rattle.cert_text.specs.MarkLaws as texts
+use Rattle.cert_grammar.specs.CertificateText.{IsCertificateText}
+use Rattle.cert_laws.specs.MarkLaws as texts
 use Rattle.concon.specs.CertRefusals.{CertRefusal, most_cert_bytes, IsCertRefused}
 use Rattle.concon.specs.CertRefusals as certs
-use Rattle.cert_text.proofs.Whole.{same_certificate}
+use Rattle.cert_lines.proofs.Whole.{same_certificate}
 use Rattle.concon.specs.Words.{IsCheck}
 use Rattle.concon.specs.Said.{Said, IsTold}
 use Rattle.concon.specs.Outcomes.{Bytes, Outcome, no_system, no_certificate, rejected, shown, SpellsSystem, IsRefusedFile, SpellsCertificate, IsRefusedCertificate, ComesTo, status_of, said_of_outcome}

@@ -10,9 +10,9 @@ use Rattle.cops_read.specs.Answers.{IsRefusedFor}
 use Rattle.cops_read.specs.declared.reader.ReadError.{ReadError}
 use Rattle.cops_read.specs.declared.reader.ReadError.TheVariants as causes
 use Rattle.concon.specs.FileRefusals.{too_long, most_file_bytes}
-use Rattle.cert_text.specs.CertRefusals.{IsRefusedAs}
-use Rattle.cert_text.specs.declared.error.CertError.{CertError}
-use Rattle.cert_text.specs.declared.error.CertError.TheVariants as cert_causes
+use Rattle.cert_refusals.specs.CertRefusals.{IsRefusedAs}
+use Rattle.cert_refusals.specs.declared.error.CertError.{CertError}
+use Rattle.cert_refusals.specs.declared.error.CertError.TheVariants as cert_causes
 use Rattle.concon.specs.CertRefusals as certs
 use Rattle.concon.specs.Outcomes.{Bytes, IsRefusedFile, IsRefusedCertificate}
 use Rattle.concon.specs.Causes.{told_or_any}

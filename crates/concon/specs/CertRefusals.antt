@@ -1,11 +1,11 @@
 -- Why a text is that of no certificate, and the text that says so.
 use Rattle.std.specs.Prelude.{◌≤◌, ◌<◌, ℕ, List, length, codes}
 use Rattle.cops_read.specs.NameTable.{NameTable}
-use Rattle.cert_text.specs.Marks as marks
-use Rattle.cert_text.specs.Refusals.{IsCertificateRefused}
-use Rattle.cert_text.specs.ReaderView.{counted_view}
-use Rattle.cert_text.specs.declared.error.CertError.{CertError}
-use Rattle.cert_text.specs.declared.error.CertError.TheVariants.{CertSyntax, UnknownName, WrongArity, BadNumber, CertTooDeep, TooMany, NoMemory}
+use Rattle.cert_grammar.specs.Marks as marks
+use Rattle.cert_grammar.specs.Refusals.{IsCertificateRefused}
+use Rattle.cert_refusals.specs.ReaderView.{counted_view}
+use Rattle.cert_refusals.specs.declared.error.CertError.{CertError}
+use Rattle.cert_refusals.specs.declared.error.CertError.TheVariants.{CertSyntax, UnknownName, WrongArity, BadNumber, CertTooDeep, TooMany, NoMemory}
 use Rattle.concon.specs.FileRefusals.{refused_line}
 
 -- no certificate is longer

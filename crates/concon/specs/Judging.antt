@@ -16,8 +16,8 @@ use Rattle.cc_io.specs.declared.shelf.ReadAllError.TheVariants as reading
 use Rattle.concon.specs.Rejections.{rejection_text}
 use Rattle.cops_read.specs.declared.reader.ReadError.{ReadError}
 use Rattle.cops_read.specs.declared.reader.ReadError.TheVariants as causes
-use Rattle.cert_text.specs.declared.error.CertError.{CertError}
-use Rattle.cert_text.specs.declared.error.CertError.TheVariants as cert_causes
+use Rattle.cert_refusals.specs.declared.error.CertError.{CertError}
+use Rattle.cert_refusals.specs.declared.error.CertError.TheVariants as cert_causes
 use Rattle.concon.specs.FileRefusals.{too_long, file_refusal_of}
 use Rattle.concon.specs.CertRefusals as certs
 use Rattle.concon.specs.Said.{Said}

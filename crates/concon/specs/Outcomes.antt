@@ -11,7 +11,7 @@ use Rattle.cert_check.specs.declared.Verdict.{Verdict}
 use Rattle.cert_check.specs.declared.Verdict.TheVariants as verdict
 use Rattle.cops_read.specs.NameTable.{NameTable}
 use Rattle.cops_read.specs.File.{IsFile}
-use Rattle.cert_text.specs.CertificateText.{IsCertificateText}
+use Rattle.cert_grammar.specs.CertificateText.{IsCertificateText}
 use Rattle.concon.specs.Rejections.{rejection_text}
 use Rattle.concon.specs.FileRefusals.{FileRefusal, most_file_bytes, IsFileRefused, file_refused_line}
 use Rattle.concon.specs.CertRefusals.{CertRefusal, most_cert_bytes, IsCertRefused, cert_refused_line}

@@ -3,7 +3,7 @@ ghost use Rattle.std.specs.Prelude.{◌≡◌, ◌≤◌, ◌++◌, ◌↔◌, �
 ghost use Rattle.cc_io.specs.Errors.{IsBegunIfAny};
 ghost use Rattle.cc_io.specs.Faults.{Rose};
 ghost use Rattle.cops_read.specs.File.{IsFile};
-ghost use Rattle.cert_text.specs.CertificateText.{IsCertificateText};
+ghost use Rattle.cert_grammar.specs.CertificateText.{IsCertificateText};
 ghost use Rattle.cert_model.specs.CertificateView.{certificate_view};
 ghost use Rattle.concon.specs.Causes.{run_of, told_or_any};
 ghost use Rattle.concon.specs.Judging.{file_refusal, text_refusal, cert_refusal, cert_text_refusal, SystemAnswers, CertificateAnswers, CheckAnswers, Judged, WhereFileIsRefused};

@@ -1,5 +1,5 @@
-use Rattle.cert_text.specs.ReaderView.{items_view}
-use Rattle.cert_text.proofs.ExactReader.{weight}
+use Rattle.cert_refusals.specs.ReaderView.{items_view}
+use Rattle.cert_laws.proofs.ExactReader.{weight}
 use Rattle.cert_text.proofs.StepByStep.{place_of, Stands}
 use Rattle.cert_text.proofs.refusal.first_refusal.Given as goal
 

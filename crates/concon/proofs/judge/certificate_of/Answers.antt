@@ -1,5 +1,5 @@
 use Rattle.std.proofs.Common.{subst}
-use Rattle.cert_text.specs.CertRefusals.{IsRefusedAs}
+use Rattle.cert_refusals.specs.CertRefusals.{IsRefusedAs}
 use Rattle.concon.proofs.TextsRead.{cert_unread, cert_refused}
 use Rattle.concon.proofs.judge.certificate_of.Goals as goal
 
