@@ -5,7 +5,7 @@ use Rattle.rewriting.specs.Terms.{Term, var, app, Terms, nil, cons, count}
 use Rattle.rewriting.specs.Substitutions.{Substitution, apply, apply_all}
 use Rattle.rewriting.specs.Variables.{variable_occurrences, variable_occurrences_of}
 use Rattle.certificates.specs.Evidence.{Automaton}
-use Rattle.automata.specs.Runs.{Moves, Has, IsState, Reach, ReachAll, at, Runs, ReachBy, ReachAllBy}
+use Rattle.automata.specs.Runs.{Moves, Symbols, Has, IsState, Reach, ReachAll, at, Runs, ReachBy, ReachAllBy}
 use Rattle.automata.specs.Closed.{IsChoice, state_of}
 
 -- each variable with its state has the property
@@ -93,21 +93,15 @@ mutual
   reach_all-mono M At Bt f (cons t ts) [] h = absurd h
   reach_all-mono M At Bt f (cons t ts) (q ∷ qs) (h, hs) = (reach-mono M At Bt f t q h, reach_all-mono M At Bt f ts qs hs)
 
--- there are as many states as arguments
-pub length-states : (M : Moves) (At : ℕ → ℕ → Type 0) (ts : Terms) (qs : List ℕ) → ReachAll M At ts qs → count ts ≡ length qs
-length-states M At nil qs h = sym (ap length h)
-length-states M At (cons t ts) [] h = absurd h
-length-states M At (cons t ts) (q ∷ qs) h = ap suc (length-states M At ts qs h.1)
-
 -- what a term reaches is a state
-pub runs_to_state : (a : Automaton) (t : Term) (q : ℕ) → Runs a t q → IsState a q
-runs_to_state a (var x) q h = h.target
-runs_to_state a (app f ts) q (qs, m, h) = m.target
+pub runs_to_state : (symbols : Symbols) (a : Automaton) (t : Term) (q : ℕ) → Runs symbols a t q → IsState a q
+runs_to_state symbols a (var x) q h = h.target
+runs_to_state symbols a (app f ts) q (qs, m, h) = m.target
 
 -- the states of a run of an instance are a choice
-pub choice_of : (a : Automaton) (s : Substitution) (t : Term) (q : ℕ) (r : Split (Has a) (λ x p. Has a None [] p) s t q) → IsChoice a.states t r.states
-choice_of a s t q r =
+pub choice_of : (symbols : Symbols) (a : Automaton) (s : Substitution) (t : Term) (q : ℕ) (r : Split (Has symbols a) (λ x p. Has symbols a None [] p) s t q) → IsChoice a.states t r.states
+choice_of symbols a s t q r =
     record {
-      each = length-each (λ x c. Runs a (s x) c) (variable_occurrences t) r.states r.each;
-      states = each_all (λ x c. Runs a (s x) c) (λ c. c < a.states) (λ x c h. runs_to_state a (s x) c h) (variable_occurrences t) r.states r.each;
+      each = length-each (λ x c. Runs symbols a (s x) c) (variable_occurrences t) r.states r.each;
+      states = each_all (λ x c. Runs symbols a (s x) c) (λ c. c < a.states) (λ x c h. runs_to_state symbols a (s x) c h) (variable_occurrences t) r.states r.each;
     }

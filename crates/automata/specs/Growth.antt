@@ -1,13 +1,13 @@
 -- The least automaton that accepts a term and is closed under the rules of a system: states stand for the subterms of the
 -- term and of the right sides (after Genet 1998).
-use Rattle.std.specs.Prelude.{ℕ, zero, suc, ◌≡◌, ◌⊎◌, ◌+◌, ◌<◌, ◌^◌, List, [], ◌∷◌, ◌++◌, Option, None, Some, Contains, length, replicate, slice_get}
+use Rattle.std.specs.Prelude.{ℕ, zero, suc, ◌≡◌, ◌⊎◌, ◌+◌, ◌<◌, ◌^◌, List, [], ◌∷◌, ◌++◌, Option, None, Some, All, Contains, length, replicate, slice_get}
 use Rattle.rewriting.specs.Lists.{IsSorted}
 use Rattle.rewriting.specs.Terms.{Term, var, app, Terms, nil, cons}
 use Rattle.rewriting.specs.Positions.{IsBefore}
 use Rattle.rewriting.specs.Rules.{Rule, System, rule_at}
 use Rattle.rewriting.specs.Variables.{variable_occurrences}
 use Rattle.certificates.specs.Evidence.{Transition, Automaton}
-use Rattle.automata.specs.Runs.{Moves, ReachBy}
+use Rattle.automata.specs.Runs.{Moves, IsHead, ReachBy}
 use Rattle.automata.specs.Closed.{IsChoice, state_of}
 
 -- the number of subterms that are no variables
@@ -63,6 +63,12 @@ first_state sys s n = suc (inner s + proper_before n sys.rules)
 -- all states
 abbrev pub state_count : System → Term → ℕ
 state_count sys s = first_state sys s (length sys.rules)
+
+-- the numbers of the transition are states, and one for variables has no arguments
+pub record HasStates (states : ℕ) (d : Transition) : Type 0 where
+  pub head : IsHead None d.symbol d.arguments
+  pub arguments : All (λ q. q < states) d.arguments
+  pub target : d.target < states
 
 -- a finite set of transitions as a relation
 abbrev pub moves : List Transition → Moves

@@ -5,22 +5,17 @@ use Rattle.std.specs.List.{insert}
 use Rattle.std.proofs.lemmas.List.{take-append-drop}
 use Rattle.std.proofs.lemmas.List.Edits.{length-insert}
 use Rattle.std.proofs.lemmas.List.Elements.{Contains-append_left, Contains-append_right, Contains-append_cases}
-use Rattle.certificates.specs.Evidence.{Transition}
 use Rattle.rewriting.specs.Lists.{IsSorted}
+use Rattle.certificates.specs.Evidence.{Transition}
+use Rattle.automata.specs.Growth.{IsTransitionBefore}
+use Rattle.automata.proofs.Asked.{contains_head, contains_tail}
 use Rattle.automaton_grow.specs.Growing.{IsPartOf, IsAdded, AddAnswers}
 use Rattle.automaton_grow.specs.Placing.{IsPlace}
 use Rattle.automaton_grow.specs.declared.GrowError.{GrowError}
 use Rattle.automaton_grow.specs.declared.GrowError.TheVariants.{TooWide, TooManyStates, TooManyTransitions, NoMemory}
 use Rattle.automaton_grow.proofs.Order.{inserted_sorted}
-use Rattle.automata.specs.Growth.{IsTransitionBefore}
 
 -- membership
-pub contains_head : {X : Type 0} (x : X) (xs : List X) → Contains (x ∷ xs) x
-contains_head x xs = (0, omega arith, refl)
-
-pub contains_tail : {X : Type 0} (y : X) (xs : List X) (x : X) → Contains xs x → Contains (y ∷ xs) x
-contains_tail y xs x h = Contains-append_right (y ∷ []) xs x h
-
 pub contains_cases : {X : Type 0} (y : X) (xs : List X) (x : X) → Contains (y ∷ xs) x → (x ≡ y) ⊎ Contains xs x
 contains_cases y xs x (zero, l, e) = inl (sym e)
 contains_cases y xs x (suc k, l, e) = inr (k, omega arith, e)

@@ -13,6 +13,8 @@ use Rattle.certificates.specs.Evidence.{Automaton}
 use Rattle.cert_model.specs.declared.evidence.Transition.{Transition}
 use Rattle.cert_model.specs.EvidenceView.{transition_view}
 use Rattle.automata.specs.Runs.{Has}
+use Rattle.automata.proofs.Asked.{by-mono, contains_head}
+use Rattle.automaton_runs.specs.Counted.{under_all}
 use Rattle.automata.specs.Closed.{state_of}
 use Rattle.rewriting.specs.Lists.{IsSorted}
 use Rattle.automata.specs.Growth.{grown, inside, moves, first_state, state_count, AreLeast, IsTransitionBefore}
@@ -22,8 +24,8 @@ use Rattle.automaton_grow.specs.Growing.{twins, twins_of, IsAskedAt, IsAskedByRu
 use Rattle.automaton_grow.specs.Rounds.{IsForSymbol, IsBasicOf, IsAskedByRows, PartialAnswers, RoundAnswers}
 use Rattle.automaton_grow.specs.declared.GrowError.{GrowError}
 use Rattle.automaton_grow.specs.declared.GrowError.TheVariants.{TooWide, TooManyStates, TooManyTransitions, NoMemory}
-use Rattle.automaton_grow.proofs.Adding.{contains_head, contains_none, contains_cases, added_after, added_nothing, answers_renamed, answers_after_error}
-use Rattle.automaton_grow.proofs.Asking.{reach_more, moves_had, first_many, next_many, next_partial, least_when_closed}
+use Rattle.automaton_grow.proofs.Adding.{contains_none, contains_cases, added_after, added_nothing, answers_renamed, answers_after_error}
+use Rattle.automaton_grow.proofs.Asking.{moves_had, first_many, next_many, next_partial, least_when_closed}
 use Rattle.automaton_grow.proofs.States.{twin_in, twin_from}
 use Rattle.automaton_grow.proofs.Walks.{append_nil}
 
@@ -252,21 +254,21 @@ module _ (n : ℕ) (r : math.Rule) (ds : List evidence.Transition) (rows : List 
         (λ d x. record { choice = row.choice.items; state = row.state; row = stands arrival_view rows i row h at; asked = x })
 
 -- the rows are what the left side reaches
-pub rows_rule : (a : Automaton) (n : ℕ) (r : math.Rule) (rows : List (List ℕ × ℕ)) (before after : List evidence.Transition) (o : Result (Unit {0}) GrowError) → AreAllStates a → AreArrivals a r.left rows
+pub rows_rule : (a : Automaton) (n : ℕ) (r : math.Rule) (rows : List (List ℕ × ℕ)) (before after : List evidence.Transition) (o : Result (Unit {0}) GrowError) → AreAllStates a → AreArrivals (under_all a) r.left rows
     → AddAnswers (IsAskedByRows n r a.transitions rows) before after o → AddAnswers (IsAskedByRule a.states n r a.transitions) before after o
 rows_rule a n r rows before after o good arrive = answers_renamed (IsAskedByRows n r a.transitions rows) (IsAskedByRule a.states n r a.transitions) before after o to from
   where
     to : (d : evidence.Transition) → IsAskedByRows n r a.transitions rows d → IsAskedByRule a.states n r a.transitions d
     to d k =
         let h = arrive.each k.choice k.state k.row in
-        record { choice = k.choice; state = k.state; is_choice = h.0; reached = reach_more (Has a) (moves a.transitions) (λ f qs q m. m.listed) r.left k.choice k.state h.1; asked = k.asked }
+        record { choice = k.choice; state = k.state; is_choice = h.0; reached = by-mono (Has None a) (moves a.transitions) (λ f qs q m. m.listed) r.left k.choice k.state h.1; asked = k.asked }
 
     from : (d : evidence.Transition) → IsAskedByRule a.states n r a.transitions d → IsAskedByRows n r a.transitions rows d
     from d k =
         record {
           choice = k.choice;
           state = k.state;
-          row = arrive.complete k.choice k.state k.is_choice (reach_more (moves a.transitions) (Has a) (λ f qs q m. moves_had a.states a.accepting a.transitions good f qs q m) r.left k.choice k.state k.reached);
+          row = arrive.complete k.choice k.state k.is_choice (by-mono (moves a.transitions) (Has None a) (λ f qs q m. moves_had a.states a.accepting a.transitions good f qs q m) r.left k.choice k.state k.reached);
           asked = k.asked;
         }
 

@@ -1,13 +1,13 @@
 -- One round of growth: what a set of transitions asks for, and sets of transitions with what was added to them.
-use Rattle.std.specs.Prelude.{ℕ, ◌≡◌, ◌⊎◌, ◌<◌, ◌≤◌, nat_eq, if◌then◌else◌, List, [], ◌∷◌, None, Some, All, Contains, length, replicate, slice_get, Result, Ok, Err}
+use Rattle.std.specs.Prelude.{ℕ, ◌≡◌, ◌⊎◌, ◌<◌, ◌≤◌, nat_eq, if◌then◌else◌, List, [], ◌∷◌, None, Some, Contains, length, replicate, slice_get, Result, Ok, Err}
+use Rattle.rewriting.specs.Lists.{IsSorted}
 use Rattle.rewriting.specs.Terms.{Term, var, app}
 use Rattle.rewriting.specs.Rules.{Rule, System}
 use Rattle.rewriting.specs.Variables.{variable_occurrences}
 use Rattle.certificates.specs.Evidence.{Transition, Automaton}
-use Rattle.automata.specs.Runs.{ReachBy, IsPlain}
+use Rattle.automata.specs.Runs.{ReachBy}
 use Rattle.automata.specs.Closed.{IsChoice, state_of}
-use Rattle.rewriting.specs.Lists.{IsSorted}
-use Rattle.automata.specs.Growth.{inside, grown, first_state, state_count, moves, IsAsked, IsTransitionBefore}
+use Rattle.automata.specs.Growth.{inside, grown, first_state, state_count, HasStates, moves, IsAsked, IsTransitionBefore}
 use Rattle.automaton_grow.specs.declared.GrowError.{GrowError}
 use Rattle.automaton_grow.specs.declared.GrowError.TheVariants.{TooWide, TooManyStates, TooManyTransitions, NoMemory}
 
@@ -67,12 +67,6 @@ AddAnswers wanted before after (Err (TooWide rule)) = ⊥
 AddAnswers wanted before after (Err TooManyStates) = ⊥
 AddAnswers wanted before after (Err TooManyTransitions) = IsPartOf wanted before after × (5000 < length after)
 AddAnswers wanted before after (Err NoMemory) = Unit {0}
-
--- the numbers of the transition are states, and one for variables has no arguments
-pub record HasStates (states : ℕ) (d : Transition) : Type 0 where
-  pub plain : IsPlain d.symbol d.arguments
-  pub arguments : All (λ q. q < states) d.arguments
-  pub target : d.target < states
 
 -- transitions that are all asked for, in order and at most 5,000, with those that state 0 and the term ask for
 pub record IsPartial (sys : System) (s : Term) (ds : List Transition) : Type 0 where

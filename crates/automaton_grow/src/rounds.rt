@@ -8,6 +8,7 @@ ghost use Rattle.automata.specs.Growth.{state_count, IsTransitionBefore};
 ghost use Rattle.term_core.specs.View.{view};
 ghost use Rattle.term_core.specs.RuleView.{rule_view};
 ghost use Rattle.cert_model.specs.EvidenceView.{transition_view, automaton_view};
+ghost use Rattle.automaton_runs.specs.Counted.{under_all};
 ghost use Rattle.automaton_runs.specs.Arrivals.{arrival_view};
 ghost use Rattle.automaton_grow.specs.Growing.{twins, IsAskedAt, IsAskedByRule, IsAskedBelow, AddAnswers, AreAllStates, IsPartial};
 ghost use Rattle.automaton_grow.specs.Limits.{AreNarrowBelow};
@@ -172,7 +173,7 @@ fn grow_rule(
     index: &AutomatonIndex<'_>,
     next: &mut Vec<Transition>,
 ) -> Result<(), GrowError>
-    requires index { index.now ≡ automaton_view current.now }
+    requires index { index.now ≡ under_all (automaton_view current.now) }
     requires fits { Fits (view rule.now.left) }
     requires narrow { current.now.states ^ length (variable_occurrences (view rule.now.left)) ≤ 100000 }
     requires states { AreAllStates (automaton_view current.now) }
@@ -194,7 +195,7 @@ fn grow_rules(
     index: &AutomatonIndex<'_>,
     next: &mut Vec<Transition>,
 ) -> Result<(), GrowError>
-    requires index { index.now ≡ automaton_view current.now }
+    requires index { index.now ≡ under_all (automaton_view current.now) }
     requires fits { Fits (view s.now) }
     requires states { current.now.states ≡ state_count sys.now (view s.now) }
     requires most { current.now.states ≤ 64 }
@@ -230,7 +231,7 @@ pub fn round(
     requires partial { IsPartial sys.now (view s.now) (map transition_view current.now.transitions.items) }
     ensures { RoundAnswers sys.now (view s.now) (map transition_view current.now.transitions.items) result }
 {
-    let index = AutomatonIndex::new(alloc, current)?;
+    let index = AutomatonIndex::new(alloc, None, current)?;
     let copy = current.try_clone(alloc)?;
     let mut next = copy.transitions;
     match grow_rules(alloc, sys, s, current, &index, &mut next) {

@@ -3,11 +3,11 @@ use Rattle.std.proofs.Common.{◌≡◌, ◌↔◌, ◌⊎◌, inl, inr, ⊎_eli
 use Rattle.std.specs.Option.{option_eq}
 use Rattle.std.proofs.lemmas.Bool.{false≢true, cases_lt}
 use Rattle.std.proofs.lemmas.Option.{same_Some, none-some}
-use Rattle.certificates.specs.Evidence.{Transition, Automaton}
-use Rattle.automata.specs.Runs.{Has}
+use Rattle.certificates.specs.Evidence.{Transition}
 use Rattle.rewriting.specs.Lists.{IsAmong}
 use Rattle.number_sets.specs.Relation.{Relates}
 use Rattle.number_sets.specs.declared.rows.NumberRelation.{NumberRelation}
+use Rattle.automaton_runs.specs.Counted.{Indexed, Finds}
 use Rattle.automaton_runs.specs.Counting.{Key, chosen, symbol_key, first_key}
 use Rattle.automaton_runs.specs.Reached.{AreRelated, Leads, HaveLeads, HaveLeadsByFirst, IsReachedFrom}
 use Rattle.automaton_runs.proofs.Looked.{looked_from, looked_to}
@@ -39,26 +39,26 @@ one_more {X = X} {A = A} {B = B} {C = C} P xs x ys e front more = (into, back)
     back (inl b) = more.1 (inl (front.1 (inl b)))
     back (inr (y, i, h)) = one y h (among_either y xs (x ∷ []) (subst (λ (l : List X). IsAmong y l) e i))
 
-module _ (a : Automaton) (f : ℕ) (all : List ℕ) (rs : List NumberRelation) (key : Key) (s q k : ℕ) where
+module _ (a : Indexed) (f : ℕ) (all : List ℕ) (rs : List NumberRelation) (key : Key) (s q k : ℕ) where
   -- transitions that are looked up lead where the symbol does
-  from_led : HaveLeads f all rs (filter (chosen key a.states s) a.transitions) q k → IsAmong k all × IsReachedFrom a f rs q k
+  from_led : HaveLeads f all rs (filter (chosen a.symbols key a.automaton.states s) a.automaton.transitions) q k → IsAmong k all × IsReachedFrom a f rs q k
   from_led (t, i, e) =
       let has = (looked_from a key s t i).0 in
-      (e.number, (t.arguments, subst (λ (o : Option ℕ). Has a o t.arguments q) e.symbol (subst (λ (r : ℕ). Has a t.symbol t.arguments r) (sym e.target) has), e.arguments))
+      (e.number, (t.arguments, subst (λ (o : Option ℕ). Finds a o t.arguments q) e.symbol (subst (λ (r : ℕ). Finds a t.symbol t.arguments r) (sym e.target) has), e.arguments))
 
-  to_led : (qs : List ℕ) → IsAmong (record { symbol = Some f; arguments = qs; target = q }) (filter (chosen key a.states s) a.transitions) → IsAmong k all → AreRelated rs qs k
-      → HaveLeads f all rs (filter (chosen key a.states s) a.transitions) q k
+  to_led : (qs : List ℕ) → IsAmong (record { symbol = Some f; arguments = qs; target = q }) (filter (chosen a.symbols key a.automaton.states s) a.automaton.transitions) → IsAmong k all → AreRelated rs qs k
+      → HaveLeads f all rs (filter (chosen a.symbols key a.automaton.states s) a.automaton.transitions) q k
   to_led qs i n e = (record { symbol = Some f; arguments = qs; target = q }, i, record { symbol = refl; number = n; arguments = e; target = refl })
 
 -- without arguments the symbol leads by its transitions
-pub led_by_symbol : (a : Automaton) (f q k : ℕ) (all : List ℕ) (rs : List NumberRelation) → HaveLeads f all rs (filter (chosen symbol_key a.states f) a.transitions) q k ↔ (IsAmong k all × IsReachedFrom a f rs q k)
+pub led_by_symbol : (a : Indexed) (f q k : ℕ) (all : List ℕ) (rs : List NumberRelation) → HaveLeads f all rs (filter (chosen a.symbols symbol_key a.automaton.states f) a.automaton.transitions) q k ↔ (IsAmong k all × IsReachedFrom a f rs q k)
 led_by_symbol a f q k all rs = (
   λ h. from_led a f all rs symbol_key f q k h,
   λ (n, (qs, has, e)). to_led a f all rs symbol_key f q k qs (looked_to a symbol_key f (Some f) qs q has refl) n e,
 )
 
 -- with a first argument it leads by the transitions from a state of the first relation
-pub led_by_first : (a : Automaton) (f q k : ℕ) (all : List ℕ) (r : NumberRelation) (rs : List NumberRelation) → HaveLeadsByFirst a r f all (r ∷ rs) q k ↔ (IsAmong k all × IsReachedFrom a f (r ∷ rs) q k)
+pub led_by_first : (a : Indexed) (f q k : ℕ) (all : List ℕ) (r : NumberRelation) (rs : List NumberRelation) → HaveLeadsByFirst a r f all (r ∷ rs) q k ↔ (IsAmong k all × IsReachedFrom a f (r ∷ rs) q k)
 led_by_first a f q k all r rs = (λ (s, (p, h)). from_led a f all (r ∷ rs) first_key s q k h, back)
   where
     back : IsAmong k all × IsReachedFrom a f (r ∷ rs) q k → HaveLeadsByFirst a r f all (r ∷ rs) q k
@@ -98,14 +98,14 @@ pub led_here : {A C F : Type 0} (L : Type 0) → F → C ↔ (A ⊎ L) → C ↔
 led_here L f h = (λ c. ⊎_elim inl (λ l. inr (f, l)) (h.0 c), λ k. h.1 (⊎_elim inl (λ (g, l). inr l) k))
 
 -- all that is related to numbers in the end
-pub reached_by_symbol : {A C : Type 0} (a : Automaton) (f q k : ℕ) (all : List ℕ) (rs : List NumberRelation) → (A → ⊥) → (ts : List Transition) → ts ≡ filter (chosen symbol_key a.states f) a.transitions
+pub reached_by_symbol : {A C : Type 0} (a : Indexed) (f q k : ℕ) (all : List ℕ) (rs : List NumberRelation) → (A → ⊥) → (ts : List Transition) → ts ≡ filter (chosen a.symbols symbol_key a.automaton.states f) a.automaton.transitions
     → C ↔ (A ⊎ HaveLeads f all rs ts q k) → C ↔ (IsAmong k all × IsReachedFrom a f rs q k)
 reached_by_symbol {A = A} {C = C} a f q k all rs none ts is h =
     let l = led_by_symbol a f q k all rs in
-    let here : C ↔ (A ⊎ HaveLeads f all rs (filter (chosen symbol_key a.states f) a.transitions) q k) = subst (λ (us : List Transition). C ↔ (A ⊎ HaveLeads f all rs us q k)) is h in
+    let here : C ↔ (A ⊎ HaveLeads f all rs (filter (chosen a.symbols symbol_key a.automaton.states f) a.automaton.transitions) q k) = subst (λ (us : List Transition). C ↔ (A ⊎ HaveLeads f all rs us q k)) is h in
     (λ c. l.0 (⊎_elim (λ x. absurd (none x)) (λ y. y) (here.0 c)), λ r. here.1 (inr (l.1 r)))
 
-pub reached_by_first : {A C : Type 0} (a : Automaton) (f q k : ℕ) (all : List ℕ) (first : NumberRelation) (rs : List NumberRelation) → (A → ⊥) → Some first ≡ slice_get rs 0
+pub reached_by_first : {A C : Type 0} (a : Indexed) (f q k : ℕ) (all : List ℕ) (first : NumberRelation) (rs : List NumberRelation) → (A → ⊥) → Some first ≡ slice_get rs 0
     → C ↔ (A ⊎ HaveLeadsByFirst a first f all rs q k) → C ↔ (IsAmong k all × IsReachedFrom a f rs q k)
 reached_by_first a f q k all first [] none some h = absurd (none-some first (sym some))
 reached_by_first {A = A} {C = C} a f q k all first (r ∷ rs) none some h =

@@ -4,8 +4,7 @@ use Rattle.std.proofs.lemmas.List.{take_more, take-append-drop}
 use Rattle.rewriting.specs.Terms as math
 use Rattle.rewriting.specs.Terms.{size, size_all}
 use Rattle.rewriting.specs.Variables.{variable_occurrences, variable_occurrences_of}
-use Rattle.certificates.specs.Evidence.{Automaton}
-use Rattle.automata.specs.Runs.{Has, Reach, at, ReachBy}
+use Rattle.automata.specs.Runs.{Reach, at, ReachBy}
 use Rattle.automata.specs.Closed.{state_of}
 use Rattle.term_core.specs.View.{view, views}
 use Rattle.term_core.specs.declared.terms.Term.{Term, Fun}
@@ -13,6 +12,7 @@ use Rattle.term_core.proofs.Views.{view-Fun}
 use Rattle.number_sets.specs.Sets.{below}
 use Rattle.number_sets.specs.Relation.{Relates}
 use Rattle.number_sets.specs.declared.rows.NumberRelation.{NumberRelation}
+use Rattle.automaton_runs.specs.Counted.{Indexed, Finds}
 use Rattle.automaton_runs.specs.Choices.{Batch, Holds, choice_of}
 use Rattle.automaton_runs.specs.Linear.{linear, linear_all}
 use Rattle.automaton_runs.specs.Reached.{AreWhere, Reaches}
@@ -20,16 +20,16 @@ use Rattle.automaton_runs.proofs.Choices.{length_choice}
 use Rattle.automaton_runs.proofs.NumberedLeaves.{reach_linear}
 
 -- with the numbers of its occurrences for names
-pub where_occurrences : (a : Automaton) (b : Batch) (t u : math.Term) (names : List ℕ) (r : NumberRelation) → b.length ≡ length (variable_occurrences t) → names ≡ below b.length → u ≡ linear 0 t → AreWhere b (Reaches a names u) r
-    → AreWhere b (ReachBy (Has a) t) r
+pub where_occurrences : (a : Indexed) (b : Batch) (t u : math.Term) (names : List ℕ) (r : NumberRelation) → b.length ≡ length (variable_occurrences t) → names ≡ below b.length → u ≡ linear 0 t → AreWhere b (Reaches a names u) r
+    → AreWhere b (ReachBy (Finds a) t) r
 where_occurrences a b t u names r long is numbered h q k =
     let cs = choice_of b k in
     let count : length cs ≡ b.length = length_choice b.states b.length (4096 * b.number + k) in
-    let same = reach_linear (Has a) t cs q (count ∙ long) in
+    let same = reach_linear (Finds a) t cs q (count ∙ long) in
     let named : names ≡ below (length cs) = is ∙ ap below (sym count) in
-    let here : Relates r q k ↔ (Holds b k × Reach (Has a) (at (state_of (below (length cs)) cs)) (linear 0 t) q) =
-    subst (λ (l : List ℕ). Relates r q k ↔ (Holds b k × Reach (Has a) (at (state_of l cs)) (linear 0 t) q)) named
-    (subst (λ (w : math.Term). Relates r q k ↔ (Holds b k × Reach (Has a) (at (state_of names cs)) w q)) numbered (h q k)) in
+    let here : Relates r q k ↔ (Holds b k × Reach (Finds a) (at (state_of (below (length cs)) cs)) (linear 0 t) q) =
+    subst (λ (l : List ℕ). Relates r q k ↔ (Holds b k × Reach (Finds a) (at (state_of l cs)) (linear 0 t) q)) named
+    (subst (λ (w : math.Term). Relates r q k ↔ (Holds b k × Reach (Finds a) (at (state_of names cs)) w q)) numbered (h q k)) in
     (λ x. let y = here.0 x in (y.0, same.0 y.1), λ y. here.1 (y.0, same.1 y.1))
 
 -- there are no more occurrences than nodes

@@ -11,10 +11,11 @@ use Rattle.std.specs.declared.cmp.Ordering.TheVariants.{Less, Equal, Greater}
 use Rattle.std.proofs.lemmas.Bool.{false≢true, or_cases}
 use Rattle.std.proofs.lemmas.Cmp.{tied_itself, nat_list_cmp_total}
 use Rattle.std.proofs.Common.{zero, suc, ◌≤◌, length, take, arith}
-use Rattle.certificates.specs.Evidence.{Transition, Automaton}
+use Rattle.certificates.specs.Evidence.{Transition}
 use Rattle.cert_model.specs.EvidenceView.{transition_view}
 use Rattle.cert_model.specs.declared.evidence.Transition as cert
-use Rattle.automata.specs.Runs.{Has}
+use Rattle.automaton_runs.specs.Counted.{Indexed, Finds}
+use Rattle.automata.specs.Runs.{Symbols}
 use Rattle.rewriting.specs.Lists.{IsAmong}
 use Rattle.automaton_runs.specs.Counting.{counts}
 use Rattle.automaton_runs.specs.Twins.{known_view}
@@ -100,11 +101,11 @@ stands (x ∷ xs) k (inl e) = or_first (is_at (compare_known k) x) _ (ap is_eq (
 stands (x ∷ xs) k (inr h) = or_second (is_at (compare_known k) x) _ (stands xs k h)
 
 -- a look-up answers whether the automaton has the transition
-pub looked_up : (a : Automaton) (ks : List Known) (k : Known) → ((t : Transition) → IsAmong t (map known_view ks) ↔ IsAmong t (filter (counts a.states) a.transitions))
-    → (list_any (is_at (compare_known k)) ks ≡ true) ↔ Has a k.symbol k.args.now k.target
+pub looked_up : (a : Indexed) (ks : List Known) (k : Known) → ((t : Transition) → IsAmong t (map known_view ks) ↔ IsAmong t (filter (counts a.symbols a.automaton.states) a.automaton.transitions))
+    → (list_any (is_at (compare_known k)) ks ≡ true) ↔ Finds a k.symbol k.args.now k.target
 looked_up a ks k same = (
-  λ e. let i = in_filter (counts a.states) (known_view k) a.transitions ((same (known_view k)).0 (found ks k e)) in has_from a (known_view k) i.0 i.1,
-  λ h. stands ks k ((same (known_view k)).1 (filter_in (counts a.states) (known_view k) a.transitions (contains_in (known_view k) a.transitions h.listed) (counts_has a k.symbol k.args.now k.target h))),
+  λ e. let i = in_filter (counts a.symbols a.automaton.states) (known_view k) a.automaton.transitions ((same (known_view k)).0 (found ks k e)) in has_from a (known_view k) i.0 i.1,
+  λ h. stands ks k ((same (known_view k)).1 (filter_in (counts a.symbols a.automaton.states) (known_view k) a.automaton.transitions (contains_in (known_view k) a.automaton.transitions h.listed) (counts_has a k.symbol k.args.now k.target h))),
 )
 
 filter_parts : (p : Transition → Bool) (ts : List Transition) (t u : Transition) → IsAmong u (filter p (ts ++ t ∷ [])) ↔ (IsAmong u (filter p ts) ⊎ ((u ≡ t) × (p t ≡ true)))
@@ -120,18 +121,18 @@ filter_parts p ts t u = (into, back)
     back (inr (e, h)) = filter_in p u (ts ++ t ∷ []) (among_right u ts (t ∷ []) (inl e)) (ap p e ∙ h)
 
 -- the loop's step
-pub known_more : (n : ℕ) (ts : List Transition) (t : Transition) (old new : List Transition) → ((u : Transition) → IsAmong u old ↔ IsAmong u (filter (counts n) ts))
-    → ((u : Transition) → IsAmong u new ↔ (IsAmong u old ⊎ ((u ≡ t) × (counts n t ≡ true)))) → (u : Transition) → IsAmong u new ↔ IsAmong u (filter (counts n) (ts ++ t ∷ []))
-known_more n ts t old new same step u =
-    let parts = filter_parts (counts n) ts t u in (
+pub known_more : (symbols : Symbols) (n : ℕ) (ts : List Transition) (t : Transition) (old new : List Transition) → ((u : Transition) → IsAmong u old ↔ IsAmong u (filter (counts symbols n) ts))
+    → ((u : Transition) → IsAmong u new ↔ (IsAmong u old ⊎ ((u ≡ t) × (counts symbols n t ≡ true)))) → (u : Transition) → IsAmong u new ↔ IsAmong u (filter (counts symbols n) (ts ++ t ∷ []))
+known_more symbols n ts t old new same step u =
+    let parts = filter_parts (counts symbols n) ts t u in (
       λ h. parts.1 (⊎_elim (λ g. inl ((same u).0 g)) (λ p. inr p) ((step u).0 h)),
       λ h. (step u).1 (⊎_elim (λ g. inl ((same u).1 g)) (λ p. inr p) (parts.0 h)),
     )
 
 -- a transition that counts is put into the set
-pub put_counted : (n : ℕ) (t : cert.Transition) (k : Known) (old new : List Known) → known_view k ≡ transition_view t → new ≡ insert_key compare_known old k → counts n (transition_view t) ≡ true
-    → (u : Transition) → IsAmong u (map known_view new) ↔ (IsAmong u (map known_view old) ⊎ ((u ≡ transition_view t) × (counts n (transition_view t) ≡ true)))
-put_counted n t k old new same is e u =
+pub put_counted : (symbols : Symbols) (n : ℕ) (t : cert.Transition) (k : Known) (old new : List Known) → known_view k ≡ transition_view t → new ≡ insert_key compare_known old k → counts symbols n (transition_view t) ≡ true
+    → (u : Transition) → IsAmong u (map known_view new) ↔ (IsAmong u (map known_view old) ⊎ ((u ≡ transition_view t) × (counts symbols n (transition_view t) ≡ true)))
+put_counted symbols n t k old new same is e u =
     let step = in_inserted old k u in (
       λ h. ⊎_elim (λ g. inl g) (λ f. inr (f ∙ same, e)) (step.0 (subst (λ (ks : List Known). IsAmong u (map known_view ks)) is h)),
       λ h. subst (λ (ks : List Known). IsAmong u (map known_view ks)) (sym is) (step.1 (⊎_elim (λ g. inl g) (λ p. inr (p.0 ∙ sym same)) h)),

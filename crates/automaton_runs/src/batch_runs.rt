@@ -2,12 +2,13 @@ ghost use Rattle.std.specs.Prelude.{◌≡◌, ◌↔◌, ◌⊎◌, ◌<◌, �
 ghost use Rattle.std.specs.List.{AllZip};
 ghost use Rattle.rewriting.specs.Terms as math;
 ghost use Rattle.rewriting.specs.Variables.{variable_occurrences};
-ghost use Rattle.automata.specs.Runs.{Has, ReachBy};
+ghost use Rattle.automata.specs.Runs.{ReachBy};
 ghost use Rattle.cert_model.specs.EvidenceView.{transition_view};
 ghost use Rattle.term_core.specs.View.{view};
 ghost use Rattle.rewriting.specs.Lists.{IsAmong};
 ghost use Rattle.number_sets.specs.Sets.{members};
 ghost use Rattle.number_sets.specs.Relation.{Relates};
+ghost use Rattle.automaton_runs.specs.Counted.{Finds};
 ghost use Rattle.automaton_runs.specs.Indexed.{pointed};
 ghost use Rattle.automaton_runs.specs.Reached.{AreWhere, Reaches, AreRelated, Leads, HaveLeads, HaveLeadsByFirst, IsReachedFrom};
 
@@ -179,7 +180,7 @@ pub fn reached_by_occurrences(
 ) -> Result<NumberRelation, NoMemory>
     requires fits { math.Fits (view t.now) }
     requires length { batch.now.length ≡ length (variable_occurrences (view t.now)) }
-    ensures { IfOk result (AreWhere batch.now (ReachBy (Has index.now) (view t.now))) }
+    ensures { IfOk result (AreWhere batch.now (ReachBy (Finds index.now) (view t.now))) }
 {
     let names = numbers(alloc, batch.occurrences())?;
     reached(alloc, index, batch, &names, &linear(alloc, t)?)

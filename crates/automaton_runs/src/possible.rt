@@ -153,7 +153,7 @@ pub fn possible_batches(
 ) -> Result<NumberSet, NoMemory>
     requires fits { math.Fits (view t.now) }
     requires length { occurrences ≡ length (variable_occurrences (view t.now)) }
-    requires few { index.now.states ^ occurrences ≤ 1000000 }
+    requires few { index.now.automaton.states ^ occurrences ≤ 1000000 }
     ensures { IfOk result (λ set. ArePossible index.now (view t.now) (members set)) }
 {
     let count = batches(index.states(), occurrences);

@@ -47,9 +47,9 @@ fn put_batch(
     rows: &mut Vec<Arrival>,
 ) -> Result<(), NoMemory>
     requires fits { math.Fits (view t.now) }
-    requires states { batch.now.states ≡ index.now.states }
+    requires states { batch.now.states ≡ index.now.automaton.states }
     requires length { batch.now.length ≡ length (variable_occurrences (view t.now)) }
-    requires few { index.now.states ^ length (variable_occurrences (view t.now)) ≤ 1000000 }
+    requires few { index.now.automaton.states ^ length (variable_occurrences (view t.now)) ≤ 1000000 }
     requires before { AreArrivalsBelow index.now (view t.now) (start batch.now) (map arrival_view rows.old.items) }
     ensures { OnOk result (AreArrivalsBelow index.now (view t.now) (start batch.now + 4096) (map arrival_view rows.new.items)) }
 {
@@ -71,7 +71,7 @@ pub fn arrivals(
     t: &Term,
 ) -> Result<Vec<Arrival>, NoMemory>
     requires fits { math.Fits (view t.now) }
-    requires few { index.now.states ^ length (variable_occurrences (view t.now)) ≤ 1000000 }
+    requires few { index.now.automaton.states ^ length (variable_occurrences (view t.now)) ≤ 1000000 }
     ensures { IfOk result (λ rows. AreArrivals index.now (view t.now) (map arrival_view rows.items)) }
 {
     let length = occurrences(alloc, t)?.len();

@@ -24,6 +24,6 @@ returns c =
     let t = view c.args.t.now in
     let whole : c.loop-number.number ≡ c.batches-number-end.result = omega arith in
     let long : c.len-length.result ≡ length (variable_occurrences t) = omega (arith, c.len-length.ensures, c.in_ok-occurrences.field-0.ok.0, ap length c.in_ok-occurrences.ensures) in
-    let power : c.states.result ^ c.len-length.result ≡ a.states ^ length (variable_occurrences t) = ap₂ (λ (n m : ℕ). n ^ m) c.states.ensures long in
+    let power : c.states.result ^ c.len-length.result ≡ a.automaton.states ^ length (variable_occurrences t) = ap₂ (λ (n m : ℕ). n ^ m) c.states.ensures long in
     let counted = subst (λ (n : ℕ). (number : ℕ) → (number < c.batches-number-end.result) ↔ (4096 * number < n)) power c.batches-number-end.ensures in
     arrivals_end a t c.loop-number.number c.batches-number-end.result (map arrival_view c.loop-number.rows.items) counted whole c.loop-number.invariant
