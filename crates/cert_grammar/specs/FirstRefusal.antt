@@ -3,7 +3,7 @@ use Rattle.std.specs.Prelude.{ℕ, zero, suc, ◌+◌, ◌*◌, Bool, true, not,
 use Rattle.file_text.specs.Bytes.{is_id}
 use Rattle.cops_read.specs.NameTable.{NameTable}
 use Rattle.cert_grammar.specs.Words.{largest}
-use Rattle.cert_grammar.specs.Marks.{Refusal, syntax, in_range, Mark, fixed, word, symbol, behind, demands_of, verdict}
+use Rattle.cert_grammar.specs.Marks.{CertificateCause, syntax, in_range, Mark, fixed, word, symbol, behind, demands_of, verdict}
 use Rattle.cert_grammar.specs.WordMarks.{are_places}
 use Rattle.cert_grammar.specs.Scans.{Mode, spelling, bar_begins, number_begins, place_begins, name_begins, is_word, scan, value, places}
 use Rattle.cert_grammar.specs.Items.{Item, opening, Lead, text, check, keyword, numeral_lead, position_lead, variable_lead, name_lead, leads}
@@ -83,14 +83,14 @@ pub record Left : Type 0 where
 
 pub data Step : Type 0 where
   accepts : Step
-  refuses : Refusal → ℕ → Step
+  refuses : CertificateCause → ℕ → Step
   goes_on : Left → Step
 
 -- behind a lead that is there
 abbrev pub behind_lead : Left → Lead → List Item → Left
 behind_lead l a items = record { at = l.at + taken a l.bytes; items = items_of a (take (taken a l.bytes) l.bytes) ++ items; bytes = drop (taken a l.bytes) l.bytes }
 
-abbrev pub judged : Option (Refusal × ℕ) → Left → Step
+abbrev pub judged : Option (CertificateCause × ℕ) → Left → Step
 judged (Some e) l = refuses e.0 e.1
 judged None l = goes_on l
 
@@ -112,7 +112,7 @@ step names l = step_items names l l.items
 
 pub data Reading : Type 0 where
   accepted : Reading
-  refused : Refusal → ℕ → Reading
+  refused : CertificateCause → ℕ → Reading
 
 abbrev pub reading : (Left → Reading) → Step → Reading
 reading further accepts = accepted

@@ -29,13 +29,13 @@ limit transitions = 20000
 limit nodes = 10000
 
 -- why a text is refused
-pub data Refusal : Type 0 where
-  syntax : Refusal
-  unknown_name : Refusal
-  wrong_arity : Refusal
-  bad_number : Refusal
-  too_many : Counted → Refusal
-  too_deep : Refusal
+pub data CertificateCause : Type 0 where
+  syntax : CertificateCause
+  unknown_name : CertificateCause
+  wrong_arity : CertificateCause
+  bad_number : CertificateCause
+  too_many : Counted → CertificateCause
+  too_deep : CertificateCause
 
 -- what must be met at a word
 pub data Demand : Type 0 where
@@ -69,7 +69,7 @@ meets names (is_few what n) = nat_le n (limit what)
 meets names (is_shallow most n) = nat_le n most
 meets names (fits_answer told given) = is_answer told given
 
-abbrev pub refusal_of : Demand → Refusal
+abbrev pub refusal_of : Demand → CertificateCause
 refusal_of (is_symbol name) = unknown_name
 refusal_of (has_arity name n) = wrong_arity
 refusal_of (in_range skip least bound n) = bad_number
@@ -78,18 +78,18 @@ refusal_of (is_shallow most n) = too_deep
 refusal_of (fits_answer told given) = syntax
 
 -- the place of a refusal at a word with this place; that of a wrong answer is the text's first byte
-abbrev pub place_of : ℕ → Demand → ℕ
-place_of at (is_symbol name) = at
-place_of at (has_arity name n) = at
-place_of at (in_range skip least bound n) = at + skip
-place_of at (is_few what n) = at
-place_of at (is_shallow most n) = at
-place_of at (fits_answer told given) = 0
+abbrev pub refusal_place : ℕ → Demand → ℕ
+refusal_place at (is_symbol name) = at
+refusal_place at (has_arity name n) = at
+refusal_place at (in_range skip least bound n) = at + skip
+refusal_place at (is_few what n) = at
+refusal_place at (is_shallow most n) = at
+refusal_place at (fits_answer told given) = 0
 
 -- the first demand that is not met, as a refusal with its place
-abbrev pub verdict : NameTable → ℕ → List Demand → Option (Refusal × ℕ)
+abbrev pub verdict : NameTable → ℕ → List Demand → Option (CertificateCause × ℕ)
 verdict names at [] = None
-verdict names at (d ∷ ds) = if meets names d then verdict names at ds else Some (refusal_of d, place_of at d)
+verdict names at (d ∷ ds) = if meets names d then verdict names at ds else Some (refusal_of d, refusal_place at d)
 
 -- a part of a text; the demands of a word stand in the order of judging
 pub data Mark : Type 0 where

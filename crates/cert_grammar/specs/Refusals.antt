@@ -4,7 +4,7 @@ use Rattle.file_text.specs.Bytes.{is_id}
 use Rattle.certificates.specs.Certificates.{Certificate}
 use Rattle.cops_read.specs.NameTable.{NameTable}
 use Rattle.cert_grammar.specs.Words.{IsIdentifier}
-use Rattle.cert_grammar.specs.Marks.{Naming, Refusal, syntax, Mark, fixed, word, symbol, behind, mark_text, marks_text, demands_of, verdict}
+use Rattle.cert_grammar.specs.Marks.{Naming, CertificateCause, syntax, Mark, fixed, word, symbol, behind, mark_text, marks_text, demands_of, verdict}
 use Rattle.cert_grammar.specs.CertificateMarks.{certificate_marks}
 
 -- the names of symbols are identifiers
@@ -58,7 +58,7 @@ Pass names [] = Unit {0}
 Pass names (m ∷ ms) = (verdict names 0 (demands_of m) ≡ None) × Pass names ms
 
 -- the first mark with a demand that is not met, where the bytes go to it
-pub record Fails (names : NameTable) (ms : List Mark) (bytes : List ℕ) (e : Refusal) (at : ℕ) : Type 0 where
+pub record Fails (names : NameTable) (ms : List Mark) (bytes : List ℕ) (e : CertificateCause) (at : ℕ) : Type 0 where
   pub front : List Mark
   pub mark : Mark
   pub goes : GoesTo ms bytes front mark
@@ -66,8 +66,8 @@ pub record Fails (names : NameTable) (ms : List Mark) (bytes : List ℕ) (e : Re
   pub refused : verdict names (length (marks_text front)) (demands_of mark) ≡ Some (e, at)
 
 -- the bytes go along a text of the grammar to a refusal
-abbrev pub IsJudged : NameTable → List ℕ → Refusal → ℕ → Type 0
-IsJudged names bytes e at = (s : Skeleton) × Fails names (marks_of s) bytes e at
+abbrev pub IsRefusedAtMark : NameTable → List ℕ → CertificateCause → ℕ → Type 0
+IsRefusedAtMark names bytes e at = (s : Skeleton) × Fails names (marks_of s) bytes e at
 
 -- the bytes begin a text of the grammar
 abbrev pub Begins : List ℕ → Type 0
@@ -81,7 +81,7 @@ pub record IsStuck (bytes : List ℕ) (at : ℕ) : Type 0 where
   pub no_text : (s : Skeleton) → skeleton_text s ≡ bytes → ⊥
 
 -- the refusal of a text: what is judged comes first
-abbrev pub IsCertificateRefused : NameTable → List ℕ → Refusal → ℕ → Type 0
+abbrev pub IsCertificateRefused : NameTable → List ℕ → CertificateCause → ℕ → Type 0
 IsCertificateRefused names bytes e at =
-    IsJudged names bytes e at
-    ⊎ ((e ≡ syntax) × IsStuck bytes at × ((f : Refusal) (place : ℕ) → IsJudged names bytes f place → ⊥))
+    IsRefusedAtMark names bytes e at
+    ⊎ ((e ≡ syntax) × IsStuck bytes at × ((f : CertificateCause) (place : ℕ) → IsRefusedAtMark names bytes f place → ⊥))

@@ -2,7 +2,7 @@
 use Rattle.std.proofs.Common.{◌≡◌, ◌⊎◌, inl, inr, ℕ, ◌+◌, List, [], ◌∷◌, ◌++◌, length, Some, None, refl, sym, ap, ◌∙◌, subst, append_assoc, append-nil, length-append, arith}
 use Rattle.std.proofs.lemmas.List.{append_cancel_left}
 use Rattle.cops_read.specs.NameTable.{NameTable}
-use Rattle.cert_grammar.specs.Marks.{Refusal, syntax, verdict, Mark, fixed, mark_text, marks_text, demands_of}
+use Rattle.cert_grammar.specs.Marks.{CertificateCause, syntax, verdict, Mark, fixed, mark_text, marks_text, demands_of}
 use Rattle.cert_grammar.specs.Refusals.{IsReached, GoesTo, Pass}
 use Rattle.cert_laws.specs.MarkLaws.{GoesAlong}
 use Rattle.cert_laws.specs.RefusedAmong.{FailsFrom, IsJudgedAmong, BeginsAmong, CannotGoOn, IsStuckAmong, IsRefusedAmong, After, Either, IsOther, BeginsOtherwise}
@@ -10,7 +10,7 @@ use Rattle.cert_laws.proofs.Along.{goes_past}
 use Rattle.cert_laws.proofs.OneRefusal.{refused_never, tail_goes, head_is, only_is, tail_text, further_place}
 
 -- a failure behind a mark that passes
-pub fails_behind : (names : NameTable) (from : ℕ) (m : Mark) (ks : List Mark) (rest : List ℕ) (e : Refusal) (at : ℕ) → verdict names 0 (demands_of m) ≡ None → FailsFrom names (from + length (mark_text m)) ks rest e at → FailsFrom names from (m ∷ ks) (mark_text m ++ rest) e at
+pub fails_behind : (names : NameTable) (from : ℕ) (m : Mark) (ks : List Mark) (rest : List ℕ) (e : CertificateCause) (at : ℕ) → verdict names 0 (demands_of m) ≡ None → FailsFrom names (from + length (mark_text m)) ks rest e at → FailsFrom names from (m ∷ ks) (mark_text m ++ rest) e at
 fails_behind names from m ks rest e at v h = record {
   front = m ∷ h.front;
   mark = h.mark;
@@ -29,7 +29,7 @@ fails_behind names from m ks rest e at v h = record {
 }
 
 -- and the other way round
-pub fails_further : (names : NameTable) (from : ℕ) (m : Mark) (ks : List Mark) (rest : List ℕ) (e : Refusal) (at : ℕ) → verdict names 0 (demands_of m) ≡ None → FailsFrom names from (m ∷ ks) (mark_text m ++ rest) e at → FailsFrom names (from + length (mark_text m)) ks rest e at
+pub fails_further : (names : NameTable) (from : ℕ) (m : Mark) (ks : List Mark) (rest : List ℕ) (e : CertificateCause) (at : ℕ) → verdict names 0 (demands_of m) ≡ None → FailsFrom names from (m ∷ ks) (mark_text m ++ rest) e at → FailsFrom names (from + length (mark_text m)) ks rest e at
 fails_further names from m ks rest e at v h = by h.front h.goes h.passed h.refused
   where
     by : (front : List Mark) → GoesTo (m ∷ ks) (mark_text m ++ rest) front h.mark → Pass names front → verdict names (from + length (marks_text front)) (demands_of h.mark) ≡ Some (e, at) → FailsFrom names (from + length (mark_text m)) ks rest e at
@@ -48,7 +48,7 @@ begins_behind : (m : Mark) (ks : List Mark) (done rest : List ℕ) → marks_tex
 begins_behind m ks done rest e = append_cancel_left (mark_text m) (marks_text ks) (done ++ rest) (e ∙ append_assoc (mark_text m) done rest)
 
 -- a mark that passes is read, and what is behind it is refused
-pub refused_after : (names : NameTable) (from : ℕ) (m : Mark) (Text : List Mark → Type 0) (rest : List ℕ) (e : Refusal) (at : ℕ) → verdict names 0 (demands_of m) ≡ None → IsRefusedAmong names (from + length (mark_text m)) Text rest e at → IsRefusedAmong names from (After m Text) (mark_text m ++ rest) e at
+pub refused_after : (names : NameTable) (from : ℕ) (m : Mark) (Text : List Mark → Type 0) (rest : List ℕ) (e : CertificateCause) (at : ℕ) → verdict names 0 (demands_of m) ≡ None → IsRefusedAmong names (from + length (mark_text m)) Text rest e at → IsRefusedAmong names from (After m Text) (mark_text m ++ rest) e at
 refused_after names from m Text rest e at v (inl (ks, t, h)) = inl (m ∷ ks, (ks, refl, t), fails_behind names from m ks rest e at v h)
 refused_after names from m Text rest e at v (inr (q, k, n)) = inr (q, stuck, unjudged)
   where
@@ -67,7 +67,7 @@ refused_after names from m Text rest e at v (inr (q, k, n)) = inr (q, stuck, unj
       next = cannot k.done k.left k.next;
     }
 
-    unjudged : (f : Refusal) (place : ℕ) → IsJudgedAmong names from (After m Text) (mark_text m ++ rest) f place → ⊥
+    unjudged : (f : CertificateCause) (place : ℕ) → IsJudgedAmong names from (After m Text) (mark_text m ++ rest) f place → ⊥
     unjudged f place (ms, (ks, a, t), h) = n f place (ks, t, fails_further names from m ks rest f place v (subst (λ (l : List Mark). FailsFrom names from l (mark_text m ++ rest) f place) a h))
 
 -- of two sets the one is refused, and the texts of the other begin with another byte
@@ -84,7 +84,7 @@ other_goes Other b bytes ms o t g =
     let f : b ∷ bytes ≡ (x.2 ∷ x.3) ++ p.0 = p.1 ∙ ap (λ (w : List ℕ). w ++ p.0) x.5 in
     x.6 cc
 
-pub refused_either : (names : NameTable) (from : ℕ) (Text Other : List Mark → Type 0) (b : ℕ) (bytes : List ℕ) (e : Refusal) (at : ℕ) → BeginsOtherwise Other (b ∷ bytes) → IsRefusedAmong names from Text (b ∷ bytes) e at → IsRefusedAmong names from (Either Text Other) (b ∷ bytes) e at
+pub refused_either : (names : NameTable) (from : ℕ) (Text Other : List Mark → Type 0) (b : ℕ) (bytes : List ℕ) (e : CertificateCause) (at : ℕ) → BeginsOtherwise Other (b ∷ bytes) → IsRefusedAmong names from Text (b ∷ bytes) e at → IsRefusedAmong names from (Either Text Other) (b ∷ bytes) e at
 refused_either names from Text Other b bytes e at o (inl (ms, t, h)) = inl (ms, inl t, h)
 refused_either names from Text Other b bytes e at o (inr (q, k, n)) = inr (
   q,
@@ -118,6 +118,6 @@ refused_either names from Text Other b bytes e at o (inr (q, k, n)) = inr (
     cannot done [] p c = ended done p c
     cannot done (d ∷ left) p c = further done left d p c
 
-    unjudged : (f : Refusal) (place : ℕ) → IsJudgedAmong names from (Either Text Other) (b ∷ bytes) f place → ⊥
+    unjudged : (f : CertificateCause) (place : ℕ) → IsJudgedAmong names from (Either Text Other) (b ∷ bytes) f place → ⊥
     unjudged f place (ms, inl t, h) = n f place (ms, t, h)
     unjudged f place (ms, inr t, h) = other_goes Other b bytes ms o t (h.front, h.mark, h.goes)

@@ -1,7 +1,7 @@
 -- The refusal at a first byte with which no text begins, and at the byte behind a term.
 use Rattle.std.proofs.Common.{◌≡◌, ◌⊎◌, inl, inr, ℕ, ◌+◌, List, [], ◌∷◌, ◌++◌, refl, sym, ap, ◌∙◌, subst, append-nil, arith}
 use Rattle.cops_read.specs.NameTable.{NameTable}
-use Rattle.cert_grammar.specs.Marks.{Refusal, syntax, Demand, Mark, behind, mark_text, marks_text}
+use Rattle.cert_grammar.specs.Marks.{CertificateCause, syntax, Demand, Mark, behind, mark_text, marks_text}
 use Rattle.cert_grammar.specs.Refusals.{BeginAlike, IsReached, GoesTo}
 use Rattle.cert_laws.specs.MarkLaws.{GoesAlong}
 use Rattle.cert_laws.specs.RefusedAmong.{IsJudgedAmong, CannotGoOn, IsRefusedAmong, After, Either, IsOther, BeginsOtherwise}
@@ -64,11 +64,11 @@ refused_behind names from d Text ks bytes t o = inr (
         let e : behind d ≡ f = let r : behind d ∷ ls ≡ f ∷ (front ++ mark ∷ g.back) = g.parts in cc in
         otherwise_goes Text bytes ls o i (front, mark, subst (λ (w : List ℕ). GoesTo ls w front mark) (sym (g.text ∙ ap (λ (k : Mark). (mark_text k ++ marks_text front) ++ (mark_text mark ++ g.rest)) (sym e))) tail)
 
-    unjudged : (f : Refusal) (place : ℕ) → IsJudgedAmong names from (After (behind d) Text) bytes f place → ⊥
+    unjudged : (f : CertificateCause) (place : ℕ) → IsJudgedAmong names from (After (behind d) Text) bytes f place → ⊥
     unjudged f place (ms, (ls, q, i), h) = goes ls h.front h.mark i (subst (λ (l : List Mark). GoesTo l bytes h.front h.mark) q h.goes)
 
 -- of two sets of texts that do not end here the one is refused at the end
-pub refused_either_end : (names : NameTable) (from : ℕ) (Text Other : List Mark → Type 0) (e : Refusal) (at : ℕ) → BeginsOtherwise Other [] → IsRefusedAmong names from Text [] e at → IsRefusedAmong names from (Either Text Other) [] e at
+pub refused_either_end : (names : NameTable) (from : ℕ) (Text Other : List Mark → Type 0) (e : CertificateCause) (at : ℕ) → BeginsOtherwise Other [] → IsRefusedAmong names from Text [] e at → IsRefusedAmong names from (Either Text Other) [] e at
 refused_either_end names from Text Other e at o (inl (ms, t, h)) = inl (ms, inl t, h)
 refused_either_end names from Text Other e at o (inr (q, k, n)) = inr (
   q,
@@ -83,7 +83,7 @@ refused_either_end names from Text Other e at o (inr (q, k, n)) = inr (
   unjudged,
 )
   where
-    unjudged : (f : Refusal) (place : ℕ) → IsJudgedAmong names from (Either Text Other) [] f place → ⊥
+    unjudged : (f : CertificateCause) (place : ℕ) → IsJudgedAmong names from (Either Text Other) [] f place → ⊥
     unjudged f place (ms, inl t, h) = n f place (ms, t, h)
     unjudged f place (ms, inr t, h) = otherwise_goes Other [] ms o t (h.front, h.mark, h.goes)
 

@@ -1,12 +1,12 @@
 -- The refusal among all texts of the grammar is the refusal of a text.
 use Rattle.std.proofs.Common.{◌≡◌, inl, inr, ℕ, ◌+◌, ◌<◌, ◌≤◌, List, [], ◌∷◌, ◌++◌, length, take, Some, refl, sym, ap, ◌∙◌, subst, append_assoc, append-nil, length-append, arith}
 use Rattle.cops_read.specs.NameTable.{NameTable}
-use Rattle.cert_grammar.specs.Marks.{Refusal, verdict, Mark, marks_text, demands_of}
+use Rattle.cert_grammar.specs.Marks.{CertificateCause, verdict, Mark, marks_text, demands_of}
 use Rattle.cert_grammar.specs.Refusals.{Fails, Skeleton, marks_of, skeleton_text, Begins, IsCertificateRefused}
 use Rattle.cert_laws.specs.RefusedAmong.{FailsFrom, BeginsAmong, CannotGoOn, IsRefusedAmong, IsSkeleton}
 
 -- among all texts of the grammar it is the refusal of the text
-pub refused_whole : (names : NameTable) (bytes : List ℕ) (e : Refusal) (at : ℕ) → IsRefusedAmong names 0 IsSkeleton bytes e at → IsCertificateRefused names bytes e at
+pub refused_whole : (names : NameTable) (bytes : List ℕ) (e : CertificateCause) (at : ℕ) → IsRefusedAmong names 0 IsSkeleton bytes e at → IsCertificateRefused names bytes e at
 refused_whole names bytes e at (inl (ms, (s, a), h)) = inl (
   s,
   subst (λ (l : List Mark). Fails names l bytes e at) (sym a) (record {
@@ -19,7 +19,7 @@ refused_whole names bytes e at (inl (ms, (s, a), h)) = inl (
 )
 refused_whole names bytes e at (inr (q, k, n)) = inr (q, record { within = within; before = before; there = there k.left k.parts k.next; no_text = no_text k.left k.parts k.next }, λ f place j. n f place (marks_of j.0, (j.0, refl), judged f place j.1))
   where
-    judged : (f : Refusal) (place : ℕ) {ms : List Mark} → Fails names ms bytes f place → FailsFrom names 0 ms bytes f place
+    judged : (f : CertificateCause) (place : ℕ) {ms : List Mark} → Fails names ms bytes f place → FailsFrom names 0 ms bytes f place
     judged f place h = record {
       front = h.front;
       mark = h.mark;

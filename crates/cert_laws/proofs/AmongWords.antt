@@ -3,7 +3,7 @@ use Rattle.std.proofs.Common.{◌≡◌, inl, inr, ℕ, ◌+◌, Bool, true, fal
 use Rattle.std.proofs.lemmas.List.{append_cancel_left}
 use Rattle.file_text.specs.Bytes.{is_id}
 use Rattle.cops_read.specs.NameTable.{NameTable}
-use Rattle.cert_grammar.specs.Marks.{Refusal, syntax, verdict, Mark, mark_text, marks_text, demands_of}
+use Rattle.cert_grammar.specs.Marks.{CertificateCause, syntax, verdict, Mark, mark_text, marks_text, demands_of}
 use Rattle.cert_grammar.specs.Refusals.{IsReached}
 use Rattle.cert_laws.specs.MarkLaws.{GoesAlong}
 use Rattle.cert_laws.specs.RefusedAmong.{FailsFrom, IsJudgedAmong, BeginsAmong, CannotGoOn, IsRefusedAmong, After, AfterMark}
@@ -55,7 +55,7 @@ module _ {A : Type 0} (mark : A → Mark) (Allowed : A → Type 0) (Text : A →
       kind.same y x (run_same is_id (spell y) (spell x) p.0 rest (kind.run y b) (kind.run x a) p.2 h (sym p.1)).0
 
   -- a whole word that passes is read, and what is behind it is refused
-  pub refused_after_word : (names : NameTable) (from : ℕ) (x : A) (rest : List ℕ) (e : Refusal) (at : ℕ) → Allowed x → Ends is_id rest → verdict names 0 (demands_of (mark x)) ≡ None → IsRefusedAmong names (from + length (mark_text (mark x))) (Text x) rest e at → IsRefusedAmong names from (AfterMark mark Allowed Text) (mark_text (mark x) ++ rest) e at
+  pub refused_after_word : (names : NameTable) (from : ℕ) (x : A) (rest : List ℕ) (e : CertificateCause) (at : ℕ) → Allowed x → Ends is_id rest → verdict names 0 (demands_of (mark x)) ≡ None → IsRefusedAmong names (from + length (mark_text (mark x))) (Text x) rest e at → IsRefusedAmong names from (AfterMark mark Allowed Text) (mark_text (mark x) ++ rest) e at
   refused_after_word names from x rest e at a w v r = by (refused_after names from (mark x) (Text x) rest e at v r) r
     where
       ended : (done : List ℕ) → rest ≡ done ++ [] → CannotGoOn (Text x) done [] → (ms : List Mark) → AfterMark mark Allowed Text ms → marks_text ms ≡ mark_text (mark x) ++ done → ⊥
@@ -97,7 +97,7 @@ module _ {A : Type 0} (mark : A → Mark) (Allowed : A → Type 0) (Text : A →
       )
 
   -- the whole word is refused
-  pub refused_word : (names : NameTable) (from : ℕ) (x : A) (ks : List Mark) (rest : List ℕ) (e : Refusal) (at : ℕ) → Allowed x → Text x ks → IsReached (mark x) ks rest → verdict names from (demands_of (mark x)) ≡ Some (e, at) → IsRefusedAmong names from (AfterMark mark Allowed Text) (mark_text (mark x) ++ rest) e at
+  pub refused_word : (names : NameTable) (from : ℕ) (x : A) (ks : List Mark) (rest : List ℕ) (e : CertificateCause) (at : ℕ) → Allowed x → Text x ks → IsReached (mark x) ks rest → verdict names from (demands_of (mark x)) ≡ Some (e, at) → IsRefusedAmong names from (AfterMark mark Allowed Text) (mark_text (mark x) ++ rest) e at
   refused_word names from x ks rest e at a t r v = inl (
     mark x ∷ ks,
     (x, ks, refl, a, t),
@@ -135,7 +135,7 @@ module _ {A : Type 0} (mark : A → Mark) (Allowed : A → Type 0) (Text : A →
           longer y r (marks_text ls) al (opens_text is_id ls (kind.opens y ls i)) (append_cancel_left front (spell y ++ marks_text ls) (u ++ b ∷ r)
           (sym (word_text y ls) ∙ sym (ap marks_text q) ∙ e ∙ append_assoc (front ++ u) (b ∷ []) r ∙ append_assoc front u (b ∷ r)))
 
-      unjudged : (f : Refusal) (place : ℕ) → IsJudgedAmong names from (AfterMark mark Allowed Text) (front ++ (u ++ b ∷ left)) f place → ⊥
+      unjudged : (f : CertificateCause) (place : ℕ) → IsJudgedAmong names from (AfterMark mark Allowed Text) (front ++ (u ++ b ∷ left)) f place → ⊥
       unjudged f place (ms, (y, ls, q, al, i), g) =
           let p = word_goes y ls (u ++ b ∷ left) i (subst (λ (l : List Mark). GoesAlong l (front ++ (u ++ b ∷ left))) q (g.front, g.mark, g.goes)) in
           longer y left p.0 al p.2 (sym p.1)
@@ -171,7 +171,7 @@ module _ {A : Type 0} (mark : A → Mark) (Allowed : A → Type 0) (Text : A →
       cannot [] o = ended
       cannot (b ∷ left) o = further b o
 
-      unjudged : (f : Refusal) (place : ℕ) → IsJudgedAmong names from (AfterMark mark Allowed Text) (front ++ (u ++ left)) f place → ⊥
+      unjudged : (f : CertificateCause) (place : ℕ) → IsJudgedAmong names from (AfterMark mark Allowed Text) (front ++ (u ++ left)) f place → ⊥
       unjudged f place (ms, (y, ls, q, al, i), g) =
           let p = word_goes y ls (u ++ left) i (subst (λ (l : List Mark). GoesAlong l (front ++ (u ++ left))) q (g.front, g.mark, g.goes)) in
           exactly y left p.0 al p.2 k (sym p.1)

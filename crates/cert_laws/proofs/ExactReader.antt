@@ -4,7 +4,7 @@ use Rattle.std.proofs.lemmas.List.{append-nil, length-take-le}
 use Rattle.certificates.specs.Certificates.{Certificate}
 use Rattle.cops_read.specs.NameTable.{NameTable}
 use Rattle.cert_grammar.specs.CertificateText.{IsCertificateText}
-use Rattle.cert_grammar.specs.Marks.{Refusal, mark_text, marks_text, demands_of, verdict}
+use Rattle.cert_grammar.specs.Marks.{CertificateCause, mark_text, marks_text, demands_of, verdict}
 use Rattle.cert_grammar.specs.Refusals.{skeleton_text, Pass, IsCertificateRefused}
 use Rattle.cert_grammar.specs.Scans.{Mode, is_word}
 use Rattle.cert_grammar.specs.Items.{Item, opening, Lead, text, check, keyword, numeral_lead, position_lead, variable_lead, name_lead, leads}
@@ -120,7 +120,7 @@ step_of_lead : (names : NameTable) (bytes : List ℕ) (at : ℕ) (i : Item) (ite
     → IsStepOf names bytes (record { at = at; items = i ∷ items; bytes = left }) (step_lead names (record { at = at; items = i ∷ items; bytes = left }) (Some a) i items)
 step_of_lead names bytes at i items left a r n e = by (verdict names at (demands_of (mark_of a (read_of a left)))) refl
   where
-    by : (o : Option (Refusal × ℕ)) → verdict names at (demands_of (mark_of a (read_of a left))) ≡ o → IsStepOf names bytes (record { at = at; items = i ∷ items; bytes = left }) (judged o (behind_lead (record { at = at; items = i ∷ items; bytes = left }) a items))
+    by : (o : Option (CertificateCause × ℕ)) → verdict names at (demands_of (mark_of a (read_of a left))) ≡ o → IsStepOf names bytes (record { at = at; items = i ∷ items; bytes = left }) (judged o (behind_lead (record { at = at; items = i ∷ items; bytes = left }) a items))
     by None v = (next_reached names bytes at i items left a r n e (passed_anywhere names at 0 (demands_of (mark_of a (read_of a left))) v), lighter at i items left a n e)
     by (Some x) v = inl (is_judged names bytes at i items left a x r n e v)
 
@@ -151,10 +151,10 @@ read_is (suc k) names bytes l h r = by (step names l) (step_is names bytes l r) 
 pub reader_is_exact : (names : NameTable) (bytes : List ℕ) → IsAnswerFor names bytes (read_certificate names bytes)
 reader_is_exact names bytes = read_is (2 * length bytes + 2) names bytes (whole_text bytes) (omega arith) (reached_start names bytes)
 
-pub one_or_the_other : (names : NameTable) (bytes : List ℕ) → ((c : Certificate) × IsCertificateText names bytes c) ⊎ ((e : Refusal) × (at : ℕ) × IsCertificateRefused names bytes e at)
+pub one_or_the_other : (names : NameTable) (bytes : List ℕ) → ((c : Certificate) × IsCertificateText names bytes c) ⊎ ((e : CertificateCause) × (at : ℕ) × IsCertificateRefused names bytes e at)
 one_or_the_other names bytes = by (read_certificate names bytes) (reader_is_exact names bytes)
   where
-    by : (r : Reading) → IsAnswerFor names bytes r → ((c : Certificate) × IsCertificateText names bytes c) ⊎ ((e : Refusal) × (at : ℕ) × IsCertificateRefused names bytes e at)
+    by : (r : Reading) → IsAnswerFor names bytes r → ((c : Certificate) × IsCertificateText names bytes c) ⊎ ((e : CertificateCause) × (at : ℕ) × IsCertificateRefused names bytes e at)
     by accepted h = inl h
     by (refused e at) h = inr (e, at, h)
 
@@ -164,7 +164,7 @@ same_answer names bytes accepted (refused e at) h k = absurd (never_both names b
 same_answer names bytes (refused e at) accepted h k = absurd (never_both names bytes k.0 e at k.1 h)
 same_answer names bytes (refused e at) (refused f place) h k =
     let same = one_answer names bytes e f at place h k in
-    ap (λ (x : Refusal). refused x at) same.0 ∙ ap (λ (n : ℕ). refused f n) same.1
+    ap (λ (x : CertificateCause). refused x at) same.0 ∙ ap (λ (n : ℕ). refused f n) same.1
 
 pub answers_are_read : (names : NameTable) (bytes : List ℕ) (r : Reading) → IsAnswerFor names bytes r → read_certificate names bytes ≡ r
 answers_are_read names bytes r h = same_answer names bytes (read_certificate names bytes) r (reader_is_exact names bytes) h
@@ -175,7 +175,7 @@ answers_are_read names bytes r h = same_answer names bytes (read_certificate nam
 pub goes_nearer : (names : NameTable) (bytes : List ℕ) (l m : Left) → Reached names bytes l → step names l ≡ goes_on m → Reached names bytes m × (weight m < weight l)
 goes_nearer names bytes l m r e = subst (IsStepOf names bytes l) e (step_is names bytes l r)
 
-pub refuses_rightly : (names : NameTable) (bytes : List ℕ) (l : Left) (f : Refusal) (at : ℕ) → Reached names bytes l → step names l ≡ refuses f at → IsCertificateRefused names bytes f at
+pub refuses_rightly : (names : NameTable) (bytes : List ℕ) (l : Left) (f : CertificateCause) (at : ℕ) → Reached names bytes l → step names l ≡ refuses f at → IsCertificateRefused names bytes f at
 refuses_rightly names bytes l f at r e = subst (IsStepOf names bytes l) e (step_is names bytes l r)
 
 pub accepts_rightly : (names : NameTable) (bytes : List ℕ) (l : Left) → Reached names bytes l → step names l ≡ accepts → (c : Certificate) × IsCertificateText names bytes c

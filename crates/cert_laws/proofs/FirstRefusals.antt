@@ -3,8 +3,8 @@ use Rattle.std.proofs.Common.{◌≡◌, ◌⊎◌, inl, inr, ℕ, true, List, [
 use Rattle.std.proofs.lemmas.List.{append-nil, take-append-drop, length-take-le}
 use Rattle.file_text.specs.Bytes.{is_id}
 use Rattle.cops_read.specs.NameTable.{NameTable}
-use Rattle.cert_grammar.specs.Marks.{Refusal, Mark, mark_text, marks_text, demands_of, verdict}
-use Rattle.cert_grammar.specs.Refusals.{HaveNames, Skeleton, marks_of, IsWhole, IsReached, Pass, IsJudged}
+use Rattle.cert_grammar.specs.Marks.{CertificateCause, Mark, mark_text, marks_text, demands_of, verdict}
+use Rattle.cert_grammar.specs.Refusals.{HaveNames, Skeleton, marks_of, IsWhole, IsReached, Pass, IsRefusedAtMark}
 use Rattle.cert_grammar.specs.Scans.{scan}
 use Rattle.cert_grammar.specs.Items.{Item, opening, Lead, text, check, keyword, numeral_lead, position_lead, variable_lead, name_lead, leads}
 use Rattle.cert_grammar.specs.FirstRefusal.{mode_of, ends_here, is_there, taken, mark_of, items_of, Left, behind_lead, whole_text}
@@ -168,8 +168,8 @@ next_reached names bytes at i items left a r n e v =
 
 -- ---- a refusal that is judged
 
-pub is_judged : (names : NameTable) (bytes : List ℕ) (at : ℕ) (i : Item) (items : List Item) (left : List ℕ) (a : Lead) (e : Refusal × ℕ) → Reached names bytes (record { at = at; items = i ∷ items; bytes = left }) → In a (leads i) → is_there a left ≡ true
-    → verdict names at (demands_of (mark_of a (read_of a left))) ≡ Some e → IsJudged names bytes e.0 e.1
+pub is_judged : (names : NameTable) (bytes : List ℕ) (at : ℕ) (i : Item) (items : List Item) (left : List ℕ) (a : Lead) (e : CertificateCause × ℕ) → Reached names bytes (record { at = at; items = i ∷ items; bytes = left }) → In a (leads i) → is_there a left ≡ true
+    → verdict names at (demands_of (mark_of a (read_of a left))) ≡ Some e → IsRefusedAtMark names bytes e.0 e.1
 is_judged names bytes at i items left a e r n there v =
     let m = mark_of a (read_of a left) in
     let new = items_of a (read_of a left) in

@@ -7,7 +7,7 @@ use Rattle.certificates.specs.Derivations.{Derivation, no_steps, first_step, Ste
 use Rattle.certificates.specs.Evidence.{Transition, InfeasibilityEvidence, by_caps, by_automaton, PairEvidence, trivial_pair, infeasible_pair, conflicting_pair, joined_pair, unfeasible_pair}
 use Rattle.certificates.specs.Certificates.{PairEntry, LinearEntry, linear_measure, Redex, Apartness, by_normal_forms, by_rigid_caps, Certificate, ortho_certificate, quasi_certificate, peak_certificate}
 use Rattle.cops_read.specs.NameTable.{NameTable}
-use Rattle.cert_grammar.specs.Marks.{Naming, Refusal, Demand, is_symbol, has_arity, in_range, is_few, is_shallow, fits_answer, meets, refusal_of, place_of, verdict, Mark, mark_text, marks_text, demands_of}
+use Rattle.cert_grammar.specs.Marks.{Naming, CertificateCause, Demand, is_symbol, has_arity, in_range, is_few, is_shallow, fits_answer, meets, refusal_of, refusal_place, verdict, Mark, mark_text, marks_text, demands_of}
 use Rattle.cert_grammar.specs.WordMarks.{numeral, dotted, are_places, places_text, term_marks, arguments_marks, further_marks, steps_marks, step_marks, derivations_marks, derivation_marks}
 use Rattle.cert_grammar.specs.CertificateMarks.{accepting_marks, further_states_marks, states_marks, head_marks, transitions_marks, infeasibility_marks, evidence_marks, pairs_marks, coefficients_marks, measured_marks, entries_marks, redexes_marks, apart_marks, body_marks, certificate_marks}
 use Rattle.cert_grammar.specs.Refusals.{marks_of, IsCertificateRefused}
@@ -26,14 +26,14 @@ abbrev Inside : List Mark → Type 0
 Inside [] = Unit {0}
 Inside (m ∷ ms) = AreIn (length (mark_text m)) (demands_of m) × Inside ms
 
-by_first : (names : NameTable) (a at n : ℕ) (d : Demand) (ds : List Demand) (e : Refusal) → place_of a d ≤ a + n → (verdict names a ds ≡ Some (e, at) → at ≤ a + n) → verdict names a (d ∷ ds) ≡ Some (e, at) → at ≤ a + n
+by_first : (names : NameTable) (a at n : ℕ) (d : Demand) (ds : List Demand) (e : CertificateCause) → refusal_place a d ≤ a + n → (verdict names a ds ≡ Some (e, at) → at ≤ a + n) → verdict names a (d ∷ ds) ≡ Some (e, at) → at ≤ a + n
 by_first names a at n d ds e le f r = by (meets names d) r
   where
-    by : (v : Bool) → cond v (verdict names a ds) (Some (refusal_of d, place_of a d)) ≡ Some (e, at) → at ≤ a + n
+    by : (v : Bool) → cond v (verdict names a ds) (Some (refusal_of d, refusal_place a d)) ≡ Some (e, at) → at ≤ a + n
     by true r = f r
-    by false r = let q : (refusal_of d, place_of a d) ≡ (e, at) = cc in subst (λ (p : ℕ). p ≤ a + n) (ap (λ (z : Refusal × ℕ). z.1) q) le
+    by false r = let q : (refusal_of d, refusal_place a d) ≡ (e, at) = cc in subst (λ (p : ℕ). p ≤ a + n) (ap (λ (z : CertificateCause × ℕ). z.1) q) le
 
-verdict_inside : (names : NameTable) (a at n : ℕ) (ds : List Demand) (e : Refusal) → AreIn n ds → verdict names a ds ≡ Some (e, at) → at ≤ a + n
+verdict_inside : (names : NameTable) (a at n : ℕ) (ds : List Demand) (e : CertificateCause) → AreIn n ds → verdict names a ds ≡ Some (e, at) → at ≤ a + n
 verdict_inside names a at n [] e h r = absurd cc
 verdict_inside names a at n (is_symbol name ∷ ds) e h r = by_first names a at n (is_symbol name) ds e (let q : a ≤ a + n = omega arith in q) (verdict_inside names a at n ds e h) r
 verdict_inside names a at n (has_arity name k ∷ ds) e h r = by_first names a at n (has_arity name k) ds e (let q : a ≤ a + n = omega arith in q) (verdict_inside names a at n ds e h) r
@@ -162,7 +162,7 @@ here [] (f ∷ front) mark back e h = absurd cc
 here (m ∷ ms) [] mark back e h = let q : m ≡ mark = cc in subst (λ (k : Mark). AreIn (length (mark_text k)) (demands_of k)) q h.0
 here (m ∷ ms) (f ∷ front) mark back e h = here ms front mark back (cc) h.1
 
-pub places_within : (names : NameTable) (bytes : List ℕ) (e : Refusal) (at : ℕ) → IsCertificateRefused names bytes e at → at ≤ length bytes
+pub places_within : (names : NameTable) (bytes : List ℕ) (e : CertificateCause) (at : ℕ) → IsCertificateRefused names bytes e at → at ≤ length bytes
 places_within names bytes e at (inl (s, h)) =
     let inside = here (marks_of s) h.front h.mark h.goes.back h.goes.parts (certificate_in s.answer s.certificate s.names) in
     let le = verdict_inside names (length (marks_text h.front)) at (length (mark_text h.mark)) (demands_of h.mark) e inside h.refused in

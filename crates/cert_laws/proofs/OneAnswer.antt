@@ -6,7 +6,7 @@ use Rattle.certificates.specs.Certificates.{Certificate}
 use Rattle.cops_read.specs.NameTable.{NameTable}
 use Rattle.cert_grammar.specs.Words.{name_of}
 use Rattle.cert_grammar.specs.CertificateText.{IsCertificateText, certificate_text, answer_line}
-use Rattle.cert_grammar.specs.Marks.{Naming, Refusal, fixed}
+use Rattle.cert_grammar.specs.Marks.{Naming, CertificateCause, fixed}
 use Rattle.cert_grammar.specs.CertificateMarks.{body_marks, certificate_marks}
 use Rattle.cert_grammar.specs.Refusals.{Pass, Fails, Skeleton, marks_of, skeleton_text, Begins, IsStuck, IsCertificateRefused}
 use Rattle.cert_laws.proofs.AlikeWhole.{alike_skeletons}
@@ -31,7 +31,7 @@ not_before bytes at place h k = by (cases_lt at place)
 pub one_stuck : (bytes : List ℕ) (at place : ℕ) → IsStuck bytes at → IsStuck bytes place → at ≡ place
 one_stuck bytes at place h k = let a = not_before bytes at place h k in let b = not_before bytes place at k h in omega (arith, a, b)
 
-pub one_answer : (names : NameTable) (bytes : List ℕ) (e f : Refusal) (at place : ℕ) → IsCertificateRefused names bytes e at → IsCertificateRefused names bytes f place → (e ≡ f) × (at ≡ place)
+pub one_answer : (names : NameTable) (bytes : List ℕ) (e f : CertificateCause) (at place : ℕ) → IsCertificateRefused names bytes e at → IsCertificateRefused names bytes f place → (e ≡ f) × (at ≡ place)
 one_answer names bytes e f at place (inl h) (inl k) = one_refusal names bytes e f at place h k
 one_answer names bytes e f at place (inl h) (inr k) = absurd (k.2 e at h)
 one_answer names bytes e f at place (inr h) (inl k) = absurd (h.2 f place k)
@@ -50,7 +50,7 @@ closed names None c = (fixed (codes "concon 1\n") ∷ body_marks names None c, c
 closed names (Some true) c = (fixed (codes "YES\n") ∷ fixed (codes "concon 1\n") ∷ body_marks names (Some true) c, codes "end\n", refl)
 closed names (Some false) c = (fixed (codes "NO\n") ∷ fixed (codes "concon 1\n") ∷ body_marks names (Some false) c, codes "end\n", refl)
 
-pub never_both : (names : NameTable) (bytes : List ℕ) (c : Certificate) (e : Refusal) (at : ℕ) → IsCertificateText names bytes c → IsCertificateRefused names bytes e at → ⊥
+pub never_both : (names : NameTable) (bytes : List ℕ) (c : Certificate) (e : CertificateCause) (at : ℕ) → IsCertificateText names bytes c → IsCertificateRefused names bytes e at → ⊥
 never_both names bytes c e at h (inl (t, k)) =
     let s = passing names bytes c h in
     passed_never (alike_skeletons s.0 t) names e at (closed s.0.names s.0.answer s.0.certificate) s.3 (subst (λ (b : List ℕ). Fails names (marks_of t) b e at) (sym s.2) k)

@@ -6,7 +6,7 @@ use Rattle.rewriting.specs.Terms.{Term, var, app, Terms, nil, cons, count, size,
 use Rattle.rewriting.specs.Positions.{Position}
 use Rattle.cops_read.specs.NameTable.{NameTable, name_at, arity_at, number_of}
 use Rattle.cert_grammar.specs.Words.{largest, ArePlaces, name_of, IsSpelt, AreSpelt}
-use Rattle.cert_grammar.specs.Marks.{Naming, Counted, limit, Demand, is_symbol, has_arity, in_range, is_few, is_shallow, is_number, meets, refusal_of, place_of, verdict, Mark, fixed, symbol, behind}
+use Rattle.cert_grammar.specs.Marks.{Naming, Counted, limit, Demand, is_symbol, has_arity, in_range, is_few, is_shallow, is_number, meets, refusal_of, refusal_place, verdict, Mark, fixed, symbol, behind}
 use Rattle.cert_grammar.specs.WordMarks.{numeral, are_places, is_node, term_marks, arguments_marks, further_marks}
 use Rattle.cert_grammar.specs.Refusals.{HaveNames, Pass}
 use Rattle.cert_grammar.proofs.Names.{found_is_named}
@@ -16,7 +16,7 @@ use Rattle.cert_laws.proofs.Along.{have_append}
 pub first_met : (names : NameTable) (d : Demand) (ds : List Demand) → verdict names 0 (d ∷ ds) ≡ None → (meets names d ≡ true) × (verdict names 0 ds ≡ None)
 first_met names d ds e = by (meets names d) e
   where
-    by : (v : Bool) → cond v (verdict names 0 ds) (Some (refusal_of d, place_of 0 d)) ≡ None → (v ≡ true) × (verdict names 0 ds ≡ None)
+    by : (v : Bool) → cond v (verdict names 0 ds) (Some (refusal_of d, refusal_place 0 d)) ≡ None → (v ≡ true) × (verdict names 0 ds ≡ None)
     by true e = (refl, e)
     by false e = absurd cc
 

@@ -2,7 +2,7 @@
 use Rattle.std.proofs.Common.{◌≡◌, ℕ, true, List, [], ◌∷◌, ◌++◌, take, Option, Some, None, refl, sym, ap, ◌∙◌, subst, append_assoc}
 use Rattle.std.proofs.lemmas.List.{append_cancel_left}
 use Rattle.cops_read.specs.NameTable.{NameTable}
-use Rattle.cert_grammar.specs.Marks.{Refusal, Mark, mark_text, marks_text, demands_of, verdict}
+use Rattle.cert_grammar.specs.Marks.{CertificateCause, Mark, mark_text, marks_text, demands_of, verdict}
 use Rattle.cert_grammar.specs.Refusals.{GoesTo, Pass}
 use Rattle.cert_grammar.specs.Scans.{Scan, scan}
 use Rattle.cert_grammar.specs.Items.{Item, Lead, text, check, keyword, numeral_lead, position_lead, variable_lead, name_lead, leads}
@@ -137,7 +137,7 @@ abbrev pub IsAtEnd : List Item → List ℕ → Type 0
 IsAtEnd [] rest = Unit {0}
 IsAtEnd (i ∷ s) rest = first_there (leads i) rest ≡ None
 
-pub no_refusal : (front : List Mark) (names : NameTable) (s t : List Item) (bytes rest : List ℕ) (ms before : List Mark) (mark : Mark) (e : Refusal × ℕ) (at : ℕ) → Moves front s bytes t rest → Pass names front → IsAtEnd t rest → Path ms s [] → GoesTo ms bytes before mark → verdict names at (demands_of mark) ≡ Some e → ⊥
+pub no_refusal : (front : List Mark) (names : NameTable) (s t : List Item) (bytes rest : List ℕ) (ms before : List Mark) (mark : Mark) (e : CertificateCause × ℕ) (at : ℕ) → Moves front s bytes t rest → Pass names front → IsAtEnd t rest → Path ms s [] → GoesTo ms bytes before mark → verdict names at (demands_of mark) ≡ Some e → ⊥
 no_refusal [] names s t bytes rest [] before mark e at h k x p g v = goes_nowhere bytes before mark g
 no_refusal [] names [] t bytes rest (m ∷ ms) before mark e at h k x p g v = absurd p
 no_refusal [] names (i ∷ s) t bytes rest (m ∷ ms) before mark e at h k x p g v =

@@ -8,7 +8,7 @@ use Rattle.certificates.specs.Certificates.{Certificate, by_normal_forms, peak_c
 use Rattle.cert_grammar.specs.Words.{IsIdentifier}
 use Rattle.cert_grammar.specs.Marks.{syntax, unknown_name, wrong_arity, bad_number, Mark, fixed, word, symbol, behind, fits_answer, has_arity}
 use Rattle.cert_grammar.specs.WordMarks.{numeral, number, is_node, steps_mark}
-use Rattle.cert_grammar.specs.Refusals.{IsJudged}
+use Rattle.cert_grammar.specs.Refusals.{IsRefusedAtMark}
 use Rattle.cert_laws.specs.RefusalRows.{two_names, AreRefused}
 use Rattle.cert_grammar.proofs.Runs.{numeral_is}
 use Rattle.cert_laws.proofs.EndRow.{end_row}
@@ -46,7 +46,7 @@ large_is = refl
 abbrev opening : Option Bool → List Mark
 opening given = fixed (codes "concon 1\n") ∷ word (codes "peak") (fits_answer false given ∷ []) ∷ fixed (codes "\n") ∷ fixed (codes "start ") ∷ []
 
-name_row : IsJudged two_names (codes "concon 1\npeak\nstart d") unknown_name 20
+name_row : IsRefusedAtMark two_names (codes "concon 1\npeak\nstart d") unknown_name 20
 name_row = (
   record { names = one_name (codes "d"); answer = None; certificate = from_symbol 0 no_steps; named = (d_is, tt) },
   record {
@@ -58,7 +58,7 @@ name_row = (
   },
 )
 
-answer_row : IsJudged two_names (codes "YES\nconcon 1\npeak\nstart a") syntax 0
+answer_row : IsRefusedAtMark two_names (codes "YES\nconcon 1\npeak\nstart a") syntax 0
 answer_row = (
   record { names = one_name (codes "a"); answer = (Some true); certificate = from_symbol 0 no_steps; named = (a_is, tt) },
   record {
@@ -70,7 +70,7 @@ answer_row = (
   },
 )
 
-arity_row : IsJudged two_names (codes "concon 1\npeak\nstart g\n") wrong_arity 21
+arity_row : IsRefusedAtMark two_names (codes "concon 1\npeak\nstart g\n") wrong_arity 21
 arity_row = (
   record { names = one_name (codes "g"); answer = None; certificate = from_symbol 0 no_steps; named = (g_is, tt) },
   record {
@@ -88,7 +88,7 @@ one_step = first_step (by_rule 4294967296 [] no_derivations) no_steps
 abbrev before_rule : List Mark
 before_rule = opening None ++ (symbol (codes "a") (is_node 1 1) ∷ behind (has_arity (codes "a") 0) ∷ fixed (codes "\n") ∷ (steps_mark 1 1 ++ (fixed (codes "rule ") ∷ [])))
 
-number_row : IsJudged two_names (codes "concon 1\npeak\nstart a\nsteps 1\nrule 4294967296 e 0\n") bad_number 35
+number_row : IsRefusedAtMark two_names (codes "concon 1\npeak\nstart a\nsteps 1\nrule 4294967296 e 0\n") bad_number 35
 number_row =
     let one : numeral 1 ≡ codes "1" = numeral_is 1 (omega arith) ∙ one_is in
     let large : numeral 4294967296 ≡ codes "4294967296" = numeral_is 4294967296 (omega arith) ∙ large_is in (

@@ -5,7 +5,7 @@ use Rattle.std.proofs.lemmas.Bool.{lt-ltb, le-leb}
 use Rattle.rewriting.specs.Positions.{Position}
 use Rattle.cops_read.specs.NameTable.{NameTable, arity_at, number_of}
 use Rattle.cert_grammar.specs.Words.{largest, position_text, parts_text, ArePlaces, name_of, IsNamed, IsIdentifier}
-use Rattle.cert_grammar.specs.Marks.{Counted, limit, Demand, is_symbol, has_arity, in_range, is_few, is_shallow, is_number, meets, refusal_of, place_of, verdict, Mark, fixed, word, symbol, behind, mark_text, marks_text}
+use Rattle.cert_grammar.specs.Marks.{Counted, limit, Demand, is_symbol, has_arity, in_range, is_few, is_shallow, is_number, meets, refusal_of, refusal_place, verdict, Mark, fixed, word, symbol, behind, mark_text, marks_text}
 use Rattle.cert_grammar.specs.WordMarks.{numeral, number, number_for, dotted, are_places, places_text, position}
 use Rattle.cert_grammar.specs.Refusals.{HaveNames, Pass}
 use Rattle.cert_grammar.proofs.Runs.{numeral_is}
@@ -18,7 +18,7 @@ pub record Spells (names : NameTable) (ms : List Mark) (t : List ℕ) : Type 0 w
 
 -- demands that are met
 pub met_first : (names : NameTable) (d : Demand) (ds : List Demand) → meets names d ≡ true → verdict names 0 ds ≡ None → verdict names 0 (d ∷ ds) ≡ None
-met_first names d ds e f = ap (λ (v : Bool). cond v (verdict names 0 ds) (Some (refusal_of d, place_of 0 d))) e ∙ f
+met_first names d ds e f = ap (λ (v : Bool). cond v (verdict names 0 ds) (Some (refusal_of d, refusal_place 0 d))) e ∙ f
 
 and_both : (v w : Bool) → v ≡ true → w ≡ true → (v && w) ≡ true
 and_both true w e f = f

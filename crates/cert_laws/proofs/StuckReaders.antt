@@ -3,8 +3,8 @@ use Rattle.std.proofs.Common.{◌≡◌, ◌⊎◌, inl, inr, ℕ, zero, suc, �
 use Rattle.std.proofs.lemmas.List.{append-nil, take-append-drop, length-take-le}
 use Rattle.std.proofs.lemmas.Bool.{cases_lt}
 use Rattle.cops_read.specs.NameTable.{NameTable}
-use Rattle.cert_grammar.specs.Marks.{Refusal, syntax, Mark, mark_text, marks_text}
-use Rattle.cert_grammar.specs.Refusals.{Skeleton, marks_of, skeleton_text, IsJudged, Begins, IsStuck, IsCertificateRefused}
+use Rattle.cert_grammar.specs.Marks.{CertificateCause, syntax, Mark, mark_text, marks_text}
+use Rattle.cert_grammar.specs.Refusals.{Skeleton, marks_of, skeleton_text, IsRefusedAtMark, Begins, IsStuck, IsCertificateRefused}
 use Rattle.cert_grammar.specs.Scans.{scan}
 use Rattle.cert_grammar.specs.Items.{Item, opening, Lead, text, check, keyword, numeral_lead, position_lead, variable_lead, name_lead, leads}
 use Rattle.cert_grammar.specs.FirstRefusal.{mode_of, ends_lead, first_there, longest, mark_of, items_of, Left}
@@ -166,7 +166,7 @@ begins_front front items back u rest p q e =
 goes_from : (names : NameTable) (bytes : List ℕ) (l : Left) (y : List ℕ) (s : Skeleton) → (r : Reached names bytes l) → skeleton_text s ≡ marks_text r.front ++ y → first l.bytes ≡ first y → GoesOn r.front (marks_of s) l.items y
 goes_from names bytes l y s r e f = text_goes r.front (opening ∷ []) l.items bytes l.bytes y (marks_of s) r.moves (skeleton_path s) e f
 
-never_judged : (names : NameTable) (bytes : List ℕ) (l : Left) → Reached names bytes l → IsAtEnd l.items l.bytes → (f : Refusal) (place : ℕ) → IsJudged names bytes f place → ⊥
+never_judged : (names : NameTable) (bytes : List ℕ) (l : Left) → Reached names bytes l → IsAtEnd l.items l.bytes → (f : CertificateCause) (place : ℕ) → IsRefusedAtMark names bytes f place → ⊥
 never_judged names bytes l r x f place (s, h) =
     no_refusal r.front names (opening ∷ []) l.items bytes l.bytes (marks_of s) h.front h.mark (f, place) (length (marks_text h.front)) r.moves r.passed x (skeleton_path s) h.goes h.refused
 

@@ -4,7 +4,7 @@ use Rattle.file_text.specs.Bytes.{is_id}
 use Rattle.rewriting.specs.Positions.{Position}
 use Rattle.cops_read.specs.NameTable.{NameTable}
 use Rattle.cert_grammar.specs.Words.{IsIdentifier}
-use Rattle.cert_grammar.specs.Marks.{Refusal, Demand, Mark, word, symbol}
+use Rattle.cert_grammar.specs.Marks.{CertificateCause, Demand, Mark, word, symbol}
 use Rattle.cert_grammar.specs.WordMarks.{numeral, places_text, position}
 use Rattle.cert_grammar.specs.Refusals.{IsWhole}
 use Rattle.cert_laws.specs.RefusedAmong.{CannotGoOn, IsRefusedAmong}
@@ -21,7 +21,7 @@ whole_ends (b ∷ rest) h = h
 pub name_words : (demands : List Demand) (Text : List ℕ → List Mark → Type 0) → ((name : List ℕ) (ks : List Mark) → Text name ks → Opens is_id ks) → AreWords (λ name. symbol name demands) IsIdentifier Text [] (λ name. name)
 name_words demands Text o = record { text = λ name. refl; run = λ name i. name_id name i; whole = λ name back rest h. whole_ends rest h; same = λ a b e. e; opens = o }
 
-pub refused_same : (names : NameTable) (from : ℕ) (Text Other : List Mark → Type 0) (bytes : List ℕ) (e : Refusal) (at : ℕ) → ((ms : List Mark) → Text ms → Other ms) → ((ms : List Mark) → Other ms → Text ms) → IsRefusedAmong names from Text bytes e at → IsRefusedAmong names from Other bytes e at
+pub refused_same : (names : NameTable) (from : ℕ) (Text Other : List Mark → Type 0) (bytes : List ℕ) (e : CertificateCause) (at : ℕ) → ((ms : List Mark) → Text ms → Other ms) → ((ms : List Mark) → Other ms → Text ms) → IsRefusedAmong names from Text bytes e at → IsRefusedAmong names from Other bytes e at
 refused_same names from Text Other bytes e at to back (inl (ms, t, h)) = inl (ms, to ms t, h)
 refused_same names from Text Other bytes e at to back (inr (q, k, n)) = inr (
   q,

@@ -3,7 +3,7 @@ use Rattle.std.specs.Prelude.{◌≡◌, ◌⊎◌, ℕ, List}
 use Rattle.certificates.specs.Certificates.{Certificate}
 use Rattle.cops_read.specs.NameTable.{NameTable}
 use Rattle.cert_grammar.specs.CertificateText.{IsCertificateText}
-use Rattle.cert_grammar.specs.Marks.{Refusal}
+use Rattle.cert_grammar.specs.Marks.{CertificateCause}
 use Rattle.cert_grammar.specs.Refusals.{IsCertificateRefused}
 use Rattle.cert_grammar.specs.FirstRefusal.{Reading, accepted, refused, read_certificate}
 
@@ -22,4 +22,4 @@ AnswersAreRead = (names : NameTable) (bytes : List ℕ) (r : Reading) → IsAnsw
 
 -- all bytes are the text of a certificate or have a refusal
 abbrev pub OneOrTheOther : Type 0
-OneOrTheOther = (names : NameTable) (bytes : List ℕ) → ((c : Certificate) × IsCertificateText names bytes c) ⊎ ((e : Refusal) × (at : ℕ) × IsCertificateRefused names bytes e at)
+OneOrTheOther = (names : NameTable) (bytes : List ℕ) → ((c : Certificate) × IsCertificateText names bytes c) ⊎ ((e : CertificateCause) × (at : ℕ) × IsCertificateRefused names bytes e at)

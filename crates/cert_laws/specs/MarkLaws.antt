@@ -3,7 +3,7 @@ use Rattle.std.specs.Prelude.{◌≡◌, ◌≤◌, ℕ, List, [], ◌∷◌, le
 use Rattle.certificates.specs.Certificates.{Certificate}
 use Rattle.cops_read.specs.NameTable.{NameTable}
 use Rattle.cert_grammar.specs.CertificateText.{IsCertificateText}
-use Rattle.cert_grammar.specs.Marks.{Refusal, Mark}
+use Rattle.cert_grammar.specs.Marks.{CertificateCause, Mark}
 use Rattle.cert_grammar.specs.Refusals.{Skeleton, marks_of, skeleton_text, GoesTo, Pass, IsCertificateRefused}
 
 -- bytes go along the marks up to some mark
@@ -22,11 +22,11 @@ IsDeterministic = (s t : Skeleton) → Alike (marks_of s) (marks_of t)
 
 -- a text has one refusal and one place of it
 abbrev pub OneRefusal : Type 0
-OneRefusal = (names : NameTable) (bytes : List ℕ) (e f : Refusal) (at place : ℕ) → IsCertificateRefused names bytes e at → IsCertificateRefused names bytes f place → (e ≡ f) × (at ≡ place)
+OneRefusal = (names : NameTable) (bytes : List ℕ) (e f : CertificateCause) (at place : ℕ) → IsCertificateRefused names bytes e at → IsCertificateRefused names bytes f place → (e ≡ f) × (at ≡ place)
 
 -- a text with a certificate has no refusal
 abbrev pub NeverBoth : Type 0
-NeverBoth = (names : NameTable) (bytes : List ℕ) (c : Certificate) (e : Refusal) (at : ℕ) → IsCertificateText names bytes c → IsCertificateRefused names bytes e at → ⊥
+NeverBoth = (names : NameTable) (bytes : List ℕ) (c : Certificate) (e : CertificateCause) (at : ℕ) → IsCertificateText names bytes c → IsCertificateRefused names bytes e at → ⊥
 
 -- in the text of a certificate all demands are met
 abbrev pub CertificatesPass : Type 0
@@ -38,4 +38,4 @@ PassingAreCertificates = (names : NameTable) (s : Skeleton) → Pass names (mark
 
 -- a refusal is in the text or at its end
 abbrev pub PlacesAreWithin : Type 0
-PlacesAreWithin = (names : NameTable) (bytes : List ℕ) (e : Refusal) (at : ℕ) → IsCertificateRefused names bytes e at → at ≤ length bytes
+PlacesAreWithin = (names : NameTable) (bytes : List ℕ) (e : CertificateCause) (at : ℕ) → IsCertificateRefused names bytes e at → at ≤ length bytes

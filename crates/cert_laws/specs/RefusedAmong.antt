@@ -1,18 +1,18 @@
 -- The refusal of bytes among a set of texts: what a part of a reader answers, for all that may follow.
 use Rattle.std.specs.Prelude.{◌≡◌, ◌⊎◌, ◌+◌, ℕ, List, [], ◌∷◌, ◌++◌, length, Some}
 use Rattle.cops_read.specs.NameTable.{NameTable}
-use Rattle.cert_grammar.specs.Marks.{Refusal, syntax, Mark, mark_text, marks_text, demands_of, verdict}
+use Rattle.cert_grammar.specs.Marks.{CertificateCause, syntax, Mark, mark_text, marks_text, demands_of, verdict}
 use Rattle.cert_grammar.specs.Refusals.{GoesTo, Pass, Skeleton, marks_of}
 
 -- the first mark with a demand that is not met, in bytes that stand so many behind a text's first
-pub record FailsFrom (names : NameTable) (from : ℕ) (ms : List Mark) (bytes : List ℕ) (e : Refusal) (at : ℕ) : Type 0 where
+pub record FailsFrom (names : NameTable) (from : ℕ) (ms : List Mark) (bytes : List ℕ) (e : CertificateCause) (at : ℕ) : Type 0 where
   pub front : List Mark
   pub mark : Mark
   pub goes : GoesTo ms bytes front mark
   pub passed : Pass names front
   pub refused : verdict names (from + length (marks_text front)) (demands_of mark) ≡ Some (e, at)
 
-abbrev pub IsJudgedAmong : NameTable → ℕ → (List Mark → Type 0) → List ℕ → Refusal → ℕ → Type 0
+abbrev pub IsJudgedAmong : NameTable → ℕ → (List Mark → Type 0) → List ℕ → CertificateCause → ℕ → Type 0
 IsJudgedAmong names from Text bytes e at = (ms : List Mark) × Text ms × FailsFrom names from ms bytes e at
 
 abbrev pub BeginsAmong : (List Mark → Type 0) → List ℕ → Type 0
@@ -31,10 +31,10 @@ pub record IsStuckAmong (from : ℕ) (Text : List Mark → Type 0) (bytes : List
   pub before : BeginsAmong Text done
   pub next : CannotGoOn Text done left
 
-abbrev pub IsRefusedAmong : NameTable → ℕ → (List Mark → Type 0) → List ℕ → Refusal → ℕ → Type 0
+abbrev pub IsRefusedAmong : NameTable → ℕ → (List Mark → Type 0) → List ℕ → CertificateCause → ℕ → Type 0
 IsRefusedAmong names from Text bytes e at =
     IsJudgedAmong names from Text bytes e at
-    ⊎ ((e ≡ syntax) × IsStuckAmong from Text bytes at × ((f : Refusal) (place : ℕ) → IsJudgedAmong names from Text bytes f place → ⊥))
+    ⊎ ((e ≡ syntax) × IsStuckAmong from Text bytes at × ((f : CertificateCause) (place : ℕ) → IsJudgedAmong names from Text bytes f place → ⊥))
 
 -- all texts of the grammar
 abbrev pub IsSkeleton : List Mark → Type 0

@@ -8,14 +8,10 @@ ghost use Rattle.cert_lines.specs.Answers.{Answers};
 use crate::error::Unread;
 use crate::terms::{symbol, word_of};
 use crate::words::{cut, is_word, marked, number_at, number_before, numbers_line};
-use cert_grammar::behind;
+use cert_grammar::{MOST_STATES, MOST_TRANSITIONS, behind};
 use cert_model::{Automaton, Transition};
 use cops_read::Names;
 use std::alloc::Global;
-
-const MOST_STATES: u32 = 1_000;
-
-const MOST_TRANSITIONS: u32 = 20_000;
 
 // Whether all states are below the number of states.
 fn are_states(numbers: &[u32], states: u32) -> bool

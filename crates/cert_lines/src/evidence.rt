@@ -9,15 +9,10 @@ use crate::automata::automaton;
 use crate::error::Unread;
 use crate::steps::derivation;
 use crate::words::{is_word, number_before, position_before};
-use cert_grammar::behind;
+use cert_grammar::{MOST_NESTING, MOST_PAIRS, behind};
 use cert_model::{Derivation, InfEvidence, PairEntry, PairEvidence};
 use cops_read::Names;
 use std::alloc::Global;
-
-// How deep derivations are nested at most, and the greatest number of overlaps.
-const MOST_NESTING: u32 = 50;
-
-const MOST_PAIRS: u32 = 20_000;
 
 /// The evidence at the front that conditions are never met, and what is behind it.
 pub fn infeasibility<'a>(

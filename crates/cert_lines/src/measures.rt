@@ -6,15 +6,10 @@ ghost use Rattle.cert_lines.specs.Answers.{Answers};
 use crate::error::Unread;
 use crate::terms::named;
 use crate::words::{number_at, number_before, numbers_line, part_of};
-use cert_grammar::behind;
+use cert_grammar::{MOST_ENTRIES, MOST_NUMBERS, behind};
 use cert_model::{Head, LinearEntry};
 use cops_read::Names;
 use std::alloc::Global;
-
-// The greatest number of numbers of an entry, and of entries.
-const MOST_NUMBERS: usize = 200;
-
-const MOST_ENTRIES: u32 = 25_000;
 
 // The symbol at the front that is measured, and what is behind it.
 fn measured<'a>(names: &Names, bytes: &'a [u8]) -> Result<(Head, &'a [u8]), Unread>

@@ -7,12 +7,10 @@ use crate::error::Unread;
 use crate::evidence::{infeasibility, place, two_derivations};
 use crate::terms::whole_term;
 use crate::words::{cut, is_word};
-use cert_grammar::behind;
+use cert_grammar::{MOST_REDEXES, behind};
 use cert_model::{NonJoin, Peak, Redex};
 use cops_read::Names;
 use std::alloc::Global;
-
-const MOST_REDEXES: u32 = 20_000;
 
 // The redex at the front, and what is behind its evidence.
 fn redex<'a>(alloc: Global, names: &Names, bytes: &'a [u8]) -> Result<(Redex, &'a [u8]), Unread>

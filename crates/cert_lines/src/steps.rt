@@ -6,12 +6,9 @@ ghost use Rattle.cert_lines.specs.Answers.{Answers};
 
 use crate::error::Unread;
 use crate::words::{number_before, position_before};
-use cert_grammar::behind;
+use cert_grammar::{MOST_STEPS, behind};
 use cert_model::{Derivation, Step};
 use std::alloc::Global;
-
-// The greatest number of steps of a derivation.
-const MOST_STEPS: u32 = 10_000;
 
 // The rule, the position and the number of derivations that follow, and what is behind the line.
 fn rule_line(alloc: Global, bytes: &[u8]) -> Result<(u32, Vec<u32>, u32, &[u8]), Unread>

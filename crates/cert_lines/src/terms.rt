@@ -9,16 +9,11 @@ ghost use Rattle.cert_lines.specs.Answers.{Answers};
 
 use crate::error::Unread;
 use crate::words::number;
-use cert_grammar::{behind, is_id};
+use cert_grammar::{MOST_LEVELS, MOST_NODES, behind, is_id};
 use cops_read::Names;
 use std::alloc::Global;
 use std::str;
 use term_core::Term;
-
-// The greatest depth and the greatest number of nodes of a term.
-const MOST_LEVELS: u32 = 400;
-
-const MOST_NODES: u32 = 10_000;
 
 /// Whether an identifier goes on with the first byte.
 pub fn goes_on(bytes: &[u8]) -> bool

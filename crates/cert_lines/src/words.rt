@@ -18,7 +18,7 @@ pub fn is_word(bytes: &[u8], word: &[u8]) -> bool
 }
 
 // The place of the first such byte.
-fn place_of(bytes: &[u8], end: u8) -> Option<usize>
+fn first_place(bytes: &[u8], end: u8) -> Option<usize>
     ensures { result ≡ position (λ b. b == end) bytes.now }
 {
     bytes.iter().position(|b| *b == end)
@@ -28,7 +28,7 @@ fn place_of(bytes: &[u8], end: u8) -> Option<usize>
 pub fn cut(bytes: &[u8], end: u8) -> Option<(&[u8], &[u8])>
     ensures { MatchOption result (Lacks end bytes.now) (λ x. IsCut end bytes.now x.0.now x.1.now) }
 {
-    let Some(at) = place_of(bytes, end) else {
+    let Some(at) = first_place(bytes, end) else {
         return None;
     };
     let (word, left) = bytes.split_at(at);

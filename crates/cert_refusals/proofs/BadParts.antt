@@ -5,7 +5,7 @@ use Rattle.std.proofs.lemmas.Bool.{lt-ltb, le-ltb, le-leb}
 use Rattle.std.proofs.Math.Seq.{drop-cons}
 use Rattle.cops_read.specs.NameTable.{NameTable}
 use Rattle.cert_grammar.specs.Words.{largest}
-use Rattle.cert_grammar.specs.Marks.{Refusal, bad_number, verdict}
+use Rattle.cert_grammar.specs.Marks.{CertificateCause, bad_number, verdict}
 use Rattle.cert_grammar.specs.WordMarks.{numeral, dotted, places_text, are_places}
 use Rattle.cert_grammar.specs.Scans.{value_from, is_digit, places}
 use Rattle.cert_grammar.proofs.Runs.{All, numeral_digits}
@@ -27,11 +27,11 @@ bad_digits (b ∷ u) rest begins at v h =
     ∙ bad_digits u rest begins (suc at) (10 * v + (b - 48)) h.1
     ∙ ap (λ (k : ℕ). bad_from begins k (value_from (10 * v + (b - 48)) u) rest) e
 
-abbrev pub told_at : ℕ → Option ℕ → Option (Refusal × ℕ)
+abbrev pub told_at : ℕ → Option ℕ → Option (CertificateCause × ℕ)
 told_at at None = None
 told_at at (Some skip) = Some (bad_number, at + skip)
 
-told_by : (at skip : ℕ) (t : Bool) (v : Option (Refusal × ℕ)) (b : Option ℕ) → v ≡ told_at at b → (if t then v else Some (bad_number, at + skip)) ≡ told_at at (if t then b else Some skip)
+told_by : (at skip : ℕ) (t : Bool) (v : Option (CertificateCause × ℕ)) (b : Option ℕ) → v ≡ told_at at b → (if t then v else Some (bad_number, at + skip)) ≡ told_at at (if t then b else Some skip)
 told_by at skip true v b h = h
 told_by at skip false v b h = refl
 

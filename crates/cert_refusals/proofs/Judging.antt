@@ -8,7 +8,7 @@ use Rattle.cert_refusals.specs.declared.error.CertError.{CertError}
 use Rattle.cert_refusals.specs.ReaderView.{told, IsTold, Judges}
 use Rattle.cops_read.specs.NameTable.{NameTable}
 use Rattle.cert_grammar.specs.Words.{largest}
-use Rattle.cert_grammar.specs.Marks.{Refusal, Demand, meets, verdict}
+use Rattle.cert_grammar.specs.Marks.{CertificateCause, Demand, meets, verdict}
 use Rattle.cert_grammar.specs.Scans.{value_from, value}
 
 -- the number that the digits before this place spell, which is not too great
@@ -34,11 +34,11 @@ value_passes digits at n v h gt =
     omega (arith, e, g)
 
 -- what a part refuses is refused
-still_told : (v w : Option (Refusal × ℕ)) (t : Option (Refusal × ℕ)) → IsTold v t → ((e : Refusal × ℕ) → v ≡ Some e → w ≡ Some e) → IsTold w t
+still_told : (v w : Option (CertificateCause × ℕ)) (t : Option (CertificateCause × ℕ)) → IsTold v t → ((e : CertificateCause × ℕ) → v ≡ Some e → w ≡ Some e) → IsTold w t
 still_told v w None h k = tt
 still_told v w (Some e) h k = k e h
 
-pub told_through : {A : Type 0} (v w : Option (Refusal × ℕ)) (r : Result A CertError) (x : CertError) → IsErrAnd r (λ y. y ≡ x) → IsTold v (told x) → ((e : Refusal × ℕ) → v ≡ Some e → w ≡ Some e) → Judges w r
+pub told_through : {A : Type 0} (v w : Option (CertificateCause × ℕ)) (r : Result A CertError) (x : CertError) → IsErrAnd r (λ y. y ≡ x) → IsTold v (told x) → ((e : CertificateCause × ℕ) → v ≡ Some e → w ≡ Some e) → Judges w r
 told_through v w r x e h k =
     let there = err_from_is_err_and r e in
     let same : r ≡ Err x = subst (λ y. r ≡ Err y) there.2 there.1 in
@@ -52,9 +52,9 @@ first_by names at d ds false e h = let k = rw e at h in absurd (cc)
 pub first_met : (names : NameTable) (at : ℕ) (d : Demand) (ds : List Demand) → verdict names at (d ∷ []) ≡ None → verdict names at (d ∷ ds) ≡ verdict names at ds
 first_met names at d ds h = first_by names at d ds (meets names d) refl h
 
-missed_by : (names : NameTable) (at : ℕ) (d : Demand) (ds : List Demand) (r : Refusal × ℕ) (t : Bool) → meets names d ≡ t → verdict names at (d ∷ []) ≡ Some r → verdict names at (d ∷ ds) ≡ Some r
+missed_by : (names : NameTable) (at : ℕ) (d : Demand) (ds : List Demand) (r : CertificateCause × ℕ) (t : Bool) → meets names d ≡ t → verdict names at (d ∷ []) ≡ Some r → verdict names at (d ∷ ds) ≡ Some r
 missed_by names at d ds r true e h = let k = rw e at h in absurd (cc)
 missed_by names at d ds r false e h = rw e (rw e at h)
 
-pub first_missed : (names : NameTable) (at : ℕ) (d : Demand) (ds : List Demand) (r : Refusal × ℕ) → verdict names at (d ∷ []) ≡ Some r → verdict names at (d ∷ ds) ≡ Some r
+pub first_missed : (names : NameTable) (at : ℕ) (d : Demand) (ds : List Demand) (r : CertificateCause × ℕ) → verdict names at (d ∷ []) ≡ Some r → verdict names at (d ∷ ds) ≡ Some r
 first_missed names at d ds r h = missed_by names at d ds r (meets names d) refl h

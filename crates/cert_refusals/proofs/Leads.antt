@@ -4,7 +4,7 @@ use Rattle.cert_refusals.specs.declared.items.Lead as code
 use Rattle.cert_refusals.specs.declared.items.Lead.TheVariants as leading
 use Rattle.cert_grammar.specs.Scans.{spelling, scan, scan_next, is_word}
 use Rattle.cert_grammar.specs.FirstRefusal.{mode_of, ends_lead, taken, longest}
-use Rattle.cert_refusals.specs.ReaderView.{bare, text_view, IsFront}
+use Rattle.cert_refusals.specs.ReaderView.{bare, text_view, IsLeadRead}
 
 -- the longest front of the leads, with the longest one of those that have been seen
 pub record LongestOn (leads : List code.Lead) (bytes : List ℕ) (at most : ℕ) : Type 0 where
@@ -32,7 +32,7 @@ all_read leading.Position bytes n h = refl
 all_read leading.Variable bytes n h = refl
 all_read leading.Name bytes n h = refl
 
-pub is_front : (a : code.Lead) (bytes w behind : List ℕ) (size : ℕ) → ((b : ℕ) → a ≡ leading.Check b → ⊥) → is_word (scan (mode_of (bare a)) bytes).mode ≡ true → size ≡ (scan (mode_of (bare a)) bytes).size → size ≤ length bytes → w ≡ take size bytes → behind ≡ drop size bytes → ends_lead (bare a) behind ≡ true → IsFront (bare a) bytes w behind
+pub is_front : (a : code.Lead) (bytes w behind : List ℕ) (size : ℕ) → ((b : ℕ) → a ≡ leading.Check b → ⊥) → is_word (scan (mode_of (bare a)) bytes).mode ≡ true → size ≡ (scan (mode_of (bare a)) bytes).size → size ≤ length bytes → w ≡ take size bytes → behind ≡ drop size bytes → ends_lead (bare a) behind ≡ true → IsLeadRead (bare a) bytes w behind
 is_front a bytes w behind size n h e le first last ends =
     let same : taken (bare a) bytes ≡ size = all_read a bytes n h ∙ sym e in
     let off : ends_lead (bare a) (drop (scan (mode_of (bare a)) bytes).size bytes) ≡ true = subst (λ (k : ℕ). ends_lead (bare a) (drop k bytes) ≡ true) e (subst (λ (k : List ℕ). ends_lead (bare a) k ≡ true) last ends) in

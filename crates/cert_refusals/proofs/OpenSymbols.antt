@@ -3,7 +3,7 @@ use Rattle.std.proofs.Common.{◌≡◌, ◌+◌, ◌-◌, ℕ, suc, Bool, true,
 use Rattle.std.proofs.Math.Nat.{zero-max}
 use Rattle.std.proofs.lemmas.List.{length-map, length-reverse, take_all}
 use Rattle.cops_read.specs.NameTable.{NameTable}
-use Rattle.cert_grammar.specs.Marks.{Refusal, bad_number, has_arity, in_range, meets, verdict}
+use Rattle.cert_grammar.specs.Marks.{CertificateCause, bad_number, has_arity, in_range, meets, verdict}
 use Rattle.cert_grammar.specs.Words.{largest}
 use Rattle.cert_grammar.specs.Scans.{spelling, scan, scan_next, is_word, value}
 use Rattle.cert_grammar.specs.Items.{Frame, Item, Lead, text, leads, name_behind, term_behind, term_closed, term_checks, is_short}
@@ -56,7 +56,7 @@ behind_bar names at n =
     let place : at + 1 + 0 ≡ at + 1 = omega arith in
     ap (λ (k : ℕ). if meets names (is_short n) then None else Some (bad_number, k)) place
 
-pub told_behind_bar : (names : NameTable) (at : ℕ) (word : List ℕ) (t : Option (Refusal × ℕ)) → IsTold (verdict names (at + 1) (is_short (value (take (length word - 1) (drop 1 word))) ∷ [])) t → IsTold (verdict names at (in_range 1 0 (suc largest) (value (drop 1 word)) ∷ [])) t
+pub told_behind_bar : (names : NameTable) (at : ℕ) (word : List ℕ) (t : Option (CertificateCause × ℕ)) → IsTold (verdict names (at + 1) (is_short (value (take (length word - 1) (drop 1 word))) ∷ [])) t → IsTold (verdict names at (in_range 1 0 (suc largest) (value (drop 1 word)) ∷ [])) t
 told_behind_bar names at word t h = subst (λ v. IsTold v t) (behind_bar names at (value (drop 1 word))) (subst (λ (w : List ℕ). IsTold (verdict names (at + 1) (is_short (value w) ∷ [])) t) (digits_behind word) h)
 
 -- what is read behind a node's word

@@ -3,7 +3,7 @@ use Rattle.std.proofs.Common.{◌≡◌, ◌+◌, ◌-◌, ◌≤◌, ℕ, Bool,
 use Rattle.std.specs.Result.{IsErrAnd}
 use Rattle.std.proofs.lemmas.Result.{err_from_is_err_and}
 use Rattle.cops_read.specs.NameTable.{NameTable}
-use Rattle.cert_grammar.specs.Marks.{Refusal, Demand, demands_of, verdict}
+use Rattle.cert_grammar.specs.Marks.{CertificateCause, Demand, demands_of, verdict}
 use Rattle.cert_refusals.proofs.Judging.{first_met, first_missed}
 use Rattle.cert_grammar.specs.Words.{IsIdentifier}
 use Rattle.cert_grammar.specs.WordMarks.{places_text}
@@ -14,7 +14,7 @@ use Rattle.cert_grammar.specs.Items.{Item, Lead, position_lead, name_lead}
 use Rattle.cert_grammar.specs.FirstRefusal.{ends_here, taken, mark_of, items_of, Left, goes_on, judged, step_lead, behind_lead}
 use Rattle.cert_refusals.specs.declared.error.CertError.{CertError}
 use Rattle.cert_refusals.specs.declared.items.Item as code
-use Rattle.cert_refusals.specs.ReaderView.{told, IsTold, IsFront, Judges, stopped, StepAnswers}
+use Rattle.cert_refusals.specs.ReaderView.{told, IsTold, IsLeadRead, Judges, stopped, StepAnswers}
 
 pub here_first : {A : Type 0} (t : Bool) (a b : A) → t ≡ true → (if t then a else b) ≡ a
 here_first t a b h = rw h refl
@@ -22,10 +22,10 @@ here_first t a b h = rw h refl
 pub here_later : {A : Type 0} (t : Bool) (a b c : A) → t ≡ false → b ≡ c → (if t then a else b) ≡ c
 here_later t a b c h e = rw h e
 
-refused_there : (names : NameTable) (l : Left) (i : Item) (items : List Item) (a : Lead) (e : Refusal × ℕ) → verdict names l.at (demands_of (mark_of a (take (taken a l.bytes) l.bytes))) ≡ Some e → stopped (step_lead names l (Some a) i items) ≡ Some e
+refused_there : (names : NameTable) (l : Left) (i : Item) (items : List Item) (a : Lead) (e : CertificateCause × ℕ) → verdict names l.at (demands_of (mark_of a (take (taken a l.bytes) l.bytes))) ≡ Some e → stopped (step_lead names l (Some a) i items) ≡ Some e
 refused_there names l i items a (e, at) h = ap (λ v. stopped (judged v (behind_lead l a items))) h
 
-still : (v : Option (Refusal × ℕ)) (s : Option (Refusal × ℕ)) (t : Option (Refusal × ℕ)) → IsTold v t → ((e : Refusal × ℕ) → v ≡ Some e → s ≡ Some e) → IsTold s t
+still : (v : Option (CertificateCause × ℕ)) (s : Option (CertificateCause × ℕ)) (t : Option (CertificateCause × ℕ)) → IsTold v t → ((e : CertificateCause × ℕ) → v ≡ Some e → s ≡ Some e) → IsTold s t
 still v s None h k = tt
 still v s (Some e) h k = k e h
 
@@ -46,7 +46,7 @@ step_goes names at bytes i items new a found rest f v r le n =
     ap (λ q. step_lead names l q i items) f ∙ ap (λ q. judged q (behind_lead l a items)) v ∙ ap goes_on (same_left _ _ _ _ _ _ place (sym n) (sym r))
 
 -- what a part refuses or lets through
-pub handed_on : {A : Type 0} (v : Option (Refusal × ℕ)) (r : Result A CertError) (x : CertError) → IsErrAnd r (λ y. y ≡ x) → IsTold v (told x) → Judges v r
+pub handed_on : {A : Type 0} (v : Option (CertificateCause × ℕ)) (r : Result A CertError) (x : CertError) → IsErrAnd r (λ y. y ≡ x) → IsTold v (told x) → Judges v r
 handed_on v r x e h =
     let there = err_from_is_err_and r e in
     let same : r ≡ Err x = subst (λ y. r ≡ Err y) there.2 there.1 in
@@ -57,21 +57,21 @@ pub word_refused : {A : Type 0} (names : NameTable) (at : ℕ) (bytes w : List �
 word_refused names at bytes w i items parts a found left r x f e g h = step_refused names at bytes i items parts a found left r x f g (subst (λ (k : List ℕ). IsTold (verdict names at (demands_of (mark_of a k))) (told x)) e h)
 
 -- the first of some demands is not met; the first is met, and what comes later is judged
-pub first_told : (names : NameTable) (at : ℕ) (d : Demand) (ds : List Demand) (t : Option (Refusal × ℕ)) → IsTold (verdict names at (d ∷ [])) t → IsTold (verdict names at (d ∷ ds)) t
+pub first_told : (names : NameTable) (at : ℕ) (d : Demand) (ds : List Demand) (t : Option (CertificateCause × ℕ)) → IsTold (verdict names at (d ∷ [])) t → IsTold (verdict names at (d ∷ ds)) t
 first_told names at d ds t h = still (verdict names at (d ∷ [])) (verdict names at (d ∷ ds)) t h (λ e k. first_missed names at d ds e k)
 
-pub later_told : (names : NameTable) (at : ℕ) (d : Demand) (ds : List Demand) (t : Option (Refusal × ℕ)) → verdict names at (d ∷ []) ≡ None → IsTold (verdict names at ds) t → IsTold (verdict names at (d ∷ ds)) t
+pub later_told : (names : NameTable) (at : ℕ) (d : Demand) (ds : List Demand) (t : Option (CertificateCause × ℕ)) → verdict names at (d ∷ []) ≡ None → IsTold (verdict names at ds) t → IsTold (verdict names at (d ∷ ds)) t
 later_told names at d ds t m h = subst (λ v. IsTold v t) (sym (first_met names at d ds m)) h
 
 -- a name that is there is an identifier
-pub named_front : (bytes w rest : List ℕ) → IsFront (name_lead [] (λ name. [])) bytes w rest → IsIdentifier w
+pub named_front : (bytes w rest : List ℕ) → IsLeadRead (name_lead [] (λ name. [])) bytes w rest → IsIdentifier w
 named_front bytes w rest f =
     let s = scan name_begins bytes in
     let spelt : IsWordOf name_begins (take s.size bytes) = record { last = s.mode; goes = (scanned bytes name_begins).goes; whole = and_first (is_word s.mode) (ends_here (drop s.size bytes)) f.there } in
     name_is w (subst (IsWordOf name_begins) (sym f.word) spelt)
 
 -- a position that is there is the text of its numbers
-pub place_front : (bytes w rest : List ℕ) → IsFront (position_lead []) bytes w rest → w ≡ places_text (places w)
+pub place_front : (bytes w rest : List ℕ) → IsLeadRead (position_lead []) bytes w rest → w ≡ places_text (places w)
 place_front bytes w rest f =
     let s = scan place_begins bytes in
     let spelt : IsWordOf place_begins (take s.size bytes) = record { last = s.mode; goes = (scanned bytes place_begins).goes; whole = and_first (is_word s.mode) (ends_here (drop s.size bytes)) f.there } in

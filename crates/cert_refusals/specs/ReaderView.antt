@@ -11,7 +11,7 @@ use Rattle.cert_refusals.specs.declared.error.CertCount.TheVariants as counting
 use Rattle.cert_refusals.specs.declared.error.CertError as errors
 use Rattle.cert_refusals.specs.declared.error.CertError.TheVariants as refusing
 use Rattle.cops_read.specs.NameTable.{NameTable}
-use Rattle.cert_grammar.specs.Marks.{Counted, pairs, entries, numbers, steps, redexes, states, transitions, nodes, Refusal, syntax, unknown_name, wrong_arity, bad_number, too_many, too_deep, Demand, verdict}
+use Rattle.cert_grammar.specs.Marks.{Counted, pairs, entries, numbers, steps, redexes, states, transitions, nodes, CertificateCause, syntax, unknown_name, wrong_arity, bad_number, too_many, too_deep, Demand, verdict}
 use Rattle.cert_refusals.specs.declared.items.Between as betweens
 use Rattle.cert_refusals.specs.declared.items.Between.TheVariants as gap
 use Rattle.cert_refusals.specs.declared.items.Frame as frames
@@ -89,7 +89,7 @@ bare leading.Variable = variable_lead [] []
 bare leading.Name = name_lead [] (λ name. [])
 
 -- the lead is there, with these bytes and these behind them
-pub record IsFront (a : Lead) (bytes w behind : List ℕ) : Type 0 where
+pub record IsLeadRead (a : Lead) (bytes w behind : List ℕ) : Type 0 where
   pub there : is_there a bytes ≡ true
   pub word : w ≡ take (taken a bytes) bytes
   pub rest : behind ≡ drop (taken a bytes) bytes
@@ -106,7 +106,7 @@ counted_view counting.Transitions = transitions
 counted_view counting.Nodes = nodes
 
 -- the refusal that an error tells, and its place; wanting memory tells none
-abbrev pub told : errors.CertError → Option (Refusal × ℕ)
+abbrev pub told : errors.CertError → Option (CertificateCause × ℕ)
 told (refusing.CertSyntax at) = Some (syntax, at)
 told (refusing.UnknownName at) = Some (unknown_name, at)
 told (refusing.WrongArity at) = Some (wrong_arity, at)
@@ -116,12 +116,12 @@ told (refusing.TooMany what at) = Some (too_many (counted_view what), at)
 told refusing.NoMemory = None
 
 -- what is refused, if not for want of memory
-abbrev pub IsTold : Option (Refusal × ℕ) → Option (Refusal × ℕ) → Type 0
+abbrev pub IsTold : Option (CertificateCause × ℕ) → Option (CertificateCause × ℕ) → Type 0
 IsTold wanted None = Unit {0}
 IsTold wanted (Some r) = wanted ≡ Some r
 
 -- a word is let through, or refused
-abbrev pub Judges : {A : Type 0} → Option (Refusal × ℕ) → Result A errors.CertError → Type 0
+abbrev pub Judges : {A : Type 0} → Option (CertificateCause × ℕ) → Result A errors.CertError → Type 0
 Judges wanted (Ok x) = wanted ≡ None
 Judges wanted (Err e) = IsTold wanted (told e)
 
@@ -192,7 +192,7 @@ item_view part.Apart = apart
 abbrev pub items_view : List items.Item → List Item
 items_view parts = map item_view (reverse parts)
 
-abbrev pub stopped : Step → Option (Refusal × ℕ)
+abbrev pub stopped : Step → Option (CertificateCause × ℕ)
 stopped accepts = None
 stopped (refuses e at) = Some (e, at)
 stopped (goes_on l) = None
@@ -204,7 +204,7 @@ IsFixed at bytes all left (Err e) = ((is_there (text bytes []) all ≡ false) ×
 
 -- what stands first of a part is read, as a word with what is behind it
 abbrev pub IsRead : {A : Type 0} → Lead → ℕ → List ℕ → (A → List ℕ) → (A → List ℕ) → Result A errors.CertError → Type 0
-IsRead a at all w left (Ok x) = IsFront a all (w x) (left x)
+IsRead a at all w left (Ok x) = IsLeadRead a all (w x) (left x)
 IsRead a at all w left (Err e) = (is_there a all ≡ false) × (told e ≡ Some (syntax, at + longest (a ∷ []) all))
 
 abbrev pub IsNumber : {A : Type 0} → ℕ → List ℕ → (A → List ℕ) → (A → List ℕ) → Result A errors.CertError → Type 0

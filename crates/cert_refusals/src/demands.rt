@@ -14,28 +14,27 @@ ghost use Rattle.cert_refusals.specs.declared.error.CertError.TheVariants.{NoMem
 
 use crate::error::{CertCount, CertError};
 use crate::items::Frame;
-use cert_grammar::behind;
+use cert_grammar::{
+    MOST_ENTRIES, MOST_LEVELS, MOST_NESTING, MOST_NODES, MOST_NUMBERS, MOST_PAIRS, MOST_REDEXES,
+    MOST_STATES, MOST_STEPS, MOST_TRANSITIONS, behind,
+};
 use cops_read::Names;
 use std::str;
 
 const LARGEST: u64 = 4_294_967_295;
 
-const MOST_DEPTH: usize = 400;
-
-const MOST_NESTING: usize = 50;
-
 fn limit(what: CertCount) -> usize
     ensures { result ≡ spec.limit (counted_view what) }
 {
     match what {
-        CertCount::Pairs => 20_000,
-        CertCount::Entries => 25_000,
-        CertCount::Numbers => 200,
-        CertCount::Steps => 10_000,
-        CertCount::Redexes => 20_000,
-        CertCount::States => 1_000,
-        CertCount::Transitions => 20_000,
-        CertCount::Nodes => 10_000,
+        CertCount::Pairs => MOST_PAIRS as usize,
+        CertCount::Entries => MOST_ENTRIES as usize,
+        CertCount::Numbers => MOST_NUMBERS,
+        CertCount::Steps => MOST_STEPS as usize,
+        CertCount::Redexes => MOST_REDEXES as usize,
+        CertCount::States => MOST_STATES as usize,
+        CertCount::Transitions => MOST_TRANSITIONS as usize,
+        CertCount::Nodes => MOST_NODES as usize,
     }
 }
 
@@ -213,7 +212,7 @@ pub fn node(number: usize, depth: usize, at: usize) -> Result<(), CertError>
     ensures few { OnOk result (number ≤ 10000) }
 {
     few(CertCount::Nodes, number, at)?;
-    if depth > MOST_DEPTH {
+    if depth > MOST_LEVELS as usize {
         Err(CertError::CertTooDeep { at })
     } else {
         Ok(())
@@ -224,7 +223,7 @@ pub fn node(number: usize, depth: usize, at: usize) -> Result<(), CertError>
 pub fn shallow(level: usize, at: usize) -> Result<(), CertError>
     ensures { Demands at (is_shallow 50 level ∷ []) result }
 {
-    if level > MOST_NESTING {
+    if level > MOST_NESTING as usize {
         Err(CertError::CertTooDeep { at })
     } else {
         Ok(())

@@ -2,7 +2,7 @@
 
 ghost use Rattle.std.specs.Prelude.{◌≡◌, ◌≤◌, MatchOption, length, map, take, drop, true, false};
 ghost use Rattle.cert_grammar.specs.FirstRefusal as spec;
-ghost use Rattle.cert_refusals.specs.ReaderView.{mode_view, text_view, bare, IsFront};
+ghost use Rattle.cert_refusals.specs.ReaderView.{mode_view, text_view, bare, IsLeadRead};
 
 use crate::scans::{Mode, is_word, scan};
 use cert_grammar::is_id;
@@ -138,7 +138,7 @@ fn ends_lead(lead: Lead, rest: &[u8]) -> bool
 
 /// The bytes that are read with the lead, and what is behind them, where all of the lead is there.
 pub fn front(lead: Lead, left: &[u8]) -> Option<(&[u8], &[u8])>
-    ensures { MatchOption result (spec.is_there (bare lead) left.now ≡ false) (λ x. IsFront (bare lead) left.now x.0.now x.1.now) }
+    ensures { MatchOption result (spec.is_there (bare lead) left.now ≡ false) (λ x. IsLeadRead (bare lead) left.now x.0.now x.1.now) }
 {
     let (size, mode) = scan(mode_of(lead), left);
     let (word, rest) = left.split_at(size);

@@ -6,7 +6,7 @@ ghost use Rattle.cert_grammar.specs.Items as spec;
 ghost use Rattle.cert_grammar.specs.Marks.{syntax, in_range};
 ghost use Rattle.cert_grammar.specs.Scans as scans;
 ghost use Rattle.cert_grammar.specs.FirstRefusal.{is_there, longest};
-ghost use Rattle.cert_refusals.specs.ReaderView.{bare, told, IsTold, IsFront, text_view, between_view, frames_view, item_view, items_view, automaton_view, term_view, Demands, IsFixed, IsNumber, StepAnswers, step_at};
+ghost use Rattle.cert_refusals.specs.ReaderView.{bare, told, IsTold, IsLeadRead, text_view, between_view, frames_view, item_view, items_view, automaton_view, term_view, Demands, IsFixed, IsNumber, StepAnswers, step_at};
 ghost use Rattle.cert_refusals.specs.declared.error.CertError.TheVariants.{NoMemory};
 
 use crate::demands::{few, known, one_more, position, short};
