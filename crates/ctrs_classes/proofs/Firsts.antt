@@ -1,11 +1,10 @@
 -- The first variable that passes a test.
-use Rattle.std.proofs.Common.{ℕ, suc, ◌≡◌, ◌⊎◌, inl, inr, ◌<◌, ◌≤◌, ◌+◌, Bool, true, false, not, ◌||◌, if◌then◌else◌, List, [], ◌∷◌, ◌++◌, length, get_or, take, map, Option, None, Some, refl, sym, ap, ◌∙◌, subst, arith, eq-eqb, eqb-true}
+use Rattle.std.proofs.Common.{ℕ, suc, ◌≡◌, inl, inr, ◌+◌, Bool, true, false, not, ◌||◌, if◌then◌else◌, List, [], ◌∷◌, ◌++◌, take, map, Option, None, Some, refl, sym, ap, ◌∙◌, subst, arith}
 use Rattle.std.proofs.lemmas.Bool.{false≢true, true≢false, or_left}
 use Rattle.std.specs.List.{take-map}
 use Rattle.rewriting.specs.Terms as math
 use Rattle.rewriting.specs.Terms.{var, app, nil, cons}
-use Rattle.rewriting.specs.Variables.{occurs, occurs_in, IsWithin, variable_occurrences, variable_occurrences_of}
-use Rattle.rewriting.specs.Rules as rules
+use Rattle.rewriting.specs.Variables.{occurs, occurs_in, variable_occurrences}
 use Rattle.rewriting.specs.Rules.{Condition, left_sides, right_sides, sides}
 use Rattle.rewriting.specs.Classes.{known}
 use Rattle.rewriting.proofs.Instances.{or_right, or_cases}
@@ -15,7 +14,7 @@ use Rattle.term_core.specs.View.{view}
 use Rattle.term_core.specs.RuleView.{condition_view, rule_view}
 use Rattle.rewriting.specs.Lists.{IsAmong}
 use Rattle.rewriting.proofs.Variables.{occurring}
-use Rattle.certificates.specs.Blames.{IsFirstVariable, asked, IsOld, IsFresh}
+use Rattle.certificates.specs.Blames.{IsFirstVariable, IsOld, IsFresh}
 use Rattle.ctrs_classes.specs.Walks.{first_where, same}
 use Rattle.ctrs_classes.specs.Faults.{UndeterminedAnswers}
 

@@ -1,17 +1,17 @@
 -- Where variables are numbered as they come, the first that is seen again is the one whose second occurrence comes first.
-use Rattle.std.proofs.Common.{ℕ, zero, suc, ◌≡◌, ◌⊎◌, inl, inr, ◌<◌, ◌≤◌, ◌+◌, ◌^◌, Bool, true, false, nat_eq, nat_lt, if◌then◌else◌, List, [], ◌∷◌, ◌++◌, length, Option, None, Some, refl, sym, ap, ap₂, ◌∙◌, subst, arith, eqb-true, eq-eqb}
+use Rattle.std.proofs.Common.{ℕ, zero, suc, ◌≡◌, ◌⊎◌, inl, inr, ◌<◌, ◌≤◌, ◌+◌, ◌^◌, Bool, true, false, nat_eq, nat_lt, if◌then◌else◌, List, [], ◌∷◌, ◌++◌, length, None, Some, refl, sym, ap, ap₂, ◌∙◌, subst, arith, eqb-true}
 use Rattle.std.proofs.lemmas.Bool.{ltb-true, ltb-false}
 use Rattle.std.proofs.lemmas.Bool.Decides.{leb_tells}
 use Rattle.std.proofs.Math.Dec.{leb}
 use Rattle.std.proofs.lemmas.List.{length-append}
 use Rattle.rewriting.specs.Terms as math
 use Rattle.rewriting.specs.Terms.{var, app, nil, cons}
-use Rattle.rewriting.specs.Variables.{occurrences, occurrences_in, IsLinear, with_new, with_variables, with_variables_of, variable_occurrences, variable_occurrences_of}
+use Rattle.rewriting.specs.Variables.{IsLinear, with_new, with_variables, with_variables_of, variable_occurrences, variable_occurrences_of}
 use Rattle.rewriting.specs.Rules as rules
 use Rattle.rewriting.specs.Rules.{sides}
 use Rattle.rewriting.specs.Systems.{IsRule, rule_variables}
 use Rattle.term_core.specs.Numbering.{numbers_from, AreFirst}
-use Rattle.term_core.proofs.Numbers.{first_leads, known_first, next_first, not_next, counts_first, first_length, length-numbers_from}
+use Rattle.term_core.proofs.Numbers.{first_leads, next_first, not_next, counts_first}
 use Rattle.rewriting.specs.Lists.{IsAmong, AreDistinct}
 use Rattle.certificates.specs.Blames.{IsFirstRepeated}
 use Rattle.certificates.proofs.Blames.{times, occurrences-times}

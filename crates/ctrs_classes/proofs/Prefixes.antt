@@ -1,15 +1,13 @@
 -- Conditions one after another.
-use Rattle.std.proofs.Common.{ℕ, zero, suc, ◌≡◌, ◌⊎◌, inl, inr, ◌<◌, ◌≤◌, ◌+◌, Bool, true, false, not, ◌||◌, ◌&&◌, List, [], ◌∷◌, ◌++◌, length, get_or, take, drop, map, Option, None, Some, option_map, refl, sym, ap, ap₂, ◌∙◌, subst, arith, eq-eqb}
+use Rattle.std.proofs.Common.{ℕ, zero, suc, ◌≡◌, ◌⊎◌, inl, inr, ◌<◌, ◌≤◌, ◌+◌, Bool, true, false, not, ◌||◌, ◌&&◌, List, [], ◌∷◌, length, get_or, take, drop, map, None, Some, option_map, refl, sym, ap, ap₂, ◌∙◌, subst, arith}
 use Rattle.std.proofs.lemmas.Bool.{false≢true, true≢false, or_left}
 use Rattle.std.proofs.lemmas.Bool.Decides.{leb_tells}
 use Rattle.std.proofs.lemmas.Option.{slice_get-get_or, slice_get-map, slice_get_past}
 use Rattle.std.proofs.Math.Dec.{leb}
 use Rattle.std.specs.Prelude.{slice_get}
-use Rattle.std.specs.List.{take-map}
 use Rattle.std.proofs.lemmas.List.{length-map, drop-map}
-use Rattle.rewriting.specs.Terms as math
-use Rattle.rewriting.specs.Terms.{var, app, nil, cons}
-use Rattle.rewriting.specs.Variables.{occurs, occurs_in, IsWithin, variable_occurrences, variable_occurrences_of}
+use Rattle.rewriting.specs.Terms.{nil, cons}
+use Rattle.rewriting.specs.Variables.{occurs, occurs_in, IsWithin, variable_occurrences}
 use Rattle.rewriting.specs.Rules as rules
 use Rattle.rewriting.specs.Rules.{Condition, right_sides, sides, rule_at, EachRule}
 use Rattle.rewriting.specs.Systems.{IsRule, AreRules}

@@ -1,4 +1,4 @@
-use Rattle.std.proofs.Common.{ℕ, ◌+◌, refl, sym, subst, arith, map}
+use Rattle.std.proofs.Common.{refl, sym, subst, arith}
 use Rattle.rewriting.specs.Systems.{AreRules}
 use Rattle.term_core.specs.RuleView.{rule_view}
 use Rattle.cert_model.specs.ReasonView.{class_view}

@@ -1,5 +1,4 @@
-use Rattle.std.proofs.Common.{ℕ, ◌+◌, add-one}
-use Rattle.rewriting.specs.Rules.{Condition}
+use Rattle.std.proofs.Common.{add-one}
 use Rattle.rewriting.specs.Classes.{IsStable}
 use Rattle.term_core.specs.RuleView.{condition_view, rule_view}
 use Rattle.certificates.specs.Blames.{IsFresh}
