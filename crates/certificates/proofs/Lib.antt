@@ -3,6 +3,6 @@ pub mod Unique
 pub mod Sound
 pub mod Growth
 pub mod Outcomes
-pub mod Total
+pub mod DerivationTotal
 pub mod Matched
 pub mod ClassTotal

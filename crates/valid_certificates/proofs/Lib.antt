@@ -8,3 +8,7 @@ pub mod OneBlame
 pub mod OneOverlaps
 pub mod OneEvidence
 pub mod OneCertificate
+pub mod EvidenceTotal
+pub mod RedexTotal
+pub mod EntriesTotal
+pub mod Total

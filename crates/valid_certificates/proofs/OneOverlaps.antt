@@ -16,12 +16,12 @@ use Rattle.unifier_run.proofs.Unique.{runs_same}
 use Rattle.unifier_run.proofs.Triples.{earlier_not_same, earlier_not_both}
 
 -- the order of positions, and of triples, is total
-data Ordered {A : Type 0} (R : A → A → Type 0) (a b : A) : Type 0 where
+pub data Ordered {A : Type 0} (R : A → A → Type 0) (a b : A) : Type 0 where
   comes_first : R a b → Ordered R a b
   is_same : a ≡ b → Ordered R a b
   comes_last : R b a → Ordered R a b
 
-order_positions : (p q : Position) → Ordered IsBefore p q
+pub order_positions : (p q : Position) → Ordered IsBefore p q
 order_positions [] [] = is_same refl
 order_positions [] (l ∷ q) = comes_first tt
 order_positions (k ∷ p) [] = comes_last tt
@@ -55,7 +55,7 @@ order_triples (i, (p, j)) (k, (q, l)) = go (order j l) (order_positions p q) (or
     go (is_equal e) (is_same s) (is_greater h) = comes_last (inr (sym e, inr (sym s, h)))
     go (is_equal e) (is_same s) (is_equal h) = is_same (same_triple i k p q j l h s e)
 
-before_before : (p q r : Position) → IsBefore p q → IsBefore q r → IsBefore p r
+pub before_before : (p q r : Position) → IsBefore p q → IsBefore q r → IsBefore p r
 before_before p q [] h k = k
 before_before p [] (n ∷ r) h k = absurd h
 before_before [] (l ∷ q) (n ∷ r) h k = tt
