@@ -2,18 +2,16 @@
 use Rattle.std.proofs.Common.{◌≡◌, ◌⊎◌, inl, inr, ℕ, suc, List, Option, Some, None, refl}
 use Rattle.rewriting.specs.Classes.{IsLeftLinear, IsType3, IsExtendedOriented, IsDeterministic}
 use Rattle.rewriting.specs.Rules.{Condition, System, EachRule}
-use Rattle.unifier_run.specs.Run.{Outcome}
 use Rattle.unifier_run.specs.Irreducible.{DoAllClash}
 use Rattle.unifier_run.proofs.Total.{all_clash_decided}
 use Rattle.interpretations.specs.Judgement.{Judgement, good, not_good, unraveling_large}
-use Rattle.interpretations.specs.Linear.{Interpretation}
-use Rattle.interpretations.specs.Judged as linear
+use Rattle.interpretations.proofs.Total.{interpretation_total}
 use Rattle.certificates.specs.Blames.{IsInClass, IsBlamed}
 use Rattle.certificates.specs.Certificates.{PairEntry, MeasureCertificate, linear_measure, Certificate, ortho_certificate, quasi_certificate, peak_certificate}
 use Rattle.certificates.specs.Evidence.{Automaton}
 use Rattle.certificates.specs.Reasons.{Class, left_linear, type3, extended_oriented, right_stable, deterministic, Blame, Rejection, class_fails, not_irreducible, measure_fails, unraveling_large as large_unraveling}
-use Rattle.caps.specs.Caps.{Cap, IsCapLarge}
-use Rattle.caps.specs.Evidence.{JudgedByCaps, IsPairOutcome}
+use Rattle.certificates.proofs.ClassTotal.{FirstSide, class_total, sides_total}
+use Rattle.caps.proofs.Total.{caps_total, pair_total as caps_of_two}
 use Rattle.automata.specs.Evidence.{JudgedByAutomaton}
 use Rattle.valid_certificates.specs.Kinds.{Kind, ortho, quasi}
 use Rattle.valid_certificates.specs.Confluence.{IsInOrthoClasses, IsValidOrtho, IsBlameOf, IsOrthoRejected, not_left_linear, not_type3, not_oriented, not_right_stable, ortho_pairs_fail, AreRightSidesIrreducible, IsFirstReducible, IsValidQuasi, IsQuasiRejected, not_deterministic, side_is_reducible, measure_is_bad, unraveling_is_large, quasi_pairs_fail}
@@ -21,7 +19,6 @@ use Rattle.valid_certificates.specs.Certificates.{IsMeasureJudged, IsValid, IsRe
 use Rattle.valid_certificates.specs.Entries.{DoSettle, DoNotSettle}
 use Rattle.valid_certificates.proofs.EntriesTotal.{HasAnswer, entries_total, peak_total}
 use Rattle.valid_certificates.proofs.EvidenceTotal.{HasJudgement, infeasibility_total, pair_total}
-use Rattle.rewriting.proofs.Common.{Term}
 
 module _ (sys : System) (classes : (class : Class) → EachRule sys (IsInClass sys class) ⊎ ((blame : Blame) × (blame.class ≡ class) × IsBlamed sys blame)) where
   module _ (es : List PairEntry) (pairs : HasAnswer (DoSettle ortho sys es) (DoNotSettle ortho sys es)) where
@@ -76,16 +73,38 @@ module _ (sys : System) (classes : (class : Class) → EachRule sys (IsInClass s
     quasi_total : Quasi
     quasi_total = with_class (classes deterministic)
 
-module _ (sys : System) (classes : (class : Class) → EachRule sys (IsInClass sys class) ⊎ ((blame : Blame) × (blame.class ≡ class) × IsBlamed sys blame))
-    (sides : AreRightSidesIrreducible sys ⊎ ((i : ℕ) × (k : ℕ) × IsFirstReducible sys i k))
-    (measured : (m : MeasureCertificate) → (j : Judgement) × IsMeasureJudged sys m j)
-    (by_caps_total : (cs : List Condition) → HasJudgement (JudgedByCaps sys cs))
-    (by_automaton_total : (cs : List Condition) (k : ℕ) (a : Automaton) → HasJudgement (JudgedByAutomaton sys cs k a))
-    (two_caps : (leaf : ℕ → Cap) (u v : Term) → ((o : Outcome) × IsPairOutcome sys leaf u v o) ⊎ (IsCapLarge sys leaf u ⊎ IsCapLarge sys leaf v)) where
+-- the measure of a certificate is judged
+measure_total : (sys : System) (m : MeasureCertificate) → (j : Judgement) × IsMeasureJudged sys m j
+measure_total sys (linear_measure es) = interpretation_total sys es
+
+-- all right sides of conditions are irreducible, or a first is not
+right_sides_total : (sys : System) → AreRightSidesIrreducible sys ⊎ ((i : ℕ) × (k : ℕ) × IsFirstReducible sys i k)
+right_sides_total sys = go (sides_total (DoAllClash sys) (all_clash_decided sys) sys)
+  where
+    go : AreRightSidesIrreducible sys ⊎ FirstSide (DoAllClash sys) sys → AreRightSidesIrreducible sys ⊎ ((i : ℕ) × (k : ℕ) × IsFirstReducible sys i k)
+    go (inl all) = inl all
+    go (inr f) =
+        inr (
+          f.number,
+          suc f.place,
+          record {
+            rule = f.rule;
+            condition = f.condition;
+            place = f.place;
+            number = refl;
+            is_rule = f.is_rule;
+            is_condition = f.is_condition;
+            earlier = f.earlier;
+            fails = f.fails;
+          },
+        )
+
+-- where automata are judged
+module _ (sys : System) (by_automaton_total : (cs : List Condition) (k : ℕ) (a : Automaton) → HasJudgement (JudgedByAutomaton sys cs k a)) where
   pairs_total : (kind : Kind) (es : List PairEntry) → HasAnswer (DoSettle kind sys es) (DoNotSettle kind sys es)
-  pairs_total kind es = entries_total kind sys (pair_total sys by_caps_total by_automaton_total two_caps kind) es
+  pairs_total kind es = entries_total kind sys (pair_total sys (caps_total sys) by_automaton_total (caps_of_two sys) kind) es
 
   pub certificate_total : (c : Certificate) → HasAnswer (IsValid sys c) (IsRejected sys c)
-  certificate_total (ortho_certificate es) = ortho_total sys classes es (pairs_total ortho es)
-  certificate_total (quasi_certificate m es) = quasi_total sys classes (IsMeasureJudged sys m) (measured m) sides es (pairs_total quasi es)
-  certificate_total (peak_certificate p) = peak_total sys (infeasibility_total sys by_caps_total by_automaton_total two_caps) two_caps p
+  certificate_total (ortho_certificate es) = ortho_total sys (class_total sys) es (pairs_total ortho es)
+  certificate_total (quasi_certificate m es) = quasi_total sys (class_total sys) (IsMeasureJudged sys m) (measure_total sys m) (right_sides_total sys) es (pairs_total quasi es)
+  certificate_total (peak_certificate p) = peak_total sys (infeasibility_total sys (caps_total sys) by_automaton_total (caps_of_two sys)) (caps_of_two sys) p
