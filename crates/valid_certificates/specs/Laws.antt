@@ -1,5 +1,5 @@
--- What a valid peak shows, and that a certificate is either valid or rejected for one reason.
-use Rattle.std.specs.Prelude.{◌≡◌}
+-- What a valid peak shows, and that a certificate is either valid or rejected for one reason, and never both.
+use Rattle.std.specs.Prelude.{◌≡◌, ◌⊎◌}
 use Rattle.rewriting.specs.Terms.{Term}
 use Rattle.rewriting.specs.Signatures.{IsOver}
 use Rattle.rewriting.specs.Rules.{System}
@@ -33,3 +33,7 @@ pub record IsOneAnswer (Valid : Type 0) (IsRejected : Rejection → Type 0) : Ty
 
 abbrev pub CertificatesHaveOneAnswer : Type 0
 CertificatesHaveOneAnswer = (sys : System) (c : Certificate) → IsOneAnswer (IsValid sys c) (IsRejected sys c)
+
+-- and it is rejected for one where it is not valid
+abbrev pub CertificatesHaveAnAnswer : Type 0
+CertificatesHaveAnAnswer = (sys : System) (c : Certificate) → IsValid sys c ⊎ ((reason : Rejection) × IsRejected sys c reason)

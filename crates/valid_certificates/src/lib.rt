@@ -2,7 +2,7 @@
 //! definitions are of terms, rules and certificates of every size.
 #![tactic(auto)]
 
-ghost use Rattle.valid_certificates.specs.Laws.{ValidPeaksReachApart, CertificatesHaveOneAnswer};
+ghost use Rattle.valid_certificates.specs.Laws.{ValidPeaksReachApart, CertificatesHaveOneAnswer, CertificatesHaveAnAnswer};
 
 /// The start of a valid peak reaches two terms that have no common reduct.
 pub fn valid_peaks_reach_apart()
@@ -12,4 +12,9 @@ pub fn valid_peaks_reach_apart()
 /// A certificate is rejected for one reason, and then it is not valid.
 pub fn certificates_have_one_answer()
     ensures { CertificatesHaveOneAnswer }
+{}
+
+/// Every certificate, of every system, is valid or rejected for a reason.
+pub fn certificates_have_an_answer()
+    ensures { CertificatesHaveAnAnswer }
 {}
