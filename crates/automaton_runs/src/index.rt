@@ -136,7 +136,14 @@ fn grouped<'a>(
 {
     let mut groups = Groups::new(alloc);
     for transition in &automaton.transitions {
-        put_transition(alloc, arities, automaton.states, key, transition, &mut groups)?;
+        put_transition(
+            alloc,
+            arities,
+            automaton.states,
+            key,
+            transition,
+            &mut groups,
+        )?;
     }
     Ok(groups)
 }
