@@ -16,7 +16,7 @@ use Rattle.term_core.specs.View.{views}
 use Rattle.term_core.specs.declared.terms.Term as T
 use Rattle.tcap_infeasible.specs.Comparing.{HaveRow}
 use Rattle.tcap_infeasible.proofs.Tried.{not_lt}
-use Rattle.tcap_infeasible.proofs.Filling.{filling, filling_within, filling_one}
+use Rattle.renumbering.proofs.Filling.{filling, filling_within, filling_one}
 
 -- numbers below 2^31 become the odd numbers of their variables, holes even
 abbrev pub apart : List ℕ → ℕ → ℕ

@@ -9,7 +9,7 @@ use Rattle.rewriting.specs.Lists.{AreDistinct, IsFront}
 use Rattle.unifier_run.proofs.Renamed.{renamed, all_renamed}
 use Rattle.tcap_infeasible.specs.Keys.{IsKey, IsKeyed, AreKeyed}
 use Rattle.tcap_infeasible.proofs.Tried.{not_lt}
-use Rattle.tcap_infeasible.proofs.Filling.{filling, filling_within, filling_one}
+use Rattle.renumbering.proofs.Filling.{filling, filling_within, filling_one}
 
 -- the symbol that a symbol past the first n stands for
 abbrev pub shifted : ℕ → List ℕ → ℕ → ℕ

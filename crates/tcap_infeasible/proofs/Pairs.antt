@@ -19,7 +19,7 @@ use Rattle.tcap_infeasible.specs.declared.capping.Leaf.TheVariants.{Kept}
 use Rattle.tcap_infeasible.specs.Frozen.{HasConstants}
 use Rattle.tcap_infeasible.specs.Compared.{PairAnswers, KeepsInstancesApart, GivesApart, IsFrozenOutcome, FrozenPairAnswers}
 use Rattle.tcap_infeasible.proofs.Tried.{not_lt, rule_of}
-use Rattle.tcap_infeasible.proofs.Filling.{filling}
+use Rattle.renumbering.proofs.Filling.{filling}
 use Rattle.tcap_infeasible.proofs.Keyed.{shifted, shifted_past, shifted_one, keyed_renamed, keyed_below, keyed_grows}
 use Rattle.tcap_infeasible.proofs.Named.{named, all_named, named_holes, cap_named, large_named}
 
