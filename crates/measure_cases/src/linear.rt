@@ -98,11 +98,37 @@ fn each_reason_is_told(rt: HostRuntime) -> Result<(), Fail> {
     let alloc = rt.alloc();
     let rows: [(&[u32], &[u32], Option<MeasureReason>); 7] = [
         (&[3, 3], &[1, 1, 1], None),
-        (&[2, 3], &[1, 1, 1], Some(MeasureReason::Constant { rule: 2 })),
-        (&[3, 1], &[1, 1, 1], Some(MeasureReason::Variable { rule: 2, variable: 0 })),
-        (&[3, 3], &[1, 1, 0], Some(MeasureReason::Variable { rule: 3, variable: 0 })),
-        (&[0, 3], &[1, 1, 1], Some(MeasureReason::Coefficient { entry: 3 })),
-        (&[3, 3], &[1, 0, 1], Some(MeasureReason::Coefficient { entry: 4 })),
+        (
+            &[2, 3],
+            &[1, 1, 1],
+            Some(MeasureReason::Constant { rule: 2 }),
+        ),
+        (
+            &[3, 1],
+            &[1, 1, 1],
+            Some(MeasureReason::Variable {
+                rule: 2,
+                variable: 0,
+            }),
+        ),
+        (
+            &[3, 3],
+            &[1, 1, 0],
+            Some(MeasureReason::Variable {
+                rule: 3,
+                variable: 0,
+            }),
+        ),
+        (
+            &[0, 3],
+            &[1, 1, 1],
+            Some(MeasureReason::Coefficient { entry: 3 }),
+        ),
+        (
+            &[3, 3],
+            &[1, 0, 1],
+            Some(MeasureReason::Coefficient { entry: 4 }),
+        ),
         (&[3], &[1, 1, 1], Some(MeasureReason::Shape { entry: 3 })),
     ];
     for (g, aux, reason) in rows {
@@ -132,10 +158,18 @@ fn tower_judged(
 #[test]
 fn numbers_are_bounded(rt: HostRuntime) -> Result<(), Fail> {
     let alloc = rt.alloc();
-    let rows = [
+    let rows: [(u32, u32, u32, Option<MeasureReason>); 3] = [
         (5, 0, 1, None),
         (6, 0, 1, Some(MeasureReason::Overflow { rule: 1 })),
-        (1, 1, 2, Some(MeasureReason::Variable { rule: 1, variable: 1 })),
+        (
+            1,
+            1,
+            2,
+            Some(MeasureReason::Variable {
+                rule: 1,
+                variable: 1,
+            }),
+        ),
     ];
     for (times, right, vars, reason) in rows {
         assert_eq!(rt; tower_judged(alloc, times, right, vars)?, reason);
