@@ -6,8 +6,8 @@ use Rattle.rewriting.specs.Positions.{Position, IsBefore, subterm, replace}
 use Rattle.rewriting.specs.Substitutions.{apply}
 use Rattle.rewriting.specs.Unifiers.{even, odd}
 use Rattle.rewriting.specs.Rules.{Condition, Rule, System, rule_at}
-use Rattle.rewriting.specs.Overlaps.{IsEarlierOverlap}
-use Rattle.rewriting.specs.Overlaps.{IsPlace, CriticalPair, IsCriticalPair}
+use Rattle.rewriting.specs.Overlaps.{IsPlace, IsEarlierOverlap, CriticalPair, IsCriticalPair}
+use Rattle.rewriting.proofs.Lists.{among_either, before_one, sorted_append, sorted_once}
 use Rattle.rewriting.proofs.Conditions.{Order, is_smaller, is_equal, is_greater, order}
 use Rattle.unifier_run.specs.Run.{Binding, value, Outcome, unifier, clash, too_large}
 use Rattle.rewriting.specs.Lists.{IsAmong, IsBeforeAll, IsSorted}
@@ -201,30 +201,12 @@ IsPart os qs = (o : Overlap) → IsAmong o os → IsAmong o qs
 abbrev Before : Overlap → Overlap → Type 0
 Before o q = IsEarlierOverlap (triple o) (triple q)
 
-earlier_than : (o q : Overlap) (qs : List Overlap) → IsBeforeAll ComesBefore o qs → IsAmong q qs → Before o q
-earlier_than o q [] all l = absurd l
-earlier_than o q (x ∷ qs) (h, all) (inl is) = subst (λ z. Before o z) (sym is) h
-earlier_than o q (x ∷ qs) (h, all) (inr l) = earlier_than o q qs all l
-
 rest_part : (o q : Overlap) (os qs : List Overlap) → o ≡ q → IsBeforeAll ComesBefore o os → IsPart (o ∷ os) (q ∷ qs) → IsPart os qs
 rest_part o q os qs e low part x l = go (part x (inr l))
   where
     go : (x ≡ q) ⊎ IsAmong x qs → IsAmong x qs
-    go (inl is) = absurd (earlier_not_same (triple x) (subst (λ y. Before y x) (e ∙ sym is) (earlier_than o x os low l)))
+    go (inl is) = absurd (earlier_not_same (triple x) (subst (λ y. Before y x) (e ∙ sym is) (before_one ComesBefore o x os low l)))
     go (inr k) = k
-
-same_head : (o q : Overlap) (os qs : List Overlap) → IsBeforeAll ComesBefore o os → IsBeforeAll ComesBefore q qs → (o ≡ q) ⊎ IsAmong o qs → (q ≡ o) ⊎ IsAmong q os → o ≡ q
-same_head o q os qs low high (inl e) l = e
-same_head o q os qs low high (inr l) (inl e) = sym e
-same_head o q os qs low high (inr l) (inr k) = absurd (earlier_not_both (triple o) (triple q) (earlier_than o q os low k) (earlier_than q o qs high l))
-
-sorted_once : (os qs : List Overlap) → IsSorted ComesBefore os → IsSorted ComesBefore qs → IsPart os qs → IsPart qs os → os ≡ qs
-sorted_once [] [] a b to from = refl
-sorted_once [] (q ∷ qs) a b to from = absurd (from q (inl refl))
-sorted_once (o ∷ os) [] a b to from = absurd (to o (inl refl))
-sorted_once (o ∷ os) (q ∷ qs) (low, a) (high, b) to from =
-    let e = same_head o q os qs low high (to o (inl refl)) (from q (inl refl)) in
-    ap₂ (λ (x : Overlap) (xs : List Overlap). x ∷ xs) e (sorted_once os qs a b (rest_part o q os qs e low to) (rest_part q o qs os (sym e) high from))
 
 -- members behind the first are not q, where the first is not
 past_head : (o q : Overlap) (os qs : List Overlap) → IsBeforeAll ComesBefore o os → IsBeforeAll ComesBefore q qs → IsAmong o qs → IsPart (o ∷ os) (q ∷ qs) → IsPart (o ∷ os) qs
@@ -232,7 +214,7 @@ past_head o q os qs low high at part x (inl e) = subst (λ z. IsAmong z qs) (sym
 past_head o q os qs low high at part x (inr l) = go (part x (inr l))
   where
     go : (x ≡ q) ⊎ IsAmong x qs → IsAmong x qs
-    go (inl is) = absurd (earlier_not_both (triple o) (triple q) (subst (λ z. Before o z) is (earlier_than o x os low l)) (earlier_than q o qs high at))
+    go (inl is) = absurd (earlier_not_both (triple o) (triple q) (subst (λ z. Before o z) is (before_one ComesBefore o x os low l)) (before_one ComesBefore q o qs high at))
     go (inr k) = k
 
 part_short : (os qs : List Overlap) → IsSorted ComesBefore os → IsSorted ComesBefore qs → IsPart os qs → length os ≤ length qs
@@ -245,23 +227,20 @@ part_short (o ∷ os) (q ∷ qs) a b part = go (part o (inl refl)) (λ e. part_s
     go (inr l) f g = (let h = g l in omega (arith, h))
 
 -- one more behind all
-before_last : (o n : Overlap) (os : List Overlap) → IsBeforeAll ComesBefore o os → Before o n → IsBeforeAll ComesBefore o (os ++ n ∷ [])
-before_last o n [] all h = (h, tt)
-before_last o n (q ∷ os) (a, all) h = (a, before_last o n os all h)
-
 sorted_last : (n : Overlap) (os : List Overlap) → IsSorted ComesBefore os → ((o : Overlap) → IsAmong o os → Before o n) → IsSorted ComesBefore (os ++ n ∷ [])
-sorted_last n [] s all = (tt, tt)
-sorted_last n (o ∷ os) (low, s) all = (before_last o n os low (all o (inl refl)), sorted_last n os s (λ q l. all q (inr l)))
+sorted_last n os s all = sorted_append ComesBefore os (n ∷ []) s (tt, tt) (λ o q a b. last o q a b)
+  where
+    last : (o q : Overlap) → IsAmong o os → IsAmong q (n ∷ []) → Before o q
+    last o q a (inl e) = subst (Before o) (sym e) (all o a)
+    last o q a (inr h) = absurd h
 
 listed_last : (n o : Overlap) (os : List Overlap) → IsAmong o (os ++ n ∷ []) → IsAmong o os ⊎ (o ≡ n)
-listed_last n o [] (inl e) = inr e
-listed_last n o [] (inr l) = absurd l
-listed_last n o (q ∷ os) (inl e) = inl (inl e)
-listed_last n o (q ∷ os) (inr l) = go (listed_last n o os l)
+listed_last n o os l = go (among_either o os (n ∷ []) l)
   where
-    go : IsAmong o os ⊎ (o ≡ n) → ((o ≡ q) ⊎ IsAmong o os) ⊎ (o ≡ n)
-    go (inl k) = inl (inr k)
-    go (inr e) = inr e
+    go : IsAmong o os ⊎ IsAmong o (n ∷ []) → IsAmong o os ⊎ (o ≡ n)
+    go (inl a) = inl a
+    go (inr (inl e)) = inr e
+    go (inr (inr h)) = absurd h
 
 module _ (sys : System) where
   -- with all overlaps up to one listed, there are fewer before it
@@ -278,7 +257,7 @@ module _ (sys : System) where
 
   pub overlaps_once : (os qs : List Overlap) → AreOverlaps sys os → AreOverlaps sys qs → os ≡ qs
   overlaps_once os qs a b =
-      sorted_once os qs a.are.sorted b.are.sorted (λ o l. listed sys (λ t. Unit {0}) qs b.are o (a.are.each o l).0 tt) (λ o l. listed sys (λ t. Unit {0}) os a.are o (b.are.each o l).0 tt)
+      sorted_once ComesBefore (λ x y. earlier_not_both (triple x) (triple y)) os qs a.are.sorted b.are.sorted (λ o l. listed sys (λ t. Unit {0}) qs b.are o (a.are.each o l).0 tt) (λ o l. listed sys (λ t. Unit {0}) os a.are o (b.are.each o l).0 tt)
 
   pub overlaps_or_large : (os : List Overlap) (i : ℕ) (p : Position) (j : ℕ) → AreOverlaps sys os → IsPairTooLarge sys i p j → ⊥
   overlaps_or_large os i p j a large = not_large sys i p j large.is_large (known_at sys (λ t. Unit {0}) os a.are i p j tt)
