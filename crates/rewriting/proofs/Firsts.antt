@@ -1,9 +1,9 @@
 -- The list of variables is the list of variable occurrences, each variable where it first stands.
-use Rattle.std.proofs.Common.{◌≡◌, ◌↔◌, ℕ, ◌⊎◌, inl, inr, Bool, true, false, refl, sym, ap, ◌∙◌, subst, List, [], ◌∷◌, ◌++◌, append_assoc, append-nil, eqb-true, eq-eqb, nat_eq, if◌then◌else◌}
+use Rattle.std.proofs.Common.{◌≡◌, ℕ, ◌⊎◌, inl, inr, Bool, true, false, refl, sym, ap, ◌∙◌, subst, List, [], ◌∷◌, ◌++◌, append_assoc, append-nil, eqb-true, eq-eqb, nat_eq, if◌then◌else◌}
 use Rattle.std.specs.List.{list_any}
-use Rattle.rewriting.specs.Lists.{IsAmong, AreDistinct, without, firsts}
+use Rattle.rewriting.specs.Lists.{IsAmong, without, firsts}
 use Rattle.rewriting.specs.Laws.{VariablesAreListed}
-use Rattle.rewriting.proofs.Common.{Term, var, app, Terms, nil, cons, occurs, occurs_in, variable_occurrences, variable_occurrences_of, with_new, with_variables, with_variables_of, variables, variables_of}
+use Rattle.rewriting.proofs.Common.{Term, var, app, Terms, nil, cons, variable_occurrences, variable_occurrences_of, with_new, with_variables, with_variables_of}
 use Rattle.rewriting.proofs.Variables.{among_of_any, any_of_among, variables_have, variables_have_all, variables_only, variables_only_all, variables_distinct, variables_distinct_all}
 
 decided : (x y : ℕ) → (x ≡ y) ⊎ (nat_eq x y ≡ false)
