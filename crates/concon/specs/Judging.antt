@@ -14,8 +14,8 @@ use Rattle.cert_check.specs.declared.Verdict.TheVariants as verdict
 use Rattle.cc_io.specs.declared.shelf.ReadAllError.{ReadAllError}
 use Rattle.cc_io.specs.declared.shelf.ReadAllError.TheVariants as reading
 use Rattle.concon.specs.Rejections.{rejection_text}
-use Rattle.cops_read.specs.declared.reader.ReadError.{ReadError}
-use Rattle.cops_read.specs.declared.reader.ReadError.TheVariants as causes
+use Rattle.cops_systems.specs.declared.errors.ReadError.{ReadError}
+use Rattle.cops_systems.specs.declared.errors.ReadError.TheVariants as causes
 use Rattle.cert_refusals.specs.declared.error.CertError.{CertError}
 use Rattle.cert_refusals.specs.declared.error.CertError.TheVariants as cert_causes
 use Rattle.concon.specs.FileRefusals.{too_long, file_refusal_of}
