@@ -4,7 +4,7 @@ use Rattle.std.specs.Prelude.{Err, option_map}
 use Rattle.cc_io.specs.declared.shelf.ReadAllError.{ReadAllError}
 use Rattle.cc_io.specs.declared.shelf.ReadAllError.TheVariants as reading
 use Rattle.cops_read.specs.File.{FileCause}
-use Rattle.cops_read.specs.declared.reader.ReadError.{ReadError}
+use Rattle.cops_systems.specs.declared.errors.ReadError.{ReadError}
 use Rattle.cert_grammar.specs.Marks as marks
 use Rattle.cert_refusals.specs.declared.error.CertError.{CertError}
 use Rattle.concon_run.specs.FileRefusals.{most_file_bytes, no_system_text, file_cause_words, file_error_cause, file_refusal_text}

@@ -7,8 +7,8 @@ use Rattle.cc_io.specs.Errors.{IsTooLong}
 use Rattle.cc_io.specs.declared.shelf.ReadAllError.{ReadAllError}
 use Rattle.cc_io.specs.declared.shelf.ReadAllError.TheVariants.{ReadFault, TooLong, NoMemory}
 use Rattle.cops_read.specs.Answers.{IsRefusedFor}
-use Rattle.cops_read.specs.declared.reader.ReadError.{ReadError}
-use Rattle.cops_read.specs.declared.reader.ReadError.TheVariants as causes
+use Rattle.cops_systems.specs.declared.errors.ReadError.{ReadError}
+use Rattle.cops_systems.specs.declared.errors.ReadError.TheVariants as causes
 use Rattle.concon_run.specs.FileRefusals.{long_file, most_file_bytes}
 use Rattle.cert_refusals.specs.CertRefusals.{IsRefusedAs}
 use Rattle.cert_refusals.specs.declared.error.CertError.{CertError}

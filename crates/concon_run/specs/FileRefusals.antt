@@ -5,8 +5,8 @@ use Rattle.file_text.specs.Refusals.{wrong_syntax, unknown_block, repeated_block
 use Rattle.cops_read.specs.Refusals.{MeaningCause, conditions_without_type, variable_with_arguments, arity_differs, left_variable, too_deep, too_many_rules, too_many_conditions, too_many_arguments, too_many_nodes, too_many_variables, too_many_symbols}
 use Rattle.cops_read.specs.File.{FileCause, no_tokens, no_tree, no_meaning, IsNoFile}
 use Rattle.cops_read.specs.Answers.{cause_of_count}
-use Rattle.cops_read.specs.declared.reader.ReadError.{ReadError}
-use Rattle.cops_read.specs.declared.reader.ReadError.TheVariants.{BadByte, IdTooLong, CommentNotClosed, Syntax, UnknownBlock, RepeatedBlock, ConditionTypeOther, MissingRules, ConditionsWithoutType, VariableWithArguments, ArityDiffers, LeftVariable, TooDeep, TooMany, NoMemory}
+use Rattle.cops_systems.specs.declared.errors.ReadError.{ReadError}
+use Rattle.cops_systems.specs.declared.errors.ReadError.TheVariants.{BadByte, IdTooLong, CommentNotClosed, Syntax, UnknownBlock, RepeatedBlock, ConditionTypeOther, MissingRules, ConditionsWithoutType, VariableWithArguments, ArityDiffers, LeftVariable, TooDeep, TooMany, NoMemory}
 
 -- no file is longer
 abbrev pub most_file_bytes : ℕ

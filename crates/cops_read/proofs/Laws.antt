@@ -1,10 +1,10 @@
 -- The laws of files.
-use Rattle.cops_read.specs.File.{no_tokens, no_tree, no_meaning}
+use Rattle.cops_systems.specs.File.{no_tokens, no_tree, no_meaning}
 use Rattle.cops_read.specs.Answers.{SystemsAreSound, SystemsAreWithinLimits, RefusalsAreWithin}
 use Rattle.file_text.proofs.Within.{no_tokens_within, no_text_within}
-use Rattle.cops_read.proofs.Sound.{system_is}
-use Rattle.cops_read.proofs.Within.{is_within_limits}
-use Rattle.cops_read.proofs.Places.{means_nothing_within}
+use Rattle.cops_systems.proofs.Sound.{system_is}
+use Rattle.cops_systems.proofs.Within.{is_within_limits}
+use Rattle.cops_systems.proofs.Places.{means_nothing_within}
 
 pub sound : SystemsAreSound
 sound bytes sys names h = system_is h.tree sys names h.meant

@@ -4,32 +4,13 @@ use Rattle.rewriting.specs.Rules.{System}
 use Rattle.rewriting.specs.Systems.{IsSystem}
 use Rattle.file_text.specs.Tokens.{bad_byte, long_id, open_comment}
 use Rattle.file_text.specs.Refusals.{unknown_block, repeated_block, other_condition_type, wrong_syntax, missing_rules}
-use Rattle.cops_read.specs.NameTable.{NameTable}
-use Rattle.cops_read.specs.Limits.{IsWithinLimits}
-use Rattle.cops_read.specs.Bounds.{most_rules, most_symbols, most_conditions, most_variables, most_arguments, most_nodes}
-use Rattle.cops_read.specs.File.{IsFile, FileCause, no_tokens, no_tree, no_meaning, IsNoFile}
-use Rattle.cops_read.specs.Refusals.{MeaningCause, too_many_rules, too_many_conditions, too_many_arguments, conditions_without_type, too_deep, too_many_nodes, variable_with_arguments, left_variable, too_many_variables, too_many_symbols, arity_differs}
-use Rattle.cops_read.specs.declared.reader.Count.{Count}
-use Rattle.cops_read.specs.declared.reader.Count.TheVariants as count
-use Rattle.cops_read.specs.declared.reader.ReadError.{ReadError}
-use Rattle.cops_read.specs.declared.reader.ReadError.TheVariants.{BadByte, IdTooLong, CommentNotClosed, Syntax, UnknownBlock, RepeatedBlock, ConditionTypeOther, MissingRules, ConditionsWithoutType, VariableWithArguments, ArityDiffers, LeftVariable, TooDeep, TooMany, NoMemory}
-
--- the cause where there are too many parts of a kind, and the greatest number of them
-abbrev pub cause_of_count : Count → MeaningCause
-cause_of_count count.Rules = too_many_rules
-cause_of_count count.Conditions = too_many_conditions
-cause_of_count count.Arity = too_many_arguments
-cause_of_count count.Nodes = too_many_nodes
-cause_of_count count.Variables = too_many_variables
-cause_of_count count.Symbols = too_many_symbols
-
-abbrev pub most_of : Count → ℕ
-most_of count.Rules = most_rules
-most_of count.Conditions = most_conditions
-most_of count.Arity = most_arguments
-most_of count.Nodes = most_nodes
-most_of count.Variables = most_variables
-most_of count.Symbols = most_symbols
+use Rattle.cops_names.specs.NameTable.{NameTable}
+use Rattle.cops_systems.specs.Limits.{IsWithinLimits}
+use Rattle.cops_systems.specs.File.{IsFile, FileCause, no_tokens, no_tree, no_meaning, IsNoFile}
+use Rattle.cops_systems.specs.Refusals.{conditions_without_type, too_deep, variable_with_arguments, left_variable, arity_differs}
+pub use Rattle.cops_systems.specs.Counts.{cause_of_count, most_of}
+use Rattle.cops_systems.specs.declared.errors.ReadError.{ReadError}
+use Rattle.cops_systems.specs.declared.errors.ReadError.TheVariants.{BadByte, IdTooLong, CommentNotClosed, Syntax, UnknownBlock, RepeatedBlock, ConditionTypeOther, MissingRules, ConditionsWithoutType, VariableWithArguments, ArityDiffers, LeftVariable, TooDeep, TooMany, NoMemory}
 
 -- the error tells why the text spells no system, and where; memory may be refused at any text
 abbrev pub IsRefusedFor : List ℕ → ReadError → Type 0

@@ -5,9 +5,10 @@ use Rattle.file_text.specs.Syntax.{Name, Phrase, Phrases, word, call, none, more
 use Rattle.rewriting.specs.Terms.{Term, var, app, Terms, nil, cons}
 use Rattle.rewriting.specs.Rules.{Condition, Rule}
 use Rattle.rewriting.specs.Systems.{terms_of_rule}
-use Rattle.cops_read.specs.NameTable.{number_of}
-use Rattle.cops_read.specs.Meaning.{name_index, is_among, with_name, with_symbol, sides, phrases_of_rule, with_variables, with_all_variables, with_symbols, with_all_symbols, rule_variables, with_rule_symbols, IsSymbolOf, IsTermOf, AreTermsOf, AreConditionsOf, IsRuleOf, AreRulesOf}
-use Rattle.cops_read.proofs.Sound.{terms_are}
+use Rattle.cops_names.specs.NameTable.{number_of}
+use Rattle.cops_names.specs.NameLists.{name_index, is_among, with_name}
+use Rattle.cops_systems.specs.Meaning.{with_symbol, sides, phrases_of_rule, with_variables, with_all_variables, with_symbols, with_all_symbols, rule_variables, with_rule_symbols, IsSymbolOf, IsTermOf, AreTermsOf, AreConditionsOf, IsRuleOf, AreRulesOf}
+use Rattle.cops_systems.proofs.Sound.{terms_are}
 use Rattle.cops_write.proofs.Trees.{Alike, AreAlike, ConditionsAlike, GuardsAlike, RulesAlike}
 use Rattle.cops_write.proofs.Agree.{Names, Agree, AgreeAll, RulesAgree}
 

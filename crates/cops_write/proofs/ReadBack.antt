@@ -5,10 +5,11 @@ use Rattle.file_text.specs.Syntax.{FileTree}
 use Rattle.file_text.specs.Texts.{IsText}
 use Rattle.file_text.proofs.Names.{IsName}
 use Rattle.rewriting.specs.Rules.{System}
-use Rattle.cops_read.specs.NameTable.{NameTable}
-use Rattle.cops_read.specs.Meaning.{is_among, with_names, variables_of, rule_variables}
-use Rattle.cops_read.specs.Uses.{events}
-use Rattle.cops_read.specs.File.{IsSystemOf, IsFile}
+use Rattle.cops_names.specs.NameTable.{NameTable}
+use Rattle.cops_names.specs.NameLists.{is_among, with_names}
+use Rattle.cops_systems.specs.Meaning.{variables_of, rule_variables}
+use Rattle.cops_systems.specs.Uses.{events}
+use Rattle.cops_systems.specs.File.{IsSystemOf, IsFile}
 use Rattle.cops_write.specs.Text.{block_text, type_text, system_text}
 use Rattle.cops_write.specs.Laws.{WrittenIsRead}
 use Rattle.cops_write.proofs.Trees.{RulesHaveNames}

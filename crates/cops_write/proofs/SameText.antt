@@ -11,9 +11,10 @@ use Rattle.std.proofs.lemmas.Slice.Eq.{bytes_eq-Decides}
 use Rattle.file_text.specs.Syntax.{Phrase, Phrases, word, call, none, more, ConditionTree, Guard, RuleTree, conditions_of}
 use Rattle.rewriting.specs.Terms.{Term, var, app, Terms, nil, cons}
 use Rattle.rewriting.specs.Rules.{Condition, Rule}
-use Rattle.cops_read.specs.NameTable.{NameTable, variable_at, number_of}
-use Rattle.cops_read.specs.Meaning.{name_index, rule_variables, IsTermOf, AreTermsOf, AreConditionsOf, IsRuleOf, AreRulesOf}
-use Rattle.cops_read.proofs.Sound.{upto, variables_are}
+use Rattle.cops_names.specs.NameTable.{NameTable, variable_at, number_of}
+use Rattle.cops_names.specs.NameLists.{name_index}
+use Rattle.cops_systems.specs.Meaning.{rule_variables, IsTermOf, AreTermsOf, AreConditionsOf, IsRuleOf, AreRulesOf}
+use Rattle.cops_systems.proofs.Sound.{upto, variables_are}
 use Rattle.cops_write.specs.Text.{symbol_text, variable_text, term_text, arguments_text, further_text, condition_text, conditions_text, others_text, rule_text, rules_text, rule_names, names_from, has_conditions}
 use Rattle.cops_write.proofs.Trees.{text, arguments, further, condition, others, guarded, rule, rules}
 

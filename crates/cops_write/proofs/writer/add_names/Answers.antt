@@ -1,5 +1,5 @@
 use Rattle.std.proofs.Common.{◌∙◌, List, ℕ, map, ap, sym}
-use Rattle.cops_read.specs.Meaning.{with_name, with_names}
+use Rattle.cops_names.specs.NameLists.{with_name, with_names}
 use Rattle.cops_write.specs.Text.{variable_text}
 use Rattle.cops_write.proofs.Rules.{next_variable, no_variable, variables_are}
 use Rattle.cops_write.proofs.writer.add_names.Goals as goal
