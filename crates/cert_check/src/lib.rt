@@ -20,9 +20,6 @@ use std::alloc::Global;
 use term_core::System;
 pub use validity::CheckError;
 
-#[cfg(test)]
-mod tests;
-
 /// What a valid certificate shows.
 #[derive(Clone, Copy, Debug, PartialEq, Eq)]
 pub enum Verdict {

@@ -15,6 +15,3 @@ mod steps;
 pub use errors::ReplayError;
 pub use judge::replay;
 pub use laws::outcomes_are_unique;
-
-#[cfg(test)]
-mod tests;

@@ -17,9 +17,6 @@ use tcap_infeasible::TcapEvidence;
 use term_core::{Cond, System};
 use tree_automata::AutoEvidence;
 
-#[cfg(test)]
-mod tests;
-
 // What a refuter answers; where that is Ok, the conditions are never met.
 fn refuted<R: Refuter>(
     alloc: Global,

@@ -19,9 +19,6 @@ use term_core::System;
 use validity::CertKind;
 pub use validity::CheckError;
 
-#[cfg(test)]
-mod tests;
-
 // That every rule is in the class.
 fn check_class(sys: &System, class: Class) -> Result<(), CheckError>
     ensures { ClassAnswers sys.now (class_view class) result }

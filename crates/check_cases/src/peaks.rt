@@ -1,15 +1,12 @@
 //! Peaks of small systems: valid, and rejected for each reason.
-ghost use Rattle.std.specs.Prelude.{◌≡◌, [], length, IfOk, IsTrue, map};
+ghost use Rattle.std.specs.Prelude.{◌≡◌, [], length, IfOk, IsTrue};
 ghost use Rattle.rewriting.specs.Terms as math;
-ghost use Rattle.rewriting.specs.Signatures.{IsOver};
-ghost use Rattle.certificates.specs.Sizes.{IsShort, IsStepShort};
-ghost use Rattle.term_core.specs.View.{view};
-ghost use Rattle.cert_model.specs.DerivationView.{derivation_view, step_view};
-ghost use Rattle.cert_model.specs.CertificateView.{redex_view, apart_view, peak_view};
+ghost use Rattle.cert_model.specs.CertificateView.{apart_view};
 ghost use Rattle.noncon_check.specs.Judges.{AreFew};
 
-use crate::{CheckError, check_peak};
+use crate::limits::is_short;
 use cert_model::{Derivation, EvidenceReason, InfEvidence, NonJoin, Peak, Redex, Rejected, Step};
+use noncon_check::{CheckError, check_peak};
 use std::alloc::Global;
 use std::test::Fail;
 use term_core::{Cond, Rule, System, Term, fits, is_over};
@@ -111,39 +108,6 @@ fn redex(which: u32, pos: Vec<u32>, rule: u32) -> Redex {
         pos,
         rule,
         evidence: InfEvidence::Tcap,
-    }
-}
-
-// whether no list of steps is long
-#[cycle(short)]
-fn is_short(d: &Derivation) -> bool
-    ensures { IsTrue result → IsShort (derivation_view d.now) }
-{
-    if d.steps.len() > 1000 {
-        return false;
-    }
-    for step in &d.steps {
-        if !is_step_short(step) {
-            return false;
-        }
-    }
-    true
-}
-
-#[cycle(short)]
-fn is_step_short(step: &Step) -> bool
-    ensures { IsTrue result → IsStepShort (step_view step.now) }
-{
-    match step {
-        Step::Rule { conds, .. } => {
-            for cond in conds {
-                if !is_short(cond) {
-                    return false;
-                }
-            }
-            true
-        }
-        Step::Hyp { .. } => true,
     }
 }
 

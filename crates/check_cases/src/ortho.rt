@@ -5,8 +5,8 @@ ghost use Rattle.term_core.specs.RuleView.{rule_view};
 ghost use Rattle.cert_model.specs.CertificateView.{pair_entry_view};
 ghost use Rattle.valid_certificates.specs.Entries.{ArePairsShort};
 
-use crate::{CheckError, check_ortho};
 use cert_model::{Blame, Class, EvidenceReason, InfEvidence, PairEntry, PairEvidence, Rejected};
+use ortho_check::{CheckError, check_ortho};
 use std::alloc::Global;
 use std::test::Fail;
 use term_core::{Cond, Rule, System, Term};

@@ -4,7 +4,7 @@ use Rattle.certificates.specs.Sizes.{step_count, AreStepsShort}
 use Rattle.cert_model.specs.DerivationView.{derivation_view, step_view}
 use Rattle.cert_model.specs.declared.derivations.Derivation.{out-Derivation}
 use Rattle.derivation.proofs.Shown.{view-Derivation, step_count_of, map-drop-all}
-use Rattle.pair_check.proofs.tests.+short.Goals as goal
+use Rattle.check_cases.proofs.limits.+short.Goals as goal
 
 pub is_short-returns : goal.is_short-returns
 is_short-returns t c =

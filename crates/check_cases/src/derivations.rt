@@ -1,11 +1,9 @@
 //! Derivations over a small system, and where their first bad step is.
-ghost use Rattle.std.specs.Prelude.{◌≡◌, [], length, IfOk, IsTrue, map};
-ghost use Rattle.certificates.specs.Sizes.{DoConditionsFit, IsShort, IsStepShort};
-ghost use Rattle.term_core.specs.RuleView.{condition_view};
-ghost use Rattle.cert_model.specs.DerivationView.{derivation_view, step_view};
+ghost use Rattle.std.specs.Prelude.{◌≡◌, [], length, IfOk};
 
-use crate::{ReplayError, replay};
+use crate::limits::{do_fit, is_short};
 use cert_model::{Derivation, Step, StepReason};
+use derivation::{ReplayError, replay};
 use std::alloc::Global;
 use std::test::Fail;
 use term_core::{Cond, Rule, System, Term, fits};
@@ -68,48 +66,6 @@ fn system(alloc: Global) -> Result<System, Fail> {
     let rules = Vec::from_array(alloc, [first, second, third])?;
     let arities = Vec::from_array(alloc, [0, 0, 0, 0, 1])?;
     Ok(System::make(arities, rules)?)
-}
-
-fn do_fit(conds: &[Cond]) -> bool
-    ensures { IsTrue result → DoConditionsFit (map condition_view conds.now) }
-{
-    match conds {
-        [] => true,
-        [first, rest @ ..] => fits(&first.left) && fits(&first.right) && do_fit(rest),
-    }
-}
-
-// whether no list of steps is long
-#[cycle(short)]
-fn is_short(d: &Derivation) -> bool
-    ensures { IsTrue result → IsShort (derivation_view d.now) }
-{
-    if d.steps.len() > 1000 {
-        return false;
-    }
-    for step in &d.steps {
-        if !is_step_short(step) {
-            return false;
-        }
-    }
-    true
-}
-
-#[cycle(short)]
-fn is_step_short(step: &Step) -> bool
-    ensures { IsTrue result → IsStepShort (step_view step.now) }
-{
-    match step {
-        Step::Rule { conds, .. } => {
-            for cond in conds {
-                if !is_short(cond) {
-                    return false;
-                }
-            }
-            true
-        }
-        Step::Hyp { .. } => true,
-    }
 }
 
 // what replaying answers, for lists and terms as it asks for

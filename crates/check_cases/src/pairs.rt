@@ -1,17 +1,16 @@
 //! Evidence for the overlap of a small system, and its entries: valid, and rejected for each reason.
 ghost use Rattle.std.specs.Prelude.{◌≤◌, length, IfOk, IsTrue, map};
-ghost use Rattle.certificates.specs.Sizes.{IsShort, IsStepShort};
-ghost use Rattle.cert_model.specs.DerivationView.{derivation_view, step_view};
 ghost use Rattle.cert_model.specs.EvidenceView.{pair_evidence_view};
 ghost use Rattle.cert_model.specs.CertificateView.{pair_entry_view};
 ghost use Rattle.valid_certificates.specs.Entries.{IsPairShort, ArePairsShort};
 
-use crate::{CertKind, CheckError, Refusal, check_pairs, judge_evidence};
+use crate::limits::is_short;
 use cert_model::{
     BadStep, Derivation, EvidenceReason, InfEvidence, PairEntry, PairEvidence, Rejected, Step,
     StepReason,
 };
 use critical_pairs::overlaps;
+use pair_check::{CertKind, CheckError, Refusal, check_pairs, judge_evidence};
 use std::alloc::Global;
 use std::test::Fail;
 use term_core::{Cond, Rule, System, Term};
@@ -126,39 +125,6 @@ fn by_hyp(alloc: Global, number: u32) -> Result<Derivation, Fail> {
     Ok(Derivation {
         steps: Vec::from_array(alloc, [step])?,
     })
-}
-
-// whether the derivation, with those inside it, has few steps
-#[cycle(short)]
-fn is_short(d: &Derivation) -> bool
-    ensures { IsTrue result → IsShort (derivation_view d.now) }
-{
-    if d.steps.len() > 1000 {
-        return false;
-    }
-    for step in &d.steps {
-        if !is_step_short(step) {
-            return false;
-        }
-    }
-    true
-}
-
-#[cycle(short)]
-fn is_step_short(step: &Step) -> bool
-    ensures { IsTrue result → IsStepShort (step_view step.now) }
-{
-    match step {
-        Step::Rule { conds, .. } => {
-            for cond in conds {
-                if !is_short(cond) {
-                    return false;
-                }
-            }
-            true
-        }
-        Step::Hyp { .. } => true,
-    }
 }
 
 fn is_plain(evidence: &PairEvidence) -> bool

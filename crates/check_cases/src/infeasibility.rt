@@ -1,13 +1,11 @@
 //! Conditions that caps refute, and ones that they do not.
-ghost use Rattle.std.specs.Prelude.{IsTrue, map};
-ghost use Rattle.certificates.specs.Sizes.{DoConditionsFit};
-ghost use Rattle.term_core.specs.RuleView.{condition_view};
 
-use crate::{Refusal, check_infeasible};
+use crate::limits::do_fit;
 use cert_model::{EvidenceReason, InfEvidence};
+use infeasible::{Refusal, check_infeasible};
 use std::alloc::Global;
 use std::test::Fail;
-use term_core::{Cond, Rule, System, Term, fits};
+use term_core::{Cond, Rule, System, Term};
 
 const A: u32 = 0;
 
@@ -29,15 +27,6 @@ fn system(alloc: Global) -> Result<System, Fail> {
     };
     let arities = Vec::from_array(alloc, [0, 0, 1])?;
     Ok(System::make(arities, Vec::from_array(alloc, [rule])?)?)
-}
-
-fn do_fit(conds: &[Cond]) -> bool
-    ensures { IsTrue result → DoConditionsFit (map condition_view conds.now) }
-{
-    match conds {
-        [] => true,
-        [first, rest @ ..] => fits(&first.left) && fits(&first.right) && do_fit(rest),
-    }
 }
 
 // what caps show of one condition

@@ -5,7 +5,7 @@ ghost use Rattle.cert_model.specs.CertificateView.{peak_view, certificate_view};
 ghost use Rattle.cert_model.specs.DerivationView.{derivation_view};
 ghost use Rattle.cert_check.specs.Kinds.{CanPeakBeJudged, CanBeJudged};
 
-use crate::{CheckError, Verdict, check};
+use cert_check::{CheckError, Verdict, check};
 use cert_model::{
     Certificate, Derivation, Head, Linear, LinearEntry, MeasureCert, NonJoin, Peak, Rejected, Step,
 };
