@@ -1,4 +1,4 @@
-ghost use Rattle.std.specs.Prelude.{◌≡◌, ◌≢◌, ◌≤◌, ◌<◌, ◌++◌, ◌∷◌, ◌↔◌, [], Some, OnOk, IfOk, IsTrue, MatchOption, IsSome, map, slice_get};
+ghost use Rattle.std.specs.Prelude.{◌≡◌, ◌≢◌, ◌≤◌, ◌<◌, ◌++◌, ◌∷◌, ◌↔◌, [], Some, OnOk, IsTrue, MatchOption, IsSome, map, slice_get};
 ghost use Rattle.rewriting.specs.Terms.{size};
 ghost use Rattle.rewriting.specs.Rules.{rule_at};
 ghost use Rattle.rewriting.specs.Overlaps.{conditions_under};
@@ -14,7 +14,7 @@ ghost use Rattle.noncon_check.specs.Walks.{IsAbsent, PlacesAnswer, MissedAnswers
 ghost use Rattle.noncon_check.specs.Judges.{IsReady};
 
 use crate::conditions::judge_conditions;
-use cert_model::{Redex, Rejected};
+use cert_model::{Redex, Rejected, copy_numbers};
 use infeasible::Refusal;
 use matching::{Match, match_term};
 use rule_index::RuleIndex;
@@ -42,19 +42,11 @@ fn enter(path: &mut Vec<u32>, k: u32) -> Result<(), NoMemory>
     Ok(())
 }
 
-fn copied(alloc: Global, path: &[u32]) -> Result<Vec<u32>, NoMemory>
-    ensures { IfOk result (λ copy. copy.items ≡ path.now) }
-{
-    let mut copy = Vec::with_capacity(alloc, path.len())?;
-    copy.extend_from_slice(path)?;
-    Ok(copy)
-}
-
 // A redex that has no entry where one should stand.
 fn missed(alloc: Global, which: u32, path: &[u32], rule: u32) -> CheckError
     ensures { MissedAnswers (behind path.now (at_root which rule)) result }
 {
-    match copied(alloc, path) {
+    match copy_numbers(alloc, path) {
         Ok(pos) => CheckError::Rejected(Rejected::NotNormal { which, pos, rule }),
         Err(_) => CheckError::NoMemory,
     }

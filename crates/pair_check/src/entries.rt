@@ -1,5 +1,5 @@
 // The entries of a certificate, one for each overlap in order.
-ghost use Rattle.std.specs.Prelude.{◌≡◌, ◌<◌, ◌≤◌, ◌+◌, ◌↔◌, IsTrue, IfOk, length, map, slice_get};
+ghost use Rattle.std.specs.Prelude.{◌≡◌, ◌<◌, ◌≤◌, ◌+◌, ◌↔◌, IsTrue, length, map, slice_get};
 ghost use Rattle.unifier_run.specs.Overlaps.{triple, IsOverlapOf};
 ghost use Rattle.cert_model.specs.CertificateView.{pair_entry_view};
 ghost use Rattle.critical_pairs.specs.View.{overlap_view};
@@ -9,26 +9,18 @@ ghost use Rattle.validity.specs.KindView.{kind_view};
 ghost use Rattle.pair_check.specs.Walk.{EachIsOverlap, MissingAnswers, RefusedAnswers, EntryAnswers, SettledAnswers};
 
 use crate::evidence::judge_evidence;
-use cert_model::{PairEntry, Rejected};
+use cert_model::{PairEntry, Rejected, copy_numbers};
 use critical_pairs::{Overlap, OverlapError, overlaps};
 use refuter::Refusal;
 use std::alloc::Global;
-use term_core::{NoMemory, System};
+use term_core::System;
 use validity::{CertKind, CheckError};
-
-fn copied(alloc: Global, numbers: &[u32]) -> Result<Vec<u32>, NoMemory>
-    ensures { IfOk result (λ copy. copy.items ≡ numbers.now) }
-{
-    let mut copy = Vec::with_capacity(alloc, numbers.len())?;
-    copy.extend_from_slice(numbers)?;
-    Ok(copy)
-}
 
 // An overlap that has no entry where one should stand.
 fn missing(alloc: Global, overlap: &Overlap) -> CheckError
     ensures { MissingAnswers (overlap_view overlap.now) result }
 {
-    match copied(alloc, &overlap.pos) {
+    match copy_numbers(alloc, &overlap.pos) {
         Ok(pos) => CheckError::Rejected(Rejected::PairMissing {
             inner: overlap.inner,
             pos,
@@ -43,7 +35,7 @@ fn refused(alloc: Global, e: &OverlapError) -> CheckError
     ensures { RefusedAnswers e.now result }
 {
     match e {
-        OverlapError::PairTooLarge { inner, pos, outer } => match copied(alloc, pos) {
+        OverlapError::PairTooLarge { inner, pos, outer } => match copy_numbers(alloc, pos) {
             Ok(pos) => CheckError::Rejected(Rejected::PairTooLarge {
                 inner: *inner,
                 pos,
