@@ -1,6 +1,9 @@
 pub mod Splits
 pub mod Kept
+pub mod Over
 pub mod Unique
 pub mod Asked
 pub mod Grown
 pub mod Renamed
+pub mod Finite
+pub mod Total

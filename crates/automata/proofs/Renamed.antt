@@ -4,11 +4,11 @@ use Rattle.rewriting.specs.Terms.{Term, Terms, var, app, nil, cons}
 use Rattle.rewriting.specs.Substitutions.{apply, apply_all}
 use Rattle.rewriting.specs.Rules.{Condition, System}
 use Rattle.rewriting.specs.Overlaps.{condition_under, conditions_under}
-use Rattle.ctrs_classes.specs.Blames.{leaves, leaves_of}
+use Rattle.rewriting.specs.Variables.{variable_occurrences, variable_occurrences_of}
 use Rattle.certificates.specs.Evidence.{Automaton}
 use Rattle.certificates.specs.Judging.{hypothesis_at}
 use Rattle.certificates.specs.Reasons.{EvidenceReason, auto_wide_right, auto_reaches}
-use Rattle.automata.specs.Runs.{Moves, Has, Reach, ReachAll, at, ReachBy, ReachAllBy}
+use Rattle.automata.specs.Runs.{Moves, Symbols, Has, Reach, ReachAll, at, ReachBy, ReachAllBy}
 use Rattle.automata.specs.Closed.{IsWide, Excludes}
 use Rattle.automata.specs.Evidence.{IsAccepted, IsExclusionJudged, IsConditionJudged, not_any, misses, closure_fails, right_side, JudgedByAutomaton}
 
@@ -70,21 +70,21 @@ module _ (rho : ℕ → ℕ) where
   same_lengths (x ∷ xs) (y ∷ xs') ys ys' e f = (let shorter : length xs ≡ length xs' = cc in ap suc (same_lengths xs xs' ys ys' shorter f))
 
   mutual
-    occurrences_same : (t : Term) → length (leaves (renamed t)) ≡ length (leaves t)
+    occurrences_same : (t : Term) → length (variable_occurrences (renamed t)) ≡ length (variable_occurrences t)
     occurrences_same (var x) = refl
     occurrences_same (app f ts) = all_occurrences_same ts
 
-    all_occurrences_same : (ts : Terms) → length (leaves_of (all_renamed ts)) ≡ length (leaves_of ts)
+    all_occurrences_same : (ts : Terms) → length (variable_occurrences_of (all_renamed ts)) ≡ length (variable_occurrences_of ts)
     all_occurrences_same nil = refl
     all_occurrences_same (cons t ts) =
-        same_lengths (leaves (renamed t)) (leaves t) (leaves_of (all_renamed ts)) (leaves_of ts) (occurrences_same t) (all_occurrences_same ts)
+        same_lengths (variable_occurrences (renamed t)) (variable_occurrences t) (variable_occurrences_of (all_renamed ts)) (variable_occurrences_of ts) (occurrences_same t) (all_occurrences_same ts)
 
-  module _ (a : Automaton) (t : Term) where
-    accepted_to : IsAccepted a t → IsAccepted a (renamed t)
-    accepted_to (q, accepts, h) = (q, accepts, (h.0, reach_to (Has a) t q h.1))
+  module _ (symbols : Symbols) (a : Automaton) (t : Term) where
+    accepted_to : IsAccepted symbols a t → IsAccepted symbols a (renamed t)
+    accepted_to (q, accepts, h) = (q, accepts, (h.0, reach_to (Has symbols a) t q h.1))
 
-    accepted_from : IsAccepted a (renamed t) → IsAccepted a t
-    accepted_from (q, accepts, h) = (q, accepts, (h.0, reach_from (Has a) t q h.1))
+    accepted_from : IsAccepted symbols a (renamed t) → IsAccepted symbols a t
+    accepted_from (q, accepts, h) = (q, accepts, (h.0, reach_from (Has symbols a) t q h.1))
 
     wide_to : IsWide a t → IsWide a (renamed t)
     wide_to h = subst (λ n. 1000000 < a.states ^ n) (sym (occurrences_same t)) h
@@ -92,15 +92,15 @@ module _ (rho : ℕ → ℕ) where
     wide_from : IsWide a (renamed t) → IsWide a t
     wide_from h = subst (λ n. 1000000 < a.states ^ n) (occurrences_same t) h
 
-    excludes_to : Excludes a t → Excludes a (renamed t)
+    excludes_to : Excludes symbols a t → Excludes symbols a (renamed t)
     excludes_to none cs q choice accepts h =
-        none cs q (record { each = choice.each ∙ occurrences_same t; states = choice.states }) accepts (by_from (Has a) t cs q h)
+        none cs q (record { each = choice.each ∙ occurrences_same t; states = choice.states }) accepts (by_from (Has symbols a) t cs q h)
 
-    excludes_from : Excludes a (renamed t) → Excludes a t
+    excludes_from : Excludes symbols a (renamed t) → Excludes symbols a t
     excludes_from none cs q choice accepts h =
-        none cs q (record { each = choice.each ∙ sym (occurrences_same t); states = choice.states }) accepts (by_to (Has a) t cs q h)
+        none cs q (record { each = choice.each ∙ sym (occurrences_same t); states = choice.states }) accepts (by_to (Has symbols a) t cs q h)
 
-    exclusion_to : (o : Option EvidenceReason) → IsExclusionJudged a t o → IsExclusionJudged a (renamed t) o
+    exclusion_to : (o : Option EvidenceReason) → IsExclusionJudged symbols a t o → IsExclusionJudged symbols a (renamed t) o
     exclusion_to None (narrow, none) = (λ w. narrow (wide_from w), excludes_to none)
     exclusion_to (Some auto_wide_right) h = wide_to h
     exclusion_to (Some auto_reaches) (narrow, some) = (λ w. narrow (wide_from w), λ none. some (excludes_from none))
@@ -108,9 +108,9 @@ module _ (rho : ℕ → ℕ) where
 
   condition_to : (sys : System) (c : Condition) (a : Automaton) (o : Option EvidenceReason) → IsConditionJudged sys c a o → IsConditionJudged sys (condition_under (λ x. var (rho x)) c) a o
   condition_to sys c a o (not_any h) = not_any h
-  condition_to sys c a o (misses any h) = misses any (λ hit. h (accepted_from a c.left hit))
-  condition_to sys c a o (closure_fails why any hit h) = closure_fails why any (accepted_to a c.left hit) h
-  condition_to sys c a o (right_side p any hit closed h) = right_side p any (accepted_to a c.left hit) closed (exclusion_to a c.right p h)
+  condition_to sys c a o (misses any h) = misses any (λ hit. h (accepted_from (Some sys.arities) a c.left hit))
+  condition_to sys c a o (closure_fails why any hit h) = closure_fails why any (accepted_to (Some sys.arities) a c.left hit) h
+  condition_to sys c a o (right_side p any hit closed h) = right_side p any (accepted_to (Some sys.arities) a c.left hit) closed (exclusion_to (Some sys.arities) a c.right p h)
 
   slice_none : (cs : List Condition) (k : ℕ) → slice_get cs k ≡ None → slice_get (conditions_renamed cs) k ≡ None
   slice_none [] k h = h

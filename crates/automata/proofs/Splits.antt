@@ -3,9 +3,9 @@ use Rattle.std.proofs.Common.{ℕ, suc, ◌≡◌, ◌<◌, Bool, true, false, n
 use Rattle.std.proofs.lemmas.List.Elements.{All-nil, All-cons}
 use Rattle.rewriting.specs.Terms.{Term, var, app, Terms, nil, cons, count}
 use Rattle.rewriting.specs.Substitutions.{Substitution, apply, apply_all}
-use Rattle.ctrs_classes.specs.Blames.{leaves, leaves_of}
+use Rattle.rewriting.specs.Variables.{variable_occurrences, variable_occurrences_of}
 use Rattle.certificates.specs.Evidence.{Automaton}
-use Rattle.automata.specs.Runs.{Moves, Has, IsState, Reach, ReachAll, at, Runs, ReachBy, ReachAllBy}
+use Rattle.automata.specs.Runs.{Moves, Symbols, Has, IsState, Reach, ReachAll, at, Runs, ReachBy, ReachAllBy}
 use Rattle.automata.specs.Closed.{IsChoice, state_of}
 
 -- each variable with its state has the property
@@ -47,12 +47,12 @@ state_has P none (y ∷ ys) (c ∷ cs) h x = state_at P x y c (state_of ys cs x)
 pub record Split (M : Moves) (At : ℕ → ℕ → Type 0) (s : Substitution) (t : Term) (q : ℕ) : Type 0 where
   pub states : List ℕ
   pub run : ReachBy M t states q
-  pub each : AreEach (λ x c. Reach M At (s x) c) (leaves t) states
+  pub each : AreEach (λ x c. Reach M At (s x) c) (variable_occurrences t) states
 
 pub record Splits (M : Moves) (At : ℕ → ℕ → Type 0) (s : Substitution) (ts : Terms) (qs : List ℕ) : Type 0 where
   pub states : List ℕ
   pub run : ReachAllBy M ts states qs
-  pub each : AreEach (λ x c. Reach M At (s x) c) (leaves_of ts) states
+  pub each : AreEach (λ x c. Reach M At (s x) c) (variable_occurrences_of ts) states
 
 mutual
   pub split : (M : Moves) (At : ℕ → ℕ → Type 0) (s : Substitution) (t : Term) (q : ℕ) → Reach M At (apply s t) q → Split M At s t q
@@ -68,7 +68,7 @@ mutual
       record {
         states = a.states ++ b.states;
         run = (a.states, b.states, refl, a.run, b.run);
-        each = each-append (λ x c. Reach M At (s x) c) (leaves t) (leaves_of ts) a.states b.states a.each b.each;
+        each = each-append (λ x c. Reach M At (s x) c) (variable_occurrences t) (variable_occurrences_of ts) a.states b.states a.each b.each;
       }
 
 -- a term's run, with states that the values reach, is the instance's run
@@ -93,21 +93,15 @@ mutual
   reach_all-mono M At Bt f (cons t ts) [] h = absurd h
   reach_all-mono M At Bt f (cons t ts) (q ∷ qs) (h, hs) = (reach-mono M At Bt f t q h, reach_all-mono M At Bt f ts qs hs)
 
--- there are as many states as arguments
-pub length-states : (M : Moves) (At : ℕ → ℕ → Type 0) (ts : Terms) (qs : List ℕ) → ReachAll M At ts qs → count ts ≡ length qs
-length-states M At nil qs h = sym (ap length h)
-length-states M At (cons t ts) [] h = absurd h
-length-states M At (cons t ts) (q ∷ qs) h = ap suc (length-states M At ts qs h.1)
-
 -- what a term reaches is a state
-pub runs_to_state : (a : Automaton) (t : Term) (q : ℕ) → Runs a t q → IsState a q
-runs_to_state a (var x) q h = h.target
-runs_to_state a (app f ts) q (qs, m, h) = m.target
+pub runs_to_state : (symbols : Symbols) (a : Automaton) (t : Term) (q : ℕ) → Runs symbols a t q → IsState a q
+runs_to_state symbols a (var x) q h = h.target
+runs_to_state symbols a (app f ts) q (qs, m, h) = m.target
 
 -- the states of a run of an instance are a choice
-pub choice_of : (a : Automaton) (s : Substitution) (t : Term) (q : ℕ) (r : Split (Has a) (λ x p. Has a None [] p) s t q) → IsChoice a.states t r.states
-choice_of a s t q r =
+pub choice_of : (symbols : Symbols) (a : Automaton) (s : Substitution) (t : Term) (q : ℕ) (r : Split (Has symbols a) (λ x p. Has symbols a None [] p) s t q) → IsChoice a.states t r.states
+choice_of symbols a s t q r =
     record {
-      each = length-each (λ x c. Runs a (s x) c) (leaves t) r.states r.each;
-      states = each_all (λ x c. Runs a (s x) c) (λ c. c < a.states) (λ x c h. runs_to_state a (s x) c h) (leaves t) r.states r.each;
+      each = length-each (λ x c. Runs symbols a (s x) c) (variable_occurrences t) r.states r.each;
+      states = each_all (λ x c. Runs symbols a (s x) c) (λ c. c < a.states) (λ x c h. runs_to_state symbols a (s x) c h) (variable_occurrences t) r.states r.each;
     }

@@ -7,7 +7,8 @@ use Rattle.rewriting.proofs.Conditions.{Order, is_smaller, is_equal, is_greater,
 use Rattle.certificates.specs.Evidence.{Automaton}
 use Rattle.certificates.specs.Judging.{hypothesis_at}
 use Rattle.certificates.specs.Reasons.{EvidenceReason, auto_wide, auto_not_closed, auto_wide_right, auto_reaches}
-use Rattle.automata.specs.Closed.{IsClosed, IsEarlier, IsFirstOpen, IsWide, AreNarrow, IsFirstWide, Excludes}
+use Rattle.automata.specs.Runs.{Symbols}
+use Rattle.automata.specs.Closed.{IsClosed, IsEarlierChoice, IsFirstOpen, IsWide, AreNarrow, IsFirstWide, Excludes}
 use Rattle.automata.specs.Evidence.{IsClosureJudged, IsExclusionJudged, IsConditionJudged, not_any, misses, closure_fails, right_side, JudgedByAutomaton}
 
 -- of two choices one is before the other, or they are equal
@@ -31,9 +32,9 @@ choice_order (c ∷ cs) (d ∷ ds) = by_heads c d cs ds (order c d) (choice_orde
 
 -- and so of two rules, each with a choice and a state
 data CaseOrder (i j : ℕ) (cs ds : List ℕ) (p q : ℕ) : Type 0 where
-  is_earlier : IsEarlier (i, (cs, p)) (j, (ds, q)) → CaseOrder i j cs ds p q
+  is_earlier : IsEarlierChoice (i, (cs, p)) (j, (ds, q)) → CaseOrder i j cs ds p q
   is_same_case : i ≡ j → cs ≡ ds → p ≡ q → CaseOrder i j cs ds p q
-  is_later : IsEarlier (j, (ds, q)) (i, (cs, p)) → CaseOrder i j cs ds p q
+  is_later : IsEarlierChoice (j, (ds, q)) (i, (cs, p)) → CaseOrder i j cs ds p q
 
 by_rules : (i j : ℕ) (cs ds : List ℕ) (p q : ℕ) → Order i j → ChoiceOrder cs ds → Order p q → CaseOrder i j cs ds p q
 by_rules i j cs ds p q (is_smaller h) r s = is_earlier (inl h)
@@ -94,27 +95,27 @@ closures_same : (sys : System) (a : Automaton) (o p : Option EvidenceReason) →
 closures_same sys a o p h k = closure_same sys a o p (closure_judgement sys a o h) (closure_judgement sys a p k)
 
 -- and the right side's
-data ExclusionJudgement (a : Automaton) (t : Term) (o : Option EvidenceReason) : Type 0 where
-  excludes : (IsWide a t → ⊥) → Excludes a t → o ≡ None → ExclusionJudgement a t o
-  right_wide : IsWide a t → o ≡ Some auto_wide_right → ExclusionJudgement a t o
-  right_reaches : (IsWide a t → ⊥) → (Excludes a t → ⊥) → o ≡ Some auto_reaches → ExclusionJudgement a t o
+data ExclusionJudgement (symbols : Symbols) (a : Automaton) (t : Term) (o : Option EvidenceReason) : Type 0 where
+  excludes : (IsWide a t → ⊥) → Excludes symbols a t → o ≡ None → ExclusionJudgement symbols a t o
+  right_wide : IsWide a t → o ≡ Some auto_wide_right → ExclusionJudgement symbols a t o
+  right_reaches : (IsWide a t → ⊥) → (Excludes symbols a t → ⊥) → o ≡ Some auto_reaches → ExclusionJudgement symbols a t o
 
-exclusion_judgement : (a : Automaton) (t : Term) (o : Option EvidenceReason) → IsExclusionJudged a t o → ExclusionJudgement a t o
-exclusion_judgement a t None h = excludes h.0 h.1 refl
-exclusion_judgement a t (Some auto_wide_right) h = right_wide h refl
-exclusion_judgement a t (Some auto_reaches) h = right_reaches h.0 h.1 refl
-exclusion_judgement a t (Some _) h = absurd h
+exclusion_judgement : (symbols : Symbols) (a : Automaton) (t : Term) (o : Option EvidenceReason) → IsExclusionJudged symbols a t o → ExclusionJudgement symbols a t o
+exclusion_judgement symbols a t None h = excludes h.0 h.1 refl
+exclusion_judgement symbols a t (Some auto_wide_right) h = right_wide h refl
+exclusion_judgement symbols a t (Some auto_reaches) h = right_reaches h.0 h.1 refl
+exclusion_judgement symbols a t (Some _) h = absurd h
 
-exclusion_same : (a : Automaton) (t : Term) (o p : Option EvidenceReason) → ExclusionJudgement a t o → ExclusionJudgement a t p → o ≡ p
-exclusion_same a t o p (excludes n h e) (excludes m k f) = e ∙ sym f
-exclusion_same a t o p (excludes n h e) (right_wide k f) = absurd (n k)
-exclusion_same a t o p (excludes n h e) (right_reaches m k f) = absurd (k h)
-exclusion_same a t o p (right_wide h e) (excludes m k f) = absurd (m h)
-exclusion_same a t o p (right_wide h e) (right_wide k f) = e ∙ sym f
-exclusion_same a t o p (right_wide h e) (right_reaches m k f) = absurd (m h)
-exclusion_same a t o p (right_reaches n h e) (excludes m k f) = absurd (h k)
-exclusion_same a t o p (right_reaches n h e) (right_wide k f) = absurd (n k)
-exclusion_same a t o p (right_reaches n h e) (right_reaches m k f) = e ∙ sym f
+exclusion_same : (symbols : Symbols) (a : Automaton) (t : Term) (o p : Option EvidenceReason) → ExclusionJudgement symbols a t o → ExclusionJudgement symbols a t p → o ≡ p
+exclusion_same symbols a t o p (excludes n h e) (excludes m k f) = e ∙ sym f
+exclusion_same symbols a t o p (excludes n h e) (right_wide k f) = absurd (n k)
+exclusion_same symbols a t o p (excludes n h e) (right_reaches m k f) = absurd (k h)
+exclusion_same symbols a t o p (right_wide h e) (excludes m k f) = absurd (m h)
+exclusion_same symbols a t o p (right_wide h e) (right_wide k f) = e ∙ sym f
+exclusion_same symbols a t o p (right_wide h e) (right_reaches m k f) = absurd (m h)
+exclusion_same symbols a t o p (right_reaches n h e) (excludes m k f) = absurd (h k)
+exclusion_same symbols a t o p (right_reaches n h e) (right_wide k f) = absurd (n k)
+exclusion_same symbols a t o p (right_reaches n h e) (right_reaches m k f) = e ∙ sym f
 
 -- a condition's
 not_both : (sys : System) (a : Automaton) (why : EvidenceReason) → IsClosureJudged sys a (Some why) → IsClosureJudged sys a None → ⊥
@@ -137,7 +138,7 @@ condition_same sys c a o p (right_side r any accepts closed h) (not_any k) = abs
 condition_same sys c a o p (right_side r any accepts closed h) (misses any' k) = absurd (k accepts)
 condition_same sys c a o p (right_side r any accepts closed h) (closure_fails why any' accepts' k) = absurd (not_both sys a why k closed)
 condition_same sys c a o p (right_side r any accepts closed h) (right_side s any' accepts' closed' k) =
-    exclusion_same a c.right r s (exclusion_judgement a c.right r h) (exclusion_judgement a c.right s k)
+    exclusion_same (Some sys.arities) a c.right r s (exclusion_judgement (Some sys.arities) a c.right r h) (exclusion_judgement (Some sys.arities) a c.right s k)
 
 none_or_some : (cs : List Condition) (k : ℕ) (c : Condition) → hypothesis_at cs k ≡ None → hypothesis_at cs k ≡ Some c → ⊥
 none_or_some cs k c e f = cc

@@ -5,13 +5,13 @@ use Rattle.std.specs.Prelude.{ℕ, ◌≡◌, ◌<◌, ◌⊎◌, ◌^◌, nat_e
 use Rattle.rewriting.specs.Terms.{Term, var, app}
 use Rattle.rewriting.specs.Positions.{IsBefore}
 use Rattle.rewriting.specs.Rules.{Rule, System, rule_at}
-use Rattle.ctrs_classes.specs.Blames.{leaves}
+use Rattle.rewriting.specs.Variables.{variable_occurrences}
 use Rattle.certificates.specs.Evidence.{Automaton}
-use Rattle.automata.specs.Runs.{Moves, Has, Reach, at, ReachBy, IsAccepting}
+use Rattle.automata.specs.Runs.{Moves, Symbols, Has, Reach, at, ReachBy, IsAccepting}
 
 -- states, n of them, for the variable occurrences of a term
 pub record IsChoice (n : ℕ) (t : Term) (cs : List ℕ) : Type 0 where
-  pub each : length cs ≡ length (leaves t)
+  pub each : length cs ≡ length (variable_occurrences t)
   pub states : All (λ q. q < n) cs
 
 -- the state of the first occurrence of x among variables with their states; 0 where it does not occur
@@ -20,46 +20,45 @@ state_of [] cs x = 0
 state_of (y ∷ ys) [] x = 0
 state_of (y ∷ ys) (c ∷ cs) x = if nat_eq x y then c else state_of ys cs x
 
--- the head of a transition is a symbol of the system with as many arguments as its arity, or there is none for a variable
-abbrev pub IsHead : System → Option ℕ → List ℕ → Type 0
-IsHead sys (Some f) qs = slice_get sys.arities f ≡ Some (length qs)
-IsHead sys None qs = qs ≡ []
-
 -- state q includes p: each transition to p has its twin to q
-abbrev pub Includes : System → Moves → ℕ → ℕ → Type 0
-Includes sys M q p = (s : Option ℕ) (qs : List ℕ) → IsHead sys s qs → M s qs p → M s qs q
+abbrev pub Includes : Moves → ℕ → ℕ → Type 0
+Includes M q p = (symbol : Option ℕ) (qs : List ℕ) → M symbol qs p → M symbol qs q
 
 -- the right side is kept at q, its variables having the states that e gives: it reaches q, or, where it is a variable, q includes its state
-abbrev pub IsKept : System → Moves → (ℕ → ℕ) → Term → ℕ → Type 0
-IsKept sys M e (var x) q = Includes sys M q (e x)
-IsKept sys M e (app f ts) q = Reach M (at e) (app f ts) q
+abbrev pub IsKept : Moves → (ℕ → ℕ) → Term → ℕ → Type 0
+IsKept M e (var x) q = Includes M q (e x)
+IsKept M e (app f ts) q = Reach M (at e) (app f ts) q
 
 -- the variables of a right side have the states of their first occurrences in the left side, and others 0
-abbrev pub IsRuleKept : System → Moves → Rule → List ℕ → ℕ → Type 0
-IsRuleKept sys M r cs q = IsKept sys M (state_of (leaves r.left) cs) r.right q
+abbrev pub IsRuleKept : Moves → Rule → List ℕ → ℕ → Type 0
+IsRuleKept M r cs q = IsKept M (state_of (variable_occurrences r.left) cs) r.right q
+
+-- the automaton's transitions by the symbols of the system
+abbrev pub HasOver : System → Automaton → Moves
+HasOver sys a = Has (Some sys.arities) a
 
 -- for each rule, each choice of states and each state that the left side reaches, the right side is kept
 abbrev pub IsClosed : System → Automaton → Type 0
 IsClosed sys a =
-    (i : ℕ) (r : Rule) (cs : List ℕ) (q : ℕ) → rule_at sys i ≡ Some r → IsChoice a.states r.left cs → ReachBy (Has a) r.left cs q → IsRuleKept sys (Has a) r cs q
+    (i : ℕ) (r : Rule) (cs : List ℕ) (q : ℕ) → rule_at sys i ≡ Some r → IsChoice a.states r.left cs → ReachBy (HasOver sys a) r.left cs q → IsRuleKept (HasOver sys a) r cs q
 
 -- in order by the rule, then the choice, then the state
-abbrev pub IsEarlier : ℕ × (List ℕ × ℕ) → ℕ × (List ℕ × ℕ) → Type 0
-IsEarlier (i, (cs, p)) (j, (ds, q)) = (i < j) ⊎ ((i ≡ j) × (IsBefore cs ds ⊎ ((cs ≡ ds) × (p < q))))
+abbrev pub IsEarlierChoice : ℕ × (List ℕ × ℕ) → ℕ × (List ℕ × ℕ) → Type 0
+IsEarlierChoice (i, (cs, p)) (j, (ds, q)) = (i < j) ⊎ ((i ≡ j) × (IsBefore cs ds ⊎ ((cs ≡ ds) × (p < q))))
 
 -- rule i with these states, whose left side reaches q, is the first whose right side is not kept
 pub record IsFirstOpen (sys : System) (a : Automaton) (i : ℕ) (cs : List ℕ) (q : ℕ) : Type 0 where
   pub rule : Rule
   pub is_rule : rule_at sys i ≡ Some rule
   pub choice : IsChoice a.states rule.left cs
-  pub reached : ReachBy (Has a) rule.left cs q
-  pub fails : IsRuleKept sys (Has a) rule cs q → ⊥
-  pub earlier : (j : ℕ) (r : Rule) (ds : List ℕ) (p : ℕ) → rule_at sys j ≡ Some r → IsChoice a.states r.left ds → ReachBy (Has a) r.left ds p
-      → IsEarlier (j, (ds, p)) (i, (cs, q)) → IsRuleKept sys (Has a) r ds p
+  pub reached : ReachBy (HasOver sys a) rule.left cs q
+  pub fails : IsRuleKept (HasOver sys a) rule cs q → ⊥
+  pub earlier : (j : ℕ) (r : Rule) (ds : List ℕ) (p : ℕ) → rule_at sys j ≡ Some r → IsChoice a.states r.left ds → ReachBy (HasOver sys a) r.left ds p
+      → IsEarlierChoice (j, (ds, p)) (i, (cs, q)) → IsRuleKept (HasOver sys a) r ds p
 
 -- there are more than 1,000,000 choices for the term's variable occurrences
 abbrev pub IsWide : Automaton → Term → Type 0
-IsWide a t = 1000000 < a.states ^ length (leaves t)
+IsWide a t = 1000000 < a.states ^ length (variable_occurrences t)
 
 -- no left side is wide, and rule i is the first whose left side is
 abbrev pub AreNarrow : System → Automaton → Type 0
@@ -72,10 +71,10 @@ pub record IsFirstWide (sys : System) (a : Automaton) (i : ℕ) : Type 0 where
   pub earlier : (j : ℕ) (r : Rule) → j < i → rule_at sys j ≡ Some r → IsWide a r.left → ⊥
 
 -- state 0 accepts all: it has f(0, .., 0) 0 for each symbol, and | 0
-pub record AcceptsAll (sys : System) (a : Automaton) : Type 0 where
-  pub symbols : (f n : ℕ) → slice_get sys.arities f ≡ Some n → Has a (Some f) (replicate n 0) 0
-  pub variables : Has a None [] 0
+pub record AcceptsAll (sys : System) (M : Moves) : Type 0 where
+  pub symbols : (f n : ℕ) → slice_get sys.arities f ≡ Some n → M (Some f) (replicate n 0) 0
+  pub variables : M None [] 0
 
 -- no choice of states for its variable occurrences brings the term to an accepting state
-abbrev pub Excludes : Automaton → Term → Type 0
-Excludes a t = (cs : List ℕ) (q : ℕ) → IsChoice a.states t cs → IsAccepting a q → ReachBy (Has a) t cs q → ⊥
+abbrev pub Excludes : Symbols → Automaton → Term → Type 0
+Excludes symbols a t = (cs : List ℕ) (q : ℕ) → IsChoice a.states t cs → IsAccepting a q → ReachBy (Has symbols a) t cs q → ⊥

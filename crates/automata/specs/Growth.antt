@@ -1,12 +1,13 @@
 -- The least automaton that accepts a term and is closed under the rules of a system: states stand for the subterms of the
 -- term and of the right sides (after Genet 1998).
-use Rattle.std.specs.Prelude.{ℕ, zero, suc, ◌≡◌, ◌⊎◌, ◌+◌, ◌<◌, ◌^◌, List, [], ◌∷◌, ◌++◌, Option, None, Some, Contains, length, replicate, slice_get}
+use Rattle.std.specs.Prelude.{ℕ, zero, suc, ◌≡◌, ◌⊎◌, ◌+◌, ◌<◌, ◌^◌, List, [], ◌∷◌, ◌++◌, Option, None, Some, All, Contains, length, replicate, slice_get}
+use Rattle.rewriting.specs.Lists.{IsSorted}
 use Rattle.rewriting.specs.Terms.{Term, var, app, Terms, nil, cons}
 use Rattle.rewriting.specs.Positions.{IsBefore}
 use Rattle.rewriting.specs.Rules.{Rule, System, rule_at}
-use Rattle.ctrs_classes.specs.Blames.{leaves}
+use Rattle.rewriting.specs.Variables.{variable_occurrences}
 use Rattle.certificates.specs.Evidence.{Transition, Automaton}
-use Rattle.automata.specs.Runs.{Moves, ReachBy}
+use Rattle.automata.specs.Runs.{Moves, IsHead, ReachBy}
 use Rattle.automata.specs.Closed.{IsChoice, state_of}
 
 -- the number of subterms that are no variables
@@ -63,6 +64,12 @@ first_state sys s n = suc (inner s + proper_before n sys.rules)
 abbrev pub state_count : System → Term → ℕ
 state_count sys s = first_state sys s (length sys.rules)
 
+-- the numbers of the transition are states, and one for variables has no arguments
+pub record HasStates (states : ℕ) (d : Transition) : Type 0 where
+  pub head : IsHead None d.symbol d.arguments
+  pub arguments : All (λ q. q < states) d.arguments
+  pub target : d.target < states
+
 -- a finite set of transitions as a relation
 abbrev pub moves : List Transition → Moves
 moves ds symbol qs q = Contains ds (record { symbol = symbol; arguments = qs; target = q })
@@ -76,10 +83,10 @@ pub record IsGrown (sys : System) (s : Term) (ds : List Transition) : Type 0 whe
   pub start : (d : Transition) → Contains (inside (λ x. 0) 1 s) d → Contains ds d
   -- where a left side reaches q, so does the right side
   pub right : (i : ℕ) (r : Rule) (cs : List ℕ) (q : ℕ) (d : Transition) → rule_at sys (suc i) ≡ Some r → IsChoice (state_count sys s) r.left cs
-      → ReachBy (moves ds) r.left cs q → Contains (grown (state_of (leaves r.left) cs) (first_state sys s i) r.right q) d → Contains ds d
+      → ReachBy (moves ds) r.left cs q → Contains (grown (state_of (variable_occurrences r.left) cs) (first_state sys s i) r.right q) d → Contains ds d
   -- where the right side is a variable, each transition to its state has its twin to q
   pub twins : (i : ℕ) (r : Rule) (cs : List ℕ) (q x : ℕ) (symbol : Option ℕ) (qs : List ℕ) → rule_at sys (suc i) ≡ Some r → r.right ≡ var x
-      → IsChoice (state_count sys s) r.left cs → ReachBy (moves ds) r.left cs q → moves ds symbol qs (state_of (leaves r.left) cs x) → moves ds symbol qs q
+      → IsChoice (state_count sys s) r.left cs → ReachBy (moves ds) r.left cs q → moves ds symbol qs (state_of (variable_occurrences r.left) cs x) → moves ds symbol qs q
 
 -- the transition is in each such set: in the least of them
 abbrev pub IsAsked : System → Term → Transition → Type 0
@@ -96,19 +103,11 @@ IsTransitionBefore c d =
     IsHeadBefore c.symbol d.symbol
     ⊎ ((c.symbol ≡ d.symbol) × (IsBefore c.arguments d.arguments ⊎ ((c.arguments ≡ d.arguments) × (c.target < d.target))))
 
-abbrev pub IsBeforeAll : Transition → List Transition → Type 0
-IsBeforeAll c [] = Unit {0}
-IsBeforeAll c (d ∷ ds) = IsTransitionBefore c d × IsBeforeAll c ds
-
-abbrev pub AreInOrder : List Transition → Type 0
-AreInOrder [] = Unit {0}
-AreInOrder (d ∷ ds) = IsBeforeAll d ds × AreInOrder ds
-
 -- the list has exactly the transitions of the least set, in order
 pub record AreLeast (sys : System) (s : Term) (ds : List Transition) : Type 0 where
   pub grown_set : IsGrown sys s ds
   pub least : (d : Transition) → Contains ds d → IsAsked sys s d
-  pub sorted : AreInOrder ds
+  pub sorted : IsSorted IsTransitionBefore ds
 
 -- the automaton that grows from s
 pub record IsGrowthOf (sys : System) (s : Term) (a : Automaton) : Type 0 where
@@ -122,7 +121,7 @@ AreStatesMany sys s = 64 < state_count sys s
 
 -- there are more than 100,000 choices for the rule's left side
 abbrev pub IsTooWide : System → Term → Rule → Type 0
-IsTooWide sys s r = 100000 < state_count sys s ^ length (leaves r.left)
+IsTooWide sys s r = 100000 < state_count sys s ^ length (variable_occurrences r.left)
 
 -- rule i is the first such rule
 pub record IsFirstTooWide (sys : System) (s : Term) (i : ℕ) : Type 0 where
@@ -136,4 +135,4 @@ pub record AreTransitionsMany (sys : System) (s : Term) : Type 0 where
   pub some : List Transition
   pub many : 5000 < length some
   pub asked : (d : Transition) → Contains some d → IsAsked sys s d
-  pub different : AreInOrder some
+  pub different : IsSorted IsTransitionBefore some

@@ -1,6 +1,7 @@
 -- Tree automata: which states a term reaches (after Comon and others, Tree Automata Techniques and Applications, chapter 1).
-use Rattle.std.specs.Prelude.{ℕ, ◌≡◌, ◌<◌, List, [], ◌∷◌, ◌++◌, Option, None, Some, All, Contains}
+use Rattle.std.specs.Prelude.{ℕ, ◌≡◌, ◌<◌, List, [], ◌∷◌, ◌++◌, Option, None, Some, All, Contains, length, slice_get}
 use Rattle.rewriting.specs.Terms.{Term, var, app, Terms, nil, cons}
+use Rattle.rewriting.specs.Signatures.{Signature}
 use Rattle.certificates.specs.Evidence.{Automaton}
 
 -- transitions as a relation: under a symbol, or for a variable, the states of the arguments, and the state that they lead to
@@ -11,15 +12,23 @@ Moves = Option ℕ → List ℕ → ℕ → Type 0
 abbrev pub IsState : Automaton → ℕ → Type 0
 IsState a q = q < a.states
 
--- a transition for a variable has no arguments
-abbrev pub IsPlain : Option ℕ → List ℕ → Type 0
-IsPlain None qs = qs ≡ []
-IsPlain (Some f) qs = Unit {0}
+-- the symbols of transitions: those of a signature with their arities, or, where none is at hand, any with any number of arguments
+abbrev pub Symbols : Type 0
+Symbols = Option Signature
 
--- the automaton has the transition; one with a number that is no state, or for a variable but with arguments, counts as absent
-pub record Has (a : Automaton) (symbol : Option ℕ) (qs : List ℕ) (q : ℕ) : Type 0 where
+abbrev pub HasArity : Symbols → ℕ → ℕ → Type 0
+HasArity None f n = Unit {0}
+HasArity (Some arities) f n = slice_get arities f ≡ Some n
+
+-- the head of a transition: a symbol with its arguments, or none and no arguments, for a variable
+abbrev pub IsHead : Symbols → Option ℕ → List ℕ → Type 0
+IsHead symbols None qs = qs ≡ []
+IsHead symbols (Some f) qs = HasArity symbols f (length qs)
+
+-- the automaton has the transition; one with another head, or with a number that is no state, counts as absent
+pub record Has (symbols : Symbols) (a : Automaton) (symbol : Option ℕ) (qs : List ℕ) (q : ℕ) : Type 0 where
   pub listed : Contains a.transitions (record { symbol = symbol; arguments = qs; target = q })
-  pub plain : IsPlain symbol qs
+  pub head : IsHead symbols symbol qs
   pub arguments : All (IsState a) qs
   pub target : IsState a q
 
@@ -39,12 +48,12 @@ abbrev pub at : (ℕ → ℕ) → ℕ → ℕ → Type 0
 at e x q = q ≡ e x
 
 -- a term as it stands reaches q: a variable does so by the automaton's transitions for variables
-abbrev pub Runs : Automaton → Term → ℕ → Type 0
-Runs a t q = Reach (Has a) (λ x p. Has a None [] p) t q
+abbrev pub Runs : Symbols → Automaton → Term → ℕ → Type 0
+Runs symbols a t q = Reach (Has symbols a) (λ x p. Has symbols a None [] p) t q
 
 -- all variables have the state 0, and no other
-abbrev pub RunsFrom0 : Automaton → Term → ℕ → Type 0
-RunsFrom0 a t q = IsState a q × Reach (Has a) (at (λ x. 0)) t q
+abbrev pub RunsFrom0 : Symbols → Automaton → Term → ℕ → Type 0
+RunsFrom0 symbols a t q = IsState a q × Reach (Has symbols a) (at (λ x. 0)) t q
 
 -- each variable occurrence, from left to right, has a state of its own: the term reaches q with these states
 abbrev mutual

@@ -49,7 +49,7 @@ fn f(alloc: Global, first: Term, second: Term) -> Result<Term, AllocError> {
 
 fn found(rt: &impl Abort, alloc: Global, t: &Term) -> Result<Vec<Arrival>, Fail> {
     let automaton = automaton(alloc, 2, TWO_STATES)?;
-    let index = AutomatonIndex::new(alloc, &automaton)?;
+    let index = AutomatonIndex::new(alloc, None, &automaton)?;
     let names = occurrences(alloc, t)?;
     assert!(rt; fits(t));
     assert!(rt; !has_more_choices(index.states(), names.len(), 1_000_000));
@@ -122,7 +122,7 @@ fn are_rows(alloc: Global, found: &NumberRelation, wanted: Rows<'_>) -> Result<b
 
 fn reaches(rt: &impl Abort, alloc: Global, t: &Term, wanted: Rows<'_>) -> Result<bool, Fail> {
     let automaton = automaton(alloc, 3, THREE_STATES)?;
-    let index = AutomatonIndex::new(alloc, &automaton)?;
+    let index = AutomatonIndex::new(alloc, None, &automaton)?;
     let length = occurrences(alloc, t)?.len();
     assert!(rt; fits(t));
     assert!(rt; !has_more_choices(3, length, 1_000_000));
@@ -164,7 +164,7 @@ fn states_have_the_choices_that_lead_to_them(rt: HostRuntime) -> Result<(), Fail
 fn a_variable_has_the_state_of_its_first_name(rt: HostRuntime) -> Result<(), Fail> {
     let alloc = rt.alloc();
     let automaton = automaton(alloc, 3, THREE_STATES)?;
-    let index = AutomatonIndex::new(alloc, &automaton)?;
+    let index = AutomatonIndex::new(alloc, None, &automaton)?;
     let batch = Batch::new(alloc, 3, 2, 0)?;
     let t = h(alloc, Term::Var(5), Term::Var(5))?;
     let found = reached(alloc, &index, &batch, &[5, 5], &t)?;
@@ -200,7 +200,7 @@ const LATE: &[Move<'static>] = &[(Some(1), &[69, 40], 1)];
 
 fn has_batches(rt: &impl Abort, alloc: Global, t: &Term, wanted: &[u32]) -> Result<bool, Fail> {
     let automaton = automaton(alloc, 70, LATE)?;
-    let index = AutomatonIndex::new(alloc, &automaton)?;
+    let index = AutomatonIndex::new(alloc, None, &automaton)?;
     let length = occurrences(alloc, t)?.len();
     assert!(rt; fits(t));
     assert!(rt; !has_more_choices(index.states(), length, 1_000_000));
@@ -224,7 +224,7 @@ fn batches_without_arrivals_are_passed_over(rt: HostRuntime) -> Result<(), Fail>
 fn only_listed_transitions_that_count_are_had(rt: HostRuntime) -> Result<(), Fail> {
     let alloc = rt.alloc();
     let automaton = automaton(alloc, 2, TWO_STATES)?;
-    let index = AutomatonIndex::new(alloc, &automaton)?;
+    let index = AutomatonIndex::new(alloc, None, &automaton)?;
     assert!(rt; index.has(Some(0), &[0, 1], 1));
     assert!(rt; index.has(None, &[], 0));
     assert!(rt; !index.has(Some(0), &[0, 1], 0));

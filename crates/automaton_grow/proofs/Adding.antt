@@ -5,8 +5,10 @@ use Rattle.std.specs.List.{insert}
 use Rattle.std.proofs.lemmas.List.{take-append-drop}
 use Rattle.std.proofs.lemmas.List.Edits.{length-insert}
 use Rattle.std.proofs.lemmas.List.Elements.{Contains-append_left, Contains-append_right, Contains-append_cases}
+use Rattle.rewriting.specs.Lists.{IsSorted}
 use Rattle.certificates.specs.Evidence.{Transition}
-use Rattle.automata.specs.Growth.{AreInOrder}
+use Rattle.automata.specs.Growth.{IsTransitionBefore}
+use Rattle.automata.proofs.Asked.{contains_head, contains_tail}
 use Rattle.automaton_grow.specs.Growing.{IsPartOf, IsAdded, AddAnswers}
 use Rattle.automaton_grow.specs.Placing.{IsPlace}
 use Rattle.automaton_grow.specs.declared.GrowError.{GrowError}
@@ -14,12 +16,6 @@ use Rattle.automaton_grow.specs.declared.GrowError.TheVariants.{TooWide, TooMany
 use Rattle.automaton_grow.proofs.Order.{inserted_sorted}
 
 -- membership
-pub contains_head : {X : Type 0} (x : X) (xs : List X) → Contains (x ∷ xs) x
-contains_head x xs = (0, omega arith, refl)
-
-pub contains_tail : {X : Type 0} (y : X) (xs : List X) (x : X) → Contains xs x → Contains (y ∷ xs) x
-contains_tail y xs x h = Contains-append_right (y ∷ []) xs x h
-
 pub contains_cases : {X : Type 0} (y : X) (xs : List X) (x : X) → Contains (y ∷ xs) x → (x ≡ y) ⊎ Contains xs x
 contains_cases y xs x (zero, l, e) = inl (sym e)
 contains_cases y xs x (suc k, l, e) = inr (k, omega arith, e)
@@ -54,10 +50,10 @@ inserted_only k ds d x h = go (Contains-append_cases (take k ds) (d ∷ drop k d
     go (inl a) = inl (whole (Contains-append_left (take k ds) (drop k ds) x a))
     go (inr a) = behind (contains_cases d (drop k ds) x a)
 
-pub inserted_part : (k : ℕ) (ds : List Transition) (d : Transition) → AreInOrder ds → IsPlace ds d k → IsPartOf (λ x. x ≡ d) ds (insert ds k d)
+pub inserted_part : (k : ℕ) (ds : List Transition) (d : Transition) → IsSorted IsTransitionBefore ds → IsPlace ds d k → IsPartOf (λ x. x ≡ d) ds (insert ds k d)
 inserted_part k ds d sorted place = record { only = inserted_only k ds d; sorted = inserted_sorted d k ds sorted place.before place.behind }
 
-pub inserted : (k : ℕ) (ds : List Transition) (d : Transition) → AreInOrder ds → IsPlace ds d k → IsAdded (λ x. x ≡ d) ds (insert ds k d)
+pub inserted : (k : ℕ) (ds : List Transition) (d : Transition) → IsSorted IsTransitionBefore ds → IsPlace ds d k → IsAdded (λ x. x ≡ d) ds (insert ds k d)
 inserted k ds d sorted place =
     let longer : length (insert ds k d) ≡ length ds + 1 = length-insert ds k d place.within in
     record {
@@ -69,7 +65,7 @@ inserted k ds d sorted place =
     }
 
 -- a transition that stands there already
-pub standing : (k : ℕ) (ds : List Transition) (d : Transition) → AreInOrder ds → slice_get ds k ≡ Some d → IsAdded (λ x. x ≡ d) ds ds
+pub standing : (k : ℕ) (ds : List Transition) (d : Transition) → IsSorted IsTransitionBefore ds → slice_get ds k ≡ Some d → IsAdded (λ x. x ≡ d) ds ds
 standing k ds d sorted at = record {
   part = record { only = λ x h. inl h; sorted = sorted };
   kept = λ x h. h;
@@ -79,7 +75,7 @@ standing k ds d sorted at = record {
 }
 
 -- nothing is wanted
-pub added_nothing : (P : Transition → Type 0) (ds : List Transition) → AreInOrder ds → ((d : Transition) → P d → ⊥) → IsAdded P ds ds
+pub added_nothing : (P : Transition → Type 0) (ds : List Transition) → IsSorted IsTransitionBefore ds → ((d : Transition) → P d → ⊥) → IsAdded P ds ds
 added_nothing P ds sorted none = record {
   part = record { only = λ x h. inl h; sorted = sorted };
   kept = λ x h. h;
@@ -145,7 +141,7 @@ answers_after_error P Q R a b c e TooManyTransitions p q first (h, many) same =
 answers_after_error P Q R a b c e NoMemory p q first h same = tt
 
 -- what adding one answers
-module _ (before after : List Transition) (d : Transition) (sorted : AreInOrder before) (few : length before ≤ 5000) where
+module _ (before after : List Transition) (d : Transition) (sorted : IsSorted IsTransitionBefore before) (few : length before ≤ 5000) where
   pub add_found : (k : ℕ) → slice_get before k ≡ Some d → IsAdded (λ x. x ≡ d) before before × (length before ≤ 5000)
   add_found k at = (standing k before d sorted at, few)
 

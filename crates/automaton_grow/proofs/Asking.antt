@@ -3,31 +3,21 @@ use Rattle.std.proofs.Common.{◌≡◌, ℕ, zero, suc, ◌<◌, ◌≤◌, ◌
 use Rattle.std.specs.Prelude.{Contains, slice_get}
 use Rattle.rewriting.specs.Terms.{Term, var, app, Terms, nil, cons}
 use Rattle.rewriting.specs.Rules.{Rule, System}
-use Rattle.ctrs_classes.specs.Blames.{leaves}
+use Rattle.rewriting.specs.Variables.{variable_occurrences}
 use Rattle.certificates.specs.Evidence.{Transition}
-use Rattle.automata.specs.Runs.{Moves, Has, ReachBy, ReachAllBy}
+use Rattle.automata.specs.Runs.{Has, ReachBy}
 use Rattle.automata.specs.Closed.{state_of}
-use Rattle.automata.specs.Growth.{grown, first_state, state_count, moves, IsGrown, IsAsked, AreLeast, AreTransitionsMany}
-use Rattle.automaton_grow.specs.Growing.{HasStates, IsBasic, for_symbol, for_variables, for_term, twins_of, IsAskedByRule, IsAskedBelow, IsPartOf, IsAdded, IsPartial}
+use Rattle.automata.proofs.Asked.{by-mono}
+use Rattle.automata.specs.Growth.{grown, first_state, state_count, moves, IsGrown, IsAsked, AreLeast, AreTransitionsMany, HasStates}
+use Rattle.automaton_grow.specs.Growing.{IsBasic, for_symbol, for_variables, for_term, twins_of, IsAskedByRule, IsAskedBelow, IsPartOf, IsAdded, IsPartial}
 use Rattle.automaton_grow.proofs.Adding.{contains_none}
 use Rattle.automaton_grow.proofs.States.{twin_from, twin_in, basic_states, rule_states, room_at}
 
--- more transitions reach no less
-mutual
-  pub reach_more : (M N : Moves) → ((f : Option ℕ) (qs : List ℕ) (q : ℕ) → M f qs q → N f qs q) → (t : Term) (cs : List ℕ) (q : ℕ) → ReachBy M t cs q → ReachBy N t cs q
-  reach_more M N more (var x) cs q h = h
-  reach_more M N more (app f ts) cs q (qs, m, h) = (qs, more (Some f) qs q m, reach_all_more M N more ts cs qs h)
-
-  reach_all_more : (M N : Moves) → ((f : Option ℕ) (qs : List ℕ) (q : ℕ) → M f qs q → N f qs q) → (ts : Terms) (cs qs : List ℕ) → ReachAllBy M ts cs qs → ReachAllBy N ts cs qs
-  reach_all_more M N more nil cs qs h = h
-  reach_all_more M N more (cons t ts) cs [] h = absurd h
-  reach_all_more M N more (cons t ts) cs (q ∷ qs) (before, after, e, h, k) = (before, after, e, reach_more M N more t before q h, reach_all_more M N more ts after qs k)
-
 -- an automaton with these transitions has them all, and no more
 pub moves_had : (n : ℕ) (accepting : List ℕ) (ds : List Transition) → ((d : Transition) → Contains ds d → HasStates n d) → (f : Option ℕ) (qs : List ℕ) (q : ℕ) → moves ds f qs q
-    → Has (record { states = n; accepting = accepting; transitions = ds }) f qs q
+    → Has None (record { states = n; accepting = accepting; transitions = ds }) f qs q
 moves_had n accepting ds good f qs q h =
-    let g = good (record { symbol = f; arguments = qs; target = q }) h in record { listed = h; plain = g.plain; arguments = g.arguments; target = g.target }
+    let g = good (record { symbol = f; arguments = qs; target = q }) h in record { listed = h; head = g.head; arguments = g.arguments; target = g.target }
 
 pub basic_asked : (sys : System) (s : Term) (d : Transition) → IsBasic sys s d → IsAsked sys s d
 basic_asked sys s d (for_symbol f n arity same) ds g = subst (Contains ds) (sym same) (g.symbols f n arity)
@@ -40,10 +30,10 @@ rule_asked : (sys : System) (s : Term) (i : ℕ) (r : Rule) (ds : List Transitio
 rule_asked sys s i r ds d is_rule all a es g = go a.asked
   where
     e : ℕ → ℕ
-    e = state_of (leaves r.left) a.choice
+    e = state_of (variable_occurrences r.left) a.choice
 
     reached : ReachBy (moves es) r.left a.choice a.state
-    reached = reach_more (moves ds) (moves es) (λ f qs q m. all (record { symbol = f; arguments = qs; target = q }) m es g) r.left a.choice a.state a.reached
+    reached = by-mono (moves ds) (moves es) (λ f qs q m. all (record { symbol = f; arguments = qs; target = q }) m es g) r.left a.choice a.state a.reached
 
     twin : (t : Term) → r.right ≡ t → Contains (twins_of e t a.state ds) d → Contains es d
     twin (app f ts) same h = absurd (contains_none d h)
@@ -127,12 +117,12 @@ least_when_closed sys s ds part closed = record { grown_set = grown_set; least =
       start = λ d h. part.basic d (for_term h);
       right = λ i r cs q d is_rule choice reached h. at i r d is_rule (record { choice = cs; state = q; is_choice = choice; reached = reached; asked = inl h });
       twins = λ i r cs q x symbol qs is_rule var_right choice reached h.
-          let c : Transition = record { symbol = symbol; arguments = qs; target = state_of (leaves r.left) cs x } in
+          let c : Transition = record { symbol = symbol; arguments = qs; target = state_of (variable_occurrences r.left) cs x } in
           at i r (record { symbol = symbol; arguments = qs; target = q }) is_rule (record {
             choice = cs;
             state = q;
             is_choice = choice;
             reached = reached;
-            asked = inr (subst (λ t. Contains (twins_of (state_of (leaves r.left) cs) t q ds) (record { symbol = symbol; arguments = qs; target = q })) (sym var_right) (twin_in (state_of (leaves r.left) cs x) q ds c h refl));
+            asked = inr (subst (λ t. Contains (twins_of (state_of (variable_occurrences r.left) cs) t q ds) (record { symbol = symbol; arguments = qs; target = q })) (sym var_right) (twin_in (state_of (variable_occurrences r.left) cs x) q ds c h refl));
           });
     }

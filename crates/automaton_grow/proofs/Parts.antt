@@ -7,22 +7,25 @@ use Rattle.rewriting.specs.Terms as terms
 use Rattle.rewriting.specs.Terms.{var, app}
 use Rattle.rewriting.specs.Rules as math
 use Rattle.rewriting.specs.Signatures.{Signature}
-use Rattle.ctrs_classes.specs.Blames.{leaves}
+use Rattle.rewriting.specs.Variables.{variable_occurrences}
 use Rattle.certificates.specs.Evidence as evidence
 use Rattle.certificates.specs.Evidence.{Automaton}
 use Rattle.cert_model.specs.declared.evidence.Transition.{Transition}
 use Rattle.cert_model.specs.EvidenceView.{transition_view}
 use Rattle.automata.specs.Runs.{Has}
+use Rattle.automata.proofs.Asked.{by-mono, contains_head}
+use Rattle.automaton_runs.specs.Counted.{under_all}
 use Rattle.automata.specs.Closed.{state_of}
-use Rattle.automata.specs.Growth.{grown, inside, moves, first_state, state_count, AreInOrder, AreLeast}
+use Rattle.rewriting.specs.Lists.{IsSorted}
+use Rattle.automata.specs.Growth.{grown, inside, moves, first_state, state_count, AreLeast, IsTransitionBefore}
 use Rattle.automaton_runs.specs.Arrivals.{arrival_view, AreArrivals}
 use Rattle.automaton_runs.specs.declared.runs.Arrival.{Arrival}
 use Rattle.automaton_grow.specs.Growing.{twins, twins_of, IsAskedAt, IsAskedByRule, IsAskedBelow, IsBasic, for_symbol, for_variables, for_term, IsAdded, AddAnswers, AreAllStates, IsPartial}
 use Rattle.automaton_grow.specs.Rounds.{IsForSymbol, IsBasicOf, IsAskedByRows, PartialAnswers, RoundAnswers}
 use Rattle.automaton_grow.specs.declared.GrowError.{GrowError}
 use Rattle.automaton_grow.specs.declared.GrowError.TheVariants.{TooWide, TooManyStates, TooManyTransitions, NoMemory}
-use Rattle.automaton_grow.proofs.Adding.{contains_head, contains_none, contains_cases, added_after, added_nothing, answers_renamed, answers_after_error}
-use Rattle.automaton_grow.proofs.Asking.{reach_more, moves_had, first_many, next_many, next_partial, least_when_closed}
+use Rattle.automaton_grow.proofs.Adding.{contains_none, contains_cases, added_after, added_nothing, answers_renamed, answers_after_error}
+use Rattle.automaton_grow.proofs.Asking.{moves_had, first_many, next_many, next_partial, least_when_closed}
 use Rattle.automaton_grow.proofs.States.{twin_in, twin_from}
 use Rattle.automaton_grow.proofs.Walks.{append_nil}
 
@@ -65,7 +68,7 @@ pub answers_error : (P Q R : evidence.Transition → Type 0) (a b c : List evide
     → AddAnswers Q b c (Err why) → AddAnswers R a c (Err why)
 answers_error P Q R a b c why p q h k = answers_after_error P Q R a b c c why p q h.0 k refl
 
-answers_first : (P : evidence.Transition → Type 0) (a : List evidence.Transition) → AreInOrder a → length a ≤ 5000 → ((d : evidence.Transition) → P d → ⊥) → IsAdded P a a × (length a ≤ 5000)
+answers_first : (P : evidence.Transition → Type 0) (a : List evidence.Transition) → IsSorted IsTransitionBefore a → length a ≤ 5000 → ((d : evidence.Transition) → P d → ⊥) → IsAdded P a a × (length a ≤ 5000)
 answers_first P a sorted few none = (added_nothing P a sorted none, few)
 
 -- the members of a list, one by one
@@ -204,20 +207,20 @@ basic_to sys s ds d e (for_term h) = inr (inr (subst (λ z. Contains z d) (sym e
 
 -- the two kinds of right sides
 module _ (r : math.Rule) (n : ℕ) (ds : List evidence.Transition) (cs : List ℕ) (q : ℕ) where
-  pub asked_var : (x : ℕ) (a b : List evidence.Transition) (o : Result (Unit {0}) GrowError) → r.right ≡ var x → AddAnswers (Contains (twins (state_of (leaves r.left) cs x) q ds)) a b o → AddAnswers (IsAskedAt n r ds cs q) a b o
-  asked_var x a b o is = answers_renamed (Contains (twins (state_of (leaves r.left) cs x) q ds)) (IsAskedAt n r ds cs q) a b o
-      (λ d h. inr (subst (λ t. Contains (twins_of (state_of (leaves r.left) cs) t q ds) d) (sym is) h)) (λ d h. go d h)
+  pub asked_var : (x : ℕ) (a b : List evidence.Transition) (o : Result (Unit {0}) GrowError) → r.right ≡ var x → AddAnswers (Contains (twins (state_of (variable_occurrences r.left) cs x) q ds)) a b o → AddAnswers (IsAskedAt n r ds cs q) a b o
+  asked_var x a b o is = answers_renamed (Contains (twins (state_of (variable_occurrences r.left) cs x) q ds)) (IsAskedAt n r ds cs q) a b o
+      (λ d h. inr (subst (λ t. Contains (twins_of (state_of (variable_occurrences r.left) cs) t q ds) d) (sym is) h)) (λ d h. go d h)
     where
-      go : (d : evidence.Transition) → IsAskedAt n r ds cs q d → Contains (twins (state_of (leaves r.left) cs x) q ds) d
-      go d (inl h) = absurd (contains_none d (subst (λ t. Contains (grown (state_of (leaves r.left) cs) n t q) d) is h))
-      go d (inr h) = subst (λ t. Contains (twins_of (state_of (leaves r.left) cs) t q ds) d) is h
+      go : (d : evidence.Transition) → IsAskedAt n r ds cs q d → Contains (twins (state_of (variable_occurrences r.left) cs x) q ds) d
+      go d (inl h) = absurd (contains_none d (subst (λ t. Contains (grown (state_of (variable_occurrences r.left) cs) n t q) d) is h))
+      go d (inr h) = subst (λ t. Contains (twins_of (state_of (variable_occurrences r.left) cs) t q ds) d) is h
 
-  pub asked_app : (f : ℕ) (ts : terms.Terms) (some a b : List evidence.Transition) (o : Result (Unit {0}) GrowError) → r.right ≡ app f ts → some ≡ grown (state_of (leaves r.left) cs) n r.right q → AddAnswers (Contains some) a b o → AddAnswers (IsAskedAt n r ds cs q) a b o
+  pub asked_app : (f : ℕ) (ts : terms.Terms) (some a b : List evidence.Transition) (o : Result (Unit {0}) GrowError) → r.right ≡ app f ts → some ≡ grown (state_of (variable_occurrences r.left) cs) n r.right q → AddAnswers (Contains some) a b o → AddAnswers (IsAskedAt n r ds cs q) a b o
   asked_app f ts some a b o is e = answers_renamed (Contains some) (IsAskedAt n r ds cs q) a b o (λ d h. inl (subst (λ z. Contains z d) e h)) (λ d h. go d h)
     where
       go : (d : evidence.Transition) → IsAskedAt n r ds cs q d → Contains some d
       go d (inl h) = subst (λ z. Contains z d) (sym e) h
-      go d (inr h) = absurd (contains_none d (subst (λ t. Contains (twins_of (state_of (leaves r.left) cs) t q ds) d) is h))
+      go d (inr h) = absurd (contains_none d (subst (λ t. Contains (twins_of (state_of (variable_occurrences r.left) cs) t q ds) d) is h))
 
 -- arrivals, one by one
 module _ (n : ℕ) (r : math.Rule) (ds : List evidence.Transition) (rows : List Arrival) where
@@ -251,21 +254,21 @@ module _ (n : ℕ) (r : math.Rule) (ds : List evidence.Transition) (rows : List 
         (λ d x. record { choice = row.choice.items; state = row.state; row = stands arrival_view rows i row h at; asked = x })
 
 -- the rows are what the left side reaches
-pub rows_rule : (a : Automaton) (n : ℕ) (r : math.Rule) (rows : List (List ℕ × ℕ)) (before after : List evidence.Transition) (o : Result (Unit {0}) GrowError) → AreAllStates a → AreArrivals a r.left rows
+pub rows_rule : (a : Automaton) (n : ℕ) (r : math.Rule) (rows : List (List ℕ × ℕ)) (before after : List evidence.Transition) (o : Result (Unit {0}) GrowError) → AreAllStates a → AreArrivals (under_all a) r.left rows
     → AddAnswers (IsAskedByRows n r a.transitions rows) before after o → AddAnswers (IsAskedByRule a.states n r a.transitions) before after o
 rows_rule a n r rows before after o good arrive = answers_renamed (IsAskedByRows n r a.transitions rows) (IsAskedByRule a.states n r a.transitions) before after o to from
   where
     to : (d : evidence.Transition) → IsAskedByRows n r a.transitions rows d → IsAskedByRule a.states n r a.transitions d
     to d k =
         let h = arrive.each k.choice k.state k.row in
-        record { choice = k.choice; state = k.state; is_choice = h.0; reached = reach_more (Has a) (moves a.transitions) (λ f qs q m. m.listed) r.left k.choice k.state h.1; asked = k.asked }
+        record { choice = k.choice; state = k.state; is_choice = h.0; reached = by-mono (Has None a) (moves a.transitions) (λ f qs q m. m.listed) r.left k.choice k.state h.1; asked = k.asked }
 
     from : (d : evidence.Transition) → IsAskedByRule a.states n r a.transitions d → IsAskedByRows n r a.transitions rows d
     from d k =
         record {
           choice = k.choice;
           state = k.state;
-          row = arrive.complete k.choice k.state k.is_choice (reach_more (moves a.transitions) (Has a) (λ f qs q m. moves_had a.states a.accepting a.transitions good f qs q m) r.left k.choice k.state k.reached);
+          row = arrive.complete k.choice k.state k.is_choice (by-mono (moves a.transitions) (Has None a) (λ f qs q m. moves_had a.states a.accepting a.transitions good f qs q m) r.left k.choice k.state k.reached);
           asked = k.asked;
         }
 
@@ -306,7 +309,7 @@ module _ (sys : math.System) (s : terms.Term) (ds : List evidence.Transition) (i
 pub rules_end : (sys : math.System) (s : terms.Term) (ds : List evidence.Transition) (i : ℕ) (a b : List evidence.Transition) → i ≡ length sys.rules → IsAdded (IsAskedBelow sys s i ds) a b × (length b ≤ 5000) → IsAdded (IsAskedBelow sys s (length sys.rules) ds) a b × (length b ≤ 5000)
 rules_end sys s ds i a b e k = subst (λ z. IsAdded (IsAskedBelow sys s z ds) a b × (length b ≤ 5000)) e k
 
-pub rules_begin : (sys : math.System) (s : terms.Term) (ds a : List evidence.Transition) → AreInOrder a → length a ≤ 5000 → IsAdded (IsAskedBelow sys s 0 ds) a a × (length a ≤ 5000)
+pub rules_begin : (sys : math.System) (s : terms.Term) (ds a : List evidence.Transition) → IsSorted IsTransitionBefore a → length a ≤ 5000 → IsAdded (IsAskedBelow sys s 0 ds) a a × (length a ≤ 5000)
 rules_begin sys s ds a sorted few = answers_first (IsAskedBelow sys s 0 ds) a sorted few (λ d x. let b = x.below in omega arith)
 
 -- the second part may fail

@@ -7,7 +7,7 @@ use Rattle.rewriting.specs.Signatures.{Signature}
 use Rattle.rewriting.specs.Rules as math
 use Rattle.rewriting.specs.Rules.{rule_at}
 use Rattle.rewriting.specs.Systems.{AreRules, IsSystem, condition_count}
-use Rattle.ctrs_classes.specs.Blames.{leaves}
+use Rattle.rewriting.specs.Variables.{variable_occurrences}
 use Rattle.automata.specs.Growth.{inner, proper, first_state, state_count}
 use Rattle.term_core.specs.RuleView.{rule_view}
 use Rattle.term_core.specs.declared.systems.Rule.{Rule}
@@ -106,8 +106,8 @@ index_within [] i x e = absurd (cc)
 index_within (y ∷ xs) zero x e = omega arith
 index_within (y ∷ xs) (suc i) x e = let rest = index_within xs i x e in omega arith
 
-pub narrow_at : (n : ℕ) (rs : List math.Rule) (i : ℕ) (r : math.Rule) → AreNarrowBelow n rs (length rs) → slice_get rs i ≡ Some r → n ^ length (leaves r.left) ≤ 100000
-narrow_at n rs i r narrow at = narrow_power n (length (leaves r.left)) (narrow i r (index_within rs i r at) at)
+pub narrow_at : (n : ℕ) (rs : List math.Rule) (i : ℕ) (r : math.Rule) → AreNarrowBelow n rs (length rs) → slice_get rs i ≡ Some r → n ^ length (variable_occurrences r.left) ≤ 100000
+narrow_at n rs i r narrow at = narrow_power n (length (variable_occurrences r.left)) (narrow i r (index_within rs i r at) at)
 
 -- numbers that fit
 pub symbols_few : (sys : math.System) → IsSystem sys → length sys.arities < 2 ^ 31

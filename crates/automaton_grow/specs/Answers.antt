@@ -1,5 +1,5 @@
 -- What growing an automaton answers.
-use Rattle.std.specs.Prelude.{ℕ, ◌≡◌, Some, Result, Ok, Err}
+use Rattle.std.specs.Prelude.{ℕ, ◌≡◌, ◌≤◌, length, Some, Result, Ok, Err}
 use Rattle.rewriting.specs.Terms.{Term}
 use Rattle.rewriting.specs.Rules.{Rule, System, rule_at}
 use Rattle.automata.specs.Growth.{IsGrowthOf, AreStatesMany, IsTooWide, IsFirstTooWide, AreTransitionsMany}
@@ -12,9 +12,9 @@ use Rattle.automaton_grow.specs.declared.GrowError.TheVariants.{TooWide, TooMany
 abbrev pub AreSidesNarrow : System → Term → Type 0
 AreSidesNarrow sys s = (i : ℕ) (r : Rule) → rule_at sys i ≡ Some r → IsTooWide sys s r → ⊥
 
--- the automaton that grows from the term, or the first limit that it passes: states, then choices, then transitions
+-- the automaton that grows from the term, within all limits, or the first limit that it passes: states, then choices, then transitions
 abbrev pub GrowAnswers : System → Term → Result Automaton GrowError → Type 0
-GrowAnswers sys s (Ok a) = (AreStatesMany sys s → ⊥) × AreSidesNarrow sys s × IsGrowthOf sys s (automaton_view a)
+GrowAnswers sys s (Ok a) = (AreStatesMany sys s → ⊥) × AreSidesNarrow sys s × IsGrowthOf sys s (automaton_view a) × (length (automaton_view a).transitions ≤ 5000)
 GrowAnswers sys s (Err (TooWide rule)) = (AreStatesMany sys s → ⊥) × IsFirstTooWide sys s rule
 GrowAnswers sys s (Err TooManyStates) = AreStatesMany sys s
 GrowAnswers sys s (Err TooManyTransitions) = (AreStatesMany sys s → ⊥) × AreSidesNarrow sys s × AreTransitionsMany sys s

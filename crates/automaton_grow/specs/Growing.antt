@@ -1,12 +1,13 @@
 -- One round of growth: what a set of transitions asks for, and sets of transitions with what was added to them.
-use Rattle.std.specs.Prelude.{ℕ, ◌≡◌, ◌⊎◌, ◌<◌, ◌≤◌, nat_eq, if◌then◌else◌, List, [], ◌∷◌, None, Some, All, Contains, length, replicate, slice_get, Result, Ok, Err}
+use Rattle.std.specs.Prelude.{ℕ, ◌≡◌, ◌⊎◌, ◌<◌, ◌≤◌, nat_eq, if◌then◌else◌, List, [], ◌∷◌, None, Some, Contains, length, replicate, slice_get, Result, Ok, Err}
+use Rattle.rewriting.specs.Lists.{IsSorted}
 use Rattle.rewriting.specs.Terms.{Term, var, app}
 use Rattle.rewriting.specs.Rules.{Rule, System}
-use Rattle.ctrs_classes.specs.Blames.{leaves}
+use Rattle.rewriting.specs.Variables.{variable_occurrences}
 use Rattle.certificates.specs.Evidence.{Transition, Automaton}
-use Rattle.automata.specs.Runs.{ReachBy, IsPlain}
+use Rattle.automata.specs.Runs.{ReachBy}
 use Rattle.automata.specs.Closed.{IsChoice, state_of}
-use Rattle.automata.specs.Growth.{inside, grown, first_state, state_count, moves, IsAsked, AreInOrder}
+use Rattle.automata.specs.Growth.{inside, grown, first_state, state_count, HasStates, moves, IsAsked, IsTransitionBefore}
 use Rattle.automaton_grow.specs.declared.GrowError.{GrowError}
 use Rattle.automaton_grow.specs.declared.GrowError.TheVariants.{TooWide, TooManyStates, TooManyTransitions, NoMemory}
 
@@ -22,7 +23,7 @@ twins_of e (app f ts) q ds = []
 
 -- the transition is asked for by the transitions ds, where the left side reaches q with these states; the rule's first state is n
 abbrev pub IsAskedAt : ℕ → Rule → List Transition → List ℕ → ℕ → Transition → Type 0
-IsAskedAt n r ds cs q d = Contains (grown (state_of (leaves r.left) cs) n r.right q) d ⊎ Contains (twins_of (state_of (leaves r.left) cs) r.right q ds) d
+IsAskedAt n r ds cs q d = Contains (grown (state_of (variable_occurrences r.left) cs) n r.right q) d ⊎ Contains (twins_of (state_of (variable_occurrences r.left) cs) r.right q ds) d
 
 -- the rule asks for the transition, where there are so many states
 pub record IsAskedByRule (states n : ℕ) (r : Rule) (ds : List Transition) (d : Transition) : Type 0 where
@@ -49,7 +50,7 @@ pub data IsBasic (sys : System) (s : Term) (d : Transition) : Type 0 where
 -- the transitions after are in order, and each is one of those before or is wanted
 pub record IsPartOf (wanted : Transition → Type 0) (before after : List Transition) : Type 0 where
   pub only : (d : Transition) → Contains after d → Contains before d ⊎ wanted d
-  pub sorted : AreInOrder after
+  pub sorted : IsSorted IsTransitionBefore after
 
 -- what is wanted was added, and nothing else; where there are no more than before, nothing was
 pub record IsAdded (wanted : Transition → Type 0) (before after : List Transition) : Type 0 where
@@ -67,18 +68,12 @@ AddAnswers wanted before after (Err TooManyStates) = ⊥
 AddAnswers wanted before after (Err TooManyTransitions) = IsPartOf wanted before after × (5000 < length after)
 AddAnswers wanted before after (Err NoMemory) = Unit {0}
 
--- the numbers of the transition are states, and one for variables has no arguments
-pub record HasStates (states : ℕ) (d : Transition) : Type 0 where
-  pub plain : IsPlain d.symbol d.arguments
-  pub arguments : All (λ q. q < states) d.arguments
-  pub target : d.target < states
-
 -- transitions that are all asked for, in order and at most 5,000, with those that state 0 and the term ask for
 pub record IsPartial (sys : System) (s : Term) (ds : List Transition) : Type 0 where
   pub asked : (d : Transition) → Contains ds d → IsAsked sys s d
   pub states : (d : Transition) → Contains ds d → HasStates (state_count sys s) d
   pub basic : (d : Transition) → IsBasic sys s d → Contains ds d
-  pub sorted : AreInOrder ds
+  pub sorted : IsSorted IsTransitionBefore ds
   pub few : length ds ≤ 5000
 
 -- the automaton's transitions all count

@@ -2,7 +2,7 @@
 use Rattle.std.specs.Prelude.{ℕ, suc, ◌≡◌, ◌<◌, ◌≤◌, ◌^◌, List, [], ◌∷◌, length, slice_get, Option, None, Some, Result, Ok, Err}
 use Rattle.rewriting.specs.Terms.{Term, Fits}
 use Rattle.rewriting.specs.Rules.{Rule, System}
-use Rattle.ctrs_classes.specs.Blames.{leaves}
+use Rattle.rewriting.specs.Variables.{variable_occurrences}
 use Rattle.automata.specs.Growth.{proper_before, state_count, AreStatesMany}
 use Rattle.automaton_grow.specs.declared.GrowError.{GrowError}
 use Rattle.automaton_grow.specs.declared.GrowError.TheVariants.{TooWide, TooManyStates, TooManyTransitions, NoMemory}
@@ -28,7 +28,7 @@ StatesAnswer sys s None = AreStatesMany sys s
 
 -- there are more than 100,000 choices of so many states for the term
 abbrev pub IsWideFor : ℕ → Term → Type 0
-IsWideFor n t = 100000 < n ^ length (leaves t)
+IsWideFor n t = 100000 < n ^ length (variable_occurrences t)
 
 -- none of the first k rules has a wide left side
 abbrev pub AreNarrowBelow : ℕ → List Rule → ℕ → Type 0

@@ -3,7 +3,8 @@ use Rattle.std.specs.Prelude.{ℕ, ◌≡◌, ◌≤◌, Option, Some, List, [],
 use Rattle.std.specs.declared.cmp.Ordering.{Ordering}
 use Rattle.std.specs.declared.cmp.Ordering.TheVariants.{Less, Equal, Greater}
 use Rattle.certificates.specs.Evidence.{Transition}
-use Rattle.automata.specs.Growth.{IsHeadBefore, IsTransitionBefore, IsBeforeAll}
+use Rattle.rewriting.specs.Lists.{IsBeforeAll}
+use Rattle.automata.specs.Growth.{IsHeadBefore, IsTransitionBefore}
 
 -- which of two heads comes first
 abbrev pub HeadAnswers : Option ℕ → Option ℕ → Ordering → Type 0
@@ -26,7 +27,7 @@ AreBefore (c ∷ cs) d = IsTransitionBefore c d × AreBefore cs d
 pub record IsPlace (ds : List Transition) (d : Transition) (k : ℕ) : Type 0 where
   pub within : k ≤ length ds
   pub before : AreBefore (take k ds) d
-  pub behind : IsBeforeAll d (drop k ds)
+  pub behind : IsBeforeAll IsTransitionBefore d (drop k ds)
 
 -- where the transition stands, or else its place
 abbrev pub PlaceAnswers : List Transition → Transition → Result ℕ ℕ → Type 0

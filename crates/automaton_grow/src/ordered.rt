@@ -1,10 +1,11 @@
 // Transitions in order: where one stands, and adding one.
 ghost use Rattle.std.specs.Prelude.{◌≡◌, ◌≤◌, map, length, Contains, OnOk};
 ghost use Rattle.std.specs.List.{insert};
-ghost use Rattle.automata.specs.Growth.{AreInOrder};
+ghost use Rattle.rewriting.specs.Lists.{IsSorted};
 ghost use Rattle.cert_model.specs.EvidenceView.{transition_view};
 ghost use Rattle.automaton_grow.specs.Growing.{AddAnswers};
 ghost use Rattle.automaton_grow.specs.Placing.{HeadAnswers, CompareAnswers, PlaceAnswers, transition_of};
+ghost use Rattle.automata.specs.Growth.{IsTransitionBefore};
 
 use crate::GrowError;
 use cert_model::Transition;
@@ -48,7 +49,7 @@ fn place(
     args: &[u32],
     target: u32,
 ) -> Result<usize, usize>
-    requires { AreInOrder (map transition_view transitions.now) }
+    requires { IsSorted IsTransitionBefore (map transition_view transitions.now) }
     ensures { PlaceAnswers (map transition_view transitions.now) (transition_of symbol args.now target) result }
 {
     let mut low = 0;
@@ -93,7 +94,7 @@ pub fn add(
     target: u32,
     transitions: &mut Vec<Transition>,
 ) -> Result<(), GrowError>
-    requires sorted { AreInOrder (map transition_view transitions.old.items) }
+    requires sorted { IsSorted IsTransitionBefore (map transition_view transitions.old.items) }
     requires few { length (map transition_view transitions.old.items) ≤ 5000 }
     ensures { AddAnswers (λ d. d ≡ transition_of symbol args.now target) (map transition_view transitions.old.items) (map transition_view transitions.new.items) result }
 {
@@ -115,7 +116,7 @@ pub fn add_all(
     some: &[Transition],
     transitions: &mut Vec<Transition>,
 ) -> Result<(), GrowError>
-    requires sorted { AreInOrder (map transition_view transitions.old.items) }
+    requires sorted { IsSorted IsTransitionBefore (map transition_view transitions.old.items) }
     requires few { length (map transition_view transitions.old.items) ≤ 5000 }
     ensures { AddAnswers (Contains (map transition_view some.now)) (map transition_view transitions.old.items) (map transition_view transitions.new.items) result }
 {

@@ -2,11 +2,13 @@
 ghost use Rattle.std.specs.Prelude.{◌≡◌, ◌<◌, ◌≤◌, ◌+◌, ◌^◌, map, length, Contains};
 ghost use Rattle.rewriting.specs.Terms.{Fits, size};
 ghost use Rattle.rewriting.specs.Systems.{IsSystem};
-ghost use Rattle.ctrs_classes.specs.Blames as blames;
-ghost use Rattle.automata.specs.Growth.{AreInOrder, state_count};
+ghost use Rattle.rewriting.specs.Variables.{variable_occurrences};
+ghost use Rattle.rewriting.specs.Lists.{IsSorted};
+ghost use Rattle.automata.specs.Growth.{state_count, IsTransitionBefore};
 ghost use Rattle.term_core.specs.View.{view};
 ghost use Rattle.term_core.specs.RuleView.{rule_view};
 ghost use Rattle.cert_model.specs.EvidenceView.{transition_view, automaton_view};
+ghost use Rattle.automaton_runs.specs.Counted.{under_all};
 ghost use Rattle.automaton_runs.specs.Arrivals.{arrival_view};
 ghost use Rattle.automaton_grow.specs.Growing.{twins, IsAskedAt, IsAskedByRule, IsAskedBelow, AddAnswers, AreAllStates, IsPartial};
 ghost use Rattle.automaton_grow.specs.Limits.{AreNarrowBelow};
@@ -27,7 +29,7 @@ fn add_symbols(
     transitions: &mut Vec<Transition>,
 ) -> Result<(), GrowError>
     requires few { length arities.now < 2 ^ 31 }
-    requires sorted { AreInOrder (map transition_view transitions.old.items) }
+    requires sorted { IsSorted IsTransitionBefore (map transition_view transitions.old.items) }
     requires most { length (map transition_view transitions.old.items) ≤ 5000 }
     ensures { AddAnswers (IsForSymbol arities.now (length arities.now)) (map transition_view transitions.old.items) (map transition_view transitions.new.items) result }
 {
@@ -49,7 +51,7 @@ fn add_basic(
     transitions: &mut Vec<Transition>,
 ) -> Result<(), GrowError>
     requires few { length arities.now < 2 ^ 31 }
-    requires sorted { AreInOrder (map transition_view transitions.old.items) }
+    requires sorted { IsSorted IsTransitionBefore (map transition_view transitions.old.items) }
     requires most { length (map transition_view transitions.old.items) ≤ 5000 }
     ensures { AddAnswers (IsBasicOf arities.now (map transition_view inside.now)) (map transition_view transitions.old.items) (map transition_view transitions.new.items) result }
 {
@@ -87,7 +89,7 @@ fn add_twins(
     to: u32,
     next: &mut Vec<Transition>,
 ) -> Result<(), GrowError>
-    requires sorted { AreInOrder (map transition_view next.old.items) }
+    requires sorted { IsSorted IsTransitionBefore (map transition_view next.old.items) }
     requires few { length (map transition_view next.old.items) ≤ 5000 }
     ensures { AddAnswers (Contains (twins from to (map transition_view current.now))) (map transition_view next.old.items) (map transition_view next.new.items) result }
 {
@@ -113,9 +115,9 @@ fn add_asked(
     state: u32,
     next: &mut Vec<Transition>,
 ) -> Result<(), GrowError>
-    requires leaves { leaves.now ≡ blames.leaves (view rule.now.left) }
+    requires leaves { leaves.now ≡ variable_occurrences (view rule.now.left) }
     requires room { first + size (view rule.now.right) < 2 ^ 32 }
-    requires sorted { AreInOrder (map transition_view next.old.items) }
+    requires sorted { IsSorted IsTransitionBefore (map transition_view next.old.items) }
     requires few { length (map transition_view next.old.items) ≤ 5000 }
     ensures { AddAnswers (IsAskedAt first (rule_view rule.now) (map transition_view current.now) choice.now state) (map transition_view next.old.items) (map transition_view next.new.items) result }
 {
@@ -139,7 +141,7 @@ fn add_rule(
     next: &mut Vec<Transition>,
 ) -> Result<(), GrowError>
     requires room { first + size (view rule.now.right) < 2 ^ 32 }
-    requires sorted { AreInOrder (map transition_view next.old.items) }
+    requires sorted { IsSorted IsTransitionBefore (map transition_view next.old.items) }
     requires few { length (map transition_view next.old.items) ≤ 5000 }
     ensures { AddAnswers (IsAskedByRows first (rule_view rule.now) (map transition_view current.now) (map arrival_view rows.now)) (map transition_view next.old.items) (map transition_view next.new.items) result }
 {
@@ -171,12 +173,12 @@ fn grow_rule(
     index: &AutomatonIndex<'_>,
     next: &mut Vec<Transition>,
 ) -> Result<(), GrowError>
-    requires index { index.now ≡ automaton_view current.now }
+    requires index { index.now ≡ under_all (automaton_view current.now) }
     requires fits { Fits (view rule.now.left) }
-    requires narrow { current.now.states ^ length (blames.leaves (view rule.now.left)) ≤ 100000 }
+    requires narrow { current.now.states ^ length (variable_occurrences (view rule.now.left)) ≤ 100000 }
     requires states { AreAllStates (automaton_view current.now) }
     requires room { first + size (view rule.now.right) < 2 ^ 32 }
-    requires sorted { AreInOrder (map transition_view next.old.items) }
+    requires sorted { IsSorted IsTransitionBefore (map transition_view next.old.items) }
     requires few { length (map transition_view next.old.items) ≤ 5000 }
     ensures { AddAnswers (IsAskedByRule current.now.states first (rule_view rule.now) (map transition_view current.now.transitions.items)) (map transition_view next.old.items) (map transition_view next.new.items) result }
 {
@@ -193,13 +195,13 @@ fn grow_rules(
     index: &AutomatonIndex<'_>,
     next: &mut Vec<Transition>,
 ) -> Result<(), GrowError>
-    requires index { index.now ≡ automaton_view current.now }
+    requires index { index.now ≡ under_all (automaton_view current.now) }
     requires fits { Fits (view s.now) }
     requires states { current.now.states ≡ state_count sys.now (view s.now) }
     requires most { current.now.states ≤ 64 }
     requires narrow { AreNarrowBelow current.now.states sys.now.rules (length sys.now.rules) }
     requires partial { IsPartial sys.now (view s.now) (map transition_view current.now.transitions.items) }
-    requires sorted { AreInOrder (map transition_view next.old.items) }
+    requires sorted { IsSorted IsTransitionBefore (map transition_view next.old.items) }
     requires few { length (map transition_view next.old.items) ≤ 5000 }
     ensures { AddAnswers (IsAskedBelow sys.now (view s.now) (length sys.now.rules) (map transition_view current.now.transitions.items)) (map transition_view next.old.items) (map transition_view next.new.items) result }
 {
@@ -229,7 +231,7 @@ pub fn round(
     requires partial { IsPartial sys.now (view s.now) (map transition_view current.now.transitions.items) }
     ensures { RoundAnswers sys.now (view s.now) (map transition_view current.now.transitions.items) result }
 {
-    let index = AutomatonIndex::new(alloc, current)?;
+    let index = AutomatonIndex::new(alloc, None, current)?;
     let copy = current.try_clone(alloc)?;
     let mut next = copy.transitions;
     match grow_rules(alloc, sys, s, current, &index, &mut next) {

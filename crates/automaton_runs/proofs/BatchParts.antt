@@ -7,7 +7,7 @@ use Rattle.std.proofs.lemmas.List.Elements.{All-head, All-tail}
 use Rattle.std.proofs.lemmas.List.{take_more}
 use Rattle.std.proofs.lemmas.Option.{get_or_from_slice_get}
 use Rattle.automata.specs.Closed.{state_of}
-use Rattle.number_sets.specs.Members.{IsIn}
+use Rattle.rewriting.specs.Lists.{IsAmong}
 use Rattle.number_sets.specs.Relation.{Relates}
 use Rattle.number_sets.specs.declared.rows.NumberRelation.{NumberRelation}
 use Rattle.automaton_runs.specs.Choices.{Batch, start, Holds, choice_of}
@@ -73,11 +73,11 @@ states_at b count place r h counted is q k =
 
 -- the state 0
 pub zeros_at : (b : Batch) (count : ℕ) (none r : NumberRelation) (all : List ℕ) → ((k : ℕ) → (k < count) ↔ Holds b k)
-    → ((p q : ℕ) → Relates none p q → ⊥) → ((q : ℕ) → IsIn q all ↔ (q < count))
-    → ((p q : ℕ) → Relates r p q ↔ (Relates none p q ⊎ ((p ≡ 0) × IsIn q all))) → (q k : ℕ) → Relates r q k ↔ (Holds b k × (q ≡ 0))
+    → ((p q : ℕ) → Relates none p q → ⊥) → ((q : ℕ) → IsAmong q all ↔ (q < count))
+    → ((p q : ℕ) → Relates r p q ↔ (Relates none p q ⊎ ((p ≡ 0) × IsAmong q all))) → (q k : ℕ) → Relates r q k ↔ (Holds b k × (q ≡ 0))
 zeros_at b count none r all holds empty is made q k = (λ h. there ((made q k).0 h), λ h. (made q k).1 (inr (h.1, (is k).1 ((holds k).1 h.0))))
   where
-    there : Relates none q k ⊎ ((q ≡ 0) × IsIn k all) → Holds b k × (q ≡ 0)
+    there : Relates none q k ⊎ ((q ≡ 0) × IsAmong k all) → Holds b k × (q ≡ 0)
     there (inl h) = absurd (empty q k h)
     there (inr h) = ((holds k).0 ((is k).0 h.1), h.0)
 

@@ -30,7 +30,7 @@ pub choice_states : (n m k : ℕ) → 0 < n → All (λ q. q < n) (choice_at n m
 choice_states n zero k pos = All-nil (λ q. q < n)
 choice_states n (suc m) k pos = All-cons (λ q. q < n) ((k / n ^ m) % n) (choice_at n m k) (mod-lt (k / n ^ m) pos) (choice_states n m k pos)
 
-power_positive : (n m k : ℕ) → k < n ^ suc m → (0 < n) × (0 < n ^ m)
+pub power_positive : (n m k : ℕ) → k < n ^ suc m → (0 < n) × (0 < n ^ m)
 power_positive zero m k h = let e : 0 ^ suc m ≡ 0 ^ m * 0 = pow-suc 0 m in absurd (omega arith)
 power_positive (suc n) m k h = (omega arith, by (eq-zero-or-pos (suc n ^ m)))
   where

@@ -7,21 +7,22 @@ use Rattle.std.proofs.lemmas.List.{get_or_append_left, get_or-append-add}
 use Rattle.std.proofs.lemmas.Nat.{le-div}
 use Rattle.std.proofs.lemmas.Option.{get_or_from_slice_get, slice_get_within}
 use Rattle.rewriting.specs.Terms as math
-use Rattle.ctrs_classes.specs.Blames.{leaves}
-use Rattle.certificates.specs.Evidence.{Automaton}
-use Rattle.automata.specs.Runs.{Moves, Has, Reach, ReachAll, ReachBy, ReachAllBy}
+use Rattle.rewriting.specs.Variables.{variable_occurrences}
+use Rattle.automata.specs.Runs.{Moves, Reach, ReachAll, ReachBy, ReachAllBy}
 use Rattle.term_core.specs.View.{view, views}
 use Rattle.term_core.specs.declared.terms.Term.{Term, Var, Fun}
 use Rattle.term_core.proofs.Views.{view-Var, view-Fun}
-use Rattle.number_sets.specs.Members.{IsIn}
+use Rattle.rewriting.specs.Lists.{IsAmong}
 use Rattle.number_sets.specs.Relation.{row_of, Relates}
 use Rattle.number_sets.specs.declared.rows.NumberRelation.{NumberRelation}
+use Rattle.automaton_runs.specs.Counted.{Indexed, Finds}
 use Rattle.automaton_runs.specs.Choices.{choice_at}
 use Rattle.automaton_runs.specs.Linear.{linear, linear_all}
 use Rattle.automaton_runs.specs.Possible.{IsSpan, AreDigits, AreAllDigits, MayHave, MayReach, ArePossible}
 use Rattle.automaton_runs.specs.Reached.{AreRelated, IsReachedFrom}
-use Rattle.automaton_runs.proofs.Arguments.{choice_length}
-use Rattle.automaton_runs.proofs.Choices.{length_choice, choice_item}
+use Rattle.automaton_runs.proofs.NumberedLeaves.{AreGiven, linear_reach}
+use Rattle.automaton_runs.proofs.Evaluated.{reach_related}
+use Rattle.automaton_runs.proofs.Choices.{length_choice, choice_item, power_positive}
 
 -- the numbers of the choices of a batch
 pub in_batch : (x b : ℕ) → x / 4096 ≡ b → (b * 4096 ≤ x) × (x ≤ b * 4096 + 4095)
@@ -63,51 +64,21 @@ remainder_more n batch first number state old new made is had d from to =
     (cases_lt d number)
 
 -- what the rows up to one have
-pub rights_more : (r : NumberRelation) (left : ℕ) (row old new : List ℕ) → row ≡ row_of r left → ((q : ℕ) → IsIn q new ↔ (IsIn q old ⊎ IsIn q row))
-    → ((p q : ℕ) → p < left → Relates r p q → IsIn q old) → (p q : ℕ) → p < left + 1 → Relates r p q → IsIn q new
+pub rights_more : (r : NumberRelation) (left : ℕ) (row old new : List ℕ) → row ≡ row_of r left → ((q : ℕ) → IsAmong q new ↔ (IsAmong q old ⊎ IsAmong q row))
+    → ((p q : ℕ) → p < left → Relates r p q → IsAmong q old) → (p q : ℕ) → p < left + 1 → Relates r p q → IsAmong q new
 rights_more r left row old new is made had p q l h =
     ⊎_elim (λ (low : p < left). (made q).1 (inl (had p q low h)))
-    (λ (high : left ≤ p). let same : p ≡ left = omega arith in (made q).1 (inr (subst (IsIn q) (sym is) (subst (λ (s : ℕ). IsIn q (row_of r s)) same h))))
+    (λ (high : left ≤ p). let same : p ≡ left = omega arith in (made q).1 (inr (subst (IsAmong q) (sym is) (subst (λ (s : ℕ). IsAmong q (row_of r s)) same h))))
     (cases_lt p left)
 
-pub rights_none : (r : NumberRelation) (left : ℕ) (set : List ℕ) → [] ≡ row_of r left → ((p q : ℕ) → p < left → Relates r p q → IsIn q set) → (p q : ℕ) → p < left + 1 → Relates r p q → IsIn q set
+pub rights_none : (r : NumberRelation) (left : ℕ) (set : List ℕ) → [] ≡ row_of r left → ((p q : ℕ) → p < left → Relates r p q → IsAmong q set) → (p q : ℕ) → p < left + 1 → Relates r p q → IsAmong q set
 rights_none r left set is had p q l h =
     ⊎_elim (λ (low : p < left). had p q low h)
-    (λ (high : left ≤ p). let same : p ≡ left = omega arith in absurd (subst (IsIn q) (sym is) (subst (λ (s : ℕ). IsIn q (row_of r s)) same h)))
+    (λ (high : left ≤ p). let same : p ≡ left = omega arith in absurd (subst (IsAmong q) (sym is) (subst (λ (s : ℕ). IsAmong q (row_of r s)) same h)))
     (cases_lt p left)
 
--- the state of a choice at a place, by the relation there
-abbrev MayGive : List NumberRelation → ℕ → ℕ → List ℕ → Type 0
-MayGive rs k i cs = (j : ℕ) → j < length cs → MayHave rs k (i + j) (get_or cs j 0)
-
-give_left : (rs : List NumberRelation) (k i : ℕ) (cs ds : List ℕ) → MayGive rs k i (cs ++ ds) → MayGive rs k i cs
-give_left rs k i cs ds g j h = subst (MayHave rs k (i + j)) (get_or_append_left cs ds 0 j h) (g j (omega (arith, length-append cs ds)))
-
-give_right : (rs : List NumberRelation) (k i n : ℕ) (cs ds : List ℕ) → length cs ≡ n → MayGive rs k i (cs ++ ds) → MayGive rs k (i + n) ds
-give_right rs k i n cs ds l g j h =
-    let place : i + (length cs + j) ≡ (i + n) + j = omega arith in
-    subst (λ (p : ℕ). MayHave rs k p (get_or ds j 0)) place (subst (MayHave rs k (i + (length cs + j))) (get_or-append-add cs ds j 0) (g (length cs + j) (omega (arith, length-append cs ds))))
-
--- what a term reaches by a choice, its numbered term may reach
-mutual
-  may_linear : (M : Moves) (rs : List NumberRelation) (k i : ℕ) (t : math.Term) (cs : List ℕ) (q : ℕ) → MayGive rs k i cs → ReachBy M t cs q → Reach M (MayHave rs k) (linear i t) q
-  may_linear M rs k i (math.var x) cs q g h =
-      let one : length cs ≡ 1 = ap length h in
-      let place : i + 0 ≡ i = omega arith in
-      subst (λ (p : ℕ). MayHave rs k p q) place (subst (MayHave rs k (i + 0)) (ap (λ (l : List ℕ). get_or l 0 0) h) (g 0 (omega arith)))
-  may_linear M rs k i (math.app f ts) cs q g (qs, m, r) = (qs, m, may_linear_all M rs k i ts cs qs g r)
-
-  may_linear_all : (M : Moves) (rs : List NumberRelation) (k i : ℕ) (ts : math.Terms) (cs qs : List ℕ) → MayGive rs k i cs → ReachAllBy M ts cs qs → ReachAll M (MayHave rs k) (linear_all i ts) qs
-  may_linear_all M rs k i math.nil cs qs g h = h.1
-  may_linear_all M rs k i (math.cons t ts) cs [] g h = absurd h
-  may_linear_all M rs k i (math.cons t ts) cs (q ∷ qs) g (before, after, is, one, others) =
-      let g2 : MayGive rs k i (before ++ after) = subst (MayGive rs k i) is g in (
-        may_linear M rs k i t before q (give_left rs k i before after g2) one,
-        may_linear_all M rs k (i + length (leaves t)) ts after qs (give_right rs k i (length (leaves t)) before after (choice_length M t before q one) g2) others,
-      )
-
 -- the relations give the states of each choice in some batches
-digits_give : (n m batches : ℕ) (rs : List NumberRelation) (x : ℕ) → AreAllDigits n m batches rs → x < 4096 * batches → MayGive rs (x / 4096) 0 (choice_at n m x)
+digits_give : (n m batches : ℕ) (rs : List NumberRelation) (x : ℕ) → AreAllDigits n m batches rs → x < 4096 * batches → AreGiven (MayHave rs (x / 4096)) 0 (choice_at n m x)
 digits_give n m batches rs x each low j h =
     let long = length_choice n m x in
     let (r, at, digits) = each j (omega arith) in
@@ -115,24 +86,23 @@ digits_give n m batches rs x each low j h =
     let place : j ≡ 0 + j = omega arith in
     subst (λ (p : ℕ). MayHave rs (x / 4096) p (get_or (choice_at n m x) j 0)) place (r, at, subst (λ (q : ℕ). Relates r q (x / 4096)) (sym state) (digits x low))
 
-pub possible : (a : Automaton) (t u : math.Term) (batches : ℕ) (all : List ℕ) (rs : List NumberRelation) (r : NumberRelation) (set : List ℕ) → u ≡ linear 0 t
-    → ((number : ℕ) → (number < batches) ↔ (4096 * number < a.states ^ length (leaves t))) → ((k : ℕ) → IsIn k all ↔ (k < batches))
-    → AreAllDigits a.states (length (leaves t)) batches rs → MayReach a all rs u r → ((p q : ℕ) → Relates r p q → IsIn q set) → ArePossible a t set
+pub possible : (a : Indexed) (t u : math.Term) (batches : ℕ) (all : List ℕ) (rs : List NumberRelation) (r : NumberRelation) (set : List ℕ) → u ≡ linear 0 t
+    → ((number : ℕ) → (number < batches) ↔ (4096 * number < a.automaton.states ^ length (variable_occurrences t))) → ((k : ℕ) → IsAmong k all ↔ (k < batches))
+    → AreAllDigits a.automaton.states (length (variable_occurrences t)) batches rs → MayReach a all rs u r → ((p q : ℕ) → Relates r p q → IsAmong q set) → ArePossible a t set
 possible a t u batches all rs r set numbered count is each may rights k q inside reach =
     let within : k / 4096 < batches = (count (k / 4096)).1 (omega arith) in
     let low : k < 4096 * batches = omega arith in
-    let cs = choice_at a.states (length (leaves t)) k in
-    let linked = may_linear (Has a) rs (k / 4096) 0 t cs q (digits_give a.states (length (leaves t)) batches rs k each low) reach in
-    rights q (k / 4096) (may q (k / 4096) ((is (k / 4096)).1 within) (subst (λ (w : math.Term). Reach (Has a) (MayHave rs (k / 4096)) w q) (sym numbered) linked))
+    let cs = choice_at a.automaton.states (length (variable_occurrences t)) k in
+    let linked = linear_reach (MayHave rs (k / 4096)) (Finds a) 0 t cs q (digits_give a.automaton.states (length (variable_occurrences t)) batches rs k each low) reach in
+    rights q (k / 4096) (may q (k / 4096) ((is (k / 4096)).1 within) (subst (λ (w : math.Term). Reach (Finds a) (MayHave rs (k / 4096)) w q) (sym numbered) linked))
 
-pub all_possible : (a : Automaton) (t : math.Term) (batches : ℕ) (all : List ℕ) → ((number : ℕ) → (number < batches) ↔ (4096 * number < a.states ^ length (leaves t))) → ((k : ℕ) → IsIn k all ↔ (k < batches)) → ArePossible a t all
+pub all_possible : (a : Indexed) (t : math.Term) (batches : ℕ) (all : List ℕ) → ((number : ℕ) → (number < batches) ↔ (4096 * number < a.automaton.states ^ length (variable_occurrences t))) → ((k : ℕ) → IsAmong k all ↔ (k < batches)) → ArePossible a t all
 all_possible a t batches all count is k q inside reach = (is (k / 4096)).1 ((count (k / 4096)).1 (omega arith))
 
 -- more than one batch has more than one state
 pub some_states : (n m : ℕ) → 1 < n ^ m → 0 < n
-some_states zero zero h = let e : 0 ^ 0 ≡ 1 = pow-zero 0 in absurd (omega arith)
-some_states zero (suc m) h = let e : 0 ^ suc m ≡ 0 ^ m * 0 = pow-suc 0 m in absurd (omega arith)
-some_states (suc n) m h = omega arith
+some_states n zero h = let e : n ^ 0 ≡ 1 = pow-zero n in absurd (omega arith)
+some_states n (suc m) h = (power_positive n m 1 h).0
 
 -- each place of a list of relations has one
 pub all_digits : (n m batches : ℕ) (rs : List NumberRelation) → length rs ≡ m → ((place : ℕ) (r : NumberRelation) → slice_get rs place ≡ Some r → AreDigits n (n ^ (m - 1 - place)) batches r) → AreAllDigits n m batches rs
@@ -158,24 +128,16 @@ got_place rs i r inside is = there rs i (ltb-true i (length rs) (sym inside)) is
 pub no_place : (rs : List NumberRelation) (i : ℕ) (r : NumberRelation) → false ≡ ltb i (length rs) → slice_get rs i ≡ Some r → ⊥
 no_place rs i r outside is = let low = slice_get_within rs i r is in let high = ltb-false i (length rs) (sym outside) in omega arith
 
-module _ (a : Automaton) (all : List ℕ) (places : List NumberRelation) where
-  may_related : (ts : List Term) (made : List NumberRelation) (qs : List ℕ) (k : ℕ) → AllZip (λ t r. MayReach a all places (view t) r) ts made → IsIn k all → ReachAll (Has a) (MayHave places k) (views ts) qs → AreRelated made qs k
-  may_related [] [] [] k z i h = tt
-  may_related [] [] (q ∷ qs) k z i h = absurd (cc)
-  may_related [] (r ∷ rs) qs k z i h = absurd z
-  may_related (t ∷ ts) [] qs k z i h = absurd z
-  may_related (t ∷ ts) (r ∷ rs) [] k z i h = absurd h
-  may_related (t ∷ ts) (r ∷ rs) (q ∷ qs) k z i h = (z.0 q k i h.0, may_related ts rs qs k z.1 i h.1)
-
+module _ (a : Indexed) (all : List ℕ) (places : List NumberRelation) where
   pub may_symbol : (t : Term) (f : ℕ) (v : Vec Term Global) (ts : List Term) (made : List NumberRelation) (r : NumberRelation) → t ≡ Fun f v → ts ≡ v.items → AllZip (λ t r. MayReach a all places (view t) r) ts made
-      → ((q k : ℕ) → Relates r q k ↔ (IsIn k all × IsReachedFrom a f made q k)) → MayReach a all places (view t) r
+      → ((q k : ℕ) → Relates r q k ↔ (IsAmong k all × IsReachedFrom a f made q k)) → MayReach a all places (view t) r
   may_symbol t f v ts made r is items z from q k i h =
       let shown : view t ≡ math.app f (views ts) = ap view is ∙ view-Fun f v ∙ ap (λ (l : List Term). math.app f (views l)) (sym items) in
-      let p = subst (λ (u : math.Term). Reach (Has a) (MayHave places k) u q) shown h in
-      (from q k).1 (i, (p.0, p.1, may_related ts made p.0 k z i p.2))
+      let p = subst (λ (u : math.Term). Reach (Finds a) (MayHave places k) u q) shown h in
+      (from q k).1 (i, (p.0, p.1, reach_related (Finds a) (MayHave places k) (λ t r. MayReach a all places (view t) r) k (λ t r q m h. m q k i h) ts made p.0 z p.2))
 
   pub may_variable : (t : Term) (x : ℕ) (s : NumberRelation) → t ≡ Var x → ((r : NumberRelation) → slice_get places x ≡ Some r → (q k : ℕ) → Relates r q k → Relates s q k) → MayReach a all places (view t) s
   may_variable t x s is copied q k i h =
       let shown : view t ≡ math.var x = ap view is ∙ view-Var x in
-      let (r, at, has) = subst (λ (u : math.Term). Reach (Has a) (MayHave places k) u q) shown h in
+      let (r, at, has) = subst (λ (u : math.Term). Reach (Finds a) (MayHave places k) u q) shown h in
       copied r at q k has

@@ -4,7 +4,7 @@ use Rattle.std.proofs.lemmas.List.{get_or_append_left, get_or-append-add, take-a
 use Rattle.std.proofs.lemmas.Bool.{eq-eqb, ne_eqb}
 use Rattle.std.proofs.Math.Seq.{length-take-le}
 use Rattle.rewriting.specs.Terms.{Term, Terms, var, app, nil, cons}
-use Rattle.ctrs_classes.specs.Blames.{leaves, leaves_of}
+use Rattle.rewriting.specs.Variables.{variable_occurrences, variable_occurrences_of}
 use Rattle.automata.specs.Runs.{Moves, Reach, ReachAll, at, ReachBy, ReachAllBy}
 use Rattle.automata.specs.Closed.{state_of}
 use Rattle.number_sets.specs.Sets.{below}
@@ -43,74 +43,77 @@ run_state (c ∷ cs) i (suc k) h =
     ap (λ (b : Bool). if b then c else state_of (run (suc i) (length cs)) cs (i + suc k)) other
     ∙ ap (state_of (run (suc i) (length cs)) cs) place ∙ run_state cs (suc i) k (omega arith)
 
--- e has the states of a choice from the number i on
-abbrev Gives : (ℕ → ℕ) → ℕ → List ℕ → Type 0
-Gives e i cs = (k : ℕ) → k < length cs → e (i + k) ≡ get_or cs k 0
+-- the variables from the number i on may have the states of a choice
+abbrev pub AreGiven : (ℕ → ℕ → Type 0) → ℕ → List ℕ → Type 0
+AreGiven At i cs = (k : ℕ) → k < length cs → At (i + k) (get_or cs k 0)
 
-gives_below : (cs : List ℕ) → Gives (state_of (below (length cs)) cs) 0 cs
-gives_below cs k h = ap (λ (l : List ℕ). state_of l cs (0 + k)) (below_run (length cs)) ∙ run_state cs 0 k h
+given_below : (cs : List ℕ) → AreGiven (at (state_of (below (length cs)) cs)) 0 cs
+given_below cs k h = sym (ap (λ (l : List ℕ). state_of l cs (0 + k)) (below_run (length cs)) ∙ run_state cs 0 k h)
 
-gives_left : (e : ℕ → ℕ) (i : ℕ) (cs ds : List ℕ) → Gives e i (cs ++ ds) → Gives e i cs
-gives_left e i cs ds g k h = g k (omega (arith, length-append cs ds)) ∙ get_or_append_left cs ds 0 k h
+module _ (At : ℕ → ℕ → Type 0) where
+  given_left : (i : ℕ) (cs ds : List ℕ) → AreGiven At i (cs ++ ds) → AreGiven At i cs
+  given_left i cs ds g k h = subst (At (i + k)) (get_or_append_left cs ds 0 k h) (g k (omega (arith, length-append cs ds)))
 
-gives_right : (e : ℕ → ℕ) (i n : ℕ) (cs ds : List ℕ) → length cs ≡ n → Gives e i (cs ++ ds) → Gives e (i + n) ds
-gives_right e i n cs ds l g k h =
-    let place : (i + n) + k ≡ i + (length cs + k) = omega arith in
-    ap e place ∙ g (length cs + k) (omega (arith, length-append cs ds)) ∙ get_or-append-add cs ds k 0
+  given_right : (i n : ℕ) (cs ds : List ℕ) → length cs ≡ n → AreGiven At i (cs ++ ds) → AreGiven At (i + n) ds
+  given_right i n cs ds l g k h =
+      let place : i + (length cs + k) ≡ (i + n) + k = omega arith in
+      subst (λ (p : ℕ). At p (get_or ds k 0)) place (subst (At (i + (length cs + k))) (get_or-append-add cs ds k 0) (g (length cs + k) (omega (arith, length-append cs ds))))
 
-of_variable : (e : ℕ → ℕ) (i : ℕ) (cs : List ℕ) (q : ℕ) → Gives e i cs → cs ≡ q ∷ [] → q ≡ e i
-of_variable e i cs q g h =
-    let one : length cs ≡ 1 = ap length h in
-    let place : i + 0 ≡ i = omega arith in
-    sym (ap (λ (l : List ℕ). get_or l 0 0) h) ∙ sym (g 0 (omega arith)) ∙ ap e place
+  given_one : (i : ℕ) (cs : List ℕ) (q : ℕ) → AreGiven At i cs → cs ≡ q ∷ [] → At i q
+  given_one i cs q g h =
+      let one : length cs ≡ 1 = ap length h in
+      let place : i + 0 ≡ i = omega arith in
+      subst (λ (p : ℕ). At p q) place (subst (At (i + 0)) (ap (λ (l : List ℕ). get_or l 0 0) h) (g 0 (omega arith)))
 
-to_variable : (e : ℕ → ℕ) (i : ℕ) (cs : List ℕ) (q : ℕ) → length cs ≡ 1 → Gives e i cs → q ≡ e i → cs ≡ q ∷ []
+  -- what a term reaches by a choice, its numbered term reaches where the variables may have its states
+  module _ (M : Moves) where
+    mutual
+      pub linear_reach : (i : ℕ) (t : Term) (cs : List ℕ) (q : ℕ) → AreGiven At i cs → ReachBy M t cs q → Reach M At (linear i t) q
+      linear_reach i (var x) cs q g h = given_one i cs q g h
+      linear_reach i (app f ts) cs q g (qs, m, r) = (qs, m, linear_reach_all i ts cs qs g r)
+
+      linear_reach_all : (i : ℕ) (ts : Terms) (cs qs : List ℕ) → AreGiven At i cs → ReachAllBy M ts cs qs → ReachAll M At (linear_all i ts) qs
+      linear_reach_all i nil cs qs g h = h.1
+      linear_reach_all i (cons t ts) cs [] g h = absurd h
+      linear_reach_all i (cons t ts) cs (q ∷ qs) g (before, after, is, one, others) =
+          let g2 : AreGiven At i (before ++ after) = subst (AreGiven At i) is g in (
+            linear_reach i t before q (given_left i before after g2) one,
+            linear_reach_all (i + length (variable_occurrences t)) ts after qs (given_right i (length (variable_occurrences t)) before after (choice_length M t before q one) g2) others,
+          )
+
+to_variable : (e : ℕ → ℕ) (i : ℕ) (cs : List ℕ) (q : ℕ) → length cs ≡ 1 → AreGiven (at e) i cs → q ≡ e i → cs ≡ q ∷ []
 to_variable e i [] q l g h = absurd (omega arith)
 to_variable e i (c ∷ []) q l g h =
-    let place : i ≡ i + 0 = omega arith in ap (λ (p : ℕ). p ∷ []) (sym (h ∙ ap e place ∙ g 0 (omega arith)))
+    let place : i ≡ i + 0 = omega arith in ap (λ (p : ℕ). p ∷ []) (sym (h ∙ ap e place ∙ sym (g 0 (omega arith))))
 to_variable e i (c ∷ d ∷ cs) q l g h = absurd (omega arith)
 
 mutual
-  linear_back : (M : Moves) (e : ℕ → ℕ) (i : ℕ) (t : Term) (cs : List ℕ) (q : ℕ) → Gives e i cs → ReachBy M t cs q → Reach M (at e) (linear i t) q
-  linear_back M e i (var x) cs q g h = of_variable e i cs q g h
-  linear_back M e i (app f ts) cs q g (qs, m, r) = (qs, m, linear_back_all M e i ts cs qs g r)
-
-  linear_back_all : (M : Moves) (e : ℕ → ℕ) (i : ℕ) (ts : Terms) (cs qs : List ℕ) → Gives e i cs → ReachAllBy M ts cs qs → ReachAll M (at e) (linear_all i ts) qs
-  linear_back_all M e i nil cs qs g h = h.1
-  linear_back_all M e i (cons t ts) cs [] g h = absurd h
-  linear_back_all M e i (cons t ts) cs (q ∷ qs) g (before, after, is, one, others) =
-      let g2 : Gives e i (before ++ after) = subst (Gives e i) is g in (
-        linear_back M e i t before q (gives_left e i before after g2) one,
-        linear_back_all M e (i + length (leaves t)) ts after qs (gives_right e i (length (leaves t)) before after (choice_length M t before q one) g2) others,
-      )
-
-mutual
-  linear_to : (M : Moves) (e : ℕ → ℕ) (i : ℕ) (t : Term) (cs : List ℕ) (q : ℕ) → length cs ≡ length (leaves t) → Gives e i cs → Reach M (at e) (linear i t) q → ReachBy M t cs q
+  linear_to : (M : Moves) (e : ℕ → ℕ) (i : ℕ) (t : Term) (cs : List ℕ) (q : ℕ) → length cs ≡ length (variable_occurrences t) → AreGiven (at e) i cs → Reach M (at e) (linear i t) q → ReachBy M t cs q
   linear_to M e i (var x) cs q l g h = to_variable e i cs q l g h
   linear_to M e i (app f ts) cs q l g (qs, m, r) = (qs, m, linear_to_all M e i ts cs qs l g r)
 
-  linear_to_all : (M : Moves) (e : ℕ → ℕ) (i : ℕ) (ts : Terms) (cs qs : List ℕ) → length cs ≡ length (leaves_of ts) → Gives e i cs → ReachAll M (at e) (linear_all i ts) qs → ReachAllBy M ts cs qs
+  linear_to_all : (M : Moves) (e : ℕ → ℕ) (i : ℕ) (ts : Terms) (cs qs : List ℕ) → length cs ≡ length (variable_occurrences_of ts) → AreGiven (at e) i cs → ReachAll M (at e) (linear_all i ts) qs → ReachAllBy M ts cs qs
   linear_to_all M e i nil [] qs l g h = (refl, h)
   linear_to_all M e i nil (c ∷ cs) qs l g h = absurd (omega arith)
   linear_to_all M e i (cons t ts) cs [] l g h = absurd h
   linear_to_all M e i (cons t ts) cs (q ∷ qs) l g (one, others) =
-      let n = length (leaves t) in
-      let all = length-append (leaves t) (leaves_of ts) in
+      let n = length (variable_occurrences t) in
+      let all = length-append (variable_occurrences t) (variable_occurrences_of ts) in
       let whole : take n cs ++ drop n cs ≡ cs = take-append-drop n cs in
       let first : length (take n cs) ≡ n = length-take-le n cs (omega arith) in
-      let rest : length (drop n cs) ≡ length (leaves_of ts) = omega (arith, length-drop n cs) in
-      let g2 : Gives e i (take n cs ++ drop n cs) = subst (Gives e i) (sym whole) g in (
+      let rest : length (drop n cs) ≡ length (variable_occurrences_of ts) = omega (arith, length-drop n cs) in
+      let g2 : AreGiven (at e) i (take n cs ++ drop n cs) = subst (AreGiven (at e) i) (sym whole) g in (
         take n cs,
         drop n cs,
         sym whole,
-        linear_to M e i t (take n cs) q first (gives_left e i (take n cs) (drop n cs) g2) one,
-        linear_to_all M e (i + n) ts (drop n cs) qs rest (gives_right e i n (take n cs) (drop n cs) first g2) others,
+        linear_to M e i t (take n cs) q first (given_left (at e) i (take n cs) (drop n cs) g2) one,
+        linear_to_all M e (i + n) ts (drop n cs) qs rest (given_right (at e) i n (take n cs) (drop n cs) first g2) others,
       )
 
 -- a term reaches a state by a choice just where the numbered term reaches it with the choice's states for the numbers
-pub reach_linear : (M : Moves) (t : Term) (cs : List ℕ) (q : ℕ) → length cs ≡ length (leaves t)
+pub reach_linear : (M : Moves) (t : Term) (cs : List ℕ) (q : ℕ) → length cs ≡ length (variable_occurrences t)
     → Reach M (at (state_of (below (length cs)) cs)) (linear 0 t) q ↔ ReachBy M t cs q
 reach_linear M t cs q l = (
-  linear_to M (state_of (below (length cs)) cs) 0 t cs q l (gives_below cs),
-  linear_back M (state_of (below (length cs)) cs) 0 t cs q (gives_below cs),
+  linear_to M (state_of (below (length cs)) cs) 0 t cs q l (given_below cs),
+  linear_reach (at (state_of (below (length cs)) cs)) M 0 t cs q (given_below cs),
 )

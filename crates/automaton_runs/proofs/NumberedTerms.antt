@@ -3,9 +3,8 @@ use Rattle.std.proofs.Common.{◌≡◌, ◌↔◌, ℕ, zero, suc, ◌+◌, ◌
 use Rattle.std.proofs.lemmas.List.{take_more, take-append-drop}
 use Rattle.rewriting.specs.Terms as math
 use Rattle.rewriting.specs.Terms.{size, size_all}
-use Rattle.ctrs_classes.specs.Blames.{leaves, leaves_of}
-use Rattle.certificates.specs.Evidence.{Automaton}
-use Rattle.automata.specs.Runs.{Has, Reach, at, ReachBy}
+use Rattle.rewriting.specs.Variables.{variable_occurrences, variable_occurrences_of}
+use Rattle.automata.specs.Runs.{Reach, at, ReachBy}
 use Rattle.automata.specs.Closed.{state_of}
 use Rattle.term_core.specs.View.{view, views}
 use Rattle.term_core.specs.declared.terms.Term.{Term, Fun}
@@ -13,6 +12,7 @@ use Rattle.term_core.proofs.Views.{view-Fun}
 use Rattle.number_sets.specs.Sets.{below}
 use Rattle.number_sets.specs.Relation.{Relates}
 use Rattle.number_sets.specs.declared.rows.NumberRelation.{NumberRelation}
+use Rattle.automaton_runs.specs.Counted.{Indexed, Finds}
 use Rattle.automaton_runs.specs.Choices.{Batch, Holds, choice_of}
 use Rattle.automaton_runs.specs.Linear.{linear, linear_all}
 use Rattle.automaton_runs.specs.Reached.{AreWhere, Reaches}
@@ -20,67 +20,67 @@ use Rattle.automaton_runs.proofs.Choices.{length_choice}
 use Rattle.automaton_runs.proofs.NumberedLeaves.{reach_linear}
 
 -- with the numbers of its occurrences for names
-pub where_occurrences : (a : Automaton) (b : Batch) (t u : math.Term) (names : List ℕ) (r : NumberRelation) → b.length ≡ length (leaves t) → names ≡ below b.length → u ≡ linear 0 t → AreWhere b (Reaches a names u) r
-    → AreWhere b (ReachBy (Has a) t) r
+pub where_occurrences : (a : Indexed) (b : Batch) (t u : math.Term) (names : List ℕ) (r : NumberRelation) → b.length ≡ length (variable_occurrences t) → names ≡ below b.length → u ≡ linear 0 t → AreWhere b (Reaches a names u) r
+    → AreWhere b (ReachBy (Finds a) t) r
 where_occurrences a b t u names r long is numbered h q k =
     let cs = choice_of b k in
     let count : length cs ≡ b.length = length_choice b.states b.length (4096 * b.number + k) in
-    let same = reach_linear (Has a) t cs q (count ∙ long) in
+    let same = reach_linear (Finds a) t cs q (count ∙ long) in
     let named : names ≡ below (length cs) = is ∙ ap below (sym count) in
-    let here : Relates r q k ↔ (Holds b k × Reach (Has a) (at (state_of (below (length cs)) cs)) (linear 0 t) q) =
-    subst (λ (l : List ℕ). Relates r q k ↔ (Holds b k × Reach (Has a) (at (state_of l cs)) (linear 0 t) q)) named
-    (subst (λ (w : math.Term). Relates r q k ↔ (Holds b k × Reach (Has a) (at (state_of names cs)) w q)) numbered (h q k)) in
+    let here : Relates r q k ↔ (Holds b k × Reach (Finds a) (at (state_of (below (length cs)) cs)) (linear 0 t) q) =
+    subst (λ (l : List ℕ). Relates r q k ↔ (Holds b k × Reach (Finds a) (at (state_of l cs)) (linear 0 t) q)) named
+    (subst (λ (w : math.Term). Relates r q k ↔ (Holds b k × Reach (Finds a) (at (state_of names cs)) w q)) numbered (h q k)) in
     (λ x. let y = here.0 x in (y.0, same.0 y.1), λ y. here.1 (y.0, same.1 y.1))
 
 -- there are no more occurrences than nodes
 mutual
-  pub leaves_few : (t : math.Term) → length (leaves t) ≤ size t
+  pub leaves_few : (t : math.Term) → length (variable_occurrences t) ≤ size t
   leaves_few (math.var x) = omega arith
   leaves_few (math.app f ts) = let few = leaves_of_few ts in omega arith
 
-  leaves_of_few : (ts : math.Terms) → length (leaves_of ts) ≤ size_all ts
+  leaves_of_few : (ts : math.Terms) → length (variable_occurrences_of ts) ≤ size_all ts
   leaves_of_few math.nil = omega arith
   leaves_of_few (math.cons t ts) =
       let first = leaves_few t in
       let rest = leaves_of_few ts in
-      omega (arith, length-append (leaves t) (leaves_of ts))
+      omega (arith, length-append (variable_occurrences t) (variable_occurrences_of ts))
 
-leaves_joined : (ts us : List Term) → leaves_of (views (ts ++ us)) ≡ leaves_of (views ts) ++ leaves_of (views us)
+leaves_joined : (ts us : List Term) → variable_occurrences_of (views (ts ++ us)) ≡ variable_occurrences_of (views ts) ++ variable_occurrences_of (views us)
 leaves_joined [] us = refl
-leaves_joined (t ∷ ts) us = ap (λ (l : List ℕ). leaves (view t) ++ l) (leaves_joined ts us) ∙ sym (append_assoc (leaves (view t)) (leaves_of (views ts)) (leaves_of (views us)))
+leaves_joined (t ∷ ts) us = ap (λ (l : List ℕ). variable_occurrences (view t) ++ l) (leaves_joined ts us) ∙ sym (append_assoc (variable_occurrences (view t)) (variable_occurrences_of (views ts)) (variable_occurrences_of (views us)))
 
 -- the arguments up to a place, and the one there
 front_is : (ts : List Term) (i : ℕ) (u : Term) → i < length ts → u ≡ get_or ts i u → take (i + 1) ts ≡ take i ts ++ u ∷ []
 front_is ts i u inside is = take_more ts i u inside ∙ ap (λ (w : Term). take i ts ++ w ∷ []) (sym is)
 
-pub count_more : (ts : List Term) (i : ℕ) (u : Term) → i < length ts → u ≡ get_or ts i u → length (leaves_of (views (take (i + 1) ts))) ≡ length (leaves_of (views (take i ts))) + length (leaves (view u))
+pub count_more : (ts : List Term) (i : ℕ) (u : Term) → i < length ts → u ≡ get_or ts i u → length (variable_occurrences_of (views (take (i + 1) ts))) ≡ length (variable_occurrences_of (views (take i ts))) + length (variable_occurrences (view u))
 count_more ts i u inside is =
-    let joined : leaves_of (views (take (i + 1) ts)) ≡ leaves_of (views (take i ts)) ++ leaves_of (views (u ∷ [])) = ap (λ (l : List Term). leaves_of (views l)) (front_is ts i u inside is) ∙ leaves_joined (take i ts) (u ∷ []) in
+    let joined : variable_occurrences_of (views (take (i + 1) ts)) ≡ variable_occurrences_of (views (take i ts)) ++ variable_occurrences_of (views (u ∷ [])) = ap (λ (l : List Term). variable_occurrences_of (views l)) (front_is ts i u inside is) ∙ leaves_joined (take i ts) (u ∷ []) in
     let long = ap length joined in
-    omega (arith, length-append (leaves_of (views (take i ts))) (leaves_of (views (u ∷ []))), length-append (leaves (view u)) [])
+    omega (arith, length-append (variable_occurrences_of (views (take i ts))) (variable_occurrences_of (views (u ∷ []))), length-append (variable_occurrences (view u)) [])
 
-pub count_within : (ts : List Term) (i : ℕ) → length (leaves_of (views (take i ts))) ≤ length (leaves_of (views ts))
+pub count_within : (ts : List Term) (i : ℕ) → length (variable_occurrences_of (views (take i ts))) ≤ length (variable_occurrences_of (views ts))
 count_within ts i =
-    let joined = ap (λ (l : List Term). length (leaves_of (views l))) (take-append-drop i ts) in
+    let joined = ap (λ (l : List Term). length (variable_occurrences_of (views l))) (take-append-drop i ts) in
     let parts = ap length (leaves_joined (take i ts) (drop i ts)) in
-    omega (arith, length-append (leaves_of (views (take i ts))) (leaves_of (views (drop i ts))))
+    omega (arith, length-append (variable_occurrences_of (views (take i ts))) (variable_occurrences_of (views (drop i ts))))
 
-pub leaves_shown : (t : Term) (f : ℕ) (v : Vec Term Global) → t ≡ Fun f v → leaves (view t) ≡ leaves_of (views v.items)
-leaves_shown t f v is = ap leaves (ap view is ∙ view-Fun f v)
+pub leaves_shown : (t : Term) (f : ℕ) (v : Vec Term Global) → t ≡ Fun f v → variable_occurrences (view t) ≡ variable_occurrences_of (views v.items)
+leaves_shown t f v is = ap variable_occurrences (ap view is ∙ view-Fun f v)
 
 -- one more numbered argument
-numbered_push : (n : ℕ) (ts made : List Term) (u v : Term) → views made ≡ linear_all n (views ts) → view v ≡ linear (n + length (leaves_of (views ts))) (view u) → views (made ++ v ∷ []) ≡ linear_all n (views (ts ++ u ∷ []))
+numbered_push : (n : ℕ) (ts made : List Term) (u v : Term) → views made ≡ linear_all n (views ts) → view v ≡ linear (n + length (variable_occurrences_of (views ts))) (view u) → views (made ++ v ∷ []) ≡ linear_all n (views (ts ++ u ∷ []))
 numbered_push n [] [] u v e h = let same : n + 0 ≡ n = omega arith in ap (λ (w : math.Term). math.cons w math.nil) (h ∙ ap (λ (m : ℕ). linear m (view u)) same)
 numbered_push n [] (m ∷ ms) u v e h = absurd (cc)
 numbered_push n (t ∷ ts) [] u v e h = absurd (cc)
 numbered_push n (t ∷ ts) (m ∷ ms) u v e h =
     let first : view m ≡ linear n (view t) = cc in
-    let rest : views ms ≡ linear_all (n + length (leaves (view t))) (views ts) = cc in
-    let long = length-append (leaves (view t)) (leaves_of (views ts)) in
-    let place : n + length (leaves (view t) ++ leaves_of (views ts)) ≡ n + length (leaves (view t)) + length (leaves_of (views ts)) = omega arith in
-    ap₂ math.cons first (numbered_push (n + length (leaves (view t))) ts ms u v rest (h ∙ ap (λ (k : ℕ). linear k (view u)) place))
+    let rest : views ms ≡ linear_all (n + length (variable_occurrences (view t))) (views ts) = cc in
+    let long = length-append (variable_occurrences (view t)) (variable_occurrences_of (views ts)) in
+    let place : n + length (variable_occurrences (view t) ++ variable_occurrences_of (views ts)) ≡ n + length (variable_occurrences (view t)) + length (variable_occurrences_of (views ts)) = omega arith in
+    ap₂ math.cons first (numbered_push (n + length (variable_occurrences (view t))) ts ms u v rest (h ∙ ap (λ (k : ℕ). linear k (view u)) place))
 
-pub numbered_more : (n next i : ℕ) (ts made new : List Term) (u v : Term) → i < length ts → u ≡ get_or ts i u → next ≡ n + length (leaves_of (views (take i ts))) → new ≡ made ++ v ∷ []
+pub numbered_more : (n next i : ℕ) (ts made new : List Term) (u v : Term) → i < length ts → u ≡ get_or ts i u → next ≡ n + length (variable_occurrences_of (views (take i ts))) → new ≡ made ++ v ∷ []
     → views made ≡ linear_all n (views (take i ts)) → view v ≡ linear next (view u) → views new ≡ linear_all n (views (take (i + 1) ts))
 numbered_more n next i ts made new u v inside is place put e h =
     ap views put ∙ numbered_push n (take i ts) made u v e (h ∙ ap (λ (k : ℕ). linear k (view u)) place) ∙ ap (λ (l : List Term). linear_all n (views l)) (sym (front_is ts i u inside is))

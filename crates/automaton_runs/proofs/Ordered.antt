@@ -1,17 +1,18 @@
 -- Lists of pairs in order.
 use Rattle.std.proofs.Common.{◌≡◌, ℕ, zero, suc, ◌<◌, List, [], ◌∷◌, ◌++◌, length, get_or, refl, subst, arith, inl, inr, ⊎_elim}
 use Rattle.std.specs.List.{AllPairs}
-use Rattle.automaton_runs.specs.Members.{IsIn}
-use Rattle.automaton_runs.proofs.Members.{contains_in, in_contains, in_cases}
+use Rattle.rewriting.specs.Lists.{IsAmong}
+use Rattle.rewriting.proofs.Lists.{among_either}
+use Rattle.automaton_runs.proofs.Members.{contains_in, in_contains}
 
 -- each item stands in the relation to all later ones
 abbrev pub IsOrdered : {X : Type 0} → (X → X → Type 0) → List X → Type 0
 IsOrdered R [] = Unit {0}
-IsOrdered {X} R (x ∷ xs) = ((y : X) → IsIn y xs → R x y) × IsOrdered R xs
+IsOrdered {X} R (x ∷ xs) = ((y : X) → IsAmong y xs → R x y) × IsOrdered R xs
 
-pub ordered_append : {X : Type 0} (R : X → X → Type 0) (xs ys : List X) → IsOrdered R xs → IsOrdered R ys → ((x y : X) → IsIn x xs → IsIn y ys → R x y) → IsOrdered R (xs ++ ys)
+pub ordered_append : {X : Type 0} (R : X → X → Type 0) (xs ys : List X) → IsOrdered R xs → IsOrdered R ys → ((x y : X) → IsAmong x xs → IsAmong y ys → R x y) → IsOrdered R (xs ++ ys)
 ordered_append R [] ys a b h = b
-ordered_append R (x ∷ xs) ys a b h = (λ y i. ⊎_elim (λ k. a.0 y k) (λ k. h x y (inl refl) k) (in_cases y xs ys i), ordered_append R xs ys a.1 b (λ u v i j. h u v (inr i) j))
+ordered_append R (x ∷ xs) ys a b h = (λ y i. ⊎_elim (λ k. a.0 y k) (λ k. h x y (inl refl) k) (among_either y xs ys i), ordered_append R xs ys a.1 b (λ u v i j. h u v (inr i) j))
 
 -- pairs by places and pairs by members
 pub ordered_from_pairs : {X : Type 0} (R : X → X → Type 0) (xs : List X) → AllPairs R xs → IsOrdered R xs

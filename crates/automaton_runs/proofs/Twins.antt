@@ -11,15 +11,17 @@ use Rattle.std.specs.declared.cmp.Ordering.TheVariants.{Less, Equal, Greater}
 use Rattle.std.proofs.lemmas.Bool.{false≢true, or_cases}
 use Rattle.std.proofs.lemmas.Cmp.{tied_itself, nat_list_cmp_total}
 use Rattle.std.proofs.Common.{zero, suc, ◌≤◌, length, take, arith}
-use Rattle.certificates.specs.Evidence.{Transition, Automaton}
+use Rattle.certificates.specs.Evidence.{Transition}
 use Rattle.cert_model.specs.EvidenceView.{transition_view}
 use Rattle.cert_model.specs.declared.evidence.Transition as cert
-use Rattle.automata.specs.Runs.{Has}
-use Rattle.automaton_runs.specs.Members.{IsIn}
+use Rattle.automaton_runs.specs.Counted.{Indexed, Finds}
+use Rattle.automata.specs.Runs.{Symbols}
+use Rattle.rewriting.specs.Lists.{IsAmong}
 use Rattle.automaton_runs.specs.Counting.{counts}
 use Rattle.automaton_runs.specs.Twins.{known_view}
 use Rattle.automaton_runs.specs.declared.index.Known.{Known}
-use Rattle.automaton_runs.proofs.Members.{contains_in, in_left, in_right, in_cases, in_filter, filter_in}
+use Rattle.rewriting.proofs.Lists.{among_left, among_right, among_either}
+use Rattle.automaton_runs.proofs.Members.{contains_in, in_filter, filter_in}
 use Rattle.automaton_runs.proofs.Comparisons.{same_of, equal_of, is_eq_of}
 use Rattle.automaton_runs.proofs.Counted.{has_from, counts_has}
 
@@ -66,10 +68,10 @@ known_tied x y e =
 
 -- what a set has once a transition is put into it
 Grown : List Transition → Transition → List Transition → Transition → Type 0
-Grown old new more u = IsIn u more ↔ (IsIn u old ⊎ (u ≡ new))
+Grown old new more u = IsAmong u more ↔ (IsAmong u old ⊎ (u ≡ new))
 
-inserted : (k x : Known) (xs rest : List Known) (u : Transition) → IsIn u (map known_view rest) ↔ (IsIn u (map known_view xs) ⊎ (u ≡ known_view k)) → (o : Ordering) → compare_known k x ≡ o
-    → IsIn u (map known_view (match_ordering o (k ∷ x ∷ xs) (x ∷ xs) (x ∷ rest))) ↔ (IsIn u (map known_view (x ∷ xs)) ⊎ (u ≡ known_view k))
+inserted : (k x : Known) (xs rest : List Known) (u : Transition) → IsAmong u (map known_view rest) ↔ (IsAmong u (map known_view xs) ⊎ (u ≡ known_view k)) → (o : Ordering) → compare_known k x ≡ o
+    → IsAmong u (map known_view (match_ordering o (k ∷ x ∷ xs) (x ∷ xs) (x ∷ rest))) ↔ (IsAmong u (map known_view (x ∷ xs)) ⊎ (u ≡ known_view k))
 inserted k x xs rest u ih Less e = (λ h. ⊎_elim (λ f. inr f) (λ g. inl g) h, λ h. ⊎_elim (λ g. inr g) (λ f. inl f) h)
 inserted k x xs rest u ih Equal e = (λ h. inl h, λ h. ⊎_elim (λ g. g) (λ f. inl (f ∙ known_equal k x e)) h)
 inserted k x xs rest u ih Greater e = (
@@ -77,7 +79,7 @@ inserted k x xs rest u ih Greater e = (
   λ h. ⊎_elim (λ g. ⊎_elim (λ f. inl f) (λ a. inr (ih.1 (inl a))) g) (λ f. inr (ih.1 (inr f))) h,
 )
 
-pub in_inserted : (ks : List Known) (k : Known) (u : Transition) → IsIn u (map known_view (insert_key compare_known ks k)) ↔ (IsIn u (map known_view ks) ⊎ (u ≡ known_view k))
+pub in_inserted : (ks : List Known) (k : Known) (u : Transition) → IsAmong u (map known_view (insert_key compare_known ks k)) ↔ (IsAmong u (map known_view ks) ⊎ (u ≡ known_view k))
 in_inserted [] k u = (λ h. ⊎_elim (λ f. inr f) (λ g. absurd g) h, λ h. ⊎_elim (λ g. absurd g) (λ f. inl f) h)
 in_inserted (x ∷ xs) k u = inserted k x xs (insert_key compare_known xs k) u (in_inserted xs k u) (compare_known k x) refl
 
@@ -89,51 +91,51 @@ or_second : (a b : Bool) → b ≡ true → (a || b) ≡ true
 or_second true b e = refl
 or_second false b e = e
 
-found : (ks : List Known) (k : Known) → list_any (is_at (compare_known k)) ks ≡ true → IsIn (known_view k) (map known_view ks)
+found : (ks : List Known) (k : Known) → list_any (is_at (compare_known k)) ks ≡ true → IsAmong (known_view k) (map known_view ks)
 found [] k e = absurd (false≢true e)
 found (x ∷ xs) k e = ⊎_elim (λ h. inl (known_equal k x (is_eq_of _ h))) (λ h. inr (found xs k h)) (or_cases (is_at (compare_known k) x) (list_any (is_at (compare_known k)) xs) e)
 
-stands : (ks : List Known) (k : Known) → IsIn (known_view k) (map known_view ks) → list_any (is_at (compare_known k)) ks ≡ true
+stands : (ks : List Known) (k : Known) → IsAmong (known_view k) (map known_view ks) → list_any (is_at (compare_known k)) ks ≡ true
 stands [] k h = absurd h
 stands (x ∷ xs) k (inl e) = or_first (is_at (compare_known k) x) _ (ap is_eq (known_tied k x e))
 stands (x ∷ xs) k (inr h) = or_second (is_at (compare_known k) x) _ (stands xs k h)
 
 -- a look-up answers whether the automaton has the transition
-pub looked_up : (a : Automaton) (ks : List Known) (k : Known) → ((t : Transition) → IsIn t (map known_view ks) ↔ IsIn t (filter (counts a.states) a.transitions))
-    → (list_any (is_at (compare_known k)) ks ≡ true) ↔ Has a k.symbol k.args.now k.target
+pub looked_up : (a : Indexed) (ks : List Known) (k : Known) → ((t : Transition) → IsAmong t (map known_view ks) ↔ IsAmong t (filter (counts a.symbols a.automaton.states) a.automaton.transitions))
+    → (list_any (is_at (compare_known k)) ks ≡ true) ↔ Finds a k.symbol k.args.now k.target
 looked_up a ks k same = (
-  λ e. let i = in_filter (counts a.states) (known_view k) a.transitions ((same (known_view k)).0 (found ks k e)) in has_from a (known_view k) i.0 i.1,
-  λ h. stands ks k ((same (known_view k)).1 (filter_in (counts a.states) (known_view k) a.transitions (contains_in (known_view k) a.transitions h.listed) (counts_has a k.symbol k.args.now k.target h))),
+  λ e. let i = in_filter (counts a.symbols a.automaton.states) (known_view k) a.automaton.transitions ((same (known_view k)).0 (found ks k e)) in has_from a (known_view k) i.0 i.1,
+  λ h. stands ks k ((same (known_view k)).1 (filter_in (counts a.symbols a.automaton.states) (known_view k) a.automaton.transitions (contains_in (known_view k) a.automaton.transitions h.listed) (counts_has a k.symbol k.args.now k.target h))),
 )
 
-filter_parts : (p : Transition → Bool) (ts : List Transition) (t u : Transition) → IsIn u (filter p (ts ++ t ∷ [])) ↔ (IsIn u (filter p ts) ⊎ ((u ≡ t) × (p t ≡ true)))
+filter_parts : (p : Transition → Bool) (ts : List Transition) (t u : Transition) → IsAmong u (filter p (ts ++ t ∷ [])) ↔ (IsAmong u (filter p ts) ⊎ ((u ≡ t) × (p t ≡ true)))
 filter_parts p ts t u = (into, back)
   where
-    into : IsIn u (filter p (ts ++ t ∷ [])) → IsIn u (filter p ts) ⊎ ((u ≡ t) × (p t ≡ true))
+    into : IsAmong u (filter p (ts ++ t ∷ [])) → IsAmong u (filter p ts) ⊎ ((u ≡ t) × (p t ≡ true))
     into h =
         let i = in_filter p u (ts ++ t ∷ []) h in
-        ⊎_elim (λ g. inl (filter_in p u ts g i.1)) (λ g. let same : u ≡ t = ⊎_elim (λ e. e) (λ k. absurd k) g in inr (same, ap p (sym same) ∙ i.1)) (in_cases u ts (t ∷ []) i.0)
+        ⊎_elim (λ g. inl (filter_in p u ts g i.1)) (λ g. let same : u ≡ t = ⊎_elim (λ e. e) (λ k. absurd k) g in inr (same, ap p (sym same) ∙ i.1)) (among_either u ts (t ∷ []) i.0)
 
-    back : IsIn u (filter p ts) ⊎ ((u ≡ t) × (p t ≡ true)) → IsIn u (filter p (ts ++ t ∷ []))
-    back (inl g) = let i = in_filter p u ts g in filter_in p u (ts ++ t ∷ []) (in_left u ts (t ∷ []) i.0) i.1
-    back (inr (e, h)) = filter_in p u (ts ++ t ∷ []) (in_right u ts (t ∷ []) (inl e)) (ap p e ∙ h)
+    back : IsAmong u (filter p ts) ⊎ ((u ≡ t) × (p t ≡ true)) → IsAmong u (filter p (ts ++ t ∷ []))
+    back (inl g) = let i = in_filter p u ts g in filter_in p u (ts ++ t ∷ []) (among_left u ts (t ∷ []) i.0) i.1
+    back (inr (e, h)) = filter_in p u (ts ++ t ∷ []) (among_right u ts (t ∷ []) (inl e)) (ap p e ∙ h)
 
 -- the loop's step
-pub known_more : (n : ℕ) (ts : List Transition) (t : Transition) (old new : List Transition) → ((u : Transition) → IsIn u old ↔ IsIn u (filter (counts n) ts))
-    → ((u : Transition) → IsIn u new ↔ (IsIn u old ⊎ ((u ≡ t) × (counts n t ≡ true)))) → (u : Transition) → IsIn u new ↔ IsIn u (filter (counts n) (ts ++ t ∷ []))
-known_more n ts t old new same step u =
-    let parts = filter_parts (counts n) ts t u in (
+pub known_more : (symbols : Symbols) (n : ℕ) (ts : List Transition) (t : Transition) (old new : List Transition) → ((u : Transition) → IsAmong u old ↔ IsAmong u (filter (counts symbols n) ts))
+    → ((u : Transition) → IsAmong u new ↔ (IsAmong u old ⊎ ((u ≡ t) × (counts symbols n t ≡ true)))) → (u : Transition) → IsAmong u new ↔ IsAmong u (filter (counts symbols n) (ts ++ t ∷ []))
+known_more symbols n ts t old new same step u =
+    let parts = filter_parts (counts symbols n) ts t u in (
       λ h. parts.1 (⊎_elim (λ g. inl ((same u).0 g)) (λ p. inr p) ((step u).0 h)),
       λ h. (step u).1 (⊎_elim (λ g. inl ((same u).1 g)) (λ p. inr p) (parts.0 h)),
     )
 
 -- a transition that counts is put into the set
-pub put_counted : (n : ℕ) (t : cert.Transition) (k : Known) (old new : List Known) → known_view k ≡ transition_view t → new ≡ insert_key compare_known old k → counts n (transition_view t) ≡ true
-    → (u : Transition) → IsIn u (map known_view new) ↔ (IsIn u (map known_view old) ⊎ ((u ≡ transition_view t) × (counts n (transition_view t) ≡ true)))
-put_counted n t k old new same is e u =
+pub put_counted : (symbols : Symbols) (n : ℕ) (t : cert.Transition) (k : Known) (old new : List Known) → known_view k ≡ transition_view t → new ≡ insert_key compare_known old k → counts symbols n (transition_view t) ≡ true
+    → (u : Transition) → IsAmong u (map known_view new) ↔ (IsAmong u (map known_view old) ⊎ ((u ≡ transition_view t) × (counts symbols n (transition_view t) ≡ true)))
+put_counted symbols n t k old new same is e u =
     let step = in_inserted old k u in (
-      λ h. ⊎_elim (λ g. inl g) (λ f. inr (f ∙ same, e)) (step.0 (subst (λ (ks : List Known). IsIn u (map known_view ks)) is h)),
-      λ h. subst (λ (ks : List Known). IsIn u (map known_view ks)) (sym is) (step.1 (⊎_elim (λ g. inl g) (λ p. inr (p.0 ∙ sym same)) h)),
+      λ h. ⊎_elim (λ g. inl g) (λ f. inr (f ∙ same, e)) (step.0 (subst (λ (ks : List Known). IsAmong u (map known_view ks)) is h)),
+      λ h. subst (λ (ks : List Known). IsAmong u (map known_view ks)) (sym is) (step.1 (⊎_elim (λ g. inl g) (λ p. inr (p.0 ∙ sym same)) h)),
     )
 
 pub fields : (k : Known) (t : cert.Transition) → k.symbol ≡ t.symbol → k.args.now ≡ t.args.items → k.target ≡ t.target → known_view k ≡ transition_view t

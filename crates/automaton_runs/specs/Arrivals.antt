@@ -3,10 +3,10 @@ use Rattle.std.specs.Prelude.{ℕ, ◌≡◌, ◌<◌, ◌⊎◌, ◌^◌, List,
 use Rattle.std.specs.List.{AllPairs}
 use Rattle.rewriting.specs.Terms.{Term}
 use Rattle.rewriting.specs.Positions.{IsBefore}
-use Rattle.ctrs_classes.specs.Blames.{leaves}
-use Rattle.certificates.specs.Evidence.{Automaton}
-use Rattle.automata.specs.Runs.{Has, ReachBy}
+use Rattle.rewriting.specs.Variables.{variable_occurrences}
+use Rattle.automata.specs.Runs.{ReachBy}
 use Rattle.automata.specs.Closed.{IsChoice}
+use Rattle.automaton_runs.specs.Counted.{Indexed, Finds}
 use Rattle.automaton_runs.specs.Choices.{choice_at}
 use Rattle.automaton_runs.specs.declared.runs.Arrival.{Arrival}
 
@@ -19,14 +19,14 @@ abbrev pub IsArrivalBefore : List ℕ × ℕ → List ℕ × ℕ → Type 0
 IsArrivalBefore (cs, p) (ds, q) = IsBefore cs ds ⊎ ((cs ≡ ds) × (p < q))
 
 -- the list has exactly the choices with the states that the term reaches by them, in order
-pub record AreArrivals (a : Automaton) (t : Term) (rows : List (List ℕ × ℕ)) : Type 0 where
-  pub each : (cs : List ℕ) (q : ℕ) → Contains rows (cs, q) → IsChoice a.states t cs × ReachBy (Has a) t cs q
-  pub complete : (cs : List ℕ) (q : ℕ) → IsChoice a.states t cs → ReachBy (Has a) t cs q → Contains rows (cs, q)
+pub record AreArrivals (a : Indexed) (t : Term) (rows : List (List ℕ × ℕ)) : Type 0 where
+  pub each : (cs : List ℕ) (q : ℕ) → Contains rows (cs, q) → IsChoice a.automaton.states t cs × ReachBy (Finds a) t cs q
+  pub complete : (cs : List ℕ) (q : ℕ) → IsChoice a.automaton.states t cs → ReachBy (Finds a) t cs q → Contains rows (cs, q)
   pub sorted : AllPairs IsArrivalBefore rows
 
 -- the same for the first n choices alone
-pub record AreArrivalsBelow (a : Automaton) (t : Term) (n : ℕ) (rows : List (List ℕ × ℕ)) : Type 0 where
-  pub each : (cs : List ℕ) (q : ℕ) → Contains rows (cs, q) → (k : ℕ) × (k < n) × (cs ≡ choice_at a.states (length (leaves t)) k) × ReachBy (Has a) t cs q
-  pub complete : (k q : ℕ) → k < n → k < a.states ^ length (leaves t) → ReachBy (Has a) t (choice_at a.states (length (leaves t)) k) q
-      → Contains rows (choice_at a.states (length (leaves t)) k, q)
+pub record AreArrivalsBelow (a : Indexed) (t : Term) (n : ℕ) (rows : List (List ℕ × ℕ)) : Type 0 where
+  pub each : (cs : List ℕ) (q : ℕ) → Contains rows (cs, q) → (k : ℕ) × (k < n) × (cs ≡ choice_at a.automaton.states (length (variable_occurrences t)) k) × ReachBy (Finds a) t cs q
+  pub complete : (k q : ℕ) → k < n → k < a.automaton.states ^ length (variable_occurrences t) → ReachBy (Finds a) t (choice_at a.automaton.states (length (variable_occurrences t)) k) q
+      → Contains rows (choice_at a.automaton.states (length (variable_occurrences t)) k, q)
   pub sorted : AllPairs IsArrivalBefore rows

@@ -1,6 +1,6 @@
 -- The batch of choices that a `Batch` stands for.
 use Rattle.std.specs.Prelude.{ℕ, ◌≡◌, ◌≢◌, ◌↔◌, ◌<◌, List, length, Option, None, Some, slice_get, slice_index}
-use Rattle.number_sets.specs.Members.{IsIn}
+use Rattle.rewriting.specs.Lists.{IsAmong}
 use Rattle.number_sets.specs.Sets.{members}
 use Rattle.number_sets.specs.Relation.{Relates}
 use Rattle.number_sets.specs.declared.rows.NumberRelation.{NumberRelation}
@@ -17,7 +17,7 @@ AreStatesAt b place r = (q k : ℕ) → Relates r q k ↔ (Holds b k × (slice_g
 
 pub record IsBatch (i : Inside) : Type 0 where
   pub count : (k : ℕ) → (k < i.count) ↔ Holds (batch_view i) k
-  pub all : (k : ℕ) → IsIn k (members i.all) ↔ Holds (batch_view i) k
+  pub all : (k : ℕ) → IsAmong k (members i.all) ↔ Holds (batch_view i) k
   pub places : length i.leaves.items ≡ i.length
   pub leaves : (place : ℕ) (r : NumberRelation) → slice_get i.leaves.items place ≡ Some r → AreStatesAt (batch_view i) place r
   pub zeros : (q k : ℕ) → Relates i.zeros q k ↔ (Holds (batch_view i) k × (q ≡ 0))

@@ -1,4 +1,4 @@
-pub mod Members
+pub mod Counted
 pub mod Groups
 pub mod Counting
 pub mod Indexed

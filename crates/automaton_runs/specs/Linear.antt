@@ -1,7 +1,7 @@
 -- A term with its variable occurrences numbered.
 use Rattle.std.specs.Prelude.{ℕ, ◌+◌, length}
 use Rattle.rewriting.specs.Terms.{Term, var, app, Terms, nil, cons}
-use Rattle.ctrs_classes.specs.Blames.{leaves}
+use Rattle.rewriting.specs.Variables.{variable_occurrences}
 
 -- the term with the numbers from i on for its variables as they occur, from left to right
 abbrev mutual
@@ -11,4 +11,4 @@ abbrev mutual
 
   pub linear_all : ℕ → Terms → Terms
   linear_all i nil = nil
-  linear_all i (cons t ts) = cons (linear i t) (linear_all (i + length (leaves t)) ts)
+  linear_all i (cons t ts) = cons (linear i t) (linear_all (i + length (variable_occurrences t)) ts)

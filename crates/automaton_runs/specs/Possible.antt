@@ -1,12 +1,12 @@
 -- Batches of choices by which a term may arrive: more than one state is possible at a place.
 use Rattle.std.specs.Prelude.{ℕ, ◌≡◌, ◌-◌, ◌*◌, ◌/◌, ◌%◌, ◌^◌, ◌<◌, ◌≤◌, List, length, Some, slice_get}
 use Rattle.rewriting.specs.Terms.{Term}
-use Rattle.ctrs_classes.specs.Blames.{leaves}
-use Rattle.certificates.specs.Evidence.{Automaton}
-use Rattle.automata.specs.Runs.{Has, Reach, ReachBy}
-use Rattle.number_sets.specs.Members.{IsIn}
+use Rattle.rewriting.specs.Variables.{variable_occurrences}
+use Rattle.automata.specs.Runs.{Reach, ReachBy}
+use Rattle.rewriting.specs.Lists.{IsAmong}
 use Rattle.number_sets.specs.Relation.{Relates}
 use Rattle.number_sets.specs.declared.rows.NumberRelation.{NumberRelation}
+use Rattle.automaton_runs.specs.Counted.{Indexed, Finds}
 use Rattle.automaton_runs.specs.Choices.{choice_at}
 
 -- the numbers from first on and below end have as remainders the states at the place of a weight by each choice of the batch
@@ -26,9 +26,9 @@ abbrev pub MayHave : List NumberRelation → ℕ → ℕ → ℕ → Type 0
 MayHave rs k x q = (r : NumberRelation) × (slice_get rs x ≡ Some r) × Relates r q k
 
 -- the relation has the states that the term reaches by states that its variables may have in one batch
-abbrev pub MayReach : Automaton → List ℕ → List NumberRelation → Term → NumberRelation → Type 0
-MayReach a all rs t r = (q k : ℕ) → IsIn k all → Reach (Has a) (MayHave rs k) t q → Relates r q k
+abbrev pub MayReach : Indexed → List ℕ → List NumberRelation → Term → NumberRelation → Type 0
+MayReach a all rs t r = (q k : ℕ) → IsAmong k all → Reach (Finds a) (MayHave rs k) t q → Relates r q k
 
 -- by the choices of other batches the term arrives nowhere
-abbrev pub ArePossible : Automaton → Term → List ℕ → Type 0
-ArePossible a t set = (k q : ℕ) → k < a.states ^ length (leaves t) → ReachBy (Has a) t (choice_at a.states (length (leaves t)) k) q → IsIn (k / 4096) set
+abbrev pub ArePossible : Indexed → Term → List ℕ → Type 0
+ArePossible a t set = (k q : ℕ) → k < a.automaton.states ^ length (variable_occurrences t) → ReachBy (Finds a) t (choice_at a.automaton.states (length (variable_occurrences t)) k) q → IsAmong (k / 4096) set

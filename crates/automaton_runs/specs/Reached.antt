@@ -2,12 +2,13 @@
 use Rattle.std.specs.Prelude.{ℕ, ◌≡◌, ◌↔◌, List, Some, filter}
 use Rattle.std.specs.List.{AllZip}
 use Rattle.rewriting.specs.Terms.{Term}
-use Rattle.certificates.specs.Evidence.{Transition, Automaton}
-use Rattle.automata.specs.Runs.{Has, Reach, at}
+use Rattle.certificates.specs.Evidence.{Transition}
+use Rattle.automata.specs.Runs.{Reach, at}
 use Rattle.automata.specs.Closed.{state_of}
-use Rattle.number_sets.specs.Members.{IsIn}
+use Rattle.rewriting.specs.Lists.{IsAmong}
 use Rattle.number_sets.specs.Relation.{Relates}
 use Rattle.number_sets.specs.declared.rows.NumberRelation.{NumberRelation}
+use Rattle.automaton_runs.specs.Counted.{Indexed, Finds}
 use Rattle.automaton_runs.specs.Counting.{chosen, first_key}
 use Rattle.automaton_runs.specs.Choices.{Batch, Holds, choice_of}
 
@@ -16,8 +17,8 @@ abbrev pub AreWhere : Batch → (List ℕ → ℕ → Type 0) → NumberRelation
 AreWhere b P r = (q k : ℕ) → Relates r q k ↔ (Holds b k × P (choice_of b k) q)
 
 -- the term reaches the state, its variables having the states of their first names
-abbrev pub Reaches : Automaton → List ℕ → Term → List ℕ → ℕ → Type 0
-Reaches a names t cs q = Reach (Has a) (at (state_of names cs)) t q
+abbrev pub Reaches : Indexed → List ℕ → Term → List ℕ → ℕ → Type 0
+Reaches a names t cs q = Reach (Finds a) (at (state_of names cs)) t q
 
 -- each of some relations relates the state at its place to k
 abbrev pub AreRelated : List NumberRelation → List ℕ → ℕ → Type 0
@@ -26,18 +27,18 @@ AreRelated rs qs k = AllZip (λ r q. Relates r q k) rs qs
 -- the transition leads by the symbol to q from states that the relations relate to k, one of some numbers
 pub record Leads (f : ℕ) (all : List ℕ) (rs : List NumberRelation) (t : Transition) (q k : ℕ) : Type 0 where
   pub symbol : t.symbol ≡ Some f
-  pub number : IsIn k all
+  pub number : IsAmong k all
   pub arguments : AreRelated rs t.arguments k
   pub target : q ≡ t.target
 
 -- one of some transitions does
 abbrev pub HaveLeads : ℕ → List ℕ → List NumberRelation → List Transition → ℕ → ℕ → Type 0
-HaveLeads f all rs ts q k = (t : Transition) × IsIn t ts × Leads f all rs t q k
+HaveLeads f all rs ts q k = (t : Transition) × IsAmong t ts × Leads f all rs t q k
 
 -- one of those among the transitions of the automaton that count and have a first argument related to some number does
-abbrev pub HaveLeadsByFirst : Automaton → NumberRelation → ℕ → List ℕ → List NumberRelation → ℕ → ℕ → Type 0
-HaveLeadsByFirst a first f all rs q k = (s : ℕ) × (((p : ℕ) × Relates first s p) × HaveLeads f all rs (filter (chosen first_key a.states s) a.transitions) q k)
+abbrev pub HaveLeadsByFirst : Indexed → NumberRelation → ℕ → List ℕ → List NumberRelation → ℕ → ℕ → Type 0
+HaveLeadsByFirst a first f all rs q k = (s : ℕ) × (((p : ℕ) × Relates first s p) × HaveLeads f all rs (filter (chosen a.symbols first_key a.automaton.states s) a.automaton.transitions) q k)
 
 -- the symbol leads to q from such states
-abbrev pub IsReachedFrom : Automaton → ℕ → List NumberRelation → ℕ → ℕ → Type 0
-IsReachedFrom a f rs q k = (qs : List ℕ) × Has a (Some f) qs q × AreRelated rs qs k
+abbrev pub IsReachedFrom : Indexed → ℕ → List NumberRelation → ℕ → ℕ → Type 0
+IsReachedFrom a f rs q k = (qs : List ℕ) × Finds a (Some f) qs q × AreRelated rs qs k

@@ -1,6 +1,6 @@
 ghost use Rattle.std.specs.Prelude.{◌≡◌, ◌↔◌, ◌<◌, ◌≤◌, ◌*◌, ◌+◌, ◌^◌, ◌/◌, ◌%◌, ℕ, Some, length, slice_get, IfOk};
 ghost use Rattle.automata.specs.Closed.{state_of};
-ghost use Rattle.number_sets.specs.Members.{IsIn};
+ghost use Rattle.rewriting.specs.Lists.{IsAmong};
 ghost use Rattle.number_sets.specs.Sets.{members};
 ghost use Rattle.number_sets.specs.Relation.{Relates};
 ghost use Rattle.automaton_runs.specs.Choices.{Holds, choice_of};
@@ -165,7 +165,7 @@ impl Batch {
 
     // The numbers of the choices.
     pub(crate) fn all(&self) -> &NumberSet
-        ensures { (k : ℕ) → IsIn k (members result.now) ↔ Holds self.now k }
+        ensures { (k : ℕ) → IsAmong k (members result.now) ↔ Holds self.now k }
     {
         &self.all
     }

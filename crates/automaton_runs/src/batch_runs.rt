@@ -1,13 +1,14 @@
 ghost use Rattle.std.specs.Prelude.{◌≡◌, ◌↔◌, ◌⊎◌, ◌<◌, ℕ, length, IfOk, OnOk, IsTrue};
 ghost use Rattle.std.specs.List.{AllZip};
 ghost use Rattle.rewriting.specs.Terms as math;
-ghost use Rattle.ctrs_classes.specs.Blames.{leaves};
-ghost use Rattle.automata.specs.Runs.{Has, ReachBy};
+ghost use Rattle.rewriting.specs.Variables.{variable_occurrences};
+ghost use Rattle.automata.specs.Runs.{ReachBy};
 ghost use Rattle.cert_model.specs.EvidenceView.{transition_view};
 ghost use Rattle.term_core.specs.View.{view};
-ghost use Rattle.number_sets.specs.Members.{IsIn};
+ghost use Rattle.rewriting.specs.Lists.{IsAmong};
 ghost use Rattle.number_sets.specs.Sets.{members};
 ghost use Rattle.number_sets.specs.Relation.{Relates};
+ghost use Rattle.automaton_runs.specs.Counted.{Finds};
 ghost use Rattle.automaton_runs.specs.Indexed.{pointed};
 ghost use Rattle.automaton_runs.specs.Reached.{AreWhere, Reaches, AreRelated, Leads, HaveLeads, HaveLeadsByFirst, IsReachedFrom};
 
@@ -43,7 +44,7 @@ fn shared(
     states: &[u32],
 ) -> Result<NumberSet, NoMemory>
     requires { length args.now ≡ length states.now }
-    ensures { IfOk result (λ set. (k : ℕ) → IsIn k (members set) ↔ (IsIn k (members all.now) × AreRelated args.now states.now k)) }
+    ensures { IfOk result (λ set. (k : ℕ) → IsAmong k (members set) ↔ (IsAmong k (members all.now) × AreRelated args.now states.now k)) }
 {
     let mut set = all.copy(alloc)?;
     for place in 0..args.len() {
@@ -121,7 +122,7 @@ pub(crate) fn reached_from(
     all: &NumberSet,
     args: &[NumberRelation],
 ) -> Result<NumberRelation, NoMemory>
-    ensures { IfOk result (λ r. (q k : ℕ) → Relates r q k ↔ (IsIn k (members all.now) × IsReachedFrom index.now f args.now q k)) }
+    ensures { IfOk result (λ r. (q k : ℕ) → Relates r q k ↔ (IsAmong k (members all.now) × IsReachedFrom index.now f args.now q k)) }
 {
     let mut made = NumberRelation::new(alloc);
     match args.first() {
@@ -178,8 +179,8 @@ pub fn reached_by_occurrences(
     t: &Term,
 ) -> Result<NumberRelation, NoMemory>
     requires fits { math.Fits (view t.now) }
-    requires length { batch.now.length ≡ length (leaves (view t.now)) }
-    ensures { IfOk result (AreWhere batch.now (ReachBy (Has index.now) (view t.now))) }
+    requires length { batch.now.length ≡ length (variable_occurrences (view t.now)) }
+    ensures { IfOk result (AreWhere batch.now (ReachBy (Finds index.now) (view t.now))) }
 {
     let names = numbers(alloc, batch.occurrences())?;
     reached(alloc, index, batch, &names, &linear(alloc, t)?)

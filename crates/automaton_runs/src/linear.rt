@@ -1,6 +1,6 @@
 ghost use Rattle.std.specs.Prelude.{◌≡◌, ◌+◌, ◌<◌, ◌^◌, length, map, IfOk, OnOk};
 ghost use Rattle.rewriting.specs.Terms as math;
-ghost use Rattle.ctrs_classes.specs.Blames.{leaves};
+ghost use Rattle.rewriting.specs.Variables.{variable_occurrences};
 ghost use Rattle.number_sets.specs.Sets.{below};
 ghost use Rattle.term_core.specs.View.{view};
 ghost use Rattle.automaton_runs.specs.Linear.{linear};
@@ -10,8 +10,8 @@ use term_core::{NoMemory, Term};
 
 // The term with the numbers from `next` on for its variables as they occur.
 fn put_numbers(alloc: Global, t: &Term, next: &mut u32) -> Result<Term, NoMemory>
-    requires { next.old + length (leaves (view t.now)) < 2 ^ 32 }
-    ensures next { OnOk result (next.new ≡ next.old + length (leaves (view t.now))) }
+    requires { next.old + length (variable_occurrences (view t.now)) < 2 ^ 32 }
+    ensures next { OnOk result (next.new ≡ next.old + length (variable_occurrences (view t.now))) }
     ensures term { IfOk result (λ made. view made ≡ linear next.old (view t.now)) }
 {
     match t {

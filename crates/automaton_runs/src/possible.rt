@@ -1,9 +1,9 @@
 ghost use Rattle.std.specs.Prelude.{◌≡◌, ◌↔◌, ◌<◌, ◌≤◌, ◌*◌, ◌+◌, ◌/◌, ◌%◌, ◌^◌, ℕ, length, IfOk, OnOk};
 ghost use Rattle.std.specs.List.{AllZip};
 ghost use Rattle.rewriting.specs.Terms as math;
-ghost use Rattle.ctrs_classes.specs.Blames.{leaves};
+ghost use Rattle.rewriting.specs.Variables.{variable_occurrences};
 ghost use Rattle.term_core.specs.View.{view};
-ghost use Rattle.number_sets.specs.Members.{IsIn};
+ghost use Rattle.rewriting.specs.Lists.{IsAmong};
 ghost use Rattle.number_sets.specs.Sets.{members};
 ghost use Rattle.number_sets.specs.Relation.{Relates};
 ghost use Rattle.automaton_runs.specs.Possible.{IsSpan, AreDigits, AreAllDigits, MayReach, ArePossible};
@@ -132,7 +132,7 @@ fn may_reach_each(
 
 // The numbers to which one is related.
 fn rights(alloc: Global, relation: &NumberRelation) -> Result<NumberSet, NoMemory>
-    ensures { IfOk result (λ set. (p q : ℕ) → Relates relation.now p q → IsIn q (members set)) }
+    ensures { IfOk result (λ set. (p q : ℕ) → Relates relation.now p q → IsAmong q (members set)) }
 {
     let mut set = NumberSet::new(alloc);
     for left in 0..relation.lefts() {
@@ -152,8 +152,8 @@ pub fn possible_batches(
     occurrences: usize,
 ) -> Result<NumberSet, NoMemory>
     requires fits { math.Fits (view t.now) }
-    requires length { occurrences ≡ length (leaves (view t.now)) }
-    requires few { index.now.states ^ occurrences ≤ 1000000 }
+    requires length { occurrences ≡ length (variable_occurrences (view t.now)) }
+    requires few { index.now.automaton.states ^ occurrences ≤ 1000000 }
     ensures { IfOk result (λ set. ArePossible index.now (view t.now) (members set)) }
 {
     let count = batches(index.states(), occurrences);

@@ -1,6 +1,6 @@
 ghost use Rattle.std.specs.Prelude.{◌≡◌, ◌≤◌, ◌^◌, ◌+◌, ◌++◌, length, IfOk, OnOk, map};
 ghost use Rattle.rewriting.specs.Terms as math;
-ghost use Rattle.ctrs_classes.specs.Blames.{leaves};
+ghost use Rattle.rewriting.specs.Variables.{variable_occurrences};
 ghost use Rattle.term_core.specs.View.{view};
 ghost use Rattle.automaton_runs.specs.Arrivals.{arrival_view, AreArrivals, AreArrivalsBelow};
 ghost use Rattle.automaton_runs.specs.Choices.{start};
@@ -47,9 +47,9 @@ fn put_batch(
     rows: &mut Vec<Arrival>,
 ) -> Result<(), NoMemory>
     requires fits { math.Fits (view t.now) }
-    requires states { batch.now.states ≡ index.now.states }
-    requires length { batch.now.length ≡ length (leaves (view t.now)) }
-    requires few { index.now.states ^ length (leaves (view t.now)) ≤ 1000000 }
+    requires states { batch.now.states ≡ index.now.automaton.states }
+    requires length { batch.now.length ≡ length (variable_occurrences (view t.now)) }
+    requires few { index.now.automaton.states ^ length (variable_occurrences (view t.now)) ≤ 1000000 }
     requires before { AreArrivalsBelow index.now (view t.now) (start batch.now) (map arrival_view rows.old.items) }
     ensures { OnOk result (AreArrivalsBelow index.now (view t.now) (start batch.now + 4096) (map arrival_view rows.new.items)) }
 {
@@ -71,7 +71,7 @@ pub fn arrivals(
     t: &Term,
 ) -> Result<Vec<Arrival>, NoMemory>
     requires fits { math.Fits (view t.now) }
-    requires few { index.now.states ^ length (leaves (view t.now)) ≤ 1000000 }
+    requires few { index.now.automaton.states ^ length (variable_occurrences (view t.now)) ≤ 1000000 }
     ensures { IfOk result (λ rows. AreArrivals index.now (view t.now) (map arrival_view rows.items)) }
 {
     let length = occurrences(alloc, t)?.len();

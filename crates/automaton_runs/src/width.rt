@@ -1,5 +1,5 @@
 ghost use Rattle.std.specs.Prelude.{◌≡◌, ◌↔◌, ◌<◌, ◌≤◌, ◌^◌, ◌++◌, IfOk, OnOk, IsTrue};
-ghost use Rattle.ctrs_classes.specs.Blames.{leaves};
+ghost use Rattle.rewriting.specs.Variables.{variable_occurrences};
 ghost use Rattle.term_core.specs.View.{view};
 
 use std::alloc::Global;
@@ -22,7 +22,7 @@ pub fn has_more_choices(states: u32, occurrences: usize, limit: u32) -> bool
 
 // Puts the variables of a term as they occur last.
 fn put_occurrences(t: &Term, out: &mut Vec<u32>) -> Result<(), NoMemory>
-    ensures { OnOk result (out.new.items ≡ out.old.items ++ leaves (view t.now)) }
+    ensures { OnOk result (out.new.items ≡ out.old.items ++ variable_occurrences (view t.now)) }
 {
     match t {
         Term::Var(x) => {
@@ -40,7 +40,7 @@ fn put_occurrences(t: &Term, out: &mut Vec<u32>) -> Result<(), NoMemory>
 
 /// The variables of a term as they occur, from left to right.
 pub fn occurrences(alloc: Global, t: &Term) -> Result<Vec<u32>, NoMemory>
-    ensures { IfOk result (λ names. names.items ≡ leaves (view t.now)) }
+    ensures { IfOk result (λ names. names.items ≡ variable_occurrences (view t.now)) }
 {
     let mut out = Vec::new(alloc);
     put_occurrences(t, &mut out)?;

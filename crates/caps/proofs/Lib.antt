@@ -3,3 +3,4 @@ pub mod Instances
 pub mod Steps
 pub mod Reducts
 pub mod Rigid
+pub mod Total

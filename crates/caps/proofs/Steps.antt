@@ -8,7 +8,7 @@ use Rattle.rewriting.specs.Unifiers.{even, odd}
 use Rattle.rewriting.specs.Rules.{Rule, System}
 use Rattle.rewriting.specs.Relations.{Relation, Star, done, more}
 use Rattle.rewriting.specs.Reduction.{Rewrites}
-use Rattle.rewriting.proofs.Instances.{apply-apply, or_right}
+use Rattle.rewriting.proofs.Instances.{apply-apply, or_right, inj_app}
 use Rattle.rewriting.proofs.Unifiers.{both, apply-even, apply-odd}
 use Rattle.rewriting.proofs.Opened.{Open, OpenAny, opened}
 use Rattle.rewriting.proofs.Levels.{IsRuleOf, Contracts, level, level_of_step}
@@ -96,9 +96,6 @@ mutual
 -- steps
 inj_cons : (t u : Term) (ts us : Terms) → cons t ts ≡ cons u us → (t ≡ u) × (ts ≡ us)
 inj_cons t u ts us e = (cc, cc)
-
-inj_app : (f g : ℕ) (ts us : Terms) → app f ts ≡ app g us → ts ≡ us
-inj_app f g ts us e = cc
 
 no_contraction : (sys : System) (S : Relation Term) (c : Cap) (w v : Term) → HasNoRedex sys c → IsInstance c w → Contracts sys S w v → ⊥
 no_contraction sys S c w v none h k = none k.rule k.by k.is_rule (subst (IsInstance c) k.left h)

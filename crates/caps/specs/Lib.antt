@@ -1,3 +1,4 @@
 pub mod Caps
 pub mod Evidence
 pub mod Laws
+pub mod Totality

@@ -2,7 +2,7 @@
 use Rattle.std.specs.Prelude.{ℕ, List, Option, Some}
 use Rattle.cc_io.specs.declared.memory.MemoryShelf.{MemoryShelf}
 use Rattle.cc_io.specs.declared.memory.MemorySink.{MemorySink}
-use Rattle.cc_io.specs.Memory.{first_named, name_at, unread_at}
+use Rattle.cc_io.specs.Memory.{first_named, file_name_at, unread_at}
 
 -- the bytes of each file that a shelf has
 abbrev pub shelf_contents : MemoryShelf → List ℕ → Option (List ℕ)
@@ -10,7 +10,7 @@ shelf_contents m = first_named m.files.items
 
 -- the name of the file that is begun
 abbrev pub shelf_begun : MemoryShelf → Option (List ℕ)
-shelf_begun m = name_at m.files.items m.begun
+shelf_begun m = file_name_at m.files.items m.begun
 
 -- what is unread of the file that is begun
 abbrev pub shelf_rest : MemoryShelf → Option (List ℕ)

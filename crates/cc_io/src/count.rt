@@ -7,25 +7,25 @@ use std::marker::Model;
 /// How often a call was made. Nothing in memory stands for it, so it binds the code that reaches a device through its trait
 /// alone: there nothing but the counted call changes it.
 #[derive(Drop)]
-pub struct Count {
+pub struct CallCount {
     pub ghost number: { ℕ },
 }
 
-impl Model for Count {
+impl Model for CallCount {
     ghost also_owns = { λ _. ftrue };
 }
 
-impl Count {
-    pub fn new() -> Count
+impl CallCount {
+    pub fn new() -> CallCount
         ensures { result.number ≡ 0 }
     {
-        Count {}
+        CallCount {}
     }
 
     /// The count after one more call.
-    pub fn next(&self) -> Count
+    pub fn next(&self) -> CallCount
         ensures { result.number ≡ self.now.number + 1 }
     {
-        Count {}
+        CallCount {}
     }
 }

@@ -5,10 +5,8 @@ mod count;
 mod memory;
 mod shelf;
 mod sink;
-#[cfg(test)]
-mod tests;
 
-pub use count::Count;
+pub use count::CallCount;
 pub use memory::{MemoryFile, MemoryShelf, MemorySink};
 pub use shelf::{ReadAllError, Shelf, read_all};
 pub use sink::{Failed, Sink, WriteFault, write_all};

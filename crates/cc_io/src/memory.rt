@@ -3,7 +3,7 @@ ghost use Rattle.std.specs.Prelude.{◌≡◌, ◌<◌, ◌≤◌, ◌+◌, ◌-
 ghost use Rattle.cc_io.specs.Faults.{Rose, raised, top};
 ghost use Rattle.cc_io.specs.Memory.{bytes_at};
 
-use crate::count::Count;
+use crate::count::CallCount;
 use crate::shelf::Shelf;
 use crate::sink::{Failed, Sink};
 use std::alloc::{AllocError, Global};
@@ -23,13 +23,13 @@ pub struct MemoryShelf {
     calls: u64,
     faults: u64,
     given: u64,
-    reads: Count,
+    reads: CallCount,
     begun: Option<usize>,
     at: usize,
 }
 
 impl MemoryShelf {
-    ghost use Rattle.cc_io.specs.Memory.{place_of, first_named};
+    ghost use Rattle.cc_io.specs.Memory.{index_named, first_named};
     ghost use Rattle.cc_io.specs.Devices.{shelf_contents, shelf_begun, shelf_rest, shelf_faults, shelf_given, shelf_reads, shelf_calls, shelf_fails};
 
     /// These files. Each call whose number, from 1 on, is in `fails` fails. Calls that cannot fail are not counted.
@@ -49,7 +49,7 @@ impl MemoryShelf {
             calls: 0,
             faults: 0,
             given: 0,
-            reads: Count::new(),
+            reads: CallCount::new(),
             begun: None,
             at: 0,
         }
@@ -57,7 +57,7 @@ impl MemoryShelf {
 
     // the place of the first file with this name
     fn place(files: &[MemoryFile], name: &str) -> Option<usize>
-        ensures place { result ≡ place_of files.now name.now }
+        ensures place { result ≡ index_named files.now name.now }
     {
         files.iter().position(|f| f.name.as_str() == name)
     }
@@ -200,7 +200,7 @@ pub struct MemorySink {
     fails: Vec<u64>,
     calls: u64,
     faults: u64,
-    writes: Count,
+    writes: CallCount,
     ghost reserved: { room ≤ vec_capacity bytes },
     ghost piece_some: { 0 < piece },
 }
@@ -232,7 +232,7 @@ impl MemorySink {
             fails,
             calls: 0,
             faults: 0,
-            writes: Count::new(),
+            writes: CallCount::new(),
         })
     }
 

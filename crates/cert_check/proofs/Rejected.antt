@@ -9,7 +9,7 @@ use Rattle.cert_model.specs.declared.model.PairEntry.{PairEntry}
 use Rattle.validity.specs.declared.CheckError.{CheckError}
 use Rattle.validity.specs.declared.CheckError.TheVariants.{Rejected, NoMemory}
 use Rattle.validity.specs.Answers.{QuasiAnswers}
-use Rattle.validity.specs.Certificates.{IsMeasureJudged}
+use Rattle.valid_certificates.specs.Certificates.{IsMeasureJudged}
 use Rattle.cert_check.specs.Answers.{VerdictAnswers}
 
 rejected_so : (sys : System) (m : MeasureCertificate) (es : List math.PairEntry) (e : CheckError) → QuasiAnswers (IsMeasureJudged sys m) sys es (Err e)

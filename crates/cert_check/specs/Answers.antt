@@ -5,7 +5,7 @@ use Rattle.certificates.specs.Certificates.{Certificate}
 use Rattle.cert_model.specs.ReasonView.{rejected_view}
 use Rattle.validity.specs.declared.CheckError.{CheckError}
 use Rattle.validity.specs.declared.CheckError.TheVariants.{Rejected, NoMemory}
-use Rattle.validity.specs.Certificates.{IsValid, IsRejected}
+use Rattle.valid_certificates.specs.Certificates.{IsValid, IsRejected}
 use Rattle.cert_check.specs.Kinds.{verdict_of}
 use Rattle.cert_check.specs.declared.Verdict.{Verdict}
 use Rattle.cert_check.specs.declared.Verdict.TheVariants.{Yes, No}

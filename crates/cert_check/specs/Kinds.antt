@@ -4,8 +4,8 @@ use Rattle.rewriting.specs.Signatures.{IsOver}
 use Rattle.rewriting.specs.Rules.{System}
 use Rattle.certificates.specs.Certificates.{Peak, Certificate, ortho_certificate, quasi_certificate, peak_certificate}
 use Rattle.certificates.specs.Sizes.{IsShort}
-use Rattle.validity.specs.Entries.{ArePairsShort}
-use Rattle.validity.specs.Laws.{ReachesApart}
+use Rattle.valid_certificates.specs.Entries.{ArePairsShort}
+use Rattle.valid_certificates.specs.Laws.{ReachesApart}
 use Rattle.noncon_check.specs.Judges.{AreFew}
 use Rattle.cert_check.specs.declared.Verdict.{Verdict}
 use Rattle.cert_check.specs.declared.Verdict.TheVariants.{Yes, No}
@@ -30,8 +30,8 @@ CanBeJudged sys (ortho_certificate pairs) = ArePairsShort pairs
 CanBeJudged sys (quasi_certificate measure pairs) = ArePairsShort pairs
 CanBeJudged sys (peak_certificate peak) = CanPeakBeJudged sys peak
 
--- the certificate is a peak, whose start reaches two terms that have no common reduct
+-- the certificate is a peak, whose start reaches its two ends, and they have no common reduct
 abbrev pub IsPeakApart : System → Certificate → Type 0
 IsPeakApart sys (ortho_certificate pairs) = ⊥
 IsPeakApart sys (quasi_certificate measure pairs) = ⊥
-IsPeakApart sys (peak_certificate peak) = ReachesApart sys peak.start
+IsPeakApart sys (peak_certificate peak) = ReachesApart sys peak

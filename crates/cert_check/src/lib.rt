@@ -5,8 +5,8 @@ ghost use Rattle.std.specs.Prelude.{◌≡◌, OnOk, map};
 ghost use Rattle.rewriting.specs.Confluence.{IsConfluent};
 ghost use Rattle.certificates.specs.Certificates.{linear_measure};
 ghost use Rattle.cert_model.specs.CertificateView.{linear_entry_view, pair_entry_view, measure_view, certificate_view};
-ghost use Rattle.validity.specs.Entries.{ArePairsShort};
-ghost use Rattle.validity.specs.Certificates.{IsMeasureJudged};
+ghost use Rattle.valid_certificates.specs.Entries.{ArePairsShort};
+ghost use Rattle.valid_certificates.specs.Certificates.{IsMeasureJudged};
 ghost use Rattle.validity.specs.Answers.{QuasiAnswers};
 ghost use Rattle.cert_check.specs.Kinds.{CanBeJudged, IsPeakApart};
 ghost use Rattle.cert_check.specs.Answers.{VerdictAnswers, OnYes, OnNo};
@@ -19,9 +19,6 @@ use quasi_check::check_quasi;
 use std::alloc::Global;
 use term_core::System;
 pub use validity::CheckError;
-
-#[cfg(test)]
-mod tests;
 
 /// What a valid certificate shows.
 #[derive(Clone, Copy, Debug, PartialEq, Eq)]

@@ -6,24 +6,24 @@ use Rattle.std.proofs.lemmas.Result.{err_from_is_err_and}
 use Rattle.std.specs.Prelude.{IfErr}
 use Rattle.certificates.specs.Certificates.{Certificate}
 use Rattle.cops_read.specs.NameTable.{NameTable}
-use Rattle.cert_text.specs.CertificateText.{IsCertificateText}
-use Rattle.cert_text.specs.Marks.{Refusal, syntax}
-use Rattle.cert_text.specs.Refusals.{IsCertificateRefused}
-use Rattle.cert_text.specs.Items.{Item}
-use Rattle.cert_text.specs.FirstRefusal.{Left, Step, accepts, refuses, goes_on, step}
-use Rattle.cert_text.specs.declared.error.CertError.{CertError}
-use Rattle.cert_text.specs.declared.error.CertError.TheVariants.{CertSyntax, UnknownName, WrongArity, BadNumber, CertTooDeep, TooMany, NoMemory}
-use Rattle.cert_text.specs.declared.items.Item as code
-use Rattle.cert_text.specs.ReaderView.{item_view, items_view, told, stopped, IsTold, StepAnswers, step_at}
-use Rattle.cert_text.specs.CertRefusals.{IsRefusedAs}
-use Rattle.cert_text.proofs.FirstRefusals.{Reached, reached_start}
-use Rattle.cert_text.proofs.ExactReader.{weight, goes_nearer, refuses_rightly, accepts_rightly, place_within}
+use Rattle.cert_grammar.specs.CertificateText.{IsCertificateText}
+use Rattle.cert_grammar.specs.Marks.{CertificateCause, syntax}
+use Rattle.cert_grammar.specs.Refusals.{IsCertificateRefused}
+use Rattle.cert_grammar.specs.Items.{Item}
+use Rattle.cert_grammar.specs.FirstRefusal.{Left, Step, accepts, refuses, goes_on, step}
+use Rattle.cert_refusals.specs.declared.error.CertError.{CertError}
+use Rattle.cert_refusals.specs.declared.error.CertError.TheVariants.{CertSyntax, UnknownName, WrongArity, BadNumber, CertTooDeep, TooMany, NoMemory}
+use Rattle.cert_refusals.specs.declared.items.Item as code
+use Rattle.cert_refusals.specs.ReaderView.{item_view, items_view, told, stopped, IsTold, StepAnswers, step_at}
+use Rattle.cert_refusals.specs.CertRefusals.{IsRefusedAs}
+use Rattle.cert_laws.proofs.FirstRefusals.{Reached, reached_start}
+use Rattle.cert_laws.proofs.ExactReader.{weight, goes_nearer, refuses_rightly, accepts_rightly, place_within}
 
-abbrev pub place_of : List ℕ → List Item → List ℕ → Left
-place_of bytes items left = record { at = length bytes - length left; items = items; bytes = left }
+abbrev pub left_at : List ℕ → List Item → List ℕ → Left
+left_at bytes items left = record { at = length bytes - length left; items = items; bytes = left }
 
 abbrev pub Stands : NameTable → List ℕ → List Item → List ℕ → Type 0
-Stands names bytes items left = Reached names bytes (place_of bytes items left) × (length left ≤ length bytes)
+Stands names bytes items left = Reached names bytes (left_at bytes items left) × (length left ≤ length bytes)
 
 pub stands_first : (names : NameTable) (bytes : List ℕ) → Stands names bytes (item_view code.TheVariants.Opening ∷ []) bytes
 stands_first names bytes =
@@ -31,19 +31,19 @@ stands_first names bytes =
     (subst (λ (n : ℕ). Reached names bytes (record { at = n; items = item_view code.TheVariants.Opening ∷ []; bytes = bytes })) none (reached_start names bytes), omega arith)
 
 abbrev pub IsNearer : NameTable → List ℕ → List Item → List ℕ → List Item → List ℕ → Type 0
-IsNearer names bytes before left after rest = Stands names bytes after rest × (weight (place_of bytes after rest) < weight (place_of bytes before left))
+IsNearer names bytes before left after rest = Stands names bytes after rest × (weight (left_at bytes after rest) < weight (left_at bytes before left))
 
-one_further : (names : NameTable) (bytes : List ℕ) (before after : List Item) (left rest : List ℕ) (at : ℕ) → Reached names bytes (place_of bytes before left) → step names (place_of bytes before left) ≡ goes_on (record { at = at; items = after; bytes = rest }) → IsNearer names bytes before left after rest
+one_further : (names : NameTable) (bytes : List ℕ) (before after : List Item) (left rest : List ℕ) (at : ℕ) → Reached names bytes (left_at bytes before left) → step names (left_at bytes before left) ≡ goes_on (record { at = at; items = after; bytes = rest }) → IsNearer names bytes before left after rest
 one_further names bytes before after left rest at r e =
     let m : Left = record { at = at; items = after; bytes = rest } in
-    let g = goes_nearer names bytes (place_of bytes before left) m r e in
+    let g = goes_nearer names bytes (left_at bytes before left) m r e in
     let whole : at + length rest ≡ length bytes = place_within names bytes m g.0 in
     let place : at ≡ length bytes - length rest = omega (arith, whole) in
     ((subst (λ (n : ℕ). Reached names bytes (record { at = n; items = after; bytes = rest })) place g.0, omega (arith, whole)), g.1)
 
 -- a step that goes on
-pub goes_further : (names : NameTable) (bytes : List ℕ) (before parts : List Item) (i : Item) (after : List Item) (left rest : List ℕ) (at : ℕ) → Stands names bytes before left → before ≡ i ∷ parts → step names (place_of bytes (i ∷ parts) left) ≡ goes_on (record { at = at; items = after; bytes = rest }) → IsNearer names bytes before left after rest
-goes_further names bytes before parts i after left rest at s e h = one_further names bytes before after left rest at s.0 (ap (λ (x : List Item). step names (place_of bytes x left)) e ∙ h)
+pub goes_further : (names : NameTable) (bytes : List ℕ) (before parts : List Item) (i : Item) (after : List Item) (left rest : List ℕ) (at : ℕ) → Stands names bytes before left → before ≡ i ∷ parts → step names (left_at bytes (i ∷ parts) left) ≡ goes_on (record { at = at; items = after; bytes = rest }) → IsNearer names bytes before left after rest
+goes_further names bytes before parts i after left rest at s e h = one_further names bytes before after left rest at s.0 (ap (λ (x : List Item). step names (left_at bytes x left)) e ∙ h)
 
 -- the last of the stack is the next item
 pub popped : (before parts : List code.Item) (i : code.Item) → before ≡ parts ++ i ∷ [] → items_view before ≡ item_view i ∷ items_view parts
@@ -53,13 +53,9 @@ pub none_left : (parts : List code.Item) → length parts ≡ 0 → items_view p
 none_left [] e = refl
 none_left (i ∷ parts) e = absurd (omega (arith, e))
 
--- the step at an item that is this one
-pub at_item : {A : Type 0} (names : NameTable) (at : ℕ) (i j : code.Item) (parts after : List code.Item) (bytes : List ℕ) (left : A → List ℕ) (r : Result A CertError) → i ≡ j → StepAnswers (step_at names at (item_view j) parts bytes) at bytes after left r → StepAnswers (step_at names at (item_view i) parts bytes) at bytes after left r
-at_item names at i j parts after bytes left r e h = subst (λ (x : code.Item). StepAnswers (step_at names at (item_view x) parts bytes) at bytes after left r) (sym e) h
-
 -- ---- what is told
 
-told_as : (names : NameTable) (bytes : List ℕ) (e : CertError) → ((f : Refusal) (at : ℕ) → told e ≡ Some (f, at) → IsCertificateRefused names bytes f at) → IsRefusedAs names bytes e
+told_as : (names : NameTable) (bytes : List ℕ) (e : CertError) → ((f : CertificateCause) (at : ℕ) → told e ≡ Some (f, at) → IsCertificateRefused names bytes f at) → IsRefusedAs names bytes e
 told_as names bytes (CertSyntax at) h = h _ at refl
 told_as names bytes (UnknownName at) h = h _ at refl
 told_as names bytes (WrongArity at) h = h _ at refl
@@ -68,22 +64,22 @@ told_as names bytes (CertTooDeep at) h = h _ at refl
 told_as names bytes (TooMany what at) h = h _ at refl
 told_as names bytes NoMemory h = tt
 
-some_same : (a b : Refusal × ℕ) → ◌≡◌ {A = Option (Refusal × ℕ)} (Some a) (Some b) → a ≡ b
+some_same : (a b : CertificateCause × ℕ) → ◌≡◌ {A = Option (CertificateCause × ℕ)} (Some a) (Some b) → a ≡ b
 some_same a b e = cc
 
-was_refused : (s : Step) (f : Refusal) (at : ℕ) → stopped s ≡ Some (f, at) → s ≡ refuses f at
+was_refused : (s : Step) (f : CertificateCause) (at : ℕ) → stopped s ≡ Some (f, at) → s ≡ refuses f at
 was_refused accepts f at e = absurd cc
 was_refused (goes_on l) f at e = absurd cc
-was_refused (refuses g place) f at e = ap (λ (x : Refusal × ℕ). refuses x.0 x.1) (some_same (g, place) (f, at) e)
+was_refused (refuses g place) f at e = ap (λ (x : CertificateCause × ℕ). refuses x.0 x.1) (some_same (g, place) (f, at) e)
 
-is_told : (o p : Option (Refusal × ℕ)) (x : Refusal × ℕ) → IsTold o p → p ≡ Some x → o ≡ Some x
+is_told : (o p : Option (CertificateCause × ℕ)) (x : CertificateCause × ℕ) → IsTold o p → p ≡ Some x → o ≡ Some x
 is_told o None x h e = absurd cc
 is_told o (Some y) x h e = h ∙ e
 
 -- a step that refuses
-pub refused_there : (names : NameTable) (bytes : List ℕ) (before parts : List Item) (i : Item) (left : List ℕ) (e : CertError) → Stands names bytes before left → before ≡ i ∷ parts → IsTold (stopped (step names (place_of bytes (i ∷ parts) left))) (told e) → IsRefusedAs names bytes e
+pub refused_there : (names : NameTable) (bytes : List ℕ) (before parts : List Item) (i : Item) (left : List ℕ) (e : CertError) → Stands names bytes before left → before ≡ i ∷ parts → IsTold (stopped (step names (left_at bytes (i ∷ parts) left))) (told e) → IsRefusedAs names bytes e
 refused_there names bytes before parts i left e s p h =
-    told_as names bytes e (λ f at t. refuses_rightly names bytes (place_of bytes (i ∷ parts) left) f at (subst (λ (x : List Item). Reached names bytes (place_of bytes x left)) p s.0) (was_refused (step names (place_of bytes (i ∷ parts) left)) f at (is_told _ (told e) (f, at) h t)))
+    told_as names bytes e (λ f at t. refuses_rightly names bytes (left_at bytes (i ∷ parts) left) f at (subst (λ (x : List Item). Reached names bytes (left_at bytes x left)) p s.0) (was_refused (step names (left_at bytes (i ∷ parts) left)) f at (is_told _ (told e) (f, at) h t)))
 
 -- an error that is handed on
 pub handed_error : {A : Type 0} (names : NameTable) (bytes : List ℕ) (r : Result A CertError) (x : CertError) → IsErrAnd r (λ y. y ≡ x) → IsRefusedAs names bytes x → IfErr r (λ e. IsRefusedAs names bytes e)
@@ -95,9 +91,9 @@ handed_error names bytes r x e h =
 -- ---- where no item is left
 
 pub accepted_there : (names : NameTable) (bytes : List ℕ) (left : List ℕ) → Stands names bytes [] left → length left ≡ 0 → (c : Certificate) × IsCertificateText names bytes c
-accepted_there names bytes [] s e = accepts_rightly names bytes (place_of bytes [] []) s.0 refl
+accepted_there names bytes [] s e = accepts_rightly names bytes (left_at bytes [] []) s.0 refl
 accepted_there names bytes (b ∷ left) s e = absurd (omega (arith, e))
 
 pub refused_behind : (names : NameTable) (bytes : List ℕ) (left : List ℕ) → Stands names bytes [] left → 0 < length left → IsCertificateRefused names bytes syntax (length bytes - length left)
 refused_behind names bytes [] s e = absurd (omega (arith, e))
-refused_behind names bytes (b ∷ left) s e = refuses_rightly names bytes (place_of bytes [] (b ∷ left)) syntax (length bytes - length (b ∷ left)) s.0 refl
+refused_behind names bytes (b ∷ left) s e = refuses_rightly names bytes (left_at bytes [] (b ∷ left)) syntax (length bytes - length (b ∷ left)) s.0 refl

@@ -1,6 +1,6 @@
-ghost use Rattle.cert_text.specs.FirstRefusalLaws.{ReaderIsExact, AnswersAreRead, OneOrTheOther};
-ghost use Rattle.cert_text.specs.RefusalRows.{AreRefused};
-ghost use Rattle.cert_text.specs.MarkLaws.{IsDeterministic, OneRefusal, NeverBoth, PlacesAreWithin, CertificatesPass, PassingAreCertificates};
+ghost use Rattle.cert_laws.specs.FirstRefusalLaws.{ReaderIsExact, AnswersAreRead, OneOrTheOther};
+ghost use Rattle.cert_laws.specs.RefusalRows.{AreRefused};
+ghost use Rattle.cert_laws.specs.MarkLaws.{IsDeterministic, OneRefusal, NeverBoth, PlacesAreWithin, CertificatesPass, PassingAreCertificates};
 
 /// What bytes go along is determined by them: two texts of the grammar have the same marks, or no bytes go along both.
 pub fn grammar_is_deterministic()

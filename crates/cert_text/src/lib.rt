@@ -1,31 +1,31 @@
 //! Reads the text of a certificate, and writes it.
+//!
+//! For the system with the rules `a -> b` and `a -> c` this text is a certificate that it is not confluent: the
+//! first rule leads from `a` to `b`, the second to `c`, and no left side matches in either.
+//!
+//! ```text
+//! concon 1
+//! peak
+//! start a
+//! steps 1
+//! rule 1 e 0
+//! steps 1
+//! rule 2 e 0
+//! normal
+//! end
+//! ```
+//!
+//! The definitions stand in `cert_grammar`: the one text of a certificate (`CertificateText`), and why and where
+//! another text is refused (`Refusals`). The exported calls here are over the reader of lines and words
+//! (`cert_lines`), the steps to the first refusal (`cert_refusals`) and the writer (`cert_writing`).
 #![tactic(auto)]
 
-mod automata;
-mod automaton_steps;
-mod demands;
-mod error;
-mod evidence;
-mod items;
 mod laws;
-mod list_steps;
-mod measures;
-mod number_steps;
-mod output;
-mod peaks;
 mod reader;
 mod refusal;
-mod scans;
-mod steps;
-mod term_steps;
-mod terms;
-mod words;
 mod writer;
-mod written_evidence;
-mod written_steps;
-mod written_terms;
 
-pub use error::{CertCount, CertError};
+pub use cert_refusals::{CertCount, CertError};
 pub use laws::{
     demands_are_met, grammar_is_deterministic, one_answer, reader_stops_at_refusals,
     worked_refusals,

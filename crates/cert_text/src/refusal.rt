@@ -1,67 +1,14 @@
 //! Why a text is no certificate, and at which place: a reader that stops at the first refusal, with one
 //! step a word over a stack of the parts that are still to be read.
 
-ghost use Rattle.std.specs.Prelude.{◌≤◌, ◌+◌, length, OnOk, IfErr};
+ghost use Rattle.std.specs.Prelude.{OnOk, IfErr};
 ghost use Rattle.certificates.specs.Certificates.{Certificate};
-ghost use Rattle.cert_text.specs.CertificateText.{IsCertificateText};
-ghost use Rattle.cert_text.specs.CertRefusals.{IsRefusedAs};
-ghost use Rattle.cert_text.specs.ReaderView.{item_view, StepAnswers, step_at};
+ghost use Rattle.cert_grammar.specs.CertificateText.{IsCertificateText};
+ghost use Rattle.cert_refusals.specs.CertRefusals.{IsRefusedAs};
 
-use crate::automaton_steps::automaton_step;
-use crate::error::CertError;
-use crate::items::{Between, Item, Word};
-use crate::list_steps::{
-    apart, between, body, coefficients, derivations, entries, evidence, fixed, infeasibility, line,
-    opening, pairs, redexes, start_line, steps,
-};
-use crate::number_steps::{
-    any_number, any_position, coefficient, condition_count, measured_condition, measured_name,
-    step_count,
-};
-use crate::term_steps::term_step;
+use cert_refusals::{CertError, Item, step};
 use cops_read::Names;
 use std::alloc::Global;
-
-// a step at the part that is next
-fn step<'a>(
-    alloc: Global,
-    names: &Names,
-    stack: &mut Vec<Item<'a>>,
-    item: Item<'a>,
-    left: &'a [u8],
-    at: usize,
-) -> Result<&'a [u8], CertError>
-    requires { at + length left.now ≤ usize.MAX }
-    ensures { StepAnswers (step_at names.now at (item_view item.entry) stack.old.items left.now) at left.now stack.new.items (λ rest. rest.now) result }
-{
-    match item {
-        Item::Opening => opening(stack, left, at),
-        Item::Heading(given) => line(stack, left, at, Word::First, Item::Body(given)),
-        Item::Body(given) => body(stack, left, at, given),
-        Item::Between(bytes) => between(left, at, bytes),
-        Item::AnyNumber(bytes) => any_number(stack, left, at, bytes),
-        Item::AnyPosition(bytes) => any_position(stack, left, at, bytes),
-        Item::PairsFrom(number) => pairs(stack, left, at, number),
-        Item::EntriesFrom(number) => entries(stack, left, at, number),
-        Item::RedexesFrom(number) => redexes(stack, left, at, number),
-        Item::LastLine => fixed(left, at, Word::End),
-        Item::Measure => line(stack, left, at, Word::Linear, Item::EntriesFrom(1)),
-        Item::MeasuredName => measured_name(names, stack, left, at),
-        Item::MeasuredCondition => measured_condition(stack, left, at),
-        Item::CoefficientsBehind(count) => coefficients(stack, left, at, count),
-        Item::Coefficient(count) => coefficient(stack, left, at, count),
-        Item::Evidence => evidence(stack, left, at),
-        Item::Infeasibility => infeasibility(stack, left, at),
-        Item::Automaton(part) => automaton_step(names, stack, part, left, at),
-        Item::DerivationsLeft(level, more) => derivations(stack, left, at, level, more),
-        Item::StepCount(level) => step_count(stack, left, at, level),
-        Item::StepsLeft(level, more) => steps(stack, left, at, level, more),
-        Item::ConditionCount(level) => condition_count(stack, left, at, level),
-        Item::StartLine => start_line(stack, left, at, Vec::new(alloc)),
-        Item::Term(part) => term_step(names, stack, part, left, at),
-        Item::Apart => apart(stack, left, at),
-    }
-}
 
 /// The refusal of the bytes, unless they are the text of a certificate.
 pub fn first_refusal(alloc: Global, names: &Names, bytes: &[u8]) -> Result<(), CertError>

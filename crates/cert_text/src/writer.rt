@@ -1,138 +1,16 @@
-ghost use Rattle.std.specs.Prelude.{◌≡◌, ◌++◌, ℕ, List, OnOk, OnErr, length, map, min};
+ghost use Rattle.std.specs.Prelude.{◌≡◌, ◌++◌, ℕ, List, OnOk, OnErr, length, min};
 ghost use Rattle.certificates.specs.Certificates as math;
-ghost use Rattle.term_core.specs.HeadView.{head_view};
 ghost use Rattle.cops_read.specs.NameTable.{NameTable};
-ghost use Rattle.cert_model.specs.CertificateView.{linear_entry_view, measure_view, redex_view, apart_view, peak_view, certificate_view};
-ghost use Rattle.cert_text.specs.WrittenParts.{entry_text, redex_text};
-ghost use Rattle.cert_text.specs.Written.{GrewByFront, greatest};
-ghost use Rattle.cert_text.specs.CertificateText.{measured_text, entries_text, measure_text, redexes_text, apart_text, peak_text, body_text, certificate_text, CanBeSpelt, IsCertificateText};
+ghost use Rattle.cert_model.specs.CertificateView.{certificate_view};
+ghost use Rattle.cert_writing.specs.Written.{GrewByFront, greatest};
+ghost use Rattle.cert_grammar.specs.CertificateText.{certificate_text, CanBeSpelt, IsCertificateText};
 
-use crate::output::{Counter, Output, Writer, put_number};
-use crate::written_evidence::{put_infeasibility, put_numbers, put_pairs};
-use crate::written_steps::put_derivation;
-use crate::written_terms::{put_name, put_position, put_term};
-use cert_model::{Certificate, Head, LinearEntry, MeasureCert, NonJoin, Peak, Redex};
+use cert_model::Certificate;
+use cert_writing::{Counter, Writer, put_certificate};
 use cops_read::Names;
 use std::alloc::Global;
 use std::mem;
 use term_core::NoMemory;
-
-// A symbol of the file, or the symbol that a rule has for one of its conditions.
-fn put_measured<O: Output>(to: &mut O, names: &Names, head: &Head)
-    ensures { O.took to.old (measured_text names.now (head_view head.now)) to.new }
-{
-    match head {
-        Head::File(symbol) => {
-            to.put(b"fun ");
-            put_name(to, names, *symbol);
-        }
-        Head::Aux { rule, cond } => {
-            to.put(b"aux ");
-            put_number(to, *rule as usize);
-            to.put(b" ");
-            put_number(to, *cond as usize);
-        }
-    }
-}
-
-fn put_entry<O: Output>(to: &mut O, names: &Names, entry: &LinearEntry)
-    ensures { O.took to.old (entry_text names.now (linear_entry_view entry.now)) to.new }
-{
-    put_measured(to, names, &entry.head);
-    put_numbers(to, &entry.coeffs);
-    to.put(b"\n");
-}
-
-fn put_entries<O: Output>(to: &mut O, names: &Names, entries: &[LinearEntry])
-    ensures { O.took to.old (entries_text names.now (map linear_entry_view entries.now)) to.new }
-{
-    'entries: for entry in entries {
-        put_entry(to, names, entry);
-    }
-}
-
-fn put_measure<O: Output>(to: &mut O, names: &Names, measure: &MeasureCert)
-    ensures { O.took to.old (measure_text names.now (measure_view measure.now)) to.new }
-{
-    match measure {
-        MeasureCert::Linear(linear) => {
-            to.put(b"linear\n");
-            put_entries(to, names, &linear.entries);
-        }
-    }
-}
-
-fn put_redex<O: Output>(to: &mut O, names: &Names, redex: &Redex)
-    ensures { O.took to.old (redex_text names.now (redex_view redex.now)) to.new }
-{
-    to.put(b"redex ");
-    put_number(to, redex.which as usize);
-    to.put(b" ");
-    put_position(to, &redex.pos);
-    to.put(b" ");
-    put_number(to, redex.rule as usize);
-    to.put(b" ");
-    put_infeasibility(to, names, &redex.evidence);
-}
-
-fn put_redexes<O: Output>(to: &mut O, names: &Names, redexes: &[Redex])
-    ensures { O.took to.old (redexes_text names.now (map redex_view redexes.now)) to.new }
-{
-    'redexes: for redex in redexes {
-        put_redex(to, names, redex);
-    }
-}
-
-fn put_apart<O: Output>(to: &mut O, names: &Names, apart: &NonJoin)
-    ensures { O.took to.old (apart_text names.now (apart_view apart.now)) to.new }
-{
-    match apart {
-        NonJoin::Normal(redexes) => {
-            to.put(b"normal\n");
-            put_redexes(to, names, redexes);
-        }
-        NonJoin::Caps => to.put(b"caps\n"),
-    }
-}
-
-fn put_peak<O: Output>(to: &mut O, names: &Names, peak: &Peak)
-    ensures { O.took to.old (peak_text names.now (peak_view peak.now)) to.new }
-{
-    to.put(b"start ");
-    put_term(to, names, &peak.start);
-    to.put(b"\n");
-    put_derivation(to, &peak.first);
-    put_derivation(to, &peak.second);
-    put_apart(to, names, &peak.apart);
-}
-
-fn put_body<O: Output>(to: &mut O, names: &Names, cert: &Certificate)
-    ensures { O.took to.old (body_text names.now (certificate_view cert.now)) to.new }
-{
-    match cert {
-        Certificate::Ortho(pairs) => {
-            to.put(b"ortho\n");
-            put_pairs(to, names, pairs);
-        }
-        Certificate::Quasi(measure, pairs) => {
-            to.put(b"quasi\n");
-            put_measure(to, names, measure);
-            put_pairs(to, names, pairs);
-        }
-        Certificate::Peak(peak) => {
-            to.put(b"peak\n");
-            put_peak(to, names, peak);
-        }
-    }
-}
-
-fn put_certificate<O: Output>(to: &mut O, names: &Names, cert: &Certificate)
-    ensures { O.took to.old (certificate_text names.now (certificate_view cert.now)) to.new }
-{
-    to.put(b"concon 1\n");
-    put_body(to, names, cert);
-    to.put(b"end\n");
-}
 
 /// Writes the text of a certificate behind the bytes of `out`, without an answer line. A symbol without
 /// a name is written as nothing. Where memory is refused, a front of the text stands behind them.

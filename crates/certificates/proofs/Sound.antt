@@ -4,7 +4,7 @@ use Rattle.std.proofs.lemmas.Bool.{false≢true}
 use Rattle.std.specs.Ordering.{eq_by_cmp}
 use Rattle.std.specs.Cmp.{nat_cmp_total, nat_cmp_is, Equal-is}
 use Rattle.std.specs.FinMap.{get, insert, get-insert, get-empty, empty, nat_cmp-IsAntisymmetric}
-use Rattle.rewriting.specs.Matching.{Extends, Solves, SolvesAll, IsLeastMatch}
+use Rattle.rewriting.specs.Matching.{Extends, Solves, SolvesAll, IsLeastMatch, Covers}
 use Rattle.rewriting.specs.Systems.{IsWellFormed, Each, terms_of_rule}
 use Rattle.rewriting.proofs.Common.{Term, var, app, Terms, nil, cons, Position, subterm, replace, Substitution, Bindings, apply, compose, values_of, Signature, IsOver, AreOver, AreValuesOver, Condition, Rule, System, sides, Meets, Reaches, Star, done}
 use Rattle.rewriting.proofs.Closures.{Star-one, Star-trans, Star-mono}
@@ -19,7 +19,7 @@ use Rattle.rewriting.proofs.Closed.{Reaches-at}
 use Rattle.rewriting.proofs.Over.{IsOver-apply}
 use Rattle.rewriting.proofs.Unraveled.{argument_of_over, replace_over}
 use Rattle.certificates.specs.Derivations.{Derivation, no_steps, first_step, Step, by_rule, by_hypothesis, Derivations, no_derivations, first_derivation}
-use Rattle.certificates.specs.Judging.{Covers, hypothesis_at, RuleMatches, HypothesisStep, Derives, StepsTo, AreMet}
+use Rattle.certificates.specs.Judging.{hypothesis_at, RuleMatches, HypothesisStep, Derives, StepsTo, AreMet}
 use Rattle.certificates.specs.Soundness.{AreConditionsOver, ReachesUnder}
 
 -- a part of a term over the symbols is one

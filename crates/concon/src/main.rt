@@ -1,26 +1,13 @@
-//! Checks certificates of confluence and of its failure for conditional rewrite systems.
+//! The program: hands the words, the real files and the two standard streams to `concon_run`, and ends with its status.
 #![tactic(auto)]
 
 mod adapters;
-mod judge;
-mod pieces;
-#[cfg(test)]
-mod reason_tests;
-mod refusals;
-mod reply;
-mod status;
-#[cfg(test)]
-mod tests;
-mod texts;
-mod top;
-mod words;
 
 use adapters::{DiskShelf, StreamSink};
-use reply::{Reply, deliver, no_memory};
+use concon_run::{Status, run};
 use std::env;
 use std::io::ErrorKind;
 use std::process::ExitCode;
-use top::{run, usage};
 
 fn words_of(rt: &HostRuntime) -> std::io::Result<Vec<String>> {
     let mut words = Vec::new(rt.alloc());
@@ -30,29 +17,31 @@ fn words_of(rt: &HostRuntime) -> std::io::Result<Vec<String>> {
     Ok(words)
 }
 
-// What is said where the words were not taken: they are no texts, or memory was refused.
-fn without_words(e: &std::io::Error) -> Reply {
-    if e.kind() == ErrorKind::OutOfMemory {
-        no_memory()
+// How a run ends whose words were not taken, since memory was refused or they are no texts. Nothing is written.
+fn without_words(error: &std::io::Error) -> Status {
+    if error.kind() == ErrorKind::OutOfMemory {
+        Status::NoMemory
     } else {
-        usage()
+        Status::Usage
     }
 }
 
-fn main(rt: HostRuntime) -> ExitCode {
-    let mut out = StreamSink::new(rt.stdout());
-    let mut err = StreamSink::new(rt.stderr());
-    let owned = match words_of(&rt) {
-        Ok(owned) => owned,
-        Err(e) => return ExitCode::from(deliver(&without_words(&e), &mut out, &mut err).code()),
-    };
+fn run_on_disk(rt: &HostRuntime) -> std::io::Result<Status> {
+    let owned = words_of(rt)?;
     let mut words = Vec::new(rt.alloc());
     for word in &owned {
-        if words.push(word.as_str()).is_err() {
-            return ExitCode::from(deliver(&no_memory(), &mut out, &mut err).code());
-        }
+        words.push(word.as_str())?;
     }
-    let mut shelf = DiskShelf::new(&rt, &words);
-    let status = run(rt.alloc(), &words, &mut shelf, &mut out, &mut err);
+    let mut shelf = DiskShelf::new(rt, &words);
+    let mut out = StreamSink::new(rt.stdout());
+    let mut err = StreamSink::new(rt.stderr());
+    Ok(run(rt.alloc(), &words, &mut shelf, &mut out, &mut err))
+}
+
+fn main(rt: HostRuntime) -> ExitCode {
+    let status = match run_on_disk(&rt) {
+        Ok(status) => status,
+        Err(error) => without_words(&error),
+    };
     ExitCode::from(status.code())
 }

@@ -1,14 +1,10 @@
 -- The laws of files.
-use Rattle.file_text.proofs.OneReading.{one_bad_place, never_both as never_tokens_and_refusal}
-use Rattle.file_text.proofs.SomeReading.{tokens_or_refusal}
-use Rattle.file_text.proofs.TextLaws.{one_tree_of, one_refusal_of, never_tree_and_refusal, tree_or_refusal}
-use Rattle.cops_read.specs.Answers.{OneSystem, SystemsAreSound, SystemsAreWithinLimits, OneRefusal, NeverSystemAndRefusal, SystemOrRefusal}
-use Rattle.cops_read.proofs.Sound.{system_is}
-use Rattle.cops_read.proofs.Within.{is_within_limits}
-use Rattle.cops_read.proofs.Refused as refused
-
-pub one_reading : OneSystem
-one_reading = refused.one one_tree_of
+use Rattle.cops_systems.specs.File.{no_tokens, no_tree, no_meaning}
+use Rattle.cops_read.specs.Answers.{SystemsAreSound, SystemsAreWithinLimits, RefusalsAreWithin}
+use Rattle.file_text.proofs.Within.{no_tokens_within, no_text_within}
+use Rattle.cops_systems.proofs.Sound.{system_is}
+use Rattle.cops_systems.proofs.Within.{is_within_limits}
+use Rattle.cops_systems.proofs.Places.{means_nothing_within}
 
 pub sound : SystemsAreSound
 sound bytes sys names h = system_is h.tree sys names h.meant
@@ -16,11 +12,7 @@ sound bytes sys names h = system_is h.tree sys names h.meant
 pub within_limits : SystemsAreWithinLimits
 within_limits bytes sys names h = is_within_limits h.tree sys names h.meant
 
-pub one_refusal : OneRefusal
-one_refusal = refused.one_refusal one_tree_of one_bad_place never_tokens_and_refusal one_refusal_of never_tree_and_refusal
-
-pub never_both : NeverSystemAndRefusal
-never_both = refused.never_both one_tree_of one_bad_place never_tokens_and_refusal one_refusal_of never_tree_and_refusal
-
-pub some_reading : SystemOrRefusal
-some_reading = refused.some tokens_or_refusal tree_or_refusal
+pub refusals_within : RefusalsAreWithin
+refusals_within bytes (no_tokens cause) at h = no_tokens_within bytes cause at h
+refusals_within bytes (no_tree cause) at h = no_text_within bytes cause at h
+refusals_within bytes (no_meaning cause) at h = means_nothing_within bytes cause at h

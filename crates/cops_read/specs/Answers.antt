@@ -1,59 +1,33 @@
 -- What a reader of a file answers, and laws of files.
-use Rattle.std.specs.Prelude.{◌≡◌, ◌⊎◌, ℕ, List, Result, Ok, Err, Some}
+use Rattle.std.specs.Prelude.{◌≡◌, ◌≤◌, ◌⊎◌, ℕ, List, length, Result, Ok, Err}
 use Rattle.rewriting.specs.Rules.{System}
 use Rattle.rewriting.specs.Systems.{IsSystem}
-use Rattle.file_text.specs.Syntax.{FileTree}
-use Rattle.file_text.specs.Tokens.{IsBadByte, IsLongId, IsOpenComment}
+use Rattle.file_text.specs.Tokens.{bad_byte, long_id, open_comment}
 use Rattle.file_text.specs.Refusals.{unknown_block, repeated_block, other_condition_type, wrong_syntax, missing_rules}
-use Rattle.file_text.specs.Texts.{IsText, IsNoText}
-use Rattle.cops_read.specs.NameTable.{NameTable}
-use Rattle.cops_read.specs.Limits.{IsWithinLimits}
-use Rattle.cops_read.specs.File.{IsFile}
-use Rattle.cops_read.specs.Refusals.{Cause, too_many_rules, too_many_conditions, too_many_arguments, conditions_without_type, too_deep, too_many_nodes, variable_with_arguments, left_variable, too_many_variables, too_many_symbols, arity_differs, refusal_of}
-use Rattle.cops_read.specs.declared.reader.Count.{Count}
-use Rattle.cops_read.specs.declared.reader.Count.TheVariants as count
-use Rattle.cops_read.specs.declared.reader.ReadError.{ReadError}
-use Rattle.cops_read.specs.declared.reader.ReadError.TheVariants.{BadByte, IdTooLong, CommentNotClosed, Syntax, UnknownBlock, RepeatedBlock, ConditionTypeOther, MissingRules, ConditionsWithoutType, VariableWithArguments, ArityDiffers, LeftVariable, TooDeep, TooMany, NoMemory}
+use Rattle.cops_names.specs.NameTable.{NameTable}
+use Rattle.cops_systems.specs.Limits.{IsWithinLimits}
+use Rattle.cops_systems.specs.File.{IsFile, FileCause, no_tokens, no_tree, no_meaning, IsNoFile}
+use Rattle.cops_systems.specs.Refusals.{conditions_without_type, too_deep, variable_with_arguments, left_variable, arity_differs}
+pub use Rattle.cops_systems.specs.Counts.{cause_of_count, most_of}
+use Rattle.cops_systems.specs.declared.errors.ReadError.{ReadError}
+use Rattle.cops_systems.specs.declared.errors.ReadError.TheVariants.{BadByte, IdTooLong, CommentNotClosed, Syntax, UnknownBlock, RepeatedBlock, ConditionTypeOther, MissingRules, ConditionsWithoutType, VariableWithArguments, ArityDiffers, LeftVariable, TooDeep, TooMany, NoMemory}
 
--- the text spells a tree that means no system, for this cause at this place
-pub record MeansNothing (bytes : List ℕ) (cause : Cause) (at : ℕ) : Type 0 where
-  pub tree : FileTree
-  pub spelled : IsText bytes tree
-  pub refused : refusal_of tree ≡ Some (cause, at)
-
--- the cause where there are too many parts of a kind, and the greatest number of them
-abbrev pub cause_of_count : Count → Cause
-cause_of_count count.Rules = too_many_rules
-cause_of_count count.Conditions = too_many_conditions
-cause_of_count count.Arity = too_many_arguments
-cause_of_count count.Nodes = too_many_nodes
-cause_of_count count.Variables = too_many_variables
-cause_of_count count.Symbols = too_many_symbols
-
-abbrev pub most_of : Count → ℕ
-most_of count.Rules = 1000
-most_of count.Conditions = 20
-most_of count.Arity = 20
-most_of count.Nodes = 2000
-most_of count.Variables = 100
-most_of count.Symbols = 1000
-
--- why a text spells no system, and where
+-- the error tells why the text spells no system, and where; memory may be refused at any text
 abbrev pub IsRefusedFor : List ℕ → ReadError → Type 0
-IsRefusedFor bytes (BadByte at) = IsBadByte bytes at
-IsRefusedFor bytes (IdTooLong at) = IsLongId bytes at
-IsRefusedFor bytes (CommentNotClosed at) = IsOpenComment bytes at
-IsRefusedFor bytes (Syntax at) = IsNoText bytes wrong_syntax at
-IsRefusedFor bytes (UnknownBlock at) = IsNoText bytes unknown_block at
-IsRefusedFor bytes (RepeatedBlock at) = IsNoText bytes repeated_block at
-IsRefusedFor bytes (ConditionTypeOther at) = IsNoText bytes other_condition_type at
-IsRefusedFor bytes (MissingRules at) = IsNoText bytes missing_rules at
-IsRefusedFor bytes (ConditionsWithoutType at) = MeansNothing bytes conditions_without_type at
-IsRefusedFor bytes (VariableWithArguments at) = MeansNothing bytes variable_with_arguments at
-IsRefusedFor bytes (ArityDiffers at) = MeansNothing bytes arity_differs at
-IsRefusedFor bytes (LeftVariable at) = MeansNothing bytes left_variable at
-IsRefusedFor bytes (TooDeep at) = MeansNothing bytes too_deep at
-IsRefusedFor bytes (TooMany what limit at) = MeansNothing bytes (cause_of_count what) at × (limit ≡ most_of what)
+IsRefusedFor bytes (BadByte at) = IsNoFile bytes (no_tokens bad_byte) at
+IsRefusedFor bytes (IdTooLong at) = IsNoFile bytes (no_tokens long_id) at
+IsRefusedFor bytes (CommentNotClosed at) = IsNoFile bytes (no_tokens open_comment) at
+IsRefusedFor bytes (Syntax at) = IsNoFile bytes (no_tree wrong_syntax) at
+IsRefusedFor bytes (UnknownBlock at) = IsNoFile bytes (no_tree unknown_block) at
+IsRefusedFor bytes (RepeatedBlock at) = IsNoFile bytes (no_tree repeated_block) at
+IsRefusedFor bytes (ConditionTypeOther at) = IsNoFile bytes (no_tree other_condition_type) at
+IsRefusedFor bytes (MissingRules at) = IsNoFile bytes (no_tree missing_rules) at
+IsRefusedFor bytes (ConditionsWithoutType at) = IsNoFile bytes (no_meaning conditions_without_type) at
+IsRefusedFor bytes (VariableWithArguments at) = IsNoFile bytes (no_meaning variable_with_arguments) at
+IsRefusedFor bytes (ArityDiffers at) = IsNoFile bytes (no_meaning arity_differs) at
+IsRefusedFor bytes (LeftVariable at) = IsNoFile bytes (no_meaning left_variable) at
+IsRefusedFor bytes (TooDeep at) = IsNoFile bytes (no_meaning too_deep) at
+IsRefusedFor bytes (TooMany what limit at) = IsNoFile bytes (no_meaning (cause_of_count what)) at × (limit ≡ most_of what)
 IsRefusedFor bytes NoMemory = Unit {0}
 
 -- the system and the names that the text spells, or the one refusal
@@ -73,14 +47,18 @@ SystemsAreSound = (bytes : List ℕ) (sys : System) (names : NameTable) → IsFi
 abbrev pub SystemsAreWithinLimits : Type 0
 SystemsAreWithinLimits = (bytes : List ℕ) (sys : System) (names : NameTable) (file : IsFile bytes sys names) → IsWithinLimits file.tree.oriented sys names
 
--- two refusals of one text, other than want of memory, are one
+-- two refusals of one text have one cause and one place
 abbrev pub OneRefusal : Type 0
-OneRefusal = (bytes : List ℕ) (e d : ReadError) → (e ≡ NoMemory → ⊥) → (d ≡ NoMemory → ⊥) → IsRefusedFor bytes e → IsRefusedFor bytes d → e ≡ d
+OneRefusal = (bytes : List ℕ) (cause other : FileCause) (at place : ℕ) → IsNoFile bytes cause at → IsNoFile bytes other place → (cause ≡ other) × (at ≡ place)
+
+-- the place of a refusal is in the text, or at its end
+abbrev pub RefusalsAreWithin : Type 0
+RefusalsAreWithin = (bytes : List ℕ) (cause : FileCause) (at : ℕ) → IsNoFile bytes cause at → at ≤ length bytes
 
 -- a text that spells a system is not refused
 abbrev pub NeverSystemAndRefusal : Type 0
-NeverSystemAndRefusal = (bytes : List ℕ) (sys : System) (names : NameTable) (e : ReadError) → (e ≡ NoMemory → ⊥) → IsFile bytes sys names → IsRefusedFor bytes e → ⊥
+NeverSystemAndRefusal = (bytes : List ℕ) (sys : System) (names : NameTable) (cause : FileCause) (at : ℕ) → IsFile bytes sys names → IsNoFile bytes cause at → ⊥
 
 -- a text spells a system or is refused
 abbrev pub SystemOrRefusal : Type 0
-SystemOrRefusal = (bytes : List ℕ) → ((sys : System) × (names : NameTable) × IsFile bytes sys names) ⊎ ((e : ReadError) × (e ≡ NoMemory → ⊥) × IsRefusedFor bytes e)
+SystemOrRefusal = (bytes : List ℕ) → ((sys : System) × (names : NameTable) × IsFile bytes sys names) ⊎ ((cause : FileCause) × (at : ℕ) × IsNoFile bytes cause at)

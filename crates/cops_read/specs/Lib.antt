@@ -1,12 +1,4 @@
 pub mod NameTable
-pub mod NamesView
-pub mod Meaning
-pub mod Uses
 pub mod Refusals
-pub mod Limits
 pub mod File
 pub mod Answers
-pub mod Steps
-pub mod RuleSteps
-pub mod Heads
-pub mod NameSetView

@@ -1,13 +1,31 @@
-//! Reads the text of a conditional rewrite system.
+//! Reads the text of a conditional rewrite system: its syntax tree, then the system with names that this means.
 #![tactic(auto)]
 
-mod files;
-mod heads;
-mod name_set;
-mod names;
-mod reader;
-mod rules;
-mod terms;
+ghost use Rattle.cops_read.specs.Answers.{ReadAnswers, OneSystem, SystemsAreSound, SystemsAreWithinLimits, OneRefusal, RefusalsAreWithin, NeverSystemAndRefusal, SystemOrRefusal};
 
-pub use names::Names;
-pub use reader::{Count, ReadError, one_reading, read_system};
+pub use cops_names::{NameSet, Names};
+use cops_syntax::parse;
+use cops_systems::read_file;
+pub use cops_systems::{Count, MOST_DEPTH, ReadError};
+use std::alloc::Global;
+use term_core::System;
+
+/// The system that the bytes spell, with its names.
+pub fn read_system(alloc: Global, bytes: &[u8]) -> Result<(System, Names), ReadError>
+    ensures { ReadAnswers bytes.now result }
+{
+    let file = parse(alloc, bytes)?;
+    read_file(alloc, &file)
+}
+
+/// A text spells one system, with one table of names, or it has one refusal, and never both. What it
+/// spells is a system within the limits; the place of a refusal is within the text or at its end.
+pub fn one_reading()
+    ensures one { OneSystem }
+    ensures sound { SystemsAreSound }
+    ensures limits { SystemsAreWithinLimits }
+    ensures refusal { OneRefusal }
+    ensures within { RefusalsAreWithin }
+    ensures either { NeverSystemAndRefusal }
+    ensures some { SystemOrRefusal }
+{}

@@ -9,8 +9,9 @@ use Rattle.file_text.proofs.Names.{IsName}
 use Rattle.rewriting.specs.Terms.{Term, var, app, Terms, nil, cons}
 use Rattle.rewriting.specs.Rules.{Rule}
 use Rattle.rewriting.specs.Systems.{terms_of_rule}
-use Rattle.cops_read.specs.Meaning.{is_among, with_name, with_names, sides, phrases_of_rule, with_variables, with_all_variables, rule_variables, IsTermOf, AreTermsOf, AreRulesOf}
-use Rattle.cops_read.proofs.Sound.{terms_are}
+use Rattle.cops_names.specs.NameLists.{is_among, with_name, with_names}
+use Rattle.cops_systems.specs.Meaning.{sides, phrases_of_rule, with_variables, with_all_variables, rule_variables, IsTermOf, AreTermsOf, AreRulesOf}
+use Rattle.cops_systems.proofs.Sound.{terms_are}
 use Rattle.cops_write.proofs.Trees.{HasNames, HaveNames, ConditionsHaveNames, GuardHasNames, RulesHaveNames}
 use Rattle.cops_write.proofs.SameText.{joined}
 
@@ -159,7 +160,7 @@ module _ (block : Names) where
 
   guard_has : (g : Option Guard) → GuardHasNames g → (l r : Phrase) → HaveNames (sides (conditions_of (record { left = l; right = r; guard = g })))
   guard_has None h l r = tt
-  guard_has (Some g) h l r = sides_have (g.first ∷ g.others) h
+  guard_has (Some g) h l r = sides_have (g.first ∷ g.others) h.1
 
   nothing_known : {C : Type 0} (n : List ℕ) → (is_among [] n ≡ true) ⊎ C → C
   nothing_known n (inl a) = absurd cc

@@ -5,9 +5,10 @@ use Rattle.file_text.specs.Syntax.{Name, Phrase, Phrases, word, call, none, more
 use Rattle.rewriting.specs.Terms.{Term, var, app, Terms, nil, cons}
 use Rattle.rewriting.specs.Rules.{Condition, Rule}
 use Rattle.rewriting.specs.Systems.{terms_of_rule}
-use Rattle.cops_read.specs.NameTable.{number_of}
-use Rattle.cops_read.specs.Meaning.{place_of, is_among, with_name, with_symbol, sides, phrases_of_rule, with_variables, with_all_variables, with_symbols, with_all_symbols, rule_variables, with_rule_symbols, IsSymbolOf, IsTermOf, AreTermsOf, AreConditionsOf, IsRuleOf, AreRulesOf}
-use Rattle.cops_read.proofs.Sound.{terms_are}
+use Rattle.cops_names.specs.NameTable.{number_of}
+use Rattle.cops_names.specs.NameLists.{name_index, is_among, with_name}
+use Rattle.cops_systems.specs.Meaning.{with_symbol, sides, phrases_of_rule, with_variables, with_all_variables, with_symbols, with_all_symbols, rule_variables, with_rule_symbols, IsSymbolOf, IsTermOf, AreTermsOf, AreConditionsOf, IsRuleOf, AreRulesOf}
+use Rattle.cops_systems.proofs.Sound.{terms_are}
 use Rattle.cops_write.proofs.Trees.{Alike, AreAlike, ConditionsAlike, GuardsAlike, RulesAlike}
 use Rattle.cops_write.proofs.Agree.{Names, Agree, AgreeAll, RulesAgree}
 
@@ -47,7 +48,7 @@ module _ (block other : Names) where
 
     mutual
       means : (p q : Phrase) (t : Term) → Alike p q → Agree block other p → IsTermOf block table vars p t → IsTermOf other table vars q t
-      means (word f) (word g) (var x) l a h = (sym (told f g a l) ∙ h.0, subst (λ (s : List ℕ). place_of vars s ≡ Some x) l h.1)
+      means (word f) (word g) (var x) l a h = (sym (told f g a l) ∙ h.0, subst (λ (s : List ℕ). name_index vars s ≡ Some x) l h.1)
       means (word f) (word g) (app k us) l a h = (symbol_means f g 0 0 k (told f g a l) l refl h.0, h.1)
       means (word f) (call g ts) t l a h = absurd l
       means (call f ts) (word g) (var x) l a h = absurd h

@@ -4,7 +4,7 @@ use Rattle.term_core.specs.declared.terms.Term.{Term}
 use Rattle.term_core.specs.View.{view, views}
 use Rattle.term_core.specs.RuleView.{condition_view}
 use Rattle.term_core.specs.declared.systems.Cond.{Cond}
-use Rattle.cops_read.specs.NameTable.{NameTable}
+use Rattle.cops_names.specs.NameTable.{NameTable}
 use Rattle.cops_write.specs.Grows.{Grows}
 use Rattle.cops_write.specs.Text.{term_text, arguments_text, further_text, condition_text, conditions_text, others_text}
 use Rattle.cops_write.proofs.Growing.{Leads, begins, goes_on, first_and_others}

@@ -5,10 +5,11 @@ use Rattle.file_text.specs.Syntax.{FileTree}
 use Rattle.file_text.specs.Texts.{IsText}
 use Rattle.file_text.proofs.Names.{IsName}
 use Rattle.rewriting.specs.Rules.{System}
-use Rattle.cops_read.specs.NameTable.{NameTable}
-use Rattle.cops_read.specs.Meaning.{is_among, with_names, variables_of, rule_variables}
-use Rattle.cops_read.specs.Uses.{events}
-use Rattle.cops_read.specs.File.{IsSystemOf, IsFile}
+use Rattle.cops_names.specs.NameTable.{NameTable}
+use Rattle.cops_names.specs.NameLists.{is_among, with_names}
+use Rattle.cops_systems.specs.Meaning.{variables_of, rule_variables}
+use Rattle.cops_systems.specs.Uses.{events}
+use Rattle.cops_systems.specs.File.{IsSystemOf, IsFile}
 use Rattle.cops_write.specs.Text.{block_text, type_text, system_text}
 use Rattle.cops_write.specs.Laws.{WrittenIsRead}
 use Rattle.cops_write.proofs.Trees.{RulesHaveNames}
@@ -16,7 +17,7 @@ use Rattle.cops_write.proofs.SameText.{joined, AreListed, are_listed, same_names
 use Rattle.cops_write.proofs.Agree.{Names, itself, known_all, added_all, all_known, rules_agree, RulesAgree, or_left, or_right}
 use Rattle.cops_write.proofs.Mean.{same_lists, same_table, rules_mean}
 use Rattle.cops_write.proofs.Refuse.{events_alike, not_refused}
-use Rattle.cops_write.proofs.FileNames.{file_has}
+use Rattle.cops_write.proofs.FileNames.{text_has}
 use Rattle.cops_write.proofs.FileText.{AllNames, file_text, Written, written}
 
 all_names : (xs : Names) → ((n : List ℕ) → is_among xs n ≡ true → IsName n) → AllNames xs
@@ -86,6 +87,5 @@ module _ (tree : FileTree) (sys : System) (names : NameTable) (m : IsSystemOf tr
 
 pub read_back : WrittenIsRead
 read_back bytes sys names h =
-    let g = h.spelled in
-    let have = file_has bytes g.tokens g.whole.blocks h.tree.rules g.spelled g.whole.spelled g.whole.rules in
+    let have = text_has bytes h.tree h.spelled in
     file_again h.tree sys names h.meant have (again h.tree sys names h.meant have)

@@ -2,10 +2,11 @@
 use Rattle.std.proofs.Common.{◌≡◌, ℕ, suc, Bool, true, false, List, [], ◌∷◌, ◌++◌, length, Option, None, Some, refl, sym, ap, ap₂, ◌∙◌, subst}
 use Rattle.std.specs.Prelude.{◌==◌, ◌&&◌, ◌||◌, if◌then◌else◌, not, nat_le}
 use Rattle.file_text.specs.Syntax.{Phrase, Phrases, word, call, none, more, count, ConditionTree, Guard, RuleTree}
-use Rattle.cops_read.specs.NameTable.{number_of}
-use Rattle.cops_read.specs.Meaning.{is_among, with_name, with_symbol, sides, phrases_of_rule}
-use Rattle.cops_read.specs.Uses.{Spot, spots, spots_of_all, Side, side_of, Use, Event, use_of, bar_at, uses_from, term_events, condition_events, guard_events, rule_events, rules_events}
-use Rattle.cops_read.specs.Refusals.{Cause, cause_or, limit_cause, variable_cause, symbol_cause, known_symbol_cause, arity_in, arity_differs, variable_with_arguments, left_variable, too_many_variables, first_or, symbols_used, variables_used, cause_at, event_cause, first_refusal}
+use Rattle.cops_names.specs.NameTable.{number_of}
+use Rattle.cops_names.specs.NameLists.{is_among, with_name}
+use Rattle.cops_systems.specs.Meaning.{with_symbol, sides, phrases_of_rule}
+use Rattle.cops_systems.specs.Uses.{Spot, spots, spots_of_all, Side, side_of, Use, Event, use_of, bar_at, uses_from, term_events, condition_events, guard_events, rule_events, rules_events}
+use Rattle.cops_systems.specs.Refusals.{MeaningCause, cause_or, limit_cause, variable_cause, symbol_cause, known_symbol_cause, arity_in, arity_differs, variable_with_arguments, left_variable, too_many_variables, first_or, symbols_used, variables_used, cause_at, event_cause, first_refusal}
 use Rattle.cops_write.proofs.Trees.{Alike, AreAlike, ConditionsAlike, GuardsAlike, RulesAlike}
 use Rattle.cops_write.proofs.Agree.{Names, Agree, AgreeAll, RulesAgree}
 use Rattle.cops_write.proofs.SameText.{has_guard, some_guard}
@@ -185,7 +186,7 @@ module _ (block other : Names) (oriented : Bool) where
   same_limits : (u v : Use) → UsesAlike u v → limit_cause u ≡ limit_cause v
   same_limits u v l =
       let node = u.spot.node in
-      let limit_of : Side → ℕ → ℕ → ℕ → Option Cause = λ side argument depth number.
+      let limit_of : Side → ℕ → ℕ → ℕ → Option MeaningCause = λ side argument depth number.
       limit_cause (record { side = side; spot = record { node = node; depth = depth; argument = argument }; number = number }) in
       ap₂ (λ (side : Side) (number : ℕ). limit_of side u.spot.argument u.spot.depth number) l.side l.number
       ∙ ap₂ (λ (argument depth : ℕ). limit_of v.side argument depth v.number) l.spot.argument l.spot.depth
@@ -199,7 +200,7 @@ module _ (block other : Names) (oriented : Bool) where
       same_known table u v (arity_in table (number_of table u.spot.node.name.text)) l.spot.arguments
       ∙ ap (λ (name : List ℕ). known_symbol_cause table v (arity_in table (number_of table name))) l.spot.text
 
-  cause_fine : (limit more_limit x y z w : Option Cause) (b c : Bool) → limit ≡ more_limit → b ≡ c → (x ≡ None → y ≡ None) → z ≡ w
+  cause_fine : (limit more_limit x y z w : Option MeaningCause) (b c : Bool) → limit ≡ more_limit → b ≡ c → (x ≡ None → y ≡ None) → z ≡ w
       → cause_or limit (if b then x else z) ≡ None → cause_or more_limit (if c then y else w) ≡ None
   cause_fine (Some k) n x y z w b c e f i j h = absurd cc
   cause_fine None (Some k) x y z w b c e f i j h = absurd cc
@@ -221,11 +222,11 @@ module _ (block other : Names) (oriented : Bool) where
       cause_fine (limit_cause u) (limit_cause v) (variable_cause vars u) (variable_cause vars v) (symbol_cause now u) (symbol_cause now v) (is_among block u.spot.node.name.text) (is_among other v.spot.node.name.text)
       (same_limits u v l) l.spot.told (variable_fine vars u v l) (same_symbol_cause now u v l) here
 
-  first_fine : (c : Option Cause) (at : ℕ) (rest : Option (Cause × ℕ)) → first_or c at rest ≡ None → (c ≡ None) × (rest ≡ None)
+  first_fine : (c : Option MeaningCause) (at : ℕ) (rest : Option (MeaningCause × ℕ)) → first_or c at rest ≡ None → (c ≡ None) × (rest ≡ None)
   first_fine None at rest h = (refl, h)
   first_fine (Some c) at rest h = absurd cc
 
-  fine_first : (c : Option Cause) (at : ℕ) (rest : Option (Cause × ℕ)) → c ≡ None → rest ≡ None → first_or c at rest ≡ None
+  fine_first : (c : Option MeaningCause) (at : ℕ) (rest : Option (MeaningCause × ℕ)) → c ≡ None → rest ≡ None → first_or c at rest ≡ None
   fine_first None at rest h k = k
   fine_first (Some c) at rest h k = absurd cc
 

@@ -7,8 +7,8 @@ use Rattle.term_core.specs.declared.systems.Rule.{Rule}
 use Rattle.term_core.specs.RuleView.{rule_view, AreCounted}
 use Rattle.term_core.specs.Numbering.{IsNumbered, numbers_from}
 use Rattle.term_core.proofs.Numbers.{counts_first}
-use Rattle.cops_read.specs.NameTable.{NameTable}
-use Rattle.cops_read.specs.Meaning.{with_name, with_names}
+use Rattle.cops_names.specs.NameTable.{NameTable}
+use Rattle.cops_names.specs.NameLists.{with_name, with_names}
 use Rattle.cops_write.specs.Numbered.{AreNumbered}
 use Rattle.cops_write.specs.Text.{rule_names, names_from, has_conditions, type_text, block_text, rules_text, system_text}
 use Rattle.cops_write.proofs.Sets.{with_names-append}

@@ -11,14 +11,15 @@ use Rattle.std.proofs.lemmas.Slice.Eq.{bytes_eq-Decides}
 use Rattle.file_text.specs.Syntax.{Phrase, Phrases, word, call, none, more, ConditionTree, Guard, RuleTree, conditions_of}
 use Rattle.rewriting.specs.Terms.{Term, var, app, Terms, nil, cons}
 use Rattle.rewriting.specs.Rules.{Condition, Rule}
-use Rattle.cops_read.specs.NameTable.{NameTable, variable_at, number_of}
-use Rattle.cops_read.specs.Meaning.{place_of, rule_variables, IsTermOf, AreTermsOf, AreConditionsOf, IsRuleOf, AreRulesOf}
-use Rattle.cops_read.proofs.Sound.{upto, variables_are}
+use Rattle.cops_names.specs.NameTable.{NameTable, variable_at, number_of}
+use Rattle.cops_names.specs.NameLists.{name_index}
+use Rattle.cops_systems.specs.Meaning.{rule_variables, IsTermOf, AreTermsOf, AreConditionsOf, IsRuleOf, AreRulesOf}
+use Rattle.cops_systems.proofs.Sound.{upto, variables_are}
 use Rattle.cops_write.specs.Text.{symbol_text, variable_text, term_text, arguments_text, further_text, condition_text, conditions_text, others_text, rule_text, rules_text, rule_names, names_from, has_conditions}
 use Rattle.cops_write.proofs.Trees.{text, arguments, further, condition, others, guarded, rule, rules}
 
 -- what is found in a list stands there
-stands : (names : List (List ℕ)) (name : List ℕ) (x : ℕ) → place_of names name ≡ Some x → slice_get names x ≡ Some name
+stands : (names : List (List ℕ)) (name : List ℕ) (x : ℕ) → name_index names name ≡ Some x → slice_get names x ≡ Some name
 stands names name x e =
     let p = position-Some (bytes_eq name) names x name e in
     let same : name ≡ get_or names x name = (bytes_eq-Decides name (get_or names x name)).0 p.1 in
@@ -39,7 +40,7 @@ symbol_stands names name f e =
     default_differs (x ∷ xs) (suc i) d lt = default_differs xs i d (omega arith)
 
 module _ (names : NameTable) (number : ℕ) (block : List (List ℕ)) (vars : List (List ℕ)) (there : (x : ℕ) → variable_at names number x ≡ slice_get vars x) where
-  variable_stands : (name : List ℕ) (x : ℕ) → place_of vars name ≡ Some x → variable_text names number x ≡ name
+  variable_stands : (name : List ℕ) (x : ℕ) → name_index vars name ≡ Some x → variable_text names number x ≡ name
   variable_stands name x e = ap (λ (o : Option (List ℕ)). unwrap_or o []) (there x ∙ stands vars name x e)
 
   mutual

@@ -59,7 +59,7 @@ reads_guard (Some g) k ls h e r =
     let rest = condition g.first (others g.others k) in
     let tokens = condition_tokens g.first (others_tokens g.others ls) in
     reads_white 1 32 (124 ∷ 32 ∷ rest) _ refl (reads_bar 1 (32 ∷ rest) tokens (reads_white 1 32 rest tokens refl
-    (reads_condition g.first (others g.others k) (others_tokens g.others ls) h.0 h.1 (others_end g.others k e) (reads_others g.others k ls h.2 e r))))
+    (reads_condition g.first (others g.others k) (others_tokens g.others ls) h.1.0 h.1.1 (others_end g.others k e) (reads_others g.others k ls h.1.2 e r))))
 
 -- inside the block of rules
 pub reads_rules : (rs : List RuleTree) (k : List ℕ) (ls : List Lexeme) → RulesHaveNames rs → Reads 1 k ls → Reads 1 (rules rs k) (rules_tokens rs ls)

@@ -1,9 +1,10 @@
 -- Syntax trees as they are written: their texts and tokens, with what follows them.
 use Rattle.std.proofs.Common.{◌≡◌, ℕ, List, [], ◌∷◌, ◌++◌, Option, None, Some}
 use Rattle.file_text.specs.declared.Kind.TheVariants.{Id, LeftParen, RightParen, Comma, Bar, Arrow, Equal}
-use Rattle.file_text.specs.Syntax.{Phrase, Phrases, word, call, none, more, ConditionTree, Guard, RuleTree}
+use Rattle.file_text.specs.Syntax.{Name, Phrase, Phrases, word, call, none, more, ConditionTree, Guard, RuleTree}
 use Rattle.file_text.proofs.Names.{IsName}
 use Rattle.file_text.proofs.Lexemes.{Lexeme, lexeme}
+use Rattle.file_text.proofs.TreeWords.{OfPhrase, OfPhrases, OfConditions, OfGuard, OfRules}
 
 -- an empty list of arguments has no brackets
 abbrev mutual
@@ -69,27 +70,27 @@ abbrev pub rules_tokens : List RuleTree → List Lexeme → List Lexeme
 rules_tokens [] k = k
 rules_tokens (r ∷ rs) k = rule_tokens r (rules_tokens rs k)
 
--- every identifier is one of the text
-abbrev mutual
-  pub HasNames : Phrase → Type 0
-  HasNames (word f) = IsName f.text
-  HasNames (call f ts) = IsName f.text × HaveNames ts
+-- every identifier is one of the text; nothing is said of the places of bars
+abbrev pub IsOfText : Name → Type 0
+IsOfText n = IsName n.text
 
-  pub HaveNames : Phrases → Type 0
-  HaveNames none = Unit {0}
-  HaveNames (more t ts) = HasNames t × HaveNames ts
+abbrev pub AnyPlace : ℕ → Type 0
+AnyPlace at = Unit {0}
+
+abbrev pub HasNames : Phrase → Type 0
+HasNames p = OfPhrase IsOfText AnyPlace p
+
+abbrev pub HaveNames : Phrases → Type 0
+HaveNames ts = OfPhrases IsOfText AnyPlace ts
 
 abbrev pub ConditionsHaveNames : List ConditionTree → Type 0
-ConditionsHaveNames [] = Unit {0}
-ConditionsHaveNames (c ∷ cs) = HasNames c.left × HasNames c.right × ConditionsHaveNames cs
+ConditionsHaveNames cs = OfConditions IsOfText AnyPlace cs
 
 abbrev pub GuardHasNames : Option Guard → Type 0
-GuardHasNames None = Unit {0}
-GuardHasNames (Some g) = ConditionsHaveNames (g.first ∷ g.others)
+GuardHasNames g = OfGuard IsOfText AnyPlace g
 
 abbrev pub RulesHaveNames : List RuleTree → Type 0
-RulesHaveNames [] = Unit {0}
-RulesHaveNames (r ∷ rs) = HasNames r.left × HasNames r.right × GuardHasNames r.guard × RulesHaveNames rs
+RulesHaveNames rs = OfRules IsOfText AnyPlace rs
 
 -- the same trees but for places, and for empty brackets, which the second has not
 abbrev mutual

@@ -4,8 +4,8 @@ use Rattle.std.specs.List.{list_any}
 use Rattle.rewriting.specs.Terms.{Term, var, app, Terms, nil, cons}
 use Rattle.rewriting.specs.Rules.{Condition, Rule, System}
 use Rattle.rewriting.specs.Systems.{rule_variables}
-use Rattle.cops_read.specs.NameTable.{NameTable, name_at, variable_at}
-use Rattle.cops_read.specs.Meaning.{with_names}
+use Rattle.cops_names.specs.NameTable.{NameTable, name_at, variable_at}
+use Rattle.cops_names.specs.NameLists.{with_names}
 
 -- the name of a symbol and of a rule's variable; nothing where there is none
 abbrev pub symbol_text : NameTable → ℕ → List ℕ

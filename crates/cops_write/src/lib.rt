@@ -1,7 +1,6 @@
 //! Writes the text of a conditional rewrite system.
 #![tactic(auto)]
 
-mod name_set;
 mod terms;
 mod writer;
 

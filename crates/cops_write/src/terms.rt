@@ -3,7 +3,7 @@ ghost use Rattle.term_core.specs.View.{view, views};
 ghost use Rattle.cops_write.specs.Grows.{Grows};
 ghost use Rattle.cops_write.specs.Text.{symbol_text, variable_text, term_text, arguments_text};
 
-use cops_read::Names;
+use cops_names::Names;
 use term_core::{NoMemory, Term};
 
 // Puts bytes last.

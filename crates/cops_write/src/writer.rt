@@ -3,15 +3,14 @@ ghost use Rattle.rewriting.specs.Terms.{Fits};
 ghost use Rattle.term_core.specs.View.{view};
 ghost use Rattle.term_core.specs.RuleView.{condition_view, rule_view};
 ghost use Rattle.term_core.specs.Numbering.{IsNumbered};
-ghost use Rattle.cops_read.specs.Meaning.{with_names};
+ghost use Rattle.cops_names.specs.NameLists.{with_names};
 ghost use Rattle.cops_write.specs.Grows.{Grows};
 ghost use Rattle.cops_write.specs.Laws.{WrittenIsRead};
 ghost use Rattle.cops_write.specs.Numbered.{AreNumbered};
 ghost use Rattle.cops_write.specs.Text.{term_text, condition_text, conditions_text, rule_text, rules_text, rule_names, names_from, variable_names, spaced, block_text, has_conditions, type_text, system_text};
 
-use crate::name_set::NameSet;
 use crate::terms::{put, put_term, variable_name};
-use cops_read::Names;
+use cops_names::{NameSet, Names};
 use std::alloc::Global;
 use term_core::{Cond, NoMemory, Rule, System, Term};
 

@@ -5,15 +5,12 @@ use Rattle.rewriting.specs.Variables.{occurs_in, variables_of}
 use Rattle.rewriting.specs.Rules as math
 use Rattle.rewriting.specs.Signatures.{Signature}
 use Rattle.rewriting.specs.Systems.{CountsFrom, terms_of_rule, rule_variables, IsRule, AreRules}
-use Rattle.rewriting.proofs.Variables.{IsAmong, variables_have_all}
+use Rattle.rewriting.specs.Lists.{IsAmong}
+use Rattle.rewriting.proofs.Variables.{variables_have_all}
+use Rattle.rewriting.proofs.Lists.{counted_below}
 use Rattle.term_core.specs.RuleView.{rule_view}
 use Rattle.term_core.specs.declared.systems.Rule.{Rule}
 use Rattle.critical_pairs.specs.Building.{HasRoom}
-
-counted_below : (n : ℕ) (xs : List ℕ) (x : ℕ) → CountsFrom n xs → IsAmong x xs → x < n + length xs
-counted_below n [] x h m = absurd m
-counted_below n (y ∷ ys) x h (inl e) = let k = h.0 in omega (arith, k, e)
-counted_below n (y ∷ ys) x h (inr m) = let k = counted_below (suc n) ys x h.1 m in omega (arith, k)
 
 pub has_room : (arities : Signature) (add : ℕ) (r : math.Rule) → add ≤ 1 → IsRule arities r → HasRoom add (terms_of_rule r)
 has_room arities add r small h k o =

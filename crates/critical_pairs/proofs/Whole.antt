@@ -7,7 +7,8 @@ use Rattle.rewriting.specs.Rules.{Condition, Rule, System}
 use Rattle.rewriting.proofs.Instances.{apply-agree}
 use Rattle.unifier_run.specs.Overlaps.{Overlap}
 use Rattle.unifier_run.specs.Overlaps as defined
-use Rattle.unifier_run.proofs.Triples.{IsIn, AreInOrder, overlaps_at, overlaps_before}
+use Rattle.rewriting.specs.Lists.{IsAmong}
+use Rattle.unifier_run.proofs.Triples.{AreInOrder, overlaps_at, overlaps_before}
 use Rattle.unifier_run.proofs.Spots.{all_triples, has_all, order_all}
 use Rattle.unification.specs.Answers.{renaming}
 use Rattle.term_core.specs.RuleView.{rule_view}
@@ -49,7 +50,7 @@ whole_error sys start after (PairTooLarge i p j) e h =
     record {
       is_large = h.large;
       before = h.more;
-      are_before = overlaps_before sys h.earlier h.later (i, (p.items, j)) h.more (subst AreInOrder h.split (order_all sys)) (λ a q b inner outer part place. subst (λ z. IsIn (a, (q, b)) z) h.split (has_all sys a q b inner outer part place)) h.those;
+      are_before = overlaps_before sys h.earlier h.later (i, (p.items, j)) h.more (subst AreInOrder h.split (order_all sys)) (λ a q b inner outer part place. subst (λ z. IsAmong (a, (q, b)) z) h.split (has_all sys a q b inner outer part place)) h.those;
       few = subst (λ z. length (map overlap_view z ++ h.more) ≤ 20000) e h.few;
     }
 whole_error sys start after TooManyPairs e h =
@@ -57,7 +58,7 @@ whole_error sys start after TooManyPairs e h =
       next = h.next;
       is_overlap = h.is_overlap;
       before = h.more;
-      are_before = overlaps_before sys h.earlier h.later (defined.triple h.next) h.more (subst AreInOrder h.split (order_all sys)) (λ a q b inner outer part place. subst (λ z. IsIn (a, (q, b)) z) h.split (has_all sys a q b inner outer part place)) h.those;
+      are_before = overlaps_before sys h.earlier h.later (defined.triple h.next) h.more (subst AreInOrder h.split (order_all sys)) (λ a q b inner outer part place. subst (λ z. IsAmong (a, (q, b)) z) h.split (has_all sys a q b inner outer part place)) h.those;
       many = subst (λ z. length (map overlap_view z ++ h.more) ≡ 20000) e h.many;
     }
 whole_error sys start after NoMemory e h = tt

@@ -1,4 +1,9 @@
 //! The overlaps of a system, with their conditional critical pairs.
+//!
+//! In `a -> c` and `f(a, x) -> x | x == b` the left side of the first rule unifies with the subterm at position 1 of that
+//! of the second. So `overlaps` gives one overlap: the inner rule 1, the position `[1]` and the outer rule 2. Its source is
+//! f(a, x), from which the inner rule makes its left term f(c, x), and the outer one its right term x, where x == b. The
+//! variable x of the outer rule is 2 * 0 + 1 there, since those of the inner rule are even.
 #![tactic(auto)]
 
 ghost use Rattle.std.specs.Prelude.{◌≡◌};

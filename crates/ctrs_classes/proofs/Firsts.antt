@@ -1,11 +1,10 @@
 -- The first variable that passes a test.
-use Rattle.std.proofs.Common.{ℕ, suc, ◌≡◌, ◌⊎◌, inl, inr, ◌<◌, ◌≤◌, ◌+◌, Bool, true, false, not, ◌||◌, if◌then◌else◌, List, [], ◌∷◌, ◌++◌, length, get_or, take, map, Option, None, Some, refl, sym, ap, ◌∙◌, subst, arith, eq-eqb, eqb-true}
+use Rattle.std.proofs.Common.{ℕ, suc, ◌≡◌, inl, inr, ◌+◌, Bool, true, false, not, ◌||◌, if◌then◌else◌, List, [], ◌∷◌, ◌++◌, take, map, Option, None, Some, refl, sym, ap, ◌∙◌, subst, arith}
 use Rattle.std.proofs.lemmas.Bool.{false≢true, true≢false, or_left}
 use Rattle.std.specs.List.{take-map}
 use Rattle.rewriting.specs.Terms as math
 use Rattle.rewriting.specs.Terms.{var, app, nil, cons}
-use Rattle.rewriting.specs.Variables.{occurs, occurs_in, IsWithin}
-use Rattle.rewriting.specs.Rules as rules
+use Rattle.rewriting.specs.Variables.{occurs, occurs_in, variable_occurrences}
 use Rattle.rewriting.specs.Rules.{Condition, left_sides, right_sides, sides}
 use Rattle.rewriting.specs.Classes.{known}
 use Rattle.rewriting.proofs.Instances.{or_right, or_cases}
@@ -13,7 +12,9 @@ use Rattle.term_core.specs.declared.systems.Cond.{Cond}
 use Rattle.term_core.specs.declared.systems.Rule.{Rule}
 use Rattle.term_core.specs.View.{view}
 use Rattle.term_core.specs.RuleView.{condition_view, rule_view}
-use Rattle.ctrs_classes.specs.Blames.{leaves, leaves_of, IsAmong, IsFirstVariable, asked, IsOld, IsFresh}
+use Rattle.rewriting.specs.Lists.{IsAmong}
+use Rattle.rewriting.proofs.Variables.{occurring}
+use Rattle.certificates.specs.Blames.{IsFirstVariable, IsOld, IsFresh}
 use Rattle.ctrs_classes.specs.Walks.{first_where, same}
 use Rattle.ctrs_classes.specs.Faults.{UndeterminedAnswers}
 
@@ -52,26 +53,6 @@ pub none_found : (test : ℕ → Bool) (xs : List ℕ) → first_where test xs �
 none_found test [] e y a = absurd a
 none_found test (z ∷ zs) e y a = none_cons test z zs (test z) refl e (λ h. none_found test zs h) y a
 
-among_left : (x : ℕ) (xs ys : List ℕ) → IsAmong x xs → IsAmong x (xs ++ ys)
-among_left x [] ys h = absurd h
-among_left x (y ∷ xs) ys (inl e) = inl e
-among_left x (y ∷ xs) ys (inr h) = inr (among_left x xs ys h)
-
-among_right : (x : ℕ) (xs ys : List ℕ) → IsAmong x ys → IsAmong x (xs ++ ys)
-among_right x [] ys h = h
-among_right x (y ∷ xs) ys h = inr (among_right x xs ys h)
-
--- each variable that occurs is among the leaves
-mutual
-  pub occurring : (x : ℕ) (t : math.Term) → occurs x t ≡ true → IsAmong x (leaves t)
-  occurring x (var y) e = inl (eqb-true x y e)
-  occurring x (app f ts) e = occurring_in x ts e
-
-  occurring_in : (x : ℕ) (ts : math.Terms) → occurs_in x ts ≡ true → IsAmong x (leaves_of ts)
-  occurring_in x nil e = absurd (false≢true e)
-  occurring_in x (cons t ts) e =
-      or_cases (occurs x t) (occurs_in x ts) e (λ h. among_left x (leaves t) (leaves_of ts) (occurring x t h)) (λ h. among_right x (leaves t) (leaves_of ts) (occurring_in x ts h))
-
 not_false : (b : Bool) → not b ≡ false → b ≡ true
 not_false true e = refl
 not_false false e = absurd (true≢false e)
@@ -81,10 +62,10 @@ not_true true e = absurd (false≢true e)
 not_true false e = refl
 
 -- a walk for variables outside: it finds the first, or all are inside
-pub outside_found : (inside stands : ℕ → Bool) (t : math.Term) (x : ℕ) → ((y : ℕ) → inside y ≡ stands y) → first_where (λ y. same false (inside y)) (leaves t) ≡ Some x
+pub outside_found : (inside stands : ℕ → Bool) (t : math.Term) (x : ℕ) → ((y : ℕ) → inside y ≡ stands y) → first_where (λ y. same false (inside y)) (variable_occurrences t) ≡ Some x
     → IsFirstVariable (λ y. stands y ≡ false) t x
 outside_found inside stands t x agree e =
-    let f = found (λ y. same false (inside y)) (leaves t) x e in
+    let f = found (λ y. same false (inside y)) (variable_occurrences t) x e in
     record {
       before = f.before;
       after = f.after;
@@ -93,10 +74,10 @@ outside_found inside stands t x agree e =
       here = sym (agree x) ∙ not_true (inside x) f.here;
     }
 
-pub all_inside : (inside stands : ℕ → Bool) (t : math.Term) → ((y : ℕ) → inside y ≡ stands y) → first_where (λ y. same false (inside y)) (leaves t) ≡ None
+pub all_inside : (inside stands : ℕ → Bool) (t : math.Term) → ((y : ℕ) → inside y ≡ stands y) → first_where (λ y. same false (inside y)) (variable_occurrences t) ≡ None
     → (x : ℕ) → occurs x t ≡ true → stands x ≡ true
 all_inside inside stands t agree e x o =
-    sym (agree x) ∙ not_false (inside x) (none_found (λ y. same false (inside y)) (leaves t) e x (occurring x t o))
+    sym (agree x) ∙ not_false (inside x) (none_found (λ y. same false (inside y)) (variable_occurrences t) e x (occurring x t o))
 
 or_swap : (a b L R : Bool) → (a || (b || (L || R))) ≡ ((a || L) || (b || R))
 or_swap true b L R = refl
@@ -122,7 +103,7 @@ pub known_before : (rule : Rule) (i : ℕ) (before : List Cond) (x : ℕ) → be
 known_before rule i before x e = ap (λ cs. occurs x (view rule.left) || occurs_in x (right_sides cs)) (viewed rule i before e)
 
 pub undetermined_answers : (rule : Rule) (cond : Cond) (i : ℕ) (before : List Cond) (o : Option ℕ) → before ≡ take i rule.conds.items
-    → o ≡ first_where (λ x. same false (occurs x (view rule.left) || (false || occurs_in x (right_sides (map condition_view before))))) (leaves (view cond.left))
+    → o ≡ first_where (λ x. same false (occurs x (view rule.left) || (false || occurs_in x (right_sides (map condition_view before))))) (variable_occurrences (view cond.left))
     → UndeterminedAnswers (rule_view rule) i (condition_view cond) o
 undetermined_answers rule cond i before None e h =
     all_inside (λ x. occurs x (view rule.left) || (false || occurs_in x (right_sides (map condition_view before)))) (λ y. occurs_in y (known (rule_view rule) i)) (view cond.left) (λ y. known_before rule i before y e) (sym h)
@@ -156,9 +137,9 @@ module _ (rule : Rule) (i : ℕ) (first before : List Cond) (is_first : first �
       (λ k. inr (subst (λ cs. occurs_in x (left_sides cs) ≡ true) lefts k))
       (λ k. inl (or_right _ _ (subst (λ cs. occurs_in x (right_sides cs) ≡ true) rights k))))
 
-  pub old_found : (t : math.Term) (x : ℕ) → Some x ≡ first_where (λ y. same true (stood rule first before y)) (leaves t) → IsFirstVariable (IsOld (rule_view rule) i) t x
+  pub old_found : (t : math.Term) (x : ℕ) → Some x ≡ first_where (λ y. same true (stood rule first before y)) (variable_occurrences t) → IsFirstVariable (IsOld (rule_view rule) i) t x
   old_found t x e =
-      let f = found (λ y. same true (stood rule first before y)) (leaves t) x (sym e) in
+      let f = found (λ y. same true (stood rule first before y)) (variable_occurrences t) x (sym e) in
       record {
         before = f.before;
         after = f.after;
@@ -167,7 +148,7 @@ module _ (rule : Rule) (i : ℕ) (first before : List Cond) (is_first : first �
         here = stands_old x f.here;
       }
 
-  pub none_old : (cond : Cond) → None ≡ first_where (λ y. same true (stood rule first before y)) (leaves (view cond.right)) → IsFresh (rule_view rule) i (condition_view cond)
+  pub none_old : (cond : Cond) → None ≡ first_where (λ y. same true (stood rule first before y)) (variable_occurrences (view cond.right)) → IsFresh (rule_view rule) i (condition_view cond)
   none_old cond e =
-      let h : (x : ℕ) → occurs x (view cond.right) ≡ true → stood rule first before x ≡ false = λ x o. none_found (λ y. same true (stood rule first before y)) (leaves (view cond.right)) (sym e) x (occurring x (view cond.right) o) in
+      let h : (x : ℕ) → occurs x (view cond.right) ≡ true → stood rule first before x ≡ false = λ x o. none_found (λ y. same true (stood rule first before y)) (variable_occurrences (view cond.right)) (sym e) x (occurring x (view cond.right) o) in
       (λ x o k. false≢true (sym (h x o) ∙ old_stands x (inl k)), λ x o k. false≢true (sym (h x o) ∙ old_stands x (inr k)))

@@ -4,4 +4,3 @@ pub mod Firsts
 pub mod Linear
 pub mod Ground
 pub mod Prefixes
-pub mod Outside

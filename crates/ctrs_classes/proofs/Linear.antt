@@ -1,18 +1,20 @@
 -- Where variables are numbered as they come, the first that is seen again is the one whose second occurrence comes first.
-use Rattle.std.proofs.Common.{ℕ, zero, suc, ◌≡◌, ◌⊎◌, inl, inr, ◌<◌, ◌≤◌, ◌+◌, ◌^◌, Bool, true, false, nat_eq, nat_lt, if◌then◌else◌, List, [], ◌∷◌, ◌++◌, length, Option, None, Some, refl, sym, ap, ap₂, ◌∙◌, subst, arith, eqb-true, eq-eqb}
+use Rattle.std.proofs.Common.{ℕ, zero, suc, ◌≡◌, ◌⊎◌, inl, inr, ◌<◌, ◌≤◌, ◌+◌, ◌^◌, Bool, true, false, nat_eq, nat_lt, if◌then◌else◌, List, [], ◌∷◌, ◌++◌, length, None, Some, refl, sym, ap, ap₂, ◌∙◌, subst, arith, eqb-true}
 use Rattle.std.proofs.lemmas.Bool.{ltb-true, ltb-false}
 use Rattle.std.proofs.lemmas.Bool.Decides.{leb_tells}
 use Rattle.std.proofs.Math.Dec.{leb}
 use Rattle.std.proofs.lemmas.List.{length-append}
 use Rattle.rewriting.specs.Terms as math
 use Rattle.rewriting.specs.Terms.{var, app, nil, cons}
-use Rattle.rewriting.specs.Variables.{occurrences, occurrences_in, IsLinear, with_new, with_variables, with_variables_of}
+use Rattle.rewriting.specs.Variables.{IsLinear, with_new, with_variables, with_variables_of, variable_occurrences, variable_occurrences_of}
 use Rattle.rewriting.specs.Rules as rules
 use Rattle.rewriting.specs.Rules.{sides}
 use Rattle.rewriting.specs.Systems.{IsRule, rule_variables}
 use Rattle.term_core.specs.Numbering.{numbers_from, AreFirst}
-use Rattle.term_core.proofs.Numbers.{first_leads, known_first, next_first, not_next, counts_first, first_length, length-numbers_from}
-use Rattle.ctrs_classes.specs.Blames.{leaves, leaves_of, IsAmong, AreDistinct, IsFirstRepeated}
+use Rattle.term_core.proofs.Numbers.{first_leads, next_first, not_next, counts_first}
+use Rattle.rewriting.specs.Lists.{IsAmong, AreDistinct}
+use Rattle.certificates.specs.Blames.{IsFirstRepeated}
+use Rattle.certificates.proofs.Blames.{times, occurrences-times}
 use Rattle.ctrs_classes.specs.Walks.{first_seen}
 
 -- variables as terms
@@ -25,22 +27,18 @@ with-append acc [] ys = refl
 with-append acc (x ∷ xs) ys = with-append (with_new acc x) xs ys
 
 mutual
-  with-leaves : (acc : List ℕ) (t : math.Term) → with_variables acc t ≡ with_variables_of acc (as_terms (leaves t))
+  with-leaves : (acc : List ℕ) (t : math.Term) → with_variables acc t ≡ with_variables_of acc (as_terms (variable_occurrences t))
   with-leaves acc (var x) = refl
   with-leaves acc (app f ts) = with-leaves_of acc ts
 
-  with-leaves_of : (acc : List ℕ) (ts : math.Terms) → with_variables_of acc ts ≡ with_variables_of acc (as_terms (leaves_of ts))
+  with-leaves_of : (acc : List ℕ) (ts : math.Terms) → with_variables_of acc ts ≡ with_variables_of acc (as_terms (variable_occurrences_of ts))
   with-leaves_of acc nil = refl
   with-leaves_of acc (cons t ts) =
-      with-leaves_of (with_variables acc t) ts ∙ ap (λ a. with_variables_of a (as_terms (leaves_of ts))) (with-leaves acc t) ∙ sym (with-append acc (leaves t) (leaves_of ts))
+      with-leaves_of (with_variables acc t) ts ∙ ap (λ a. with_variables_of a (as_terms (variable_occurrences_of ts))) (with-leaves acc t) ∙ sym (with-append acc (variable_occurrences t) (variable_occurrences_of ts))
 
 -- behind n known variables the list goes on with numbers in order
 abbrev GoesOn : ℕ → List ℕ → Type 0
 GoesOn n xs = (m : ℕ) × AreFirst (with_variables_of (numbers_from 0 n) (as_terms xs)) m
-
--- each is known, or the next
-known_on : (n x : ℕ) (xs : List ℕ) → n < 2 ^ 31 → x < n → GoesOn n (x ∷ xs) → GoesOn n xs
-known_on n x xs few less (m, f) = (m, subst (λ q. AreFirst (with_variables_of q (as_terms xs)) m) (known_first n x less few).are f)
 
 next_is : (n x : ℕ) (xs : List ℕ) → n ≤ x → GoesOn n (x ∷ xs) → x ≡ n
 next_is n x xs high (m, f) = go (leb_tells x n)
@@ -121,24 +119,6 @@ is_among : (x k n : ℕ) → k ≤ x → x < k + n → IsAmong x (numbers_from k
 is_among x k zero low high = absurd (omega (arith, low, high))
 is_among x k (suc n) low high = among_cons x k n low (λ more. is_among x (suc k) n (omega (arith, more)) (omega (arith, high))) (leb_tells x k)
 
--- how often a number stands in a list
-abbrev times : ℕ → List ℕ → ℕ
-times x [] = 0
-times x (y ∷ ys) = (if nat_eq x y then 1 else 0) + times x ys
-
-times-append : (x : ℕ) (xs ys : List ℕ) → times x (xs ++ ys) ≡ times x xs + times x ys
-times-append x [] ys = let e : times x ys ≡ 0 + times x ys = omega arith in e
-times-append x (y ∷ xs) ys = let h = times-append x xs ys in omega (arith, h)
-
-mutual
-  occurrences-times : (x : ℕ) (t : math.Term) → occurrences x t ≡ times x (leaves t)
-  occurrences-times x (var y) = let e : (if nat_eq x y then 1 else 0) ≡ (if nat_eq x y then 1 else 0) + 0 = omega arith in e
-  occurrences-times x (app f ts) = occurrences_in-times x ts
-
-  occurrences_in-times : (x : ℕ) (ts : math.Terms) → occurrences_in x ts ≡ times x (leaves_of ts)
-  occurrences_in-times x nil = refl
-  occurrences_in-times x (cons t ts) = ap₂ (λ a b. a + b) (occurrences-times x t) (occurrences_in-times x ts) ∙ sym (times-append x (leaves t) (leaves_of ts))
-
 times_absent : (x k n : ℕ) → x < k → times x (numbers_from k n) ≡ 0
 times_absent x k zero less = refl
 times_absent x k (suc n) less = go (nat_eq x k) refl (times_absent x (suc k) n (omega (arith, less)))
@@ -159,36 +139,36 @@ times_once x k (suc n) = go (nat_eq x k) refl (times_once x (suc k) n)
     go false q h = subst (λ b. (if b then 1 else 0) + times x (numbers_from (suc k) n) ≤ 1) (sym q) (omega (arith, h))
 
 mutual
-  few_leaves : (t : math.Term) → length (leaves t) ≤ math.size t
+  few_leaves : (t : math.Term) → length (variable_occurrences t) ≤ math.size t
   few_leaves (var x) = omega arith
   few_leaves (app f ts) = let h = few_leaves_of ts in omega (arith, h)
 
-  few_leaves_of : (ts : math.Terms) → length (leaves_of ts) ≤ math.size_all ts
+  few_leaves_of : (ts : math.Terms) → length (variable_occurrences_of ts) ≤ math.size_all ts
   few_leaves_of nil = omega arith
   few_leaves_of (cons t ts) =
       let h = few_leaves t in
       let k = few_leaves_of ts in
-      let e = length-append (leaves t) (leaves_of ts) in
+      let e = length-append (variable_occurrences t) (variable_occurrences_of ts) in
       omega (arith, h, k, e)
 
 module _ (arities : List ℕ) (r : rules.Rule) (is : IsRule arities r) where
-  goes : GoesOn 0 (leaves r.left)
+  goes : GoesOn 0 (variable_occurrences r.left)
   goes =
       let all = counts_first (rule_variables r) is.numbered is.few_variables in
       let first = first_leads (with_variables [] r.left) (cons r.right (sides r.conditions)) _ all in
       (_, subst (λ q. AreFirst q (length (with_variables [] r.left))) (with-leaves [] r.left) first)
 
-  few : 0 + length (leaves r.left) < 2 ^ 31
+  few : 0 + length (variable_occurrences r.left) < 2 ^ 31
   few = let fit = is.fits.0.nodes in let le = few_leaves r.left in omega (arith, fit, le)
 
-  pub linear : first_seen 0 (leaves r.left) ≡ None → IsLinear r.left
+  pub linear : first_seen 0 (variable_occurrences r.left) ≡ None → IsLinear r.left
   linear e x =
-      let at = never 0 (leaves r.left) few goes e in
-      subst (λ n. n ≤ 1) (sym (occurrences-times x r.left ∙ ap (times x) at)) (times_once x 0 (length (leaves r.left)))
+      let at = never 0 (variable_occurrences r.left) few goes e in
+      subst (λ n. n ≤ 1) (sym (occurrences-times x r.left ∙ ap (times x) at)) (times_once x 0 (length (variable_occurrences r.left)))
 
-  pub repeated : (x : ℕ) → first_seen 0 (leaves r.left) ≡ Some x → IsFirstRepeated r.left x
+  pub repeated : (x : ℕ) → first_seen 0 (variable_occurrences r.left) ≡ Some x → IsFirstRepeated r.left x
   repeated x e =
-      let a = again 0 (leaves r.left) x few goes e in
+      let a = again 0 (variable_occurrences r.left) x few goes e in
       let low = a.below in
       record {
         before = a.before;
@@ -197,24 +177,3 @@ module _ (arities : List ℕ) (r : rules.Rule) (is : IsRule arities r) where
         distinct = subst AreDistinct (sym a.are) (all_distinct 0 (length a.before));
         again = subst (λ us. IsAmong x us) (sym a.are) (is_among x 0 (length a.before) (omega arith) low);
       }
-
-once : (x : ℕ) (xs : List ℕ) → IsAmong x xs → 1 ≤ times x xs
-once x [] a = absurd a
-once x (y ∷ ys) (inl e) = let q : nat_eq x y ≡ true = eq-eqb x y e in subst (λ b. 1 ≤ (if b then 1 else 0) + times x ys) (sym q) (omega arith)
-once x (y ∷ ys) (inr a) = let h = once x ys a in omega (arith, h)
-
-times-middle : (x : ℕ) (before after : List ℕ) → IsAmong x before → 2 ≤ times x (before ++ x ∷ after)
-times-middle x before after a =
-    let e = times-append x before (x ∷ after) in
-    let h = once x before a in
-    let q : nat_eq x x ≡ true = eq-eqb x x refl in
-    let one : times x (x ∷ after) ≡ 1 + times x after = ap (λ b. (if b then 1 else 0) + times x after) q in
-    omega (arith, e, h, one)
-
--- a term with a variable that is seen again is not linear
-pub repeated_not_linear : (t : math.Term) (x : ℕ) → IsFirstRepeated t x → IsLinear t → ⊥
-repeated_not_linear t x f linear =
-    let h = linear x in
-    let e = occurrences-times x t ∙ ap (times x) f.split in
-    let two = times-middle x f.before f.after f.again in
-    omega (arith, h, e, two)

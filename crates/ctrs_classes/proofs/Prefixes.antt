@@ -1,15 +1,13 @@
 -- Conditions one after another.
-use Rattle.std.proofs.Common.{ℕ, zero, suc, ◌≡◌, ◌⊎◌, inl, inr, ◌<◌, ◌≤◌, ◌+◌, Bool, true, false, not, ◌||◌, ◌&&◌, List, [], ◌∷◌, ◌++◌, length, get_or, take, drop, map, Option, None, Some, option_map, refl, sym, ap, ap₂, ◌∙◌, subst, arith, eq-eqb}
+use Rattle.std.proofs.Common.{ℕ, zero, suc, ◌≡◌, ◌⊎◌, inl, inr, ◌<◌, ◌≤◌, ◌+◌, Bool, true, false, not, ◌||◌, ◌&&◌, List, [], ◌∷◌, length, get_or, take, drop, map, None, Some, option_map, refl, sym, ap, ap₂, ◌∙◌, subst, arith}
 use Rattle.std.proofs.lemmas.Bool.{false≢true, true≢false, or_left}
 use Rattle.std.proofs.lemmas.Bool.Decides.{leb_tells}
 use Rattle.std.proofs.lemmas.Option.{slice_get-get_or, slice_get-map, slice_get_past}
 use Rattle.std.proofs.Math.Dec.{leb}
 use Rattle.std.specs.Prelude.{slice_get}
-use Rattle.std.specs.List.{take-map}
 use Rattle.std.proofs.lemmas.List.{length-map, drop-map}
-use Rattle.rewriting.specs.Terms as math
-use Rattle.rewriting.specs.Terms.{var, app, nil, cons}
-use Rattle.rewriting.specs.Variables.{occurs, occurs_in, IsWithin}
+use Rattle.rewriting.specs.Terms.{nil, cons}
+use Rattle.rewriting.specs.Variables.{occurs, occurs_in, IsWithin, variable_occurrences}
 use Rattle.rewriting.specs.Rules as rules
 use Rattle.rewriting.specs.Rules.{Condition, right_sides, sides, rule_at, EachRule}
 use Rattle.rewriting.specs.Systems.{IsRule, AreRules}
@@ -19,42 +17,22 @@ use Rattle.term_core.specs.declared.systems.Cond.{Cond}
 use Rattle.term_core.specs.declared.systems.Rule.{Rule}
 use Rattle.term_core.specs.View.{view}
 use Rattle.term_core.specs.RuleView.{condition_view, rule_view}
-use Rattle.ctrs_classes.specs.Blames.{leaves, leaves_of, IsAmong, IsFirstVariable}
+use Rattle.rewriting.specs.Lists.{IsAmong}
+use Rattle.certificates.specs.Blames.{IsFirstVariable}
+use Rattle.certificates.proofs.Blames.{first_occurs}
 use Rattle.ctrs_classes.specs.Walks.{any_where, first_where, same}
 use Rattle.ctrs_classes.specs.Faults.{IsKnownPrefix}
-use Rattle.ctrs_classes.proofs.Firsts.{occurring, outside_found, all_inside, everywhere, stood, known_before}
-
-parted : (x : ℕ) (xs ys : List ℕ) (P : Type 0) → IsAmong x (xs ++ ys) → (IsAmong x xs → P) → (IsAmong x ys → P) → P
-parted x [] ys P a f g = g a
-parted x (y ∷ xs) ys P (inl e) f g = f (inl e)
-parted x (y ∷ xs) ys P (inr a) f g = parted x xs ys P a (λ h. f (inr h)) g
-
--- the leaves of a term occur in it
-mutual
-  pub among_occurs : (x : ℕ) (t : math.Term) → IsAmong x (leaves t) → occurs x t ≡ true
-  among_occurs x (var y) (inl e) = eq-eqb x y e
-  among_occurs x (var y) (inr a) = absurd a
-  among_occurs x (app f ts) a = among_occurs_in x ts a
-
-  among_occurs_in : (x : ℕ) (ts : math.Terms) → IsAmong x (leaves_of ts) → occurs_in x ts ≡ true
-  among_occurs_in x nil a = absurd a
-  among_occurs_in x (cons t ts) a = parted x (leaves t) (leaves_of ts) _ a (λ h. or_left _ _ (among_occurs x t h)) (λ h. or_right _ _ (among_occurs_in x ts h))
-
-among_middle : (x : ℕ) (before after : List ℕ) → IsAmong x (before ++ x ∷ after)
-among_middle x [] after = inl refl
-among_middle x (y ∷ before) after = inr (among_middle x before after)
-
-pub first_occurs : (P : ℕ → Type 0) (t : math.Term) (x : ℕ) → IsFirstVariable P t x → occurs x t ≡ true
-first_occurs P t x f = among_occurs x t (subst (λ us. IsAmong x us) (sym f.split) (among_middle x f.before f.after))
+use Rattle.rewriting.proofs.Variables.{occurring, among_occurs}
+use Rattle.ctrs_classes.proofs.Firsts.{outside_found, all_inside, everywhere, stood, known_before}
 
 -- of type 3, or not
-pub type3_found : (rule : Rule) (asked known : List Cond) (x : ℕ) → asked ≡ rule.conds.items → known ≡ rule.conds.items → Some x ≡ first_where (λ y. same false (stood rule asked known y)) (leaves (view rule.right))
+pub type3_found : (rule : Rule) (asked known : List Cond) (x : ℕ) → asked ≡ rule.conds.items → known ≡ rule.conds.items → Some x ≡ first_where (λ y. same false (stood rule asked known y)) (variable_occurrences (view rule.right))
     → IsFirstVariable (λ y. occurs_in y (cons (view rule.left) (sides (map condition_view rule.conds.items))) ≡ false) (view rule.right) x
 type3_found rule asked known x a k e =
     outside_found (stood rule asked known) (λ y. occurs_in y (cons (view rule.left) (sides (map condition_view rule.conds.items)))) (view rule.right) x
     (λ y. rw (a, k) (everywhere (view rule.left) (map condition_view rule.conds.items) y)) (sym e)
 
-pub type3_within : (rule : Rule) (asked known : List Cond) → asked ≡ rule.conds.items → known ≡ rule.conds.items → None ≡ first_where (λ y. same false (stood rule asked known y)) (leaves (view rule.right))
+pub type3_within : (rule : Rule) (asked known : List Cond) → asked ≡ rule.conds.items → known ≡ rule.conds.items → None ≡ first_where (λ y. same false (stood rule asked known y)) (variable_occurrences (view rule.right))
     → IsWithin (view rule.right) (cons (view rule.left) (sides (map condition_view rule.conds.items)))
 type3_within rule asked known a k e =
     all_inside (stood rule asked known) (λ y. occurs_in y (cons (view rule.left) (sides (map condition_view rule.conds.items)))) (view rule.right)
@@ -168,20 +146,20 @@ decide true h = refl
 decide false h = absurd (h refl)
 
 module _ (r : rules.Rule) (m : ℕ) (prefix : IsKnownPrefix r m) (test : ℕ → Bool) (tests : (x : ℕ) → test x ≡ (occurs_in x (sides (drop m r.conditions)) && not (occurs_in x (known r m)))) where
-  pub is_oriented : any_where test (leaves r.right) ≡ false → IsExtendedOrientedRule r
+  pub is_oriented : any_where test (variable_occurrences r.right) ≡ false → IsExtendedOrientedRule r
   is_oriented none = record { m = m; at_most = prefix.at_most; before = prefix.before; behind = go }
     where
       go : (j : ℕ) (c : Condition) → m ≤ j → IsAt r.conditions j c → (x : ℕ) → occurs x r.right ≡ true → occurs_in x (cons c.left (cons c.right nil)) ≡ true → occurs_in x (known r m) ≡ true
       go j c le at x o oc =
           decide (occurs_in x (known r m)) (λ unknown. true≢false (
-          sym (none_any test (leaves r.right) x (occurring x r.right o) (tests x ∙ both_and _ _ (here_from x m r.conditions j c le at oc) (ap not unknown))) ∙ none
+          sym (none_any test (variable_occurrences r.right) x (occurring x r.right o) (tests x ∙ both_and _ _ (here_from x m r.conditions j c le at oc) (ap not unknown))) ∙ none
           ))
 
-  pub not_oriented : any_where test (leaves r.right) ≡ true → IsExtendedOrientedRule r → ⊥
+  pub not_oriented : any_where test (variable_occurrences r.right) ≡ true → IsExtendedOrientedRule r → ⊥
   not_oriented some o = go (leb_tells o.m m)
     where
-      f : (x : ℕ) × IsAmong x (leaves r.right) × (test x ≡ true)
-      f = any_found test (leaves r.right) some
+      f : (x : ℕ) × IsAmong x (variable_occurrences r.right) × (test x ≡ true)
+      f = any_found test (variable_occurrences r.right) some
 
       both : (occurs_in f.0 (sides (drop m r.conditions)) ≡ true) × (not (occurs_in f.0 (known r m)) ≡ true)
       both = and_both _ _ (sym (tests f.0) ∙ f.2)
@@ -247,11 +225,11 @@ abbrev shared : Rule → List Cond → List Cond → ℕ → Bool
 shared rule before behind x = occurs_in x (sides (map condition_view behind)) && not (occurs x (view rule.left) || (false || occurs_in x (right_sides (map condition_view before))))
 
 pub oriented_where : (rule : Rule) (m : ℕ) (before behind : List Cond) → IsKnownPrefix (rule_view rule) m → before ≡ take m rule.conds.items → behind ≡ drop m rule.conds.items
-    → any_where (shared rule before behind) (leaves (view rule.right)) ≡ false → IsExtendedOrientedRule (rule_view rule)
+    → any_where (shared rule before behind) (variable_occurrences (view rule.right)) ≡ false → IsExtendedOrientedRule (rule_view rule)
 oriented_where rule m before behind prefix b h e = is_oriented (rule_view rule) m prefix (shared rule before behind) (tested rule m before behind b h) e
 
 pub not_oriented_where : (rule : Rule) (m : ℕ) (before behind : List Cond) → IsKnownPrefix (rule_view rule) m → before ≡ take m rule.conds.items → behind ≡ drop m rule.conds.items
-    → any_where (shared rule before behind) (leaves (view rule.right)) ≡ true → IsExtendedOrientedRule (rule_view rule) → ⊥
+    → any_where (shared rule before behind) (variable_occurrences (view rule.right)) ≡ true → IsExtendedOrientedRule (rule_view rule) → ⊥
 not_oriented_where rule m before behind prefix b h e = not_oriented (rule_view rule) m prefix (shared rule before behind) (tested rule m before behind b h) e
 
 module _ (sys : rules.System) (rs : List Rule) (same : map rule_view rs ≡ sys.rules) where

@@ -4,7 +4,7 @@ use Rattle.rewriting.specs.Rules.{System, EachRule}
 use Rattle.certificates.specs.Reasons as reasons
 use Rattle.cert_model.specs.declared.reasons.Blame.{Blame}
 use Rattle.cert_model.specs.ReasonView.{blame_view}
-use Rattle.ctrs_classes.specs.Blames.{IsInClass, IsBlamed}
+use Rattle.certificates.specs.Blames.{IsInClass, IsBlamed}
 
 -- every rule is in the class, or the first that is not
 abbrev pub WhyNotAnswers : System → reasons.Class → Option Blame → Type 0

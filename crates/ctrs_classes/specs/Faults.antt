@@ -1,12 +1,11 @@
 -- What the judging of a rule answers.
-use Rattle.std.specs.Prelude.{ℕ, ◌≡◌, ◌<◌, ◌≤◌, ◌⊎◌, Option, None, Some, List, length, true, false}
-use Rattle.rewriting.specs.Terms.{Term, cons, nil}
-use Rattle.rewriting.specs.Variables.{occurs, occurs_in, IsWithin}
-use Rattle.rewriting.specs.Rules.{Condition, Rule, System, sides}
+use Rattle.std.specs.Prelude.{ℕ, ◌≡◌, ◌<◌, ◌≤◌, Option, None, Some, length, false}
+use Rattle.rewriting.specs.Variables.{occurs_in, IsWithin}
+use Rattle.rewriting.specs.Rules.{Condition, Rule, System}
 use Rattle.rewriting.specs.Classes.{IsAt, known, IsStable}
 use Rattle.certificates.specs.Reasons.{Class}
 use Rattle.ctrs_classes.specs.declared.rules.Fault.{Fault}
-use Rattle.ctrs_classes.specs.Blames.{IsInClass, IsRuleBlamed, IsFirstVariable, IsFresh, IsUnstable}
+use Rattle.certificates.specs.Blames.{IsInClass, IsRuleBlamed, IsFirstVariable, IsFresh, IsUnstable}
 
 -- the rule is in the class, or what is at fault
 abbrev pub FaultAnswers : System → Class → Rule → Option Fault → Type 0

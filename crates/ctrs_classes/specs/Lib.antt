@@ -1,4 +1,3 @@
-pub mod Blames
 pub mod Walks
 pub mod RegionView
 pub mod Faults

@@ -1,5 +1,5 @@
 -- What walks over terms find.
-use Rattle.std.specs.Prelude.{ℕ, ◌≡◌, length, Result, Ok, Err, ◌||◌, not, ◌+◌, Bool, true, false, nat_lt, if◌then◌else◌, List, [], ◌∷◌, ◌++◌, Option, None, Some}
+use Rattle.std.specs.Prelude.{ℕ, ◌≡◌, length, Result, Ok, Err, ◌||◌, not, ◌+◌, Bool, true, false, nat_lt, if◌then◌else◌, List, [], ◌∷◌, Option, None, Some}
 use Rattle.rewriting.specs.Terms.{Term, Terms, var, app, nil, cons}
 
 abbrev pub first_some : Option ℕ → Option ℕ → Option ℕ

@@ -4,7 +4,7 @@ ghost use Rattle.rewriting.specs.Classes.{IsLeftLinear, IsType3, IsExtendedOrien
 ghost use Rattle.term_core.specs.RuleView.{rule_view};
 ghost use Rattle.cert_model.specs.ReasonView.{class_view};
 ghost use Rattle.rewriting.specs.Rules.{EachRule};
-ghost use Rattle.ctrs_classes.specs.Blames.{IsInClass};
+ghost use Rattle.certificates.specs.Blames.{IsInClass};
 ghost use Rattle.ctrs_classes.specs.Faults.{FaultAnswers};
 ghost use Rattle.ctrs_classes.specs.Answers.{WhyNotAnswers};
 

@@ -4,7 +4,7 @@ ghost use Rattle.rewriting.specs.Variables as math;
 ghost use Rattle.rewriting.specs.Rules.{left_sides, right_sides, sides};
 ghost use Rattle.term_core.specs.View.{view, views};
 ghost use Rattle.term_core.specs.RuleView.{condition_view};
-ghost use Rattle.ctrs_classes.specs.Blames.{leaves, leaves_of};
+ghost use Rattle.rewriting.specs.Variables.{variable_occurrences, variable_occurrences_of};
 ghost use Rattle.ctrs_classes.specs.Walks.{SeenAnswers, any_where, are_open, first_where, is_open, same};
 ghost use Rattle.ctrs_classes.specs.RegionView.{in_region};
 
@@ -85,7 +85,7 @@ fn is_wanted(x: u32, region: &Region<'_>, inside: bool) -> bool
 #[cycle(first)]
 #[tactic(auto, using(crate::proofs::Sizes::size_pos))]
 pub(crate) fn first_variable(t: &Term, region: &Region<'_>, inside: bool) -> Option<u32>
-    ensures { result ≡ first_where (λ x. same inside (in_region region.now x)) (leaves (view t.now)) }
+    ensures { result ≡ first_where (λ x. same inside (in_region region.now x)) (variable_occurrences (view t.now)) }
 {
     match t {
         Term::Var(x) => {
@@ -102,7 +102,7 @@ pub(crate) fn first_variable(t: &Term, region: &Region<'_>, inside: bool) -> Opt
 #[cycle(first)]
 #[tactic(auto, using(crate::proofs::Sizes::size_pos))]
 fn first_among(args: &[Term], region: &Region<'_>, inside: bool) -> Option<u32>
-    ensures { result ≡ first_where (λ x. same inside (in_region region.now x)) (leaves_of (views args.now)) }
+    ensures { result ≡ first_where (λ x. same inside (in_region region.now x)) (variable_occurrences_of (views args.now)) }
 {
     match args {
         [] => None,
@@ -119,7 +119,7 @@ fn first_among(args: &[Term], region: &Region<'_>, inside: bool) -> Option<u32>
 #[tactic(auto, using(crate::proofs::Sizes::size_pos))]
 pub(crate) fn first_repeated(t: &Term, next: u32) -> Result<u32, u32>
     requires { next + size (view t.now) ≤ 20000 }
-    ensures found { SeenAnswers next (leaves (view t.now)) result }
+    ensures found { SeenAnswers next (variable_occurrences (view t.now)) result }
     ensures bounded { IfOk result (λ n. n ≤ next + size (view t.now)) }
 {
     match t {
@@ -132,7 +132,7 @@ pub(crate) fn first_repeated(t: &Term, next: u32) -> Result<u32, u32>
 #[tactic(auto, using(crate::proofs::Sizes::size_pos))]
 fn first_repeated_among(args: &[Term], next: u32) -> Result<u32, u32>
     requires { next + size_all (views args.now) ≤ 20000 }
-    ensures found { SeenAnswers next (leaves_of (views args.now)) result }
+    ensures found { SeenAnswers next (variable_occurrences_of (views args.now)) result }
     ensures bounded { IfOk result (λ n. n ≤ next + size_all (views args.now)) }
 {
     match args {
@@ -160,7 +160,7 @@ fn is_asked(x: u32, conds: &[Cond]) -> bool
 #[cycle(shares)]
 #[tactic(auto, using(crate::proofs::Sizes::size_pos))]
 pub(crate) fn shares_unknown(t: &Term, region: &Region<'_>, conds: &[Cond]) -> bool
-    ensures { result ≡ any_where (λ x. math.occurs_in x (sides (map condition_view conds.now)) && not (in_region region.now x)) (leaves (view t.now)) }
+    ensures { result ≡ any_where (λ x. math.occurs_in x (sides (map condition_view conds.now)) && not (in_region region.now x)) (variable_occurrences (view t.now)) }
 {
     match t {
         Term::Var(x) => is_asked(*x, conds) && !stands(*x, region),
@@ -171,7 +171,7 @@ pub(crate) fn shares_unknown(t: &Term, region: &Region<'_>, conds: &[Cond]) -> b
 #[cycle(shares)]
 #[tactic(auto, using(crate::proofs::Sizes::size_pos, crate::proofs::Lists::any_append, crate::proofs::Lists::leaves_split))]
 fn share_unknown(args: &[Term], region: &Region<'_>, conds: &[Cond]) -> bool
-    ensures { result ≡ any_where (λ x. math.occurs_in x (sides (map condition_view conds.now)) && not (in_region region.now x)) (leaves_of (views args.now)) }
+    ensures { result ≡ any_where (λ x. math.occurs_in x (sides (map condition_view conds.now)) && not (in_region region.now x)) (variable_occurrences_of (views args.now)) }
 {
     match args {
         [] => false,

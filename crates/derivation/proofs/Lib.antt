@@ -6,4 +6,3 @@ pub mod Shown
 pub mod OneStep
 pub mod Loops
 pub mod Progress
-pub mod Outcomes

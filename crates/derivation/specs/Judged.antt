@@ -3,11 +3,10 @@ use Rattle.std.specs.Prelude.{◌≡◌, ◌⊎◌, ◌≤◌, ℕ, length, Some
 use Rattle.rewriting.specs.Terms as math
 use Rattle.rewriting.specs.Positions.{Position, subterm, replace}
 use Rattle.rewriting.specs.Substitutions.{Bindings, apply, values_of}
-use Rattle.rewriting.specs.Matching.{HasNoMatch, IsLeastMatch}
+use Rattle.rewriting.specs.Matching.{HasNoMatch, IsLeastMatch, Covers}
 use Rattle.std.specs.FinMap.{empty}
 use Rattle.certificates.specs.Reasons.{StepReason, unbound, too_large}
 use Rattle.rewriting.specs.Rules.{Condition, Rule}
-use Rattle.certificates.specs.Judging.{Covers}
 use Rattle.certificates.specs.Sizes.{DoConditionsFit}
 use Rattle.term_core.specs.View.{view}
 use Rattle.derivation.specs.declared.places.Counted.{Counted}

@@ -4,7 +4,7 @@ use Rattle.std.proofs.lemmas.List.{append-nil}
 use Rattle.std.specs.Option.{option_and_then, option_map}
 use Rattle.file_text.specs.Syntax.{Name, Phrase, word, RuleTree}
 use Rattle.file_text.specs.Grammar.{Word, id, left_paren, right_paren, comma, bar, arrow, equal, id_at, Block, condition_type, variables, rules, title, spelled_block, spelled_blocks, spelled_rules, has_block}
-use Rattle.file_text.specs.Machine.{Last, want, first, bare, done, Opens, Part, left, right, condition_left, condition_right, Reading, reading, no_rule, next_part, behind_side, step_term, whole, closing, State, outside, behind_bracket, behind_type, in_variables, in_rules, titled, rules_or}
+use Rattle.file_text.proofs.Machine.{Last, want, first, bare, done, Opens, Part, left, right, condition_left, condition_right, Reading, reading, no_rule, next_part, behind_side, step_term, whole, closing, State, outside, behind_bracket, behind_type, in_variables, in_rules, titled, rules_or}
 use Rattle.file_text.proofs.TermRuns.{term_run}
 use Rattle.file_text.proofs.RuleRuns.{rules_accepted}
 use Rattle.file_text.proofs.Goes.{taken, goes_one, goes, goes_then, goes_step}

@@ -3,7 +3,7 @@ use Rattle.std.proofs.Common.{◌≡◌, ℕ, List, [], ◌∷◌, ◌++◌, map
 use Rattle.std.proofs.lemmas.List.{append-nil}
 use Rattle.file_text.specs.Syntax.{Name, Phrase, word, call, none, with_last, ConditionTree, RuleTree}
 use Rattle.file_text.specs.Grammar.{Word, id, left_paren, right_paren, arrow, equal, spelled, spelled_rule, spelled_rules, id_at, Block, condition_type, variables, rules, spelled_block, spelled_blocks}
-use Rattle.file_text.specs.Machine.{Last, want, first, bare, done, Opens, Part, left, right, condition_left, condition_right, Reading, guard_with, ended, State, outside, behind_bracket, behind_type, behind_oriented, in_variables, in_rules}
+use Rattle.file_text.proofs.Machine.{Last, want, first, bare, done, Opens, Part, left, right, condition_left, condition_right, Reading, guard_with, ended, State, outside, behind_bracket, behind_type, behind_oriented, in_variables, in_rules}
 use Rattle.file_text.proofs.ReadingWords.{commaed, begun, open_words, last_words, part_words, reading_words, arguments-last, rules-last, ended_reads}
 
 -- the words of the blocks so far

@@ -5,9 +5,9 @@ use Rattle.std.proofs.lemmas.Option.{slice_get-map}
 use Rattle.std.proofs.Math.Seq.{take-length}
 use Rattle.file_text.specs.declared.Token.{Token}
 use Rattle.file_text.specs.Syntax.{FileTree}
-use Rattle.file_text.specs.Refusals.{Cause}
+use Rattle.file_text.specs.Refusals.{SyntaxCause}
 use Rattle.file_text.specs.Texts.{word_of, words_of}
-use Rattle.file_text.specs.Machine.{State, outside, step, finish, numbered, run, finished, read_file}
+use Rattle.file_text.proofs.Machine.{State, outside, step, finish, numbered, run, finished, read_file}
 use Rattle.file_text.proofs.ReadingWords.{some_is}
 use Rattle.file_text.proofs.Goes.{goes, goes_then, goes_one_end, step_goes, run_goes, goes_run, stop_run}
 
@@ -18,7 +18,7 @@ around (y ∷ xs) zero x e = let same = some_is y x e in (xs, ap (λ z. z ∷ xs
 around (y ∷ xs) (suc k) x e = let h = around xs k x e in (h.0, ap (λ zs. y ∷ zs) h.1, ap (λ zs. y ∷ zs) h.2, ap suc h.3)
 
 -- the state behind the first tokens
-abbrev pub state_at : List ℕ → List Token → ℕ → Result State (Cause × ℕ)
+abbrev pub state_at : List ℕ → List Token → ℕ → Result State (SyntaxCause × ℕ)
 state_at bytes ts n = run 0 (outside []) (words_of bytes (take n ts))
 
 word_at : (bytes : List ℕ) (ts : List Token) (n : ℕ) (t : Token) → slice_get ts n ≡ Some t → slice_get (words_of bytes ts) n ≡ Some (word_of bytes t)
@@ -40,7 +40,7 @@ state_next bytes ts n t s u e got is =
     (goes_then true (take n (words_of bytes ts)) (word_of bytes t ∷ []) (outside []) s (state_of bytes ts n s e) ∙ goes_one_end true (word_of bytes t) s u (step_goes s u (word_of bytes t) is))
 
 -- a token is refused
-pub state_refused : (bytes : List ℕ) (ts : List Token) (n : ℕ) (t : Token) (s : State) (c : Cause) → state_at bytes ts n ≡ Ok s → slice_get ts n ≡ Some t → step s (word_of bytes t) ≡ Err c → read_file (words_of bytes ts) ≡ Err (c, n)
+pub state_refused : (bytes : List ℕ) (ts : List Token) (n : ℕ) (t : Token) (s : State) (c : SyntaxCause) → state_at bytes ts n ≡ Ok s → slice_get ts n ≡ Some t → step s (word_of bytes t) ≡ Err c → read_file (words_of bytes ts) ≡ Err (c, n)
 state_refused bytes ts n t s c e got is =
     let ws = words_of bytes ts in
     let h = around ws n (word_of bytes t) (word_at bytes ts n t got) in
@@ -56,7 +56,7 @@ pub state_ended : (bytes : List ℕ) (ts : List Token) (s : State) (file : FileT
 state_ended bytes ts s file e is =
     ap (finished (length (words_of bytes ts))) (state_end bytes ts s e) ∙ ap (numbered (length (words_of bytes ts)) (λ (file : FileTree). Ok file)) is
 
-pub state_end_refused : (bytes : List ℕ) (ts : List Token) (s : State) (c : Cause) → state_at bytes ts (length ts) ≡ Ok s → finish s ≡ Err c → read_file (words_of bytes ts) ≡ Err (c, length ts)
+pub state_end_refused : (bytes : List ℕ) (ts : List Token) (s : State) (c : SyntaxCause) → state_at bytes ts (length ts) ≡ Ok s → finish s ≡ Err c → read_file (words_of bytes ts) ≡ Err (c, length ts)
 state_end_refused bytes ts s c e is =
     ap (finished (length (words_of bytes ts))) (state_end bytes ts s e) ∙ ap (numbered (length (words_of bytes ts)) (λ (file : FileTree). Ok file)) is
     ∙ ap (λ (n : ℕ). Err (c, n)) (length-map ts (word_of bytes))

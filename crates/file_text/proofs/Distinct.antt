@@ -4,8 +4,8 @@ use Rattle.std.proofs.lemmas.List.Folds.{list_any-append}
 use Rattle.std.proofs.lemmas.Slice.Eq.{bytes_eq-Decides}
 use Rattle.file_text.specs.Syntax.{Name, RuleTree}
 use Rattle.file_text.specs.Grammar.{Word, id, left_paren, right_paren, Block, condition_type, variables, rules, title, has_block, are_distinct}
-use Rattle.file_text.specs.Refusals.{Cause, unknown_block, other_condition_type}
-use Rattle.file_text.specs.Machine.{Reading, no_rule, closing, step_term, State, outside, behind_bracket, behind_type, behind_oriented, in_variables, in_rules, step_outside, titled, step_bracket, step_type, step_oriented, step_variables, rules_or, step_any, repeats}
+use Rattle.file_text.specs.Refusals.{SyntaxCause, unknown_block, other_condition_type}
+use Rattle.file_text.proofs.Machine.{Reading, no_rule, closing, step_term, State, outside, behind_bracket, behind_type, behind_oriented, in_variables, in_rules, step_outside, titled, step_bracket, step_type, step_oriented, step_variables, rules_or, step_any, repeats}
 use Rattle.file_text.proofs.Goes.{taken, goes, goes_word}
 use Rattle.file_text.proofs.StateReads.{made, made_is, one_or, one_of}
 use Rattle.file_text.proofs.BlockRuns.{AreFree}
@@ -136,11 +136,11 @@ any_new (behind_oriented bs at oriented) t w e free h = oriented_new bs at orien
 any_new (in_variables bs at names) t w e free h = variables_new bs at names w t e h
 any_new (in_rules bs at r) t w e free h = rules_new bs at (closing r w) (step_term r.rules r.part r.opens r.last w) t e h
 
-pub taken_is : (r : Result State Cause) (t : State) → taken r ≡ Some t → r ≡ Ok t
+pub taken_is : (r : Result State SyntaxCause) (t : State) → taken r ≡ Some t → r ≡ Ok t
 taken_is (Ok s) t e = cc
 taken_is (Err c) t e = absurd cc
 
-one_parts : (b : Bool) (r : Result State Cause) (t : State) → (if b && true then None else taken r) ≡ Some t → (b ≡ false) × (r ≡ Ok t)
+one_parts : (b : Bool) (r : Result State SyntaxCause) (t : State) → (if b && true then None else taken r) ≡ Some t → (b ≡ false) × (r ≡ Ok t)
 one_parts true r t e = absurd cc
 one_parts false r t e = (refl, taken_is r t e)
 

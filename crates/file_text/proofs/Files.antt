@@ -3,8 +3,8 @@ use Rattle.std.proofs.Common.{◌≡◌, ℕ, Bool, true, false, ◌&&◌, if◌
 use Rattle.std.proofs.lemmas.List.{append-nil}
 use Rattle.file_text.specs.Syntax.{Name, RuleTree, FileTree}
 use Rattle.file_text.specs.Grammar.{Word, Block, spelled_blocks, are_distinct, oriented_in, variables_in, rules_in, IsFile}
-use Rattle.file_text.specs.Refusals.{Cause}
-use Rattle.file_text.specs.Machine.{State, outside, behind_bracket, behind_type, behind_oriented, in_variables, in_rules, step_any, repeats, file_or_missing, finish, numbered, run, finished, read_file}
+use Rattle.file_text.specs.Refusals.{SyntaxCause}
+use Rattle.file_text.proofs.Machine.{State, outside, behind_bracket, behind_type, behind_oriented, in_variables, in_rules, step_any, repeats, file_or_missing, finish, numbered, run, finished, read_file}
 use Rattle.file_text.proofs.ReadingWords.{some_is}
 use Rattle.file_text.proofs.Closing.{state_words}
 use Rattle.file_text.proofs.Goes.{taken, goes, goes_word, goes_any, run_goes, goes_run}
@@ -12,7 +12,7 @@ use Rattle.file_text.proofs.StateReads.{any_reads}
 use Rattle.file_text.proofs.BlockRuns.{blocks_go}
 use Rattle.file_text.proofs.Distinct.{distinct_free, taken_is, goes_new}
 
-pub any_step : (b : Bool) (r : Result State Cause) (t : State) → (if b && false then None else taken r) ≡ Some t → r ≡ Ok t
+pub any_step : (b : Bool) (r : Result State SyntaxCause) (t : State) → (if b && false then None else taken r) ≡ Some t → r ≡ Ok t
 any_step true r t e = taken_is r t e
 any_step false r t e = taken_is r t e
 
@@ -31,13 +31,13 @@ goes_words ws t e = any_words ws (outside []) t (goes_any ws (outside []) t e)
 abbrev tree : List Block → List RuleTree → FileTree
 tree bs rs = record { oriented = oriented_in bs; variables = variables_in bs; rules = rs }
 
-abbrev told : Result FileTree Cause → Result FileTree (Cause × ℕ)
+abbrev told : Result FileTree SyntaxCause → Result FileTree (SyntaxCause × ℕ)
 told r = numbered 0 (λ file. Ok file) r
 
 file_is : (file other : FileTree) → told (Ok file) ≡ Ok other → file ≡ other
 file_is file other e = cc
 
-finish_is : (n : ℕ) (r : Result FileTree Cause) (file : FileTree) → numbered n (λ file. Ok file) r ≡ Ok file → r ≡ Ok file
+finish_is : (n : ℕ) (r : Result FileTree SyntaxCause) (file : FileTree) → numbered n (λ file. Ok file) r ≡ Ok file → r ≡ Ok file
 finish_is n (Ok other) file e = ap (λ (f : FileTree). Ok f) (file_is other file e)
 finish_is n (Err c) file e = absurd cc
 
@@ -63,7 +63,7 @@ state_sound ws (in_rules bs at r) file e is = absurd cc
 pub file_sound : (ws : List Word) (file : FileTree) → read_file ws ≡ Ok file → IsFile ws file
 file_sound ws file e = go (run 0 (outside []) ws) refl e
   where
-    go : (r : Result State (Cause × ℕ)) → run 0 (outside []) ws ≡ r → finished (length ws) r ≡ Ok file → IsFile ws file
+    go : (r : Result State (SyntaxCause × ℕ)) → run 0 (outside []) ws ≡ r → finished (length ws) r ≡ Ok file → IsFile ws file
     go (Err c) is e = absurd cc
     go (Ok s) is e = state_sound ws s file (run_goes 0 ws (outside []) s is) (finish_is (length ws) (finish s) file e)
 
@@ -80,7 +80,7 @@ file_complete ws file h =
     ∙ ap (λ (o : Bool). Ok record { oriented = o; variables = variables_in h.blocks; rules = file.rules }) (sym h.oriented)
     ∙ ap (λ (v : List Name). Ok record { oriented = file.oriented; variables = v; rules = file.rules }) (sym h.variables)
 
-ok_file : (file other : FileTree) (r : Result FileTree (Cause × ℕ)) → r ≡ Ok file → r ≡ Ok other → file ≡ other
+ok_file : (file other : FileTree) (r : Result FileTree (SyntaxCause × ℕ)) → r ≡ Ok file → r ≡ Ok other → file ≡ other
 ok_file file other r p q = file_is file other (sym p ∙ q)
 
 -- words spell one file

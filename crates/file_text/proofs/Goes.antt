@@ -2,11 +2,11 @@
 use Rattle.std.proofs.Common.{◌≡◌, ℕ, suc, ◌+◌, Bool, true, false, ◌&&◌, if◌then◌else◌, List, [], ◌∷◌, ◌++◌, length, Option, Some, None, Result, Ok, Err, refl, sym, ap, ◌∙◌, arith}
 use Rattle.std.specs.Option.{option_and_then}
 use Rattle.file_text.specs.Grammar.{Word}
-use Rattle.file_text.specs.Refusals.{Cause, repeated_block}
-use Rattle.file_text.specs.Machine.{State, step_any, repeats, step, numbered, run}
+use Rattle.file_text.specs.Refusals.{SyntaxCause, repeated_block}
+use Rattle.file_text.proofs.Machine.{State, step_any, repeats, step, numbered, run}
 use Rattle.file_text.proofs.ReadingWords.{some_is}
 
-abbrev pub taken : Result State Cause → Option State
+abbrev pub taken : Result State SyntaxCause → Option State
 taken (Ok s) = Some s
 taken (Err c) = None
 
@@ -63,11 +63,11 @@ goes_any (w ∷ ws) s t e = let h = goes_word true w ws s t e in goes_step false
 
 -- ---- the step of the machine
 
-taken_ok : (b : Bool) (r : Result State Cause) (t : State) → (if b then Err repeated_block else r) ≡ Ok t → (if b && true then None else taken r) ≡ Some t
+taken_ok : (b : Bool) (r : Result State SyntaxCause) (t : State) → (if b then Err repeated_block else r) ≡ Ok t → (if b && true then None else taken r) ≡ Some t
 taken_ok true r t e = absurd cc
 taken_ok false r t e = ap taken e
 
-ok_taken : (b : Bool) (r : Result State Cause) (t : State) → (if b && true then None else taken r) ≡ Some t → (if b then Err repeated_block else r) ≡ Ok t
+ok_taken : (b : Bool) (r : Result State SyntaxCause) (t : State) → (if b && true then None else taken r) ≡ Some t → (if b then Err repeated_block else r) ≡ Ok t
 ok_taken true r t e = absurd cc
 ok_taken false (Ok s) t e = ap (λ (s : State). Ok s) (some_is s t e)
 ok_taken false (Err c) t e = absurd cc
@@ -83,11 +83,11 @@ goes_step_ok s t w e = ok_taken (repeats s w) (step_any s w) t e
 end_is : (n : ℕ) (s t : State) → run n s [] ≡ Ok t → s ≡ t
 end_is n s t e = cc
 
-abbrev After : ℕ → State → List Word → Result State (Cause × ℕ) → Result State Cause → Type 0
+abbrev After : ℕ → State → List Word → Result State (SyntaxCause × ℕ) → Result State SyntaxCause → Type 0
 After n s ws answer (Ok u) = run (suc n) u ws ≡ answer
 After n s ws answer (Err c) = Err (c, n) ≡ answer
 
-after_of : (n : ℕ) (s : State) (ws : List Word) (answer : Result State (Cause × ℕ)) (r : Result State Cause) → numbered n (λ t. run (suc n) t ws) r ≡ answer → After n s ws answer r
+after_of : (n : ℕ) (s : State) (ws : List Word) (answer : Result State (SyntaxCause × ℕ)) (r : Result State SyntaxCause) → numbered n (λ t. run (suc n) t ws) r ≡ answer → After n s ws answer r
 after_of n s ws answer (Ok u) e = e
 after_of n s ws answer (Err c) e = e
 
@@ -95,7 +95,7 @@ pub run_goes : (n : ℕ) (ws : List Word) (s t : State) → run n s ws ≡ Ok t 
 run_goes n [] s t e = ap (λ (s : State). Some s) (end_is n s t e)
 run_goes n (w ∷ ws) s t e = later (step s w) refl (after_of n s ws (Ok t) (step s w) e) (λ u h. run_goes (suc n) ws u t h)
   where
-    later : (r : Result State Cause) → step s w ≡ r → After n s ws (Ok t) r → ((u : State) → run (suc n) u ws ≡ Ok t → goes true u ws ≡ Some t) → goes true s (w ∷ ws) ≡ Some t
+    later : (r : Result State SyntaxCause) → step s w ≡ r → After n s ws (Ok t) r → ((u : State) → run (suc n) u ws ≡ Ok t → goes true u ws ≡ Some t) → goes true s (w ∷ ws) ≡ Some t
     later (Ok u) is e each = goes_step true s u w ws (step_goes s u w is) ∙ each u e
     later (Err c) is e each = absurd cc
 
@@ -104,7 +104,7 @@ goes_run n [] s t e = ap (λ (s : State). Ok s) (some_is s t e)
 goes_run n (w ∷ ws) s t e = let h = goes_word true w ws s t e in ap (numbered n (λ t. run (suc n) t ws)) (goes_step_ok s h.0 w h.1) ∙ goes_run (suc n) ws h.0 t h.2
 
 -- a word is refused, with this number
-pub record Stops (n : ℕ) (s : State) (ws : List Word) (c : Cause) (m : ℕ) : Type 0 where
+pub record Stops (n : ℕ) (s : State) (ws : List Word) (c : SyntaxCause) (m : ℕ) : Type 0 where
   pub front : List Word
   pub refused : Word
   pub rest : List Word
@@ -114,10 +114,10 @@ pub record Stops (n : ℕ) (s : State) (ws : List Word) (c : Cause) (m : ℕ) : 
   pub step : step last refused ≡ Err c
   pub number : m ≡ n + length front
 
-pair_is : (c d : Cause) (n m : ℕ) → numbered n (λ (s : State). Ok s) (Err c) ≡ Err (d, m) → (c ≡ d) × (n ≡ m)
-pair_is c d n m e = let both : ◌≡◌ {A = Cause × ℕ} (c, n) (d, m) = cc in (ap (λ p. p.0) both, ap (λ p. p.1) both)
+pair_is : (c d : SyntaxCause) (n m : ℕ) → numbered n (λ (s : State). Ok s) (Err c) ≡ Err (d, m) → (c ≡ d) × (n ≡ m)
+pair_is c d n m e = let both : ◌≡◌ {A = SyntaxCause × ℕ} (c, n) (d, m) = cc in (ap (λ p. p.0) both, ap (λ p. p.1) both)
 
-stops_later : (n : ℕ) (s u : State) (w : Word) (ws : List Word) (c : Cause) (m : ℕ) → step s w ≡ Ok u → Stops (suc n) u ws c m → Stops n s (w ∷ ws) c m
+stops_later : (n : ℕ) (s u : State) (w : Word) (ws : List Word) (c : SyntaxCause) (m : ℕ) → step s w ≡ Ok u → Stops (suc n) u ws c m → Stops n s (w ∷ ws) c m
 stops_later n s u w ws c m e h =
     let number = h.number in
     record {
@@ -131,18 +131,18 @@ stops_later n s u w ws c m e h =
       number = omega arith;
     }
 
-pub run_stops : (n : ℕ) (ws : List Word) (s : State) (c : Cause) (m : ℕ) → run n s ws ≡ Err (c, m) → Stops n s ws c m
+pub run_stops : (n : ℕ) (ws : List Word) (s : State) (c : SyntaxCause) (m : ℕ) → run n s ws ≡ Err (c, m) → Stops n s ws c m
 run_stops n [] s c m e = absurd cc
 run_stops n (w ∷ ws) s c m e = later (step s w) refl (after_of n s ws (Err (c, m)) (step s w) e) (λ u h. run_stops (suc n) ws u c m h)
   where
-    later : (r : Result State Cause) → step s w ≡ r → After n s ws (Err (c, m)) r → ((u : State) → run (suc n) u ws ≡ Err (c, m) → Stops (suc n) u ws c m) → Stops n s (w ∷ ws) c m
+    later : (r : Result State SyntaxCause) → step s w ≡ r → After n s ws (Err (c, m)) r → ((u : State) → run (suc n) u ws ≡ Err (c, m) → Stops (suc n) u ws c m) → Stops n s (w ∷ ws) c m
     later (Ok u) is e each = stops_later n s u w ws c m is (each u e)
     later (Err d) is e each =
         let same = pair_is d c n m e in
         let number = same.1 in
-        record { front = []; refused = w; rest = ws; last = s; split = refl; before = refl; step = is ∙ ap (λ (x : Cause). Err x) same.0; number = omega arith }
+        record { front = []; refused = w; rest = ws; last = s; split = refl; before = refl; step = is ∙ ap (λ (x : SyntaxCause). Err x) same.0; number = omega arith }
 
-pub stop_run : (n : ℕ) (front : List Word) (w : Word) (rest : List Word) (s t : State) (c : Cause) → goes true s front ≡ Some t → step t w ≡ Err c → run n s (front ++ w ∷ rest) ≡ Err (c, n + length front)
+pub stop_run : (n : ℕ) (front : List Word) (w : Word) (rest : List Word) (s t : State) (c : SyntaxCause) → goes true s front ≡ Some t → step t w ≡ Err c → run n s (front ++ w ∷ rest) ≡ Err (c, n + length front)
 stop_run n [] w rest s t c e is =
     ap (λ (u : State). numbered n (λ v. run (suc n) v rest) (step u w)) (some_is s t e) ∙ ap (numbered n (λ v. run (suc n) v rest)) is
     ∙ (let number : n ≡ n + 0 = omega arith in ap (λ (m : ℕ). Err (c, m)) number)

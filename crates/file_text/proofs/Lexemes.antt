@@ -236,22 +236,6 @@ pub reads_block : (count : ℕ) (name rest : List ℕ) (ls : List Lexeme) → Is
 reads_block count name rest ls n e differ r =
     reads_left_bracket count (name ++ rest) (lexeme Id name ∷ ls) (other_word count name rest n e differ) (reads_id (count + 1) name rest ls n e r)
 
--- a comment, outside every bracket
-pub reads_comment : (front rest : List ℕ) (ls : List Lexeme) → begins_comment (front ++ rest) ≡ true → comment_len (front ++ rest) ≡ Some (length front) → Reads 0 rest ls → Reads 0 (front ++ rest) ls
-reads_comment front rest ls begins closed r bytes at h =
-    let to = at + length front in
-    let c = r bytes to (rest_behind bytes at front rest h) in
-    let white : white_len (front ++ rest) ≡ 0 = kind_no_white (front ++ rest) LeftParen (begins_with_bracket 0 (front ++ rest) begins) in
-    let here : behind_white bytes at ≡ at = white_here bytes at (front ++ rest) h ∙ omega (arith, white) in
-    let left : drop (behind_white bytes at) bytes ≡ front ++ rest = ap (λ (n : ℕ). drop n bytes) here ∙ h.left in
-    let stands : StandsComment bytes at 0 to = record {
-      begins = ap (is_comment_at 0) left ∙ begins;
-      len = length front;
-      closed = ap comment_len left ∙ closed;
-      ends = ap (λ (n : ℕ). n + length front) (sym here);
-    } in
-    record { pieces = comment to ∷ c.pieces; end = c.end; leads = (stands, c.leads); whole = c.whole; lexemes = c.lexemes }
-
 -- What is read from the first byte on is spelled.
 pub spelled : (bytes : List ℕ) (ls : List Lexeme) → Reads 0 bytes ls → (ts : List Token) × Spells bytes ts × (lexemes_of bytes ts ≡ ls)
 spelled bytes ls r =

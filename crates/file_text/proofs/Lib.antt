@@ -1,3 +1,4 @@
+pub mod Machine
 pub mod OneReading
 pub mod Fronts
 pub mod Names
@@ -8,6 +9,8 @@ pub mod TermRuns
 pub mod RuleRuns
 pub mod Closing
 pub mod Goes
+pub mod TreeWords
+pub mod Within
 pub mod StateReads
 pub mod BlockRuns
 pub mod Distinct

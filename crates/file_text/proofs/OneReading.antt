@@ -5,8 +5,7 @@ use Rattle.file_text.specs.declared.Kind.{Kind}
 use Rattle.file_text.specs.declared.Kind.TheVariants.{Id, LeftParen}
 use Rattle.file_text.specs.declared.Token.{Token}
 use Rattle.file_text.specs.Bytes.{run_len, is_comment_word, comment_len, white_len}
-use Rattle.file_text.specs.Tokens.{kind_at, len_at, longest, open_after, is_comment_at, behind_white, Stands, StandsComment, Piece, token, comment, tokens_of, LeadsTo, opened, Spells, IsReached}
-use Rattle.file_text.specs.Laws.{Cause, bad_byte, long_id, open_comment, IsRefused}
+use Rattle.file_text.specs.Tokens.{kind_at, len_at, longest, open_after, is_comment_at, behind_white, Stands, StandsComment, Piece, token, comment, tokens_of, LeadsTo, opened, Spells, IsReached, TokenCause, bad_byte, long_id, open_comment, HasNoTokens}
 
 abbrev some : {A : Type 0} → A → Option A
 some x = Some x
@@ -107,18 +106,18 @@ comment_stops bytes end count begins none = record {
 }
 
 -- What stands at the place behind the pieces, where no piece follows.
-abbrev pub Last : List ℕ → Option Cause → ℕ → ℕ → ℕ → Type 0
+abbrev pub Last : List ℕ → Option TokenCause → ℕ → ℕ → ℕ → Type 0
 Last bytes None count place at = (place ≡ length bytes) × (at ≡ place)
 Last bytes (Some bad_byte) count place at = (place < length bytes) × (kind_at (drop place bytes) ≡ None) × (at ≡ place)
 Last bytes (Some long_id) count place at = (kind_at (drop place bytes) ≡ Some Id) × (longest < run_len (drop place bytes)) × (at ≡ place)
 Last bytes (Some open_comment) count place at = (is_comment_at count (drop place bytes) ≡ true) × (comment_len (drop place bytes) ≡ None) × (at ≡ length bytes)
 
-record Outcome (bytes : List ℕ) (cause : Option Cause) (at : ℕ) (pieces : List Piece) : Type 0 where
+record Outcome (bytes : List ℕ) (cause : Option TokenCause) (at : ℕ) (pieces : List Piece) : Type 0 where
   end : ℕ
   leads : LeadsTo bytes 0 0 pieces end
   last : Last bytes cause (opened 0 pieces) (behind_white bytes end) at
 
-last_stops : (bytes : List ℕ) (cause : Option Cause) (count end at : ℕ) → Last bytes cause count (behind_white bytes end) at → Stops bytes end count
+last_stops : (bytes : List ℕ) (cause : Option TokenCause) (count end at : ℕ) → Last bytes cause count (behind_white bytes end) at → Stops bytes end count
 last_stops bytes None count end at h = none_stops bytes end count (ap (λ (n : ℕ). kind_at (drop n bytes)) h.0 ∙ ap kind_at (drop-length bytes))
 last_stops bytes (Some bad_byte) count end at h = none_stops bytes end count h.1
 last_stops bytes (Some long_id) count end at h = long_stops bytes end count h.0 h.1
@@ -136,7 +135,7 @@ two_kinds o k none some = let both : None ≡ Some k = sym none ∙ some in cc
 no_id : (count : ℕ) (bytes : List ℕ) → kind_at bytes ≡ Some Id → is_comment_at count bytes ≡ true → ⊥
 no_id count bytes id begins = let both : Some Id ≡ Some LeftParen = sym id ∙ begins_with_bracket count bytes begins in cc
 
-same_cause : (bytes : List ℕ) (cause other : Option Cause) (count place at to : ℕ) → Last bytes cause count place at → Last bytes other count place to → (cause ≡ other) × (at ≡ to)
+same_cause : (bytes : List ℕ) (cause other : Option TokenCause) (count place at to : ℕ) → Last bytes cause count place at → Last bytes other count place to → (cause ≡ other) × (at ≡ to)
 same_cause bytes None None count place at to p q = (refl, p.1 ∙ sym q.1)
 same_cause bytes None (Some bad_byte) count place at to p q = absurd (omega (arith, p.0, q.0))
 same_cause bytes None (Some long_id) count place at to p q = absurd (nothing_left bytes place Id p.0 q.0)
@@ -155,7 +154,7 @@ same_cause bytes (Some open_comment) (Some long_id) count place at to p q = absu
 same_cause bytes (Some open_comment) (Some open_comment) count place at to p q = (refl, p.2 ∙ sym q.2)
 
 -- a text has one outcome
-one_outcome : (bytes : List ℕ) (cause other : Option Cause) (at to : ℕ) (ps qs : List Piece) → Outcome bytes cause at ps → Outcome bytes other to qs → (ps ≡ qs) × (cause ≡ other) × (at ≡ to)
+one_outcome : (bytes : List ℕ) (cause other : Option TokenCause) (at to : ℕ) (ps qs : List Piece) → Outcome bytes cause at ps → Outcome bytes other to qs → (ps ≡ qs) × (cause ≡ other) × (at ≡ to)
 one_outcome bytes cause other at to ps qs p q =
     let same = same_end bytes 0 0 ps qs p.end q.end p.leads (last_stops bytes cause (opened 0 ps) p.end at p.last) q.leads (last_stops bytes other (opened 0 qs) q.end to q.last) in
     let moved = subst (λ (os : List Piece). Last bytes other (opened 0 os) (behind_white bytes q.end) to) (sym same.0) q.last in
@@ -166,12 +165,12 @@ one_outcome bytes cause other at to ps qs p q =
 spelled_outcome : (bytes : List ℕ) (ts : List Token) (s : Spells bytes ts) → Outcome bytes None (length bytes) s.pieces
 spelled_outcome bytes ts s = record { end = s.end; leads = s.leads; last = (s.whole, sym s.whole) }
 
-record Refusal (bytes : List ℕ) (cause : Cause) (at : ℕ) : Type 0 where
+record Refusal (bytes : List ℕ) (cause : TokenCause) (at : ℕ) : Type 0 where
   pieces : List Piece
   outcome : Outcome bytes (Some cause) at pieces
 
 -- what is known of a place that is reached, said of the place behind the pieces
-moved_last : (bytes : List ℕ) (cause : Cause) (count place at : ℕ) (r : IsReached bytes count place) → Last bytes (Some cause) count place at → Refusal bytes cause at
+moved_last : (bytes : List ℕ) (cause : TokenCause) (count place at : ℕ) (r : IsReached bytes count place) → Last bytes (Some cause) count place at → Refusal bytes cause at
 moved_last bytes cause count place at r last = record {
   pieces = r.pieces;
   outcome = record {
@@ -181,7 +180,7 @@ moved_last bytes cause count place at r last = record {
   };
 }
 
-refusal_of : (bytes : List ℕ) (cause : Cause) (at : ℕ) → IsRefused bytes cause at → Refusal bytes cause at
+refusal_of : (bytes : List ℕ) (cause : TokenCause) (at : ℕ) → HasNoTokens bytes cause at → Refusal bytes cause at
 refusal_of bytes bad_byte at h = moved_last bytes bad_byte h.0 at at h.1 (h.2, h.3, refl)
 refusal_of bytes long_id at h = moved_last bytes long_id h.0 at at h.1 (h.2, h.3, refl)
 refusal_of bytes open_comment at h = moved_last bytes open_comment h.0 h.1 at h.2 (h.3, h.4, h.5)
@@ -191,14 +190,14 @@ one_list bytes ts us p q =
     let same = one_outcome bytes None None (length bytes) (length bytes) p.pieces q.pieces (spelled_outcome bytes ts p) (spelled_outcome bytes us q) in
     sym p.tokens ∙ ap tokens_of same.0 ∙ q.tokens
 
-pub one_bad_place : (bytes : List ℕ) (cause other : Cause) (at place : ℕ) → IsRefused bytes cause at → IsRefused bytes other place → (cause ≡ other) × (at ≡ place)
+pub one_bad_place : (bytes : List ℕ) (cause other : TokenCause) (at place : ℕ) → HasNoTokens bytes cause at → HasNoTokens bytes other place → (cause ≡ other) × (at ≡ place)
 one_bad_place bytes cause other at place p q =
     let r = refusal_of bytes cause at p in
     let s = refusal_of bytes other place q in
     let same = one_outcome bytes (Some cause) (Some other) at place r.pieces s.pieces r.outcome s.outcome in
     (some_is cause other same.1, same.2)
 
-pub never_both : (bytes : List ℕ) (ts : List Token) (cause : Cause) (at : ℕ) → Spells bytes ts → IsRefused bytes cause at → ⊥
+pub never_both : (bytes : List ℕ) (ts : List Token) (cause : TokenCause) (at : ℕ) → Spells bytes ts → HasNoTokens bytes cause at → ⊥
 never_both bytes ts cause at p q =
     let r = refusal_of bytes cause at q in
     let same = one_outcome bytes None (Some cause) (length bytes) at p.pieces r.pieces (spelled_outcome bytes ts p) r.outcome in

@@ -4,7 +4,7 @@ use Rattle.std.proofs.lemmas.List.{append-nil}
 use Rattle.std.specs.Option.{option_map}
 use Rattle.file_text.specs.Syntax.{Name, Phrase, Phrases, word, call, none, more, with_last, ConditionTree, RuleTree}
 use Rattle.file_text.specs.Grammar.{Word, id, left_paren, right_paren, comma, bar, arrow, equal, spelled, spelled_arguments, spelled_further, spelled_condition, spelled_others, spelled_guard, spelled_rule, spelled_rules}
-use Rattle.file_text.specs.Machine.{Last, want, first, bare, done, Opens, Part, left, right, condition_left, condition_right, Reading, reading, with_condition, guard_with, ended, next_part, behind_side, behind_argument, behind, step_term, unbegun, with_ended, whole, closing}
+use Rattle.file_text.proofs.Machine.{Last, want, first, bare, done, Opens, Part, left, right, condition_left, condition_right, Reading, reading, with_condition, guard_with, ended, next_part, behind_side, behind_argument, behind, step_term, unbegun, with_ended, whole, closing}
 
 pub some_is : {A : Type 0} (x y : A) → Some x ≡ Some y → x ≡ y
 some_is x y e = cc

@@ -2,8 +2,8 @@
 use Rattle.std.proofs.Common.{◌≡◌, ℕ, Bool, true, false, ◌&&◌, ◌||◌, if◌then◌else◌, List, [], ◌∷◌, ◌++◌, Option, Some, None, Result, Ok, Err, refl, sym, ap, subst, ◌∙◌, codes, bytes_eq}
 use Rattle.file_text.specs.Syntax.{Name, RuleTree}
 use Rattle.file_text.specs.Grammar.{Word, id, left_paren, right_paren, comma, bar, arrow, equal, id_at, Block, condition_type, variables, rules, title, has_block, spelled_blocks}
-use Rattle.file_text.specs.Refusals.{Cause, unknown_block, repeated_block, other_condition_type, wrong_syntax, missing_rules, Begins, is_title, IsUnknownBlock, IsRepeatedBlock, IsOtherConditionType, IsWrongSyntax, Calls}
-use Rattle.file_text.specs.Machine.{Reading, no_rule, closing, step_term, State, outside, behind_bracket, behind_type, behind_oriented, in_variables, in_rules, step_outside, titled, step_bracket, step_type, step_oriented, step_variables, rules_or, step_any, repeats_block, repeats, step}
+use Rattle.file_text.specs.Refusals.{SyntaxCause, unknown_block, repeated_block, other_condition_type, wrong_syntax, missing_rules, Begins, is_title, IsUnknownBlock, IsRepeatedBlock, IsOtherConditionType, IsWrongSyntax, Calls}
+use Rattle.file_text.proofs.Machine.{Reading, no_rule, closing, step_term, State, outside, behind_bracket, behind_type, behind_oriented, in_variables, in_rules, step_outside, titled, step_bracket, step_type, step_oriented, step_variables, rules_or, step_any, repeats_block, repeats, step}
 use Rattle.file_text.proofs.ReadingWords.{some_is}
 use Rattle.file_text.proofs.Closing.{state_words, state_closes}
 use Rattle.file_text.proofs.Goes.{goes_one, goes, goes_then, goes_front, goes_word, goes_one_end, goes_any, step_goes}
@@ -11,10 +11,10 @@ use Rattle.file_text.proofs.StateReads.{made}
 use Rattle.file_text.proofs.BlockRuns.{title_goes, any_go}
 use Rattle.file_text.proofs.Files.{any_step, goes_words}
 
-abbrev pub refuse : Cause → Result State Cause
+abbrev pub refuse : SyntaxCause → Result State SyntaxCause
 refuse c = Err c
 
-pub cause_is : (c d : Cause) → refuse c ≡ Err d → c ≡ d
+pub cause_is : (c d : SyntaxCause) → refuse c ≡ Err d → c ≡ d
 cause_is c d e = cc
 
 -- ---- a word that calls for one of the three causes is refused
@@ -48,7 +48,7 @@ has_title (b ∷ bs) text e = go (bytes_eq text (title b)) refl (has_title bs te
     go true is h = let h = has_title_one text b is in absurd cc
     go false is h = h
 
-no_title : (a b c : Bool) (x y z e : Result State Cause) → (a || b || c) ≡ false → (if a then x else if b then y else if c then z else e) ≡ e
+no_title : (a b c : Bool) (x y z e : Result State SyntaxCause) → (a || b || c) ≡ false → (if a then x else if b then y else if c then z else e) ≡ e
 no_title true b c x y z e h = absurd cc
 no_title false true c x y z e h = absurd cc
 no_title false false true x y z e h = absurd cc
@@ -89,17 +89,17 @@ refuses_other front w s e (bs, p, name, split, is, other) =
 -- ---- the cause of a step that is refused
 
 -- what the causes say of the words before and the word itself, of a step that lets blocks repeat
-abbrev Blames : List Word → Word → Cause → Type 0
+abbrev Blames : List Word → Word → SyntaxCause → Type 0
 Blames front w unknown_block = IsUnknownBlock front w
 Blames front w repeated_block = ⊥
 Blames front w other_condition_type = IsOtherConditionType front w
 Blames front w wrong_syntax = Unit {0}
 Blames front w missing_rules = ⊥
 
-wrong_blames : (front : List Word) (w : Word) (c : Cause) → refuse wrong_syntax ≡ Err c → Blames front w c
+wrong_blames : (front : List Word) (w : Word) (c : SyntaxCause) → refuse wrong_syntax ≡ Err c → Blames front w c
 wrong_blames front w c e = subst (Blames front w) (cause_is wrong_syntax c e) tt
 
-outside_blames : (bs : List Block) (w : Word) (c : Cause) → step_outside bs w ≡ Err c → Blames (spelled_blocks bs) w c
+outside_blames : (bs : List Block) (w : Word) (c : SyntaxCause) → step_outside bs w ≡ Err c → Blames (spelled_blocks bs) w c
 outside_blames bs left_paren c e = absurd cc
 outside_blames bs (id f) c e = wrong_blames _ _ c e
 outside_blames bs right_paren c e = wrong_blames _ _ c e
@@ -108,18 +108,18 @@ outside_blames bs (bar at) c e = wrong_blames _ _ c e
 outside_blames bs arrow c e = wrong_blames _ _ c e
 outside_blames bs equal c e = wrong_blames _ _ c e
 
-unknown_of : (a b c : Bool) (x y z : State) (d : Cause) → (if a then made x else if b then made y else if c then made z else refuse unknown_block) ≡ Err d → (unknown_block ≡ d) × ((a || b || c) ≡ false)
+unknown_of : (a b c : Bool) (x y z : State) (d : SyntaxCause) → (if a then made x else if b then made y else if c then made z else refuse unknown_block) ≡ Err d → (unknown_block ≡ d) × ((a || b || c) ≡ false)
 unknown_of true b c x y z d e = absurd cc
 unknown_of false true c x y z d e = absurd cc
 unknown_of false false true x y z d e = absurd cc
 unknown_of false false false x y z d e = (cause_is unknown_block d e, refl)
 
-title_blames : (bs : List Block) (name : Name) (c : Cause) → titled bs name ≡ Err c → Blames (spelled_blocks bs ++ left_paren ∷ []) (id name) c
+title_blames : (bs : List Block) (name : Name) (c : SyntaxCause) → titled bs name ≡ Err c → Blames (spelled_blocks bs ++ left_paren ∷ []) (id name) c
 title_blames bs name c e =
     let h = unknown_of (bytes_eq name.text (codes "CONDITIONTYPE")) (bytes_eq name.text (codes "VAR")) (bytes_eq name.text (codes "RULES")) (behind_type bs name.at) (in_variables bs name.at []) (in_rules bs name.at no_rule) c e in
     subst (Blames (spelled_blocks bs ++ left_paren ∷ []) (id name)) h.0 (bs, name, refl, refl, h.1)
 
-bracket_blames : (bs : List Block) (w : Word) (c : Cause) → step_bracket bs w ≡ Err c → Blames (spelled_blocks bs ++ left_paren ∷ []) w c
+bracket_blames : (bs : List Block) (w : Word) (c : SyntaxCause) → step_bracket bs w ≡ Err c → Blames (spelled_blocks bs ++ left_paren ∷ []) w c
 bracket_blames bs (id name) c e = title_blames bs name c e
 bracket_blames bs left_paren c e = wrong_blames _ _ c e
 bracket_blames bs right_paren c e = wrong_blames _ _ c e
@@ -128,11 +128,11 @@ bracket_blames bs (bar at) c e = wrong_blames _ _ c e
 bracket_blames bs arrow c e = wrong_blames _ _ c e
 bracket_blames bs equal c e = wrong_blames _ _ c e
 
-other_of : (b : Bool) (x : State) (d : Cause) → (if b then made x else refuse other_condition_type) ≡ Err d → (other_condition_type ≡ d) × (b ≡ false)
+other_of : (b : Bool) (x : State) (d : SyntaxCause) → (if b then made x else refuse other_condition_type) ≡ Err d → (other_condition_type ≡ d) × (b ≡ false)
 other_of true x d e = absurd cc
 other_of false x d e = (cause_is other_condition_type d e, refl)
 
-type_blames : (bs : List Block) (at : ℕ) (w : Word) (c : Cause) → step_type bs at w ≡ Err c → Blames (spelled_blocks bs ++ left_paren ∷ id_at at (codes "CONDITIONTYPE") ∷ []) w c
+type_blames : (bs : List Block) (at : ℕ) (w : Word) (c : SyntaxCause) → step_type bs at w ≡ Err c → Blames (spelled_blocks bs ++ left_paren ∷ id_at at (codes "CONDITIONTYPE") ∷ []) w c
 type_blames bs at (id name) c e =
     let h = other_of (bytes_eq name.text (codes "ORIENTED")) (behind_oriented bs at name.at) c e in
     subst (Blames (spelled_blocks bs ++ left_paren ∷ id_at at (codes "CONDITIONTYPE") ∷ []) (id name)) h.0 (bs, at, name, refl, refl, h.1)
@@ -143,7 +143,7 @@ type_blames bs at (bar p) c e = wrong_blames _ _ c e
 type_blames bs at arrow c e = wrong_blames _ _ c e
 type_blames bs at equal c e = wrong_blames _ _ c e
 
-oriented_blames : (front : List Word) (bs : List Block) (at oriented : ℕ) (w : Word) (c : Cause) → step_oriented bs at oriented w ≡ Err c → Blames front w c
+oriented_blames : (front : List Word) (bs : List Block) (at oriented : ℕ) (w : Word) (c : SyntaxCause) → step_oriented bs at oriented w ≡ Err c → Blames front w c
 oriented_blames front bs at oriented right_paren c e = absurd cc
 oriented_blames front bs at oriented (id f) c e = wrong_blames _ _ c e
 oriented_blames front bs at oriented left_paren c e = wrong_blames _ _ c e
@@ -152,7 +152,7 @@ oriented_blames front bs at oriented (bar p) c e = wrong_blames _ _ c e
 oriented_blames front bs at oriented arrow c e = wrong_blames _ _ c e
 oriented_blames front bs at oriented equal c e = wrong_blames _ _ c e
 
-variables_blame : (front : List Word) (bs : List Block) (at : ℕ) (names : List Name) (w : Word) (c : Cause) → step_variables bs at names w ≡ Err c → Blames front w c
+variables_blame : (front : List Word) (bs : List Block) (at : ℕ) (names : List Name) (w : Word) (c : SyntaxCause) → step_variables bs at names w ≡ Err c → Blames front w c
 variables_blame front bs at names right_paren c e = absurd cc
 variables_blame front bs at names (id f) c e = absurd cc
 variables_blame front bs at names left_paren c e = wrong_blames _ _ c e
@@ -161,12 +161,12 @@ variables_blame front bs at names (bar p) c e = wrong_blames _ _ c e
 variables_blame front bs at names arrow c e = wrong_blames _ _ c e
 variables_blame front bs at names equal c e = wrong_blames _ _ c e
 
-rules_blame : (front : List Word) (w : Word) (bs : List Block) (at : ℕ) (m : Option (List RuleTree)) (r : Option Reading) (c : Cause) → rules_or bs at m r ≡ Err c → Blames front w c
+rules_blame : (front : List Word) (w : Word) (bs : List Block) (at : ℕ) (m : Option (List RuleTree)) (r : Option Reading) (c : SyntaxCause) → rules_or bs at m r ≡ Err c → Blames front w c
 rules_blame front w bs at (Some rs) r c e = absurd cc
 rules_blame front w bs at None (Some r) c e = absurd cc
 rules_blame front w bs at None None c e = wrong_blames front w c e
 
-any_blames : (s : State) (w : Word) (c : Cause) → step_any s w ≡ Err c → Blames (state_words s) w c
+any_blames : (s : State) (w : Word) (c : SyntaxCause) → step_any s w ≡ Err c → Blames (state_words s) w c
 any_blames (outside bs) w c e = outside_blames bs w c e
 any_blames (behind_bracket bs) w c e = bracket_blames bs w c e
 any_blames (behind_type bs at) w c e = type_blames bs at w c e
@@ -197,7 +197,7 @@ begins_go front w s e (rest, bs, is) =
     let one = goes_word false w [] here.0 all.0 here.2 in
     (one.0, any_step (repeats s w) (step_any s w) one.0 (subst (λ (q : State). goes_one false q w ≡ Some one.0) same one.1))
 
-not_taken : (b : Bool) (r : Result State Cause) (t : State) → r ≡ Ok t → (if b then refuse repeated_block else r) ≡ Err wrong_syntax → ⊥
+not_taken : (b : Bool) (r : Result State SyntaxCause) (t : State) → r ≡ Ok t → (if b then refuse repeated_block else r) ≡ Err wrong_syntax → ⊥
 not_taken true r t e h = cc
 not_taken false r t e h = cc
 
@@ -213,13 +213,13 @@ wrong_calls front w s e is =
 -- ---- both ways
 
 -- a word that is refused calls for it
-pub refused_calls : (front : List Word) (w : Word) (s : State) (c : Cause) → goes true (outside []) front ≡ Some s → step s w ≡ Err c → Calls c front w
+pub refused_calls : (front : List Word) (w : Word) (s : State) (c : SyntaxCause) → goes true (outside []) front ≡ Some s → step s w ≡ Err c → Calls c front w
 refused_calls front w s c e is = go (repeats s w) refl is
   where
     words : state_words s ≡ front
     words = goes_words front s e
 
-    blamed : (c : Cause) → step s w ≡ Err c → Blames (state_words s) w c → Calls c front w
+    blamed : (c : SyntaxCause) → step s w ≡ Err c → Blames (state_words s) w c → Calls c front w
     blamed unknown_block is h = subst (λ (v : List Word). IsUnknownBlock v w) words h
     blamed repeated_block is h = absurd h
     blamed other_condition_type is h = subst (λ (v : List Word). IsOtherConditionType v w) words h
@@ -227,24 +227,24 @@ refused_calls front w s c e is = go (repeats s w) refl is
     blamed missing_rules is h = absurd h
 
     go : (b : Bool) → repeats s w ≡ b → (if b then refuse repeated_block else step_any s w) ≡ Err c → Calls c front w
-    go true r h = subst (λ (c : Cause). Calls c front w) (cause_is repeated_block c h) (subst (λ (v : List Word). IsRepeatedBlock v w) words (repeats_words s w r))
+    go true r h = subst (λ (c : SyntaxCause). Calls c front w) (cause_is repeated_block c h) (subst (λ (v : List Word). IsRepeatedBlock v w) words (repeats_words s w r))
     go false r h = blamed c is (any_blames s w c h)
 
 -- a word that calls for a refusal is refused
-pub calls_refused : (front : List Word) (w : Word) (s : State) (c : Cause) → goes true (outside []) front ≡ Some s → Calls c front w → step s w ≡ Err c
+pub calls_refused : (front : List Word) (w : Word) (s : State) (c : SyntaxCause) → goes true (outside []) front ≡ Some s → Calls c front w → step s w ≡ Err c
 calls_refused front w s unknown_block e h = refuses_unknown front w s e h
 calls_refused front w s repeated_block e h = refuses_repeated front w s e h
 calls_refused front w s other_condition_type e h = refuses_other front w s e h
 calls_refused front w s wrong_syntax e h = go (step s w) refl
   where
-    other : (c : Cause) → step s w ≡ Err c → Calls c front w → step s w ≡ Err wrong_syntax
+    other : (c : SyntaxCause) → step s w ≡ Err c → Calls c front w → step s w ≡ Err wrong_syntax
     other unknown_block is calls = absurd (h.known calls)
     other repeated_block is calls = absurd (h.new calls)
     other other_condition_type is calls = absurd (h.oriented calls)
     other wrong_syntax is calls = is
     other missing_rules is calls = absurd calls
 
-    go : (r : Result State Cause) → step s w ≡ r → step s w ≡ Err wrong_syntax
+    go : (r : Result State SyntaxCause) → step s w ≡ r → step s w ≡ Err wrong_syntax
     go (Ok t) is =
         let read = goes_words (front ++ w ∷ []) t (goes_then true front (w ∷ []) (outside []) s e ∙ goes_one_end true w s t (step_goes s t w is)) in
         let closed = state_closes t in

@@ -3,8 +3,8 @@ use Rattle.std.proofs.Common.{◌≡◌, inl, inr, true, false, ℕ, zero, suc, 
 use Rattle.std.proofs.Math.Seq.{take-length, take-append_seam}
 use Rattle.file_text.specs.Syntax.{RuleTree, FileTree}
 use Rattle.file_text.specs.Grammar.{Word, Block, spelled_blocks, rules_in, IsFile}
-use Rattle.file_text.specs.Refusals.{Cause, unknown_block, repeated_block, other_condition_type, wrong_syntax, missing_rules, Calls, EndCalls, AreClear, IsRefused}
-use Rattle.file_text.specs.Machine.{State, outside, behind_bracket, behind_type, behind_oriented, in_variables, in_rules, file_or_missing, finish, numbered, run, finished, read_file}
+use Rattle.file_text.specs.Refusals.{SyntaxCause, unknown_block, repeated_block, other_condition_type, wrong_syntax, missing_rules, Calls, EndCalls, AreClear, AreRefused}
+use Rattle.file_text.proofs.Machine.{State, outside, behind_bracket, behind_type, behind_oriented, in_variables, in_rules, file_or_missing, finish, numbered, run, finished, read_file}
 use Rattle.file_text.proofs.ReadingWords.{some_is}
 use Rattle.file_text.proofs.Goes.{goes, goes_front, goes_word, goes_any, goes_step_ok, run_goes, goes_run, Stops, run_stops, stop_run}
 use Rattle.file_text.proofs.BlockRuns.{any_go}
@@ -25,7 +25,7 @@ goes_clear ws s e cause front w rest is calls =
 pub clear_goes : (ws : List Word) → AreClear ws → (s : State) × (goes true (outside []) ws ≡ Some s)
 clear_goes ws clear = go (run 0 (outside []) ws) refl
   where
-    go : (r : Result State (Cause × ℕ)) → run 0 (outside []) ws ≡ r → (s : State) × (goes true (outside []) ws ≡ Some s)
+    go : (r : Result State (SyntaxCause × ℕ)) → run 0 (outside []) ws ≡ r → (s : State) × (goes true (outside []) ws ≡ Some s)
     go (Ok s) is = (s, run_goes 0 ws (outside []) s is)
     go (Err (c, m)) is =
         let h = run_stops 0 ws (outside []) c m is in
@@ -36,20 +36,20 @@ clear_goes ws clear = go (run 0 (outside []) ws) refl
 is_outside : (ws : List Word) (s : State) (bs : List Block) → goes true (outside []) ws ≡ Some s → ws ≡ spelled_blocks bs → s ≡ outside bs
 is_outside ws s bs e is = some_is s (outside bs) (sym (goes_any ws (outside []) s e) ∙ ap (goes false (outside [])) is ∙ any_go bs)
 
-abbrev refuse_file : Cause → Result FileTree Cause
+abbrev refuse_file : SyntaxCause → Result FileTree SyntaxCause
 refuse_file c = Err c
 
-cause_is : (c d : Cause) → refuse_file c ≡ Err d → c ≡ d
+cause_is : (c d : SyntaxCause) → refuse_file c ≡ Err d → c ≡ d
 cause_is c d e = cc
 
-wrong_end : (ws : List Word) (s : State) (c : Cause) → goes true (outside []) ws ≡ Some s → refuse_file wrong_syntax ≡ Err c → ((bs : List Block) → s ≡ outside bs → ⊥) → EndCalls c ws
-wrong_end ws s c e is not = subst (λ (c : Cause). EndCalls c ws) (cause_is wrong_syntax c is) (λ bs spelled. not bs (is_outside ws s bs e spelled))
+wrong_end : (ws : List Word) (s : State) (c : SyntaxCause) → goes true (outside []) ws ≡ Some s → refuse_file wrong_syntax ≡ Err c → ((bs : List Block) → s ≡ outside bs → ⊥) → EndCalls c ws
+wrong_end ws s c e is not = subst (λ (c : SyntaxCause). EndCalls c ws) (cause_is wrong_syntax c is) (λ bs spelled. not bs (is_outside ws s bs e spelled))
 
-refused_end : (ws : List Word) (s : State) (c : Cause) → goes true (outside []) ws ≡ Some s → finish s ≡ Err c → EndCalls c ws
+refused_end : (ws : List Word) (s : State) (c : SyntaxCause) → goes true (outside []) ws ≡ Some s → finish s ≡ Err c → EndCalls c ws
 refused_end ws (outside bs) c e is = go (rules_in bs) refl is
   where
     go : (m : Option (List RuleTree)) → rules_in bs ≡ m → file_or_missing bs m ≡ Err c → EndCalls c ws
-    go None none is = subst (λ (c : Cause). EndCalls c ws) (cause_is missing_rules c is) (bs, sym (goes_words ws (outside bs) e), none)
+    go None none is = subst (λ (c : SyntaxCause). EndCalls c ws) (cause_is missing_rules c is) (bs, sym (goes_words ws (outside bs) e), none)
     go (Some rs) some is = absurd cc
 refused_end ws (behind_bracket bs) c e is = wrong_end ws (behind_bracket bs) c e is (λ cs h. cc)
 refused_end ws (behind_type bs at) c e is = wrong_end ws (behind_type bs at) c e is (λ cs h. cc)
@@ -57,7 +57,7 @@ refused_end ws (behind_oriented bs at oriented) c e is = wrong_end ws (behind_or
 refused_end ws (in_variables bs at names) c e is = wrong_end ws (in_variables bs at names) c e is (λ cs h. cc)
 refused_end ws (in_rules bs at r) c e is = wrong_end ws (in_rules bs at r) c e is (λ cs h. cc)
 
-end_refused : (ws : List Word) (s : State) (c : Cause) → goes true (outside []) ws ≡ Some s → EndCalls c ws → finish s ≡ Err c
+end_refused : (ws : List Word) (s : State) (c : SyntaxCause) → goes true (outside []) ws ≡ Some s → EndCalls c ws → finish s ≡ Err c
 end_refused ws s unknown_block e h = absurd h
 end_refused ws s repeated_block e h = absurd h
 end_refused ws s other_condition_type e h = absurd h
@@ -74,14 +74,14 @@ end_refused ws s missing_rules e (bs, spelled, none) = ap finish (is_outside ws 
 
 -- ---- files
 
-pair_is : (c d : Cause) (n m : ℕ) → numbered n (λ (file : FileTree). Ok file) (Err c) ≡ Err (d, m) → (c ≡ d) × (n ≡ m)
-pair_is c d n m e = let both : ◌≡◌ {A = Cause × ℕ} (c, n) (d, m) = cc in (ap (λ p. p.0) both, ap (λ p. p.1) both)
+pair_is : (c d : SyntaxCause) (n m : ℕ) → numbered n (λ (file : FileTree). Ok file) (Err c) ≡ Err (d, m) → (c ≡ d) × (n ≡ m)
+pair_is c d n m e = let both : ◌≡◌ {A = SyntaxCause × ℕ} (c, n) (d, m) = cc in (ap (λ p. p.0) both, ap (λ p. p.1) both)
 
-finish_fails : (n : ℕ) (r : Result FileTree Cause) (c : Cause) (k : ℕ) → numbered n (λ file. Ok file) r ≡ Err (c, k) → (r ≡ Err c) × (n ≡ k)
+finish_fails : (n : ℕ) (r : Result FileTree SyntaxCause) (c : SyntaxCause) (k : ℕ) → numbered n (λ file. Ok file) r ≡ Err (c, k) → (r ≡ Err c) × (n ≡ k)
 finish_fails n (Ok file) c k e = absurd cc
 finish_fails n (Err d) c k e = let h = pair_is d c n k e in (ap refuse_file h.0, h.1)
 
-stops_refused : (ws : List Word) (c : Cause) (k : ℕ) → Stops 0 (outside []) ws c k → IsRefused ws c k
+stops_refused : (ws : List Word) (c : SyntaxCause) (k : ℕ) → Stops 0 (outside []) ws c k → AreRefused ws c k
 stops_refused ws c k h =
     let number = h.number in
     let k_is : k ≡ length h.front = omega arith in
@@ -95,21 +95,21 @@ stops_refused ws c k h =
     get_seam [] y ys = refl
     get_seam (x ∷ xs) y ys = get_seam xs y ys
 
-end_is_refused : (ws : List Word) (s : State) (c : Cause) (k : ℕ) → goes true (outside []) ws ≡ Some s → finish s ≡ Err c → length ws ≡ k → IsRefused ws c k
+end_is_refused : (ws : List Word) (s : State) (c : SyntaxCause) (k : ℕ) → goes true (outside []) ws ≡ Some s → finish s ≡ Err c → length ws ≡ k → AreRefused ws c k
 end_is_refused ws s c k e is n =
     (subst AreClear (sym (ap (λ (n : ℕ). take n ws) (sym n) ∙ take-length ws)) (goes_clear ws s e), inr (sym n, refused_end ws s c e is))
 
-abbrev stopped : Cause × ℕ → Result State (Cause × ℕ)
+abbrev stopped : SyntaxCause × ℕ → Result State (SyntaxCause × ℕ)
 stopped p = Err p
 
-same_stop : (n : ℕ) (p q : Cause × ℕ) → finished n (stopped p) ≡ Err q → stopped p ≡ stopped q
+same_stop : (n : ℕ) (p q : SyntaxCause × ℕ) → finished n (stopped p) ≡ Err q → stopped p ≡ stopped q
 same_stop n p q e = let same : p ≡ q = cc in ap stopped same
 
 -- what the reader refuses is refused
-pub refused_sound : (ws : List Word) (c : Cause) (k : ℕ) → read_file ws ≡ Err (c, k) → IsRefused ws c k
+pub refused_sound : (ws : List Word) (c : SyntaxCause) (k : ℕ) → read_file ws ≡ Err (c, k) → AreRefused ws c k
 refused_sound ws c k e = go (run 0 (outside []) ws) refl e
   where
-    go : (r : Result State (Cause × ℕ)) → run 0 (outside []) ws ≡ r → finished (length ws) r ≡ Err (c, k) → IsRefused ws c k
+    go : (r : Result State (SyntaxCause × ℕ)) → run 0 (outside []) ws ≡ r → finished (length ws) r ≡ Err (c, k) → AreRefused ws c k
     go (Ok s) is e = let h = finish_fails (length ws) (finish s) c k e in end_is_refused ws s c k (run_goes 0 ws (outside []) s is) h.0 h.1
     go (Err p) is e = stops_refused ws c k (run_stops 0 ws (outside []) c k (is ∙ same_stop (length ws) p (c, k) e))
 
@@ -120,7 +120,7 @@ split_at (v ∷ ws) zero w e = let same = some_is v w e in (ws, ap (λ (u : Word
 split_at (v ∷ ws) (suc k) w e = let h = split_at ws k w e in (h.0, ap (λ (u : List Word). v ∷ u) h.1, ap suc h.2)
 
 -- what is refused is refused by the reader
-pub refused_complete : (ws : List Word) (c : Cause) (k : ℕ) → IsRefused ws c k → read_file ws ≡ Err (c, k)
+pub refused_complete : (ws : List Word) (c : SyntaxCause) (k : ℕ) → AreRefused ws c k → read_file ws ≡ Err (c, k)
 refused_complete ws c k (clear, inl (w, got, calls)) =
     let s = clear_goes (take k ws) clear in
     let at = split_at ws k w got in
@@ -135,12 +135,12 @@ refused_complete ws c k (clear, inr (n, calls)) =
 
 -- ---- one refusal, and no tree beside it
 
-error_is : (p q : Cause × ℕ) (r : Result FileTree (Cause × ℕ)) → r ≡ Err p → r ≡ Err q → p ≡ q
+error_is : (p q : SyntaxCause × ℕ) (r : Result FileTree (SyntaxCause × ℕ)) → r ≡ Err p → r ≡ Err q → p ≡ q
 error_is p q r e h = let both : finished 0 (Err p) ≡ Err q = sym e ∙ h in cc
 
-pub one_refusal : (ws : List Word) (c d : Cause) (k m : ℕ) → IsRefused ws c k → IsRefused ws d m → (c ≡ d) × (k ≡ m)
+pub one_refusal : (ws : List Word) (c d : SyntaxCause) (k m : ℕ) → AreRefused ws c k → AreRefused ws d m → (c ≡ d) × (k ≡ m)
 one_refusal ws c d k m p q =
-    let same = error_is (c, k) (d, m) (read_file ws) (refused_complete ws c k p) (refused_complete ws d m q) in (ap (λ (e : Cause × ℕ). e.0) same, ap (λ (e : Cause × ℕ). e.1) same)
+    let same = error_is (c, k) (d, m) (read_file ws) (refused_complete ws c k p) (refused_complete ws d m q) in (ap (λ (e : SyntaxCause × ℕ). e.0) same, ap (λ (e : SyntaxCause × ℕ). e.1) same)
 
-pub never_refused : (ws : List Word) (file : FileTree) (c : Cause) (k : ℕ) → IsFile ws file → IsRefused ws c k → ⊥
+pub never_refused : (ws : List Word) (file : FileTree) (c : SyntaxCause) (k : ℕ) → IsFile ws file → AreRefused ws c k → ⊥
 never_refused ws file c k h r = let read = file_complete ws file h in let refused = refused_complete ws c k r in cc

@@ -4,7 +4,7 @@ use Rattle.std.proofs.lemmas.List.{append-nil}
 use Rattle.std.specs.Option.{option_map}
 use Rattle.file_text.specs.Syntax.{Name, Phrase, word, call, ConditionTree, Guard, RuleTree}
 use Rattle.file_text.specs.Grammar.{Word, id, left_paren, right_paren, comma, bar, arrow, equal, spelled, spelled_arguments, spelled_condition, spelled_others, spelled_guard, spelled_rule, spelled_rules}
-use Rattle.file_text.specs.Machine.{Last, want, first, bare, done, Part, left, right, condition_left, condition_right, Reading, reading, no_rule, guard_with, ended, step_term, with_ended, whole}
+use Rattle.file_text.proofs.Machine.{Last, want, first, bare, done, Part, left, right, condition_left, condition_right, Reading, reading, no_rule, guard_with, ended, step_term, with_ended, whole}
 use Rattle.file_text.proofs.TermRuns.{term_run, Ends, behind_step, term_run_then, term_step_then, side_runs}
 
 -- the words lead from a reading to the end of this rule

@@ -6,8 +6,7 @@ use Rattle.file_text.specs.declared.Kind.{Kind}
 use Rattle.file_text.specs.declared.Kind.TheVariants.{Id, LeftParen, RightParen, Comma, Bar, Arrow, Equal}
 use Rattle.file_text.specs.declared.Token.{Token}
 use Rattle.file_text.specs.Bytes.{is_white, white_len, count_after, closing_len, comment_len}
-use Rattle.file_text.specs.Tokens.{kind_at, len_at, longest, open_after, is_comment_at, behind_white, Stands, StandsComment, Piece, token, comment, tokens_of, LeadsTo, opened, Spells, IsReached}
-use Rattle.file_text.specs.Laws.{Cause, bad_byte, long_id, open_comment, IsRefused}
+use Rattle.file_text.specs.Tokens.{kind_at, len_at, longest, open_after, is_comment_at, behind_white, Stands, StandsComment, Piece, token, comment, tokens_of, LeadsTo, opened, Spells, IsReached, TokenCause, bad_byte, long_id, open_comment, HasNoTokens}
 use Rattle.file_text.proofs.OneReading.{Last}
 use Rattle.file_text.proofs.Fronts.{kind_fits}
 
@@ -42,7 +41,7 @@ lt_of_le_ne m n le differ = omega arith
 data Front (bytes : List ℕ) (at : ℕ) (count : ℕ) : Type 0 where
   goes : (t : Token) → Stands bytes at count t → at < t.to → t.to ≤ length bytes → Front bytes at count
   skips : (to : ℕ) → StandsComment bytes at count to → at < to → to ≤ length bytes → Front bytes at count
-  stops : (cause : Option Cause) (place : ℕ) → Last bytes cause count (behind_white bytes at) place → Front bytes at count
+  stops : (cause : Option TokenCause) (place : ℕ) → Last bytes cause count (behind_white bytes at) place → Front bytes at count
 
 -- only an identifier is long
 long_is_id : (k : Kind) (bytes : List ℕ) → longest < len_at k bytes → k ≡ Id
@@ -107,7 +106,7 @@ record Outcome (bytes : List ℕ) (at : ℕ) (count : ℕ) : Type 0 where
   pieces : List Piece
   end : ℕ
   leads : LeadsTo bytes at count pieces end
-  cause : Option Cause
+  cause : Option TokenCause
   place : ℕ
   last : Last bytes cause (opened count pieces) (behind_white bytes end) place
 
@@ -131,14 +130,14 @@ outcome (suc fuel) bytes at count le enough = by_front bytes at count (λ to n l
 reached : (bytes : List ℕ) (ps : List Piece) (end : ℕ) → LeadsTo bytes 0 0 ps end → IsReached bytes (opened 0 ps) (behind_white bytes end)
 reached bytes ps end l = record { pieces = ps; end = end; leads = l; behind = refl; counted = refl }
 
-told : (bytes : List ℕ) (cause : Option Cause) (place end : ℕ) (ps : List Piece) → LeadsTo bytes 0 0 ps end → Last bytes cause (opened 0 ps) (behind_white bytes end) place
-    → ((ts : List Token) × Spells bytes ts) ⊎ ((cause : Cause) × (at : ℕ) × IsRefused bytes cause at)
+told : (bytes : List ℕ) (cause : Option TokenCause) (place end : ℕ) (ps : List Piece) → LeadsTo bytes 0 0 ps end → Last bytes cause (opened 0 ps) (behind_white bytes end) place
+    → ((ts : List Token) × Spells bytes ts) ⊎ ((cause : TokenCause) × (at : ℕ) × HasNoTokens bytes cause at)
 told bytes None place end ps l last = inl (tokens_of ps, record { pieces = ps; end = end; leads = l; whole = last.0; tokens = refl })
 told bytes (Some bad_byte) place end ps l last = inr (bad_byte, behind_white bytes end, (opened 0 ps, reached bytes ps end l, last.0, last.1))
 told bytes (Some long_id) place end ps l last = inr (long_id, behind_white bytes end, (opened 0 ps, reached bytes ps end l, last.0, last.1))
 told bytes (Some open_comment) place end ps l last = inr (open_comment, place, (opened 0 ps, behind_white bytes end, reached bytes ps end l, last.0, last.1, last.2))
 
-pub tokens_or_refusal : (bytes : List ℕ) → ((ts : List Token) × Spells bytes ts) ⊎ ((cause : Cause) × (at : ℕ) × IsRefused bytes cause at)
+pub tokens_or_refusal : (bytes : List ℕ) → ((ts : List Token) × Spells bytes ts) ⊎ ((cause : TokenCause) × (at : ℕ) × HasNoTokens bytes cause at)
 tokens_or_refusal bytes =
     let o = outcome (length bytes) bytes 0 0 (omega arith) (omega arith) in
     told bytes o.cause o.place o.end o.pieces o.leads o.last

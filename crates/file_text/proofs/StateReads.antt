@@ -4,12 +4,12 @@ use Rattle.std.proofs.lemmas.List.{map-append}
 use Rattle.std.proofs.lemmas.Slice.Eq.{bytes_eq-Decides}
 use Rattle.file_text.specs.Syntax.{Name, RuleTree}
 use Rattle.file_text.specs.Grammar.{Word, id, left_paren, right_paren, id_at, Block, condition_type, variables, rules, spelled_blocks}
-use Rattle.file_text.specs.Refusals.{Cause, unknown_block, other_condition_type}
-use Rattle.file_text.specs.Machine.{Reading, no_rule, closing, step_term, State, outside, behind_bracket, behind_type, behind_oriented, in_variables, in_rules, step_outside, titled, step_bracket, step_type, step_oriented, step_variables, rules_go_on, rules_or, step_rules, step_any}
+use Rattle.file_text.specs.Refusals.{SyntaxCause, unknown_block, other_condition_type}
+use Rattle.file_text.proofs.Machine.{Reading, no_rule, closing, step_term, State, outside, behind_bracket, behind_type, behind_oriented, in_variables, in_rules, step_outside, titled, step_bracket, step_type, step_oriented, step_variables, rules_go_on, rules_or, step_rules, step_any}
 use Rattle.file_text.proofs.ReadingWords.{reading_words, term_reads, closing_reads}
 use Rattle.file_text.proofs.Closing.{state_words, blocks-last}
 
-abbrev pub made : State → Result State Cause
+abbrev pub made : State → Result State SyntaxCause
 made s = Ok s
 
 pub made_is : (m t : State) → made m ≡ Ok t → m ≡ t
@@ -23,10 +23,10 @@ pub same_text : (name : Name) (text : List ℕ) → bytes_eq name.text text ≡ 
 same_text name text e = ap (id_at name.at) ((bytes_eq-Decides name.text text).0 e)
 
 -- one of two
-abbrev pub one_or : Bool → State → Result State Cause → Result State Cause
+abbrev pub one_or : Bool → State → Result State SyntaxCause → Result State SyntaxCause
 one_or b s r = if b then Ok s else r
 
-pub one_of : {P : Type 0} (b : Bool) (s : State) (r : Result State Cause) (t : State) → one_or b s r ≡ Ok t → (b ≡ true → made s ≡ Ok t → P) → (r ≡ Ok t → P) → P
+pub one_of : {P : Type 0} (b : Bool) (s : State) (r : Result State SyntaxCause) (t : State) → one_or b s r ≡ Ok t → (b ≡ true → made s ≡ Ok t → P) → (r ≡ Ok t → P) → P
 one_of true s r t e f g = f refl e
 one_of false s r t e f g = g e
 

@@ -3,7 +3,7 @@ use Rattle.std.proofs.Common.{◌≡◌, List, [], ◌∷◌, ◌++◌, Option, 
 use Rattle.std.specs.Option.{option_and_then}
 use Rattle.file_text.specs.Syntax.{Name, Phrase, Phrases, word, call, none, more, with_last, RuleTree}
 use Rattle.file_text.specs.Grammar.{Word, id, left_paren, right_paren, comma, bar, arrow, equal, spelled, spelled_arguments, spelled_further}
-use Rattle.file_text.specs.Machine.{Last, want, first, bare, done, Opens, Part, Reading, reading, behind, step_term}
+use Rattle.file_text.proofs.Machine.{Last, want, first, bare, done, Opens, Part, Reading, reading, behind, step_term}
 
 -- the reading behind these words, where no bracket ends the block
 abbrev pub term_run : Reading → List Word → Option Reading

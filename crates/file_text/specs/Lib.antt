@@ -3,6 +3,5 @@ pub mod Tokens
 pub mod Syntax
 pub mod Grammar
 pub mod Refusals
-pub mod Machine
 pub mod Texts
 pub mod Laws

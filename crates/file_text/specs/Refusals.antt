@@ -4,12 +4,12 @@ use Rattle.std.specs.Str.{bytes_eq}
 use Rattle.file_text.specs.Syntax.{Name}
 use Rattle.file_text.specs.Grammar.{Word, id, left_paren, id_at, Block, has_block, spelled_blocks, rules_in}
 
-pub data Cause : Type 0 where
-  unknown_block : Cause
-  repeated_block : Cause
-  other_condition_type : Cause
-  wrong_syntax : Cause
-  missing_rules : Cause
+pub data SyntaxCause : Type 0 where
+  unknown_block : SyntaxCause
+  repeated_block : SyntaxCause
+  other_condition_type : SyntaxCause
+  wrong_syntax : SyntaxCause
+  missing_rules : SyntaxCause
 
 -- these words begin a list of blocks
 abbrev pub Begins : List Word → Type 0
@@ -41,7 +41,7 @@ pub record IsWrongSyntax (front : List Word) (w : Word) : Type 0 where
   pub oriented : IsOtherConditionType front w → ⊥
 
 -- the word behind the front calls for a refusal
-abbrev pub Calls : Cause → List Word → Word → Type 0
+abbrev pub Calls : SyntaxCause → List Word → Word → Type 0
 Calls unknown_block front w = IsUnknownBlock front w
 Calls repeated_block front w = IsRepeatedBlock front w
 Calls other_condition_type front w = IsOtherConditionType front w
@@ -49,7 +49,7 @@ Calls wrong_syntax front w = IsWrongSyntax front w
 Calls missing_rules front w = ⊥
 
 -- the end of the words calls for a refusal
-abbrev pub EndCalls : Cause → List Word → Type 0
+abbrev pub EndCalls : SyntaxCause → List Word → Type 0
 EndCalls unknown_block ws = ⊥
 EndCalls repeated_block ws = ⊥
 EndCalls other_condition_type ws = ⊥
@@ -58,10 +58,10 @@ EndCalls missing_rules ws = (bs : List Block) × (ws ≡ spelled_blocks bs) × (
 
 -- no word calls for a refusal
 abbrev pub AreClear : List Word → Type 0
-AreClear ws = (cause : Cause) (front : List Word) (w : Word) (rest : List Word) → ws ≡ front ++ w ∷ rest → Calls cause front w → ⊥
+AreClear ws = (cause : SyntaxCause) (front : List Word) (w : Word) (rest : List Word) → ws ≡ front ++ w ∷ rest → Calls cause front w → ⊥
 
 -- the first word that calls for a refusal, or the end of the words, by its number from 0
-abbrev pub IsRefused : List Word → Cause → ℕ → Type 0
-IsRefused ws cause number =
+abbrev pub AreRefused : List Word → SyntaxCause → ℕ → Type 0
+AreRefused ws cause number =
     AreClear (take number ws)
     × (((w : Word) × (slice_get ws number ≡ Some w) × Calls cause (take number ws) w) ⊎ ((number ≡ length ws) × EndCalls cause ws))

@@ -16,10 +16,6 @@ mutual
     none : Phrases
     more : Phrase → Phrases → Phrases
 
-abbrev pub phrases_of : List Phrase → Phrases
-phrases_of [] = none
-phrases_of (t ∷ ts) = more t (phrases_of ts)
-
 -- the list with one more at the end
 abbrev pub with_last : Phrases → Phrase → Phrases
 with_last none u = more u none

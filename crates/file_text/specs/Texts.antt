@@ -6,7 +6,7 @@ use Rattle.file_text.specs.declared.Token.{Token}
 use Rattle.file_text.specs.Tokens.{Spells}
 use Rattle.file_text.specs.Syntax.{Name, FileTree}
 use Rattle.file_text.specs.Grammar.{Word, id, left_paren, right_paren, comma, bar, arrow, equal, IsFile}
-use Rattle.file_text.specs.Refusals.{Cause, IsRefused}
+use Rattle.file_text.specs.Refusals.{SyntaxCause, AreRefused}
 
 abbrev pub word_of_kind : Kind → Name → Word
 word_of_kind Id name = id name
@@ -35,9 +35,9 @@ abbrev pub place_of_token : List ℕ → List Token → ℕ → ℕ
 place_of_token bytes ts number = unwrap_or (option_map (λ t. t.from) (slice_get ts number)) (length bytes)
 
 -- the tokens of the text spell no tree, for this cause at this place
-pub record IsNoText (bytes : List ℕ) (cause : Cause) (at : ℕ) : Type 0 where
+pub record IsNoText (bytes : List ℕ) (cause : SyntaxCause) (at : ℕ) : Type 0 where
   pub tokens : List Token
   pub spelled : Spells bytes tokens
   pub number : ℕ
-  pub refused : IsRefused (words_of bytes tokens) cause number
+  pub refused : AreRefused (words_of bytes tokens) cause number
   pub place : at ≡ place_of_token bytes tokens number

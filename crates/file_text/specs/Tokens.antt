@@ -112,3 +112,15 @@ IsLongId bytes place = (count : ℕ) × IsReached bytes count place × (kind_at 
 -- the text ends there, in a comment that is not closed
 abbrev pub IsOpenComment : List ℕ → ℕ → Type 0
 IsOpenComment bytes at = (count : ℕ) × (place : ℕ) × IsReached bytes count place × (is_comment_at count (drop place bytes) ≡ true) × (comment_len (drop place bytes) ≡ None) × (at ≡ length bytes)
+
+-- why a text has no tokens
+pub data TokenCause : Type 0 where
+  bad_byte : TokenCause
+  long_id : TokenCause
+  open_comment : TokenCause
+
+-- the text has no tokens, for this cause at this place
+abbrev pub HasNoTokens : List ℕ → TokenCause → ℕ → Type 0
+HasNoTokens bytes bad_byte at = IsBadByte bytes at
+HasNoTokens bytes long_id at = IsLongId bytes at
+HasNoTokens bytes open_comment at = IsOpenComment bytes at

@@ -1,7 +1,7 @@
 //! The file text: what bytes mean as tokens, what tokens mean as a syntax tree, and laws over both.
 #![tactic(auto)]
 
-ghost use Rattle.file_text.specs.Laws.{OneTokenList, OneBadPlace, NeverBoth, TokensOrRefusal, OneTree, OneSyntaxRefusal, NeverTreeAndRefusal, TreeOrRefusal};
+ghost use Rattle.file_text.specs.Laws.{OneTokenList, OneBadPlace, BadPlacesAreWithin, NeverBoth, TokensOrRefusal, OneTree, OneSyntaxRefusal, SyntaxRefusalsAreWithin, NeverTreeAndRefusal, TreeOrRefusal};
 
 /// What a token is.
 #[derive(Clone, Copy, Debug, PartialEq, Eq)]
@@ -23,10 +23,12 @@ pub struct Token {
     pub to: usize,
 }
 
-/// A text has one list of tokens, or one place that is bad, for one cause; and never both.
+/// A text has one list of tokens, or one place that is bad, for one cause; and never both. The place is
+/// within the text or at its end.
 pub fn one_reading()
     ensures tokens { OneTokenList }
     ensures place { OneBadPlace }
+    ensures within { BadPlacesAreWithin }
     ensures either { NeverBoth }
     ensures some { TokensOrRefusal }
 {}
@@ -36,9 +38,11 @@ pub fn one_tree()
     ensures { OneTree }
 {}
 
-/// A text of tokens has a syntax tree or one refusal, and never both.
+/// A text of tokens has a syntax tree or one refusal, and never both. The place of the refusal is within
+/// the text or at its end.
 pub fn one_refusal()
     ensures refusal { OneSyntaxRefusal }
+    ensures within { SyntaxRefusalsAreWithin }
     ensures either { NeverTreeAndRefusal }
     ensures some { TreeOrRefusal }
 {}

@@ -7,7 +7,7 @@ ghost use Rattle.certificates.specs.Sizes.{DoConditionsFit};
 ghost use Rattle.term_core.specs.RuleView.{condition_view};
 ghost use Rattle.cert_model.specs.EvidenceView.{inf_evidence_view};
 ghost use Rattle.refuter.specs.Answers.{RefutesAnswers};
-ghost use Rattle.validity.specs.Evidence.{IsJudged};
+ghost use Rattle.valid_certificates.specs.Evidence.{IsInfeasibilityJudged};
 
 use cert_model::InfEvidence;
 pub use refuter::Refusal;
@@ -16,9 +16,6 @@ use std::alloc::Global;
 use tcap_infeasible::TcapEvidence;
 use term_core::{Cond, System};
 use tree_automata::AutoEvidence;
-
-#[cfg(test)]
-mod tests;
 
 // What a refuter answers; where that is Ok, the conditions are never met.
 fn refuted<R: Refuter>(
@@ -45,7 +42,7 @@ pub fn check_infeasible(
 ) -> Result<(), Refusal>
     requires few { length conds.now ≤ 200 }
     requires fit { DoConditionsFit (map condition_view conds.now) }
-    ensures judged { RefutesAnswers (IsJudged sys.now (map condition_view conds.now) (inf_evidence_view evidence.now)) result }
+    ensures judged { RefutesAnswers (IsInfeasibilityJudged sys.now (map condition_view conds.now) (inf_evidence_view evidence.now)) result }
     ensures sound { OnOk result (IsInfeasible sys.now (map condition_view conds.now)) }
 {
     match evidence {

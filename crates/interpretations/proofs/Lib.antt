@@ -1,3 +1,6 @@
 pub mod Values
 pub mod Bound
 pub mod Structure
+pub mod OneJudgement
+pub mod Decided
+pub mod Total

@@ -81,11 +81,11 @@ total-one (suc n) y e lt = go (nat_eq n y) refl (λ less. total-one n y e less)
 
 -- the variables of a term are below this number
 abbrev mutual
-  above : Term → ℕ
+  pub above : Term → ℕ
   above (var x) = suc x
   above (app f ts) = above_all ts
 
-  above_all : Terms → ℕ
+  pub above_all : Terms → ℕ
   above_all nil = 0
   above_all (cons t ts) = above t + above_all ts
 

@@ -38,11 +38,11 @@ abbrev pub IsConstantKept : Interpretation → Rule → Type 0
 IsConstantKept es r = (Overflows es r → ⊥) × AreCoefficientsKept es r × (constant es r.left ≤ constant es r.right)
 
 -- what the interpretation is judged to be: the first in this order; entries, rules and rules of the unraveled system are numbered from 1
-abbrev pub IsJudged : System → Interpretation → Judgement → Type 0
-IsJudged sys es good = DoesUnravelingFit sys × IsGood sys es
-IsJudged sys es (not_good (wrong_shape m)) = DoesUnravelingFit sys × ((k : ℕ) × (m ≡ suc k) × IsFirstMisshapen sys es k)
-IsJudged sys es (not_good (wrong_coefficient m)) = DoesUnravelingFit sys × HasShape sys es × ((k : ℕ) × (m ≡ suc k) × IsFirstBad sys es k)
-IsJudged sys es (not_good (overflow_at n)) = DoesUnravelingFit sys × HasShape sys es × AreAllNumbersGood sys es × FailsAt sys es n (Overflows es)
-IsJudged sys es (not_good (smaller_variable n x)) = DoesUnravelingFit sys × HasShape sys es × AreAllNumbersGood sys es × FailsAt sys es n (IsFirstSmaller es x)
-IsJudged sys es (not_good (smaller_constant n)) = DoesUnravelingFit sys × HasShape sys es × AreAllNumbersGood sys es × FailsAt sys es n (IsConstantKept es)
-IsJudged sys es (unraveling_large i) = IsFirstTooLarge sys i
+abbrev pub IsInterpretationJudged : System → Interpretation → Judgement → Type 0
+IsInterpretationJudged sys es good = DoesUnravelingFit sys × IsGood sys es
+IsInterpretationJudged sys es (not_good (wrong_shape m)) = DoesUnravelingFit sys × ((k : ℕ) × (m ≡ suc k) × IsFirstMisshapen sys es k)
+IsInterpretationJudged sys es (not_good (wrong_coefficient m)) = DoesUnravelingFit sys × HasShape sys es × ((k : ℕ) × (m ≡ suc k) × IsFirstBad sys es k)
+IsInterpretationJudged sys es (not_good (overflow_at n)) = DoesUnravelingFit sys × HasShape sys es × AreAllNumbersGood sys es × FailsAt sys es n (Overflows es)
+IsInterpretationJudged sys es (not_good (smaller_variable n x)) = DoesUnravelingFit sys × HasShape sys es × AreAllNumbersGood sys es × FailsAt sys es n (IsFirstSmaller es x)
+IsInterpretationJudged sys es (not_good (smaller_constant n)) = DoesUnravelingFit sys × HasShape sys es × AreAllNumbersGood sys es × FailsAt sys es n (IsConstantKept es)
+IsInterpretationJudged sys es (unraveling_large i) = IsFirstTooLarge sys i

@@ -8,19 +8,16 @@ use Rattle.rewriting.specs.Signatures.{Signature}
 use Rattle.rewriting.specs.Rules as math
 use Rattle.rewriting.specs.Rules.{rule_at}
 use Rattle.rewriting.specs.Systems.{CountsFrom, terms_of_rule, rule_variables, IsRule, AreRules}
-use Rattle.rewriting.proofs.Variables.{IsAmong, variables_have_all}
+use Rattle.rewriting.specs.Lists.{IsAmong}
+use Rattle.rewriting.proofs.Variables.{variables_have_all}
 use Rattle.rewriting.proofs.Instances.{or_left, apply-agree}
+use Rattle.rewriting.proofs.Lists.{counted_below}
 use Rattle.term_core.specs.View.{view}
 use Rattle.term_core.specs.RuleView.{rule_view}
 use Rattle.term_core.specs.declared.systems.Rule as Program
 use Rattle.term_core.specs.declared.terms.Term as T
 use Rattle.unification.specs.Answers.{renaming}
 use Rattle.irreducible.specs.Judging.{lefts_under}
-
-counted_below : (n : ℕ) (xs : List ℕ) (x : ℕ) → CountsFrom n xs → IsAmong x xs → x < n + length xs
-counted_below n [] x h m = absurd m
-counted_below n (y ∷ ys) x h (inl e) = let k = h.0 in omega (arith, k, e)
-counted_below n (y ∷ ys) x h (inr m) = let k = counted_below (suc n) ys x h.1 m in omega (arith, k)
 
 left_room : (arities : Signature) (r : math.Rule) → IsRule arities r → (k : ℕ) → occurs k r.left ≡ true → 2 * k + 0 < 2 ^ 32
 left_room arities r h k o =

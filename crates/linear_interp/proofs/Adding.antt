@@ -93,10 +93,6 @@ begin es n f w ts (a ∷ old) new small lt e is le =
     within zero = le
     within (suc i) = small (suc i)
 
-pub begin_fails : (es : Interpretation) (n f w : ℕ) (ts : Terms) (old : List ℕ) → 0 < length old → w ≡ number_of es f 0 → 2 ^ 100 < get_or old 0 0 + n * w → GoesAbove es n (app f ts) old
-begin_fails es n f w ts old lt e above =
-    record { place = 0; within = lt; above = (let z : n * w ≡ n * number_of es f 0 = ap (λ z. n * z) e in let d : n * part es 0 (app f ts) ≡ n * number_of es f 0 + n * constant_from es f 1 ts = omega arith in omega (arith, above, z, d)) }
-
 -- a variable has its coefficient alone
 part_variable : (es : Interpretation) (x : ℕ) → part es (suc x) (var x) ≡ 1
 part_variable es x = rw (eq-eqb x x refl) refl
@@ -134,9 +130,6 @@ variable es n x old new small lt is le =
     within i true e =
         let same : i ≡ suc x = eqb-true i (suc x) e in subst (λ j. get_or (slice_set old (suc x) (get_or old (suc x) 0 + n)) j 0 ≤ 2 ^ 100) (sym same) (let z = get_or-set_same old (suc x) (get_or old (suc x) 0 + n) 0 lt in omega (arith, z, le))
     within i false e = let differ : i ≢ suc x = (λ z. let t = eq-eqb i (suc x) z in cc) in let z = get_or-set_other old (suc x) i (get_or old (suc x) 0 + n) 0 differ in let m = small i in omega (arith, z, m)
-
-pub variable_fails : (es : Interpretation) (n x : ℕ) (old : List ℕ) → suc x < length old → 2 ^ 100 < get_or old (suc x) 0 + n → GoesAbove es n (var x) old
-variable_fails es n x old lt above = record { place = suc x; within = lt; above = (let one = ap (λ z. n * z) (part_variable es x) in omega (arith, above, one)) }
 
 pub raised_small : (old new : List ℕ) (i v : ℕ) → AreSmall old → i < length old → new ≡ slice_set old i v → v ≤ 2 ^ 100 → AreSmall new
 raised_small old new i v small lt is le j = subst (λ xs. get_or xs j 0 ≤ 2 ^ 100) (sym is) (go (nat_eq j i) refl)

@@ -10,13 +10,14 @@ use Rattle.rewriting.specs.Terms.{Term, var, app, Terms, nil, cons}
 use Rattle.rewriting.specs.Systems.{IsRule, AreRules, IsSystem, IsWellFormed, CountsFrom, rule_variables, terms_of_rule}
 use Rattle.rewriting.specs.Signatures.{Signature, IsOver, AreOver}
 use Rattle.rewriting.specs.Variables.{occurs, occurs_in}
-use Rattle.rewriting.proofs.Variables.{IsAmong, variables_have_all}
+use Rattle.rewriting.specs.Lists.{IsAmong}
+use Rattle.rewriting.proofs.Variables.{variables_have_all}
 use Rattle.rewriting.proofs.Instances.{or_right}
 use Rattle.rewriting.proofs.Unraveled.{unraveled_well_formed}
 use Rattle.rewriting.proofs.Laws.{well_formed}
 use Rattle.interpretations.specs.Size.{DoesUnravelingFit}
 use Rattle.interpretations.specs.Linear.{Interpretation, IsEntry, HasShape, AreNumbersGood, AreAllNumbersGood, Falls, Overflows}
-use Rattle.interpretations.specs.Judged.{IsFirstMisshapen, IsFirstBad, FailsAt, IsFirstSmaller, IsConstantKept, IsJudged}
+use Rattle.interpretations.specs.Judged.{IsFirstMisshapen, IsFirstBad, FailsAt, IsFirstSmaller, IsConstantKept, IsInterpretationJudged}
 use Rattle.interpretations.proofs.Bound.{counted_numbers, small_number, length-heads}
 use Rattle.interpretations.proofs.Structure.{sides_of, large_side}
 use Rattle.term_core.specs.RuleView.{rule_view, AreCounted}
@@ -145,7 +146,7 @@ module _ (sys : math.System) (es : Interpretation) where
   every h zero r at = absurd (cc)
   every h (suc i) r at = h i r at
 
-  judged_here : DoesUnravelingFit sys → HasShape sys es → AreAllNumbersGood sys es → (result : Result (Unit {0}) MeasureError) → RulesAnswers es (unraveled sys).rules result → ShowsAnswers (IsJudged sys es) result
+  judged_here : DoesUnravelingFit sys → HasShape sys es → AreAllNumbersGood sys es → (result : Result (Unit {0}) MeasureError) → RulesAnswers es (unraveled sys).rules result → ShowsAnswers (IsInterpretationJudged sys es) result
   judged_here fit s numbers (Ok u) h = (fit, record { shape = s; numbers = numbers; rules = every h })
   judged_here fit s numbers (Err (Reason (reason.Overflow n))) h = (fit, s, numbers, fails_at n (Overflows es) h)
   judged_here fit s numbers (Err (Reason (reason.Variable n x))) h = (fit, s, numbers, fails_at n (IsFirstSmaller es x) h)
@@ -156,7 +157,7 @@ module _ (sys : math.System) (es : Interpretation) where
   judged_here fit s numbers (Err NoMemory) h = tt
 
   pub judged : (system : math.System) (rs : List math.Rule) → system ≡ unraveled sys → rs ≡ system.rules → DoesUnravelingFit sys → HasShape sys es → AreAllNumbersGood sys es → (result : Result (Unit {0}) MeasureError) → RulesAnswers es rs result
-      → ShowsAnswers (IsJudged sys es) result
+      → ShowsAnswers (IsInterpretationJudged sys es) result
   judged system rs same are fit s numbers result h =
       judged_here fit s numbers result (subst (λ q. RulesAnswers es q result) (are ∙ ap (λ z. z.rules) same) h)
 

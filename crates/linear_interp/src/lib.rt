@@ -4,12 +4,10 @@
 mod rules;
 mod shape;
 mod sums;
-#[cfg(test)]
-mod tests;
 
 ghost use Rattle.std.specs.Prelude.{map};
 ghost use Rattle.cert_model.specs.CertificateView.{linear_entry_view};
-ghost use Rattle.interpretations.specs.Judged.{IsJudged};
+ghost use Rattle.interpretations.specs.Judged.{IsInterpretationJudged};
 ghost use Rattle.measure.specs.Answers.{ShowsAnswers};
 ghost use Rattle.unravel.specs.Answers.{IsUnraveled};
 
@@ -29,7 +27,7 @@ fn judge(
     entries: &[LinearEntry],
 ) -> Result<(), MeasureError>
     requires { IsUnraveled sys.now unraveled.now }
-    ensures { ShowsAnswers (IsJudged sys.now (map linear_entry_view entries.now)) result }
+    ensures { ShowsAnswers (IsInterpretationJudged sys.now (map linear_entry_view entries.now)) result }
 {
     // The system's own rules are over its symbols: what the sums of the unraveled sides rest on.
     let own_rules = sys.rules();
@@ -53,7 +51,7 @@ fn judge(
 /// and All That, chapter 5): good, or the first reason why it is not, or the first rule of which a side of the unraveled
 /// system does not fit.
 pub fn check_linear(alloc: Global, sys: &System, linear: &Linear) -> Result<(), MeasureError>
-    ensures { ShowsAnswers (IsJudged sys.now (map linear_entry_view linear.now.entries.items)) result }
+    ensures { ShowsAnswers (IsInterpretationJudged sys.now (map linear_entry_view linear.now.entries.items)) result }
 {
     let unraveled = match unravel(alloc, sys) {
         Ok(unraveled) => unraveled,
@@ -70,16 +68,19 @@ pub struct LinearMeasure<'a> {
 }
 
 impl<'a> Measure for LinearMeasure<'a> {
-    ghost use Rattle.interpretations.specs.Judged.{IsJudged};
+    ghost use Rattle.interpretations.specs.Judged.{IsInterpretationJudged};
     ghost use Rattle.interpretations.proofs.Bound.{good_bounds};
+    ghost use Rattle.interpretations.proofs.OneJudgement.{judgement_once};
     ghost use Rattle.cert_model.specs.CertificateView.{linear_entry_view};
     ghost use Rattle.std.specs.Prelude.{map};
 
-    ghost judged = { λ m s j. IsJudged s (map linear_entry_view m.linear.now.entries.items) j };
+    ghost judged = { λ m s j. IsInterpretationJudged s (map linear_entry_view m.linear.now.entries.items) j };
 
     fn shows(&self, alloc: Global, sys: &System) -> Result<(), MeasureError> {
         check_linear(alloc, sys, self.linear)
     }
+
+    ghost one_judgement = { λ m s j k h q. judgement_once s (map linear_entry_view m.linear.now.entries.items) j k h q };
 
     ghost bounds = { λ m s well h. good_bounds s (map linear_entry_view m.linear.now.entries.items) well h.1 };
 }

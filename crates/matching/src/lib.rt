@@ -1,4 +1,7 @@
-//! Matching a pattern onto a subject.
+//! Matching a pattern onto a subject: the least substitution that makes the one the other, or that there is none.
+//!
+//! The pattern f(x, g(y)) and the subject f(a, g(b)) give a for x and b for y. The pattern f(x, x) gives a for x
+//! with f(a, a), and nothing with f(a, b), where x would have two values.
 #![tactic(auto)]
 
 ghost use Rattle.std.specs.FinMap as map;

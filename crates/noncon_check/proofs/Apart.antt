@@ -14,14 +14,15 @@ use Rattle.certificates.specs.Evidence.{InfeasibilityEvidence}
 use Rattle.certificates.specs.Judging.{Derives}
 use Rattle.certificates.specs.Reasons.{EvidenceReason, Rejection, redex_extra}
 use Rattle.cert_model.specs.ReasonView.{rejected_view}
-use Rattle.renumbering.specs.Rows.{AreDistinct, naming}
+use Rattle.rewriting.specs.Lists.{AreDistinct}
+use Rattle.renumbering.specs.Rows.{naming}
 use Rattle.term_core.specs.RuleView.{rule_view, AreCounted}
 use Rattle.term_core.specs.SystemView.{AreSound}
 use Rattle.term_core.specs.declared.systems.Rule as program
 use Rattle.validity.specs.declared.CheckError.{CheckError}
 use Rattle.validity.specs.declared.CheckError.TheVariants.{Rejected, NoMemory}
-use Rattle.validity.specs.Peaks.{Place, IsRedex, IsEarlier, IsListed, AreRedexes, chosen, IsRedexJudged, AreRefuted, AreNotRefuted, IsMissed, AreNotShownApart, LeadsTo, IsPeakRejected, first_fails, second_fails, not_apart}
-use Rattle.validity.specs.Laws.{ReachesApart, ValidPeaksReachApart}
+use Rattle.valid_certificates.specs.Peaks.{RedexPlace, IsRedex, IsEarlierRedex, IsListed, AreRedexes, chosen, IsRedexJudged, AreRefuted, AreNotRefuted, IsMissed, AreNotShownApart, LeadsTo, IsPeakRejected, first_fails, second_fails, not_apart}
+use Rattle.valid_certificates.specs.Laws.{ReachesApart, ValidPeaksReachApart}
 use Rattle.validity.specs.Answers.{PeakAnswers}
 use Rattle.noncon_check.specs.Judged.{IsJudgedAt}
 use Rattle.noncon_check.specs.Redexes.{redexes, AreRedexesOf}
@@ -106,17 +107,17 @@ module _ (sys : System) (u v : Term) where
   J r e o = IsRedexJudged sys (chosen u v r.which) r e o
 
   -- both lists of redexes make the list of both ends
-  pub both : (rs ss : List Place) → AreRedexesOf sys 1 u rs → AreRedexesOf sys 2 v ss → AreRedexes sys u v (rs ++ ss)
+  pub both : (rs ss : List RedexPlace) → AreRedexesOf sys 1 u rs → AreRedexesOf sys 2 v ss → AreRedexes sys u v (rs ++ ss)
   both rs ss a b = record { each = each; whole = whole; sorted = sorted_append rs ss a.sorted b.sorted earlier }
     where
-      each : (r : Place) → IsListed r (rs ++ ss) → IsRedex sys u v r
+      each : (r : RedexPlace) → IsListed r (rs ++ ss) → IsRedex sys u v r
       each r l = go (listed_either r rs ss l)
         where
           go : IsListed r rs ⊎ IsListed r ss → IsRedex sys u v r
           go (inl k) = inl (a.each r k)
           go (inr k) = inr (b.each r k)
 
-      whole : (r : Place) → IsRedex sys u v r → IsListed r (rs ++ ss)
+      whole : (r : RedexPlace) → IsRedex sys u v r → IsListed r (rs ++ ss)
       whole r (inl (w, m)) =
           listed_left r rs ss
           (subst (λ (k : ℕ). IsListed (record { which = k; position = r.position; rule = r.rule }) rs) (sym w) (a.whole r.position r.rule m))
@@ -124,27 +125,27 @@ module _ (sys : System) (u v : Term) where
           listed_right r rs ss
           (subst (λ (k : ℕ). IsListed (record { which = k; position = r.position; rule = r.rule }) ss) (sym w) (b.whole r.position r.rule m))
 
-      earlier : (x y : Place) → IsListed x rs → IsListed y ss → IsEarlier x y
+      earlier : (x y : RedexPlace) → IsListed x rs → IsListed y ss → IsEarlierRedex x y
       earlier x y l k = let one = (a.each x l).0 in let two = (b.each y k).0 in inl (omega (arith, one, two))
 
-  first_own : (rs : List Place) → AreRedexesOf sys 1 u rs → (r : Place) → IsListed r rs → (e : InfeasibilityEvidence) (o : Option EvidenceReason) → IsRedexJudged sys u r e o → J r e o
+  first_own : (rs : List RedexPlace) → AreRedexesOf sys 1 u rs → (r : RedexPlace) → IsListed r rs → (e : InfeasibilityEvidence) (o : Option EvidenceReason) → IsRedexJudged sys u r e o → J r e o
   first_own rs a r l e o h = subst (λ k. IsRedexJudged sys (chosen u v k) r e o) (sym (a.each r l).0) h
 
-  second_own : (ss : List Place) → AreRedexesOf sys 2 v ss → (r : Place) → IsListed r ss → (e : InfeasibilityEvidence) (o : Option EvidenceReason) → IsRedexJudged sys v r e o → J r e o
+  second_own : (ss : List RedexPlace) → AreRedexesOf sys 2 v ss → (r : RedexPlace) → IsListed r ss → (e : InfeasibilityEvidence) (o : Option EvidenceReason) → IsRedexJudged sys v r e o → J r e o
   second_own ss b r l e o h = subst (λ k. IsRedexJudged sys (chosen u v k) r e o) (sym (b.each r l).0) h
 
-  refuted_step : (es : List Redex) (at : ℕ) (r : Place) (rs : List Place) → IsEntry J [] es at r None → AreRefuted sys u v rs (drop (suc at) es) → AreRefuted sys u v (r ∷ rs) (drop at es)
+  refuted_step : (es : List Redex) (at : ℕ) (r : RedexPlace) (rs : List RedexPlace) → IsEntry J [] es at r None → AreRefuted sys u v rs (drop (suc at) es) → AreRefuted sys u v (r ∷ rs) (drop at es)
   refuted_step es at r rs h k = subst (AreRefuted sys u v (r ∷ rs)) (sym (drop_some es at h.entry h.stands)) (h.place, h.judged, k)
 
-  pub all_refuted : (es : List Redex) (at : ℕ) (rs : List Place) (after : ℕ) → Pass J [] es at rs after → length es ≤ after → AreRefuted sys u v rs (drop at es)
+  pub all_refuted : (es : List Redex) (at : ℕ) (rs : List RedexPlace) (after : ℕ) → Pass J [] es at rs after → length es ≤ after → AreRefuted sys u v rs (drop at es)
   all_refuted es at [] after h long = subst (AreRefuted sys u v []) (sym (drop_past es at (omega (arith, h, long)))) tt
   all_refuted es at (r ∷ rs) after (e, h) long = refuted_step es at r rs e (all_refuted es (suc at) rs after h long)
 
-  next_fails : (es : List Redex) (at : ℕ) (r : Place) (rs : List Place) (reason : Rejection) → IsEntry J [] es at r None → AreNotRefuted sys u v (suc (suc at)) rs (drop (suc at) es) reason
+  next_fails : (es : List Redex) (at : ℕ) (r : RedexPlace) (rs : List RedexPlace) (reason : Rejection) → IsEntry J [] es at r None → AreNotRefuted sys u v (suc (suc at)) rs (drop (suc at) es) reason
       → AreNotRefuted sys u v (suc at) (r ∷ rs) (drop at es) reason
   next_fails es at r rs reason h k = subst (λ z. AreNotRefuted sys u v (suc at) (r ∷ rs) z reason) (sym (drop_some es at h.entry h.stands)) (inr (inr (h.place, h.judged, k)))
 
-  pub one_extra : (es : List Redex) (at : ℕ) (rs : List Place) (after : ℕ) → Pass J [] es at rs after → after < length es → AreNotRefuted sys u v (suc at) rs (drop at es) (redex_extra (suc after))
+  pub one_extra : (es : List Redex) (at : ℕ) (rs : List RedexPlace) (after : ℕ) → Pass J [] es at rs after → after < length es → AreNotRefuted sys u v (suc at) rs (drop at es) (redex_extra (suc after))
   one_extra es at [] after h less = go (slice_get es at) refl
     where
       go : (o : Option Redex) → slice_get es at ≡ o → AreNotRefuted sys u v (suc at) [] (drop at es) (redex_extra (suc after))
@@ -152,11 +153,11 @@ module _ (sys : System) (u v : Term) where
       go (Some d) e = subst (λ z. AreNotRefuted sys u v (suc at) [] z (redex_extra (suc after))) (sym (drop_some es at d e)) (ap (λ n. redex_extra (suc n)) (sym h))
   one_extra es at (r ∷ rs) after (e, h) less = next_fails es at r rs (redex_extra (suc after)) e (one_extra es (suc at) rs after h less)
 
-  missed : (es : List Redex) (at : ℕ) (r : Place) (rs : List Place) (reason : Rejection) → IsAbsent es at r → IsMissed r reason → (o : Option Redex) → slice_get es at ≡ o → AreNotRefuted sys u v (suc at) (r ∷ rs) (drop at es) reason
+  missed : (es : List Redex) (at : ℕ) (r : RedexPlace) (rs : List RedexPlace) (reason : Rejection) → IsAbsent es at r → IsMissed r reason → (o : Option Redex) → slice_get es at ≡ o → AreNotRefuted sys u v (suc at) (r ∷ rs) (drop at es) reason
   missed es at r rs reason none h None e = subst (λ z. AreNotRefuted sys u v (suc at) (r ∷ rs) z reason) (sym (drop_past es at (none_past es at e))) h
   missed es at r rs reason none h (Some d) e = subst (λ z. AreNotRefuted sys u v (suc at) (r ∷ rs) z reason) (sym (drop_some es at d e)) (inl (none d e, h))
 
-  pub one_fails : (es : List Redex) (at : ℕ) (rs : List Place) (reason : Rejection) → Fail J [] es at rs reason → AreNotRefuted sys u v (suc at) rs (drop at es) reason
+  pub one_fails : (es : List Redex) (at : ℕ) (rs : List RedexPlace) (reason : Rejection) → Fail J [] es at rs reason → AreNotRefuted sys u v (suc at) rs (drop at es) reason
   one_fails es at [] reason h = absurd h
   one_fails es at (r ∷ rs) reason (inl (none, h)) = missed es at r rs reason none h (slice_get es at) refl
   one_fails es at (r ∷ rs) reason (inr (inl (why, h, is))) =
@@ -220,6 +221,6 @@ ends_judged sys peak u v (Ok _) ends h = record { u = u; v = v; ends = ends; apa
 ends_judged sys peak u v (Err (Rejected reason)) ends h = not_apart u v (rejected_view reason) ends h
 ends_judged sys peak u v (Err NoMemory) ends h = tt
 
-pub peak_sound : ValidPeaksReachApart → (sys : System) (peak : Peak) → IsSystem sys → IsOver sys.arities peak.start → (a : Result (Unit {0}) CheckError) → PeakAnswers sys peak a → OnOk a (ReachesApart sys peak.start)
+pub peak_sound : ValidPeaksReachApart → (sys : System) (peak : Peak) → IsSystem sys → IsOver sys.arities peak.start → (a : Result (Unit {0}) CheckError) → PeakAnswers sys peak a → OnOk a (ReachesApart sys peak)
 peak_sound law sys peak good over (Ok _) h = law sys peak (well_formed sys good) over h
 peak_sound law sys peak good over (Err e) h = tt

@@ -7,7 +7,8 @@ use Rattle.rewriting.specs.Matching.{Solves}
 use Rattle.rewriting.proofs.Common.{Term, var, Substitution, Bindings, apply, values_of, occurs, variables}
 use Rattle.rewriting.proofs.Instances.{apply-agree}
 use Rattle.rewriting.proofs.Matching.{instance_solved}
-use Rattle.rewriting.proofs.Variables.{IsAmong, variables_have}
+use Rattle.rewriting.specs.Lists.{IsAmong}
+use Rattle.rewriting.proofs.Variables.{variables_have}
 
 key_is : (x y : ℕ) (b : Bool) → eq_by_cmp nat_cmp x y ≡ b → b ≡ true → x ≡ y
 key_is x y b e t = nat_cmp-IsAntisymmetric x y ((Equal-is (nat_cmp x y)).0 (e ∙ t))

@@ -10,7 +10,10 @@ use Rattle.rewriting.specs.Terms.{Fits}
 use Rattle.rewriting.specs.Overlaps.{condition_under, conditions_under}
 use Rattle.rewriting.proofs.Common.{Term, var, Substitution, Bindings, values_of, occurs, occurs_in, Condition, System, sides, Signature}
 use Rattle.rewriting.proofs.Instances.{apply-agree, or_left, or_right}
-use Rattle.rewriting.proofs.Variables.{IsAmong, variables_have_all}
+use Rattle.rewriting.specs.Lists.{IsAmong}
+use Rattle.rewriting.proofs.Variables.{variables_have_all}
+use Rattle.rewriting.proofs.Lists.{counted_below}
+use Rattle.rewriting.proofs.Conditions.{length-conditions_under}
 use Rattle.certificates.specs.Sizes.{DoConditionsFit}
 use Rattle.term_core.specs.RuleView.{condition_view, rule_view}
 use Rattle.term_core.specs.SystemView.{IsSound}
@@ -22,7 +25,7 @@ use Rattle.cert_model.specs.ReasonView.{evidence_reason_view}
 use Rattle.refuter.specs.Answers.{RefutesAnswers}
 use Rattle.refuter.specs.declared.Refusal.{Refusal}
 use Rattle.refuter.specs.declared.Refusal.TheVariants.{Reason, NoMemory}
-use Rattle.validity.specs.Evidence.{IsJudged}
+use Rattle.valid_certificates.specs.Evidence.{IsInfeasibilityJudged}
 use Rattle.noncon_check.specs.Judged.{value_or_new, with_new, AreJudged}
 
 same_key : (x y : ℕ) → x ≡ y → eq_by_cmp nat_cmp x y ≡ true
@@ -97,18 +100,9 @@ conditions_agree s t (c ∷ cs) h =
     (ap₂ (λ (l r : Term). record { left = l; right = r }) (apply-agree s t c.left (λ x o. h x (or_left _ _ o))) (apply-agree s t c.right (λ x o. h x (or_right (occurs x c.left) _ (or_left _ _ o)))))
     (conditions_agree s t cs (λ x o. h x (or_right (occurs x c.left) _ (or_right (occurs x c.right) _ o))))
 
-pub length-conditions_under : (s : Substitution) (cs : List Condition) → length (conditions_under s cs) ≡ length cs
-length-conditions_under s [] = refl
-length-conditions_under s (c ∷ cs) = ap suc (length-conditions_under s cs)
-
 conditions_fit : (cs : List Condition) → Each Fits (sides cs) → DoConditionsFit cs
 conditions_fit [] h = tt
 conditions_fit (c ∷ cs) (l, (r, h)) = (l, r, conditions_fit cs h)
-
-counted_below : (n : ℕ) (xs : List ℕ) (x : ℕ) → CountsFrom n xs → IsAmong x xs → x < n + length xs
-counted_below n [] x h m = absurd m
-counted_below n (y ∷ ys) x h (inl e) = let k = h.0 in omega (arith, k, e)
-counted_below n (y ∷ ys) x h (inr m) = let k = counted_below (suc n) ys x h.1 m in omega (arith, k)
 
 module _ (arities : Signature) (r : program.Rule) (sound : IsSound arities r) where
   pub rule_fits : DoConditionsFit (map condition_view r.conds.items)
@@ -170,7 +164,7 @@ module _ (s : Substitution) (conds : List program_cond.Cond) (i : ℕ) (c : prog
 
 -- what is answered for conditions that fit
 pub judged_fitting : (sys : System) (ds : List program_cond.Cond) (cs : List Condition) (e : InfeasibilityEvidence) (a : Result (Unit {0}) Refusal) → map condition_view ds ≡ cs → DoConditionsFit cs
-    → RefutesAnswers (IsJudged sys (map condition_view ds) e) a → RefutesAnswers (AreJudged sys cs e) a
-judged_fitting sys ds cs e (Ok u) is fit h = inl (fit, subst (λ z. IsJudged sys z e None) is h)
-judged_fitting sys ds cs e (Err (Reason reason)) is fit h = inl (fit, subst (λ z. IsJudged sys z e (Some (evidence_reason_view reason))) is h)
+    → RefutesAnswers (IsInfeasibilityJudged sys (map condition_view ds) e) a → RefutesAnswers (AreJudged sys cs e) a
+judged_fitting sys ds cs e (Ok u) is fit h = inl (fit, subst (λ z. IsInfeasibilityJudged sys z e None) is h)
+judged_fitting sys ds cs e (Err (Reason reason)) is fit h = inl (fit, subst (λ z. IsInfeasibilityJudged sys z e (Some (evidence_reason_view reason))) is h)
 judged_fitting sys ds cs e (Err NoMemory) is fit h = tt

@@ -4,10 +4,10 @@ use Rattle.std.proofs.lemmas.Bool.{false≢true}
 use Rattle.rewriting.specs.Substitutions.{Matches}
 use Rattle.rewriting.specs.Systems.{IsWellFormed}
 use Rattle.rewriting.proofs.Common.{Term, Terms, var, app, IsVariable, Rule, System, rule_at}
-use Rattle.rewriting.proofs.Variables.{IsAmong}
+use Rattle.rewriting.specs.Lists.{IsAmong}
 use Rattle.rule_index.specs.Roots.{has_root, rules_with_root}
 use Rattle.rule_index.proofs.Walks.{root_of, is_listed, ascending}
-use Rattle.validity.specs.Peaks.{Place, MatchesAt, IsEarlier, IsListed, IsSorted}
+use Rattle.valid_certificates.specs.Peaks.{RedexPlace, MatchesAt, IsEarlierRedex, IsListed, IsSorted}
 use Rattle.noncon_check.specs.Redexes.{is_hit, hits, at_root}
 use Rattle.noncon_check.proofs.Deciding.{match_decided, match_found}
 use Rattle.noncon_check.proofs.Listed.{before_each}
@@ -45,19 +45,19 @@ first_least n i ns h a = let k = among_at i ns a in let low = k.1 in subst (λ m
 -- places at the root are those of the hits
 module _ (sys : System) (w : ℕ) (t : Term) where
   -- a hit: its rule matches, and its number is in the list
-  abbrev IsOf : List ℕ → Place → Type 0
+  abbrev IsOf : List ℕ → RedexPlace → Type 0
   IsOf ns r = (i : ℕ) × (r ≡ at_root w i) × IsAmong i ns × MatchesAt sys t [] i
 
-  later : (n : ℕ) (ns : List ℕ) (r : Place) → IsOf ns r → IsOf (n ∷ ns) r
+  later : (n : ℕ) (ns : List ℕ) (r : RedexPlace) → IsOf ns r → IsOf (n ∷ ns) r
   later n ns r (i, e, a, m) = (i, e, inr a, m)
 
-  each_of : (n : ℕ) (ns : List ℕ) (r : Place) → (IsListed r (map (at_root w) (hits sys t ns)) → IsOf ns r)
+  each_of : (n : ℕ) (ns : List ℕ) (r : RedexPlace) → (IsListed r (map (at_root w) (hits sys t ns)) → IsOf ns r)
       → (b : Bool) → is_hit (rule_at sys n) t ≡ b → IsListed r (map (at_root w) (if b then n ∷ hits sys t ns else hits sys t ns)) → IsOf (n ∷ ns) r
   each_of n ns r f true e (inl s) = (n, s, inl refl, hit_matches sys t n (rule_at sys n) refl e)
   each_of n ns r f true e (inr l) = later n ns r (f l)
   each_of n ns r f false e l = later n ns r (f l)
 
-  pub hit_each : (ns : List ℕ) (r : Place) → IsListed r (map (at_root w) (hits sys t ns)) → IsOf ns r
+  pub hit_each : (ns : List ℕ) (r : RedexPlace) → IsListed r (map (at_root w) (hits sys t ns)) → IsOf ns r
   hit_each [] r h = absurd h
   hit_each (n ∷ ns) r h = each_of n ns r (λ l. hit_each ns r l) (is_hit (rule_at sys n) t) refl h
 
@@ -75,11 +75,11 @@ module _ (sys : System) (w : ℕ) (t : Term) where
   hit_whole i (n ∷ ns) (inl e) m = taken n i ns (is_hit (rule_at sys n) t) (subst (λ k. is_hit (rule_at sys k) t ≡ true) e (hit_of sys t i m)) e
   hit_whole i (n ∷ ns) (inr a) m = skipped n i ns (is_hit (rule_at sys n) t) (hit_whole i ns a m)
 
-  least_hit : (n : ℕ) (ns : List ℕ) → IsRising (n ∷ ns) → (q : Place) → IsListed q (map (at_root w) (hits sys t ns)) → IsEarlier (at_root w n) q
+  least_hit : (n : ℕ) (ns : List ℕ) → IsRising (n ∷ ns) → (q : RedexPlace) → IsListed q (map (at_root w) (hits sys t ns)) → IsEarlierRedex (at_root w n) q
   least_hit n ns h q l = go (hit_each ns q l)
     where
-      go : IsOf ns q → IsEarlier (at_root w n) q
-      go (i, e, a, m) = subst (IsEarlier (at_root w n)) (sym e) (inr (refl, inr (refl, first_least n i ns h a)))
+      go : IsOf ns q → IsEarlierRedex (at_root w n) q
+      go (i, e, a, m) = subst (IsEarlierRedex (at_root w n)) (sym e) (inr (refl, inr (refl, first_least n i ns h a)))
 
   sorted_step : (n : ℕ) (ns : List ℕ) (b : Bool) → IsRising (n ∷ ns) → IsSorted (map (at_root w) (hits sys t ns))
       → IsSorted (map (at_root w) (if b then n ∷ hits sys t ns else hits sys t ns))

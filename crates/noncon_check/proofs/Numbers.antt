@@ -12,12 +12,14 @@ use Rattle.rewriting.proofs.Places.{subterm-apply}
 use Rattle.certificates.specs.Evidence.{InfeasibilityEvidence}
 use Rattle.certificates.specs.Judging.{RuleMatches}
 use Rattle.certificates.specs.Reasons.{EvidenceReason}
-use Rattle.matching.proofs.Least.{least_needs, values_have, Inherits}
+use Rattle.rewriting.proofs.LeastMatches.{least_needs}
+use Rattle.matching.proofs.Least.{values_have, Inherits}
 use Rattle.renumbering.specs.Spread.{spread, spreading}
-use Rattle.renumbering.specs.Rows.{AreDistinct, naming}
+use Rattle.rewriting.specs.Lists.{AreDistinct}
+use Rattle.renumbering.specs.Rows.{naming}
 use Rattle.renumbering.proofs.Spreads.{spread_past, spread_one_to_one, odd_is_spread}
-use Rattle.validity.proofs.Ends.{unmoved}
-use Rattle.validity.specs.Peaks.{Place, MatchesAt, value_or_own, at_redex, IsRedexJudged}
+use Rattle.valid_certificates.proofs.Ends.{unmoved}
+use Rattle.valid_certificates.specs.Peaks.{RedexPlace, MatchesAt, value_or_own, at_redex, IsRedexJudged}
 use Rattle.noncon_check.specs.Judged.{value_or_new, with_new, AreJudged, IsJudgedAt}
 use Rattle.noncon_check.specs.Redexes.{AreRedexesOf}
 use Rattle.noncon_check.proofs.Renaming.{are_judged_to}
@@ -175,7 +177,7 @@ module _ (row : List ℕ) (distinct : AreDistinct row) (t n : Term) (is : t ≡ 
       side u = apply-agree a (compose b (spreading row)) u (λ x o. same x) ∙ sym (apply-apply b (spreading row) u)
 
   -- so evidence is judged alike
-  pub redex_judged : (sys : System) (r : Place) (e : InfeasibilityEvidence) (o : Option EvidenceReason) → IsJudgedAt sys (length row) n r e o → IsRedexJudged sys t r e o
+  pub redex_judged : (sys : System) (r : RedexPlace) (e : InfeasibilityEvidence) (o : Option EvidenceReason) → IsJudgedAt sys (length row) n r e o → IsRedexJudged sys t r e o
   redex_judged sys r e o h =
       let m = moved (naming row) h.match in
       let cs = conditions_under (at_redex m) h.rule.conditions in
@@ -200,7 +202,7 @@ module _ (row : List ℕ) (distinct : AreDistinct row) (t n : Term) (is : t ≡ 
   match_there : (sys : System) (p : Position) (i : ℕ) → MatchesAt sys t p i → MatchesAt sys n p i
   match_there sys p i m = subst (λ z. MatchesAt sys z p i) undone (moved_match (λ x. var (place_in row x)) sys t p i m)
 
-  pub same_redexes : (sys : System) (w : ℕ) (rs : List Place) → AreRedexesOf sys w n rs → AreRedexesOf sys w t rs
+  pub same_redexes : (sys : System) (w : ℕ) (rs : List RedexPlace) → AreRedexesOf sys w n rs → AreRedexesOf sys w t rs
   same_redexes sys w rs h =
       record {
         each = λ r l. let e = h.each r l in (e.0, match_back sys r.position r.rule e.1);

@@ -14,7 +14,7 @@ use Rattle.term_core.specs.View.{view, views}
 use Rattle.term_core.specs.declared.terms.Term.{Term, Var, Fun}
 use Rattle.term_core.proofs.Views.{view-Var, view-Fun, views-drop, argument_within}
 use Rattle.validity.specs.declared.CheckError.{CheckError}
-use Rattle.validity.specs.Peaks.{Place}
+use Rattle.valid_certificates.specs.Peaks.{RedexPlace}
 use Rattle.noncon_check.specs.Judged.{IsJudgedAt}
 use Rattle.noncon_check.specs.Redexes.{at_root, below, hits, is_hit, redexes, redexes_from}
 use Rattle.noncon_check.specs.Walks.{Judgement, Pass, PlacesAnswer}
@@ -30,7 +30,7 @@ hits_more sys t n ns = go (is_hit (rule_at sys n) t)
     go false = refl
 
 module _ (J : Judgement) (p : Position) (es : List Redex) (sys : System) (w : ℕ) (t : math.Term) (ns : List ℕ) (i n : ℕ) (low : i < length ns) (here : n ≡ get_or ns i 0) where
-  abbrev those : List ℕ → List Place
+  abbrev those : List ℕ → List RedexPlace
   those ms = map (at_root w) (hits sys t ms)
 
   here_own : n ≡ get_or ns i n
@@ -50,7 +50,7 @@ pub rules_end : (J : Judgement) (p : Position) (es : List Redex) (sys : System) 
 rules_end J p es sys w t ns i at high = subst (λ ms. PlacesAnswer J p es at (map (at_root w) (hits sys t ms)) (Ok at)) (sym (drop_end ns i high)) refl
 
 -- evidence judged for a redex of an argument
-judged_lifted : (sys : System) (n f : ℕ) (ts : math.Terms) (k : ℕ) (s : math.Term) → argument ts k ≡ Some s → (r : Place) (e : InfeasibilityEvidence) (o : Option EvidenceReason)
+judged_lifted : (sys : System) (n f : ℕ) (ts : math.Terms) (k : ℕ) (s : math.Term) → argument ts k ≡ Some s → (r : RedexPlace) (e : InfeasibilityEvidence) (o : Option EvidenceReason)
     → IsJudgedAt sys n s r e o → IsJudgedAt sys n (app f ts) (below k r) e o
 judged_lifted sys n f ts k s here r e o h =
     record {
@@ -99,7 +99,7 @@ module _ (sys : System) (w own : ℕ) (p : Position) (es : List Redex) (t : Term
     whole : view t ≡ app f (views items)
     whole = ap view is ∙ view-Fun f v ∙ ap (λ ts. app f (views ts)) (sym value)
 
-    abbrev roots : math.Term → List Place
+    abbrev roots : math.Term → List RedexPlace
     roots s = map (at_root w) (hits sys s (rules_with_root sys f))
 
     pub root_fails : (q : Position) → q ≡ p → (at : ℕ) (e : CheckError) → PlacesAnswer (J (view t)) q es at (roots (view t)) (Err e) → PlacesAnswer (J (view t)) p es at (redexes sys w (view t)) (Err e)
@@ -121,7 +121,7 @@ module _ (sys : System) (w own : ℕ) (p : Position) (es : List Redex) (t : Term
       rests : redexes_from sys w (i + 1) (views (drop i items)) ≡ map (below (i + 1)) (redexes sys w (view x)) ++ redexes_from sys w (i + 1 + 1) (views (drop (i + 1) items))
       rests = ap (redexes_from sys w (i + 1)) (views-drop items i x low here) ∙ (let one : suc (i + 1) ≡ i + 1 + 1 = omega arith in ap (λ k. map (below (i + 1)) (redexes sys w (view x)) ++ redexes_from sys w k (views (drop (i + 1) items))) one)
 
-      lift : (r : Place) (e : InfeasibilityEvidence) (o : Option EvidenceReason) → J (view x) r e o → J (view t) (below (i + 1) r) e o
+      lift : (r : RedexPlace) (e : InfeasibilityEvidence) (o : Option EvidenceReason) → J (view x) r e o → J (view t) (below (i + 1) r) e o
       lift r e o h =
           let there : argument (views items) (i + 1) ≡ Some (view x) = (let one : suc i ≡ i + 1 = omega arith in ap (argument (views items)) (sym one) ∙ argument_within items i x low ∙ ap (λ z. Some (view z)) (sym here)) in
           subst (λ z. J z (below (i + 1) r) e o) (sym whole) (judged_lifted sys own f (views items) (i + 1) (view x) there r e o h)

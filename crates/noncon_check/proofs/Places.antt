@@ -4,9 +4,9 @@ use Rattle.rewriting.specs.Substitutions.{Matches}
 use Rattle.rewriting.specs.Systems.{IsWellFormed}
 use Rattle.rewriting.proofs.Common.{Term, Terms, var, app, nil, cons, IsVariable, Position, argument, System}
 use Rattle.rewriting.proofs.Positions.{within}
-use Rattle.rewriting.proofs.Variables.{IsAmong}
+use Rattle.rewriting.specs.Lists.{IsAmong}
 use Rattle.rule_index.specs.Roots.{rules_with_root}
-use Rattle.validity.specs.Peaks.{Place, MatchesAt, IsEarlier, IsListed, IsSorted}
+use Rattle.valid_certificates.specs.Peaks.{RedexPlace, MatchesAt, IsEarlierRedex, IsListed, IsSorted}
 use Rattle.noncon_check.specs.Redexes.{hits, at_root, below, redexes, redexes_from, AreRedexesOf}
 use Rattle.noncon_check.proofs.Listed.{listed_left, listed_right, listed_either, listed_map, listed_of_map, sorted_append, sorted_map}
 use Rattle.noncon_check.proofs.Hits.{hit_each, root_whole, root_sorted}
@@ -22,17 +22,17 @@ inside sys f ts k p i m =
     (w.part, w.here, record { rule = m.rule; part = m.part; is_rule = m.is_rule; stands = w.inside; matches = m.matches })
 
 module _ (sys : System) (w : ℕ) where
-  abbrev IsAt : Term → Place → Type 0
+  abbrev IsAt : Term → RedexPlace → Type 0
   IsAt t r = (r.which ≡ w) × MatchesAt sys t r.position r.rule
 
   -- a place in one of the arguments, of which the first is the k-th
-  abbrev IsIn : ℕ → Terms → Place → Type 0
-  IsIn k ts r = (j : ℕ) × (s : Term) × (q : Place) × (argument ts (suc j) ≡ Some s) × (r ≡ below (k + j) q) × IsAt s q
+  abbrev IsIn : ℕ → Terms → RedexPlace → Type 0
+  IsIn k ts r = (j : ℕ) × (s : Term) × (q : RedexPlace) × (argument ts (suc j) ≡ Some s) × (r ≡ below (k + j) q) × IsAt s q
 
-  next_in : (k : ℕ) (t : Term) (ts : Terms) (r : Place) → IsIn (suc k) ts r → IsIn k (cons t ts) r
+  next_in : (k : ℕ) (t : Term) (ts : Terms) (r : RedexPlace) → IsIn (suc k) ts r → IsIn k (cons t ts) r
   next_in k t ts r (j, s, q, here, e, m) = let same : suc k + j ≡ k + suc j = omega arith in (suc j, s, q, here, e ∙ ap (λ n. below n q) same, m)
 
-  each_parts : (f : ℕ) (ts : Terms) (r : Place) → (IsListed r (redexes_from sys w 1 ts) → IsIn 1 ts r)
+  each_parts : (f : ℕ) (ts : Terms) (r : RedexPlace) → (IsListed r (redexes_from sys w 1 ts) → IsIn 1 ts r)
       → IsListed r (map (at_root w) (hits sys (app f ts) (rules_with_root sys f))) ⊎ IsListed r (redexes_from sys w 1 ts) → IsAt (app f ts) r
   each_parts f ts r rest (inl l) = root (hit_each sys w (app f ts) (rules_with_root sys f) r l)
     where
@@ -44,7 +44,7 @@ module _ (sys : System) (w : ℕ) where
       args (j, s, q, here, e, (is, m)) = let one : 1 + j ≡ suc j = omega arith in
           subst (IsAt (app f ts)) (sym (e ∙ ap (λ n. below n q) one)) (is, lifted sys f ts (suc j) s q.position q.rule here m)
 
-  each_first : (k : ℕ) (t : Term) (ts : Terms) (r : Place) → ((q : Place) → IsListed q (redexes sys w t) → IsAt t q) → (IsListed r (redexes_from sys w (suc k) ts) → IsIn (suc k) ts r)
+  each_first : (k : ℕ) (t : Term) (ts : Terms) (r : RedexPlace) → ((q : RedexPlace) → IsListed q (redexes sys w t) → IsAt t q) → (IsListed r (redexes_from sys w (suc k) ts) → IsIn (suc k) ts r)
       → IsListed r (map (below k) (redexes sys w t)) ⊎ IsListed r (redexes_from sys w (suc k) ts) → IsIn k (cons t ts) r
   each_first k t ts r first rest (inl l) =
       let q = listed_of_map (below k) r (redexes sys w t) l in
@@ -53,11 +53,11 @@ module _ (sys : System) (w : ℕ) where
   each_first k t ts r first rest (inr l) = next_in k t ts r (rest l)
 
   mutual
-    each : (t : Term) (r : Place) → IsListed r (redexes sys w t) → IsAt t r
+    each : (t : Term) (r : RedexPlace) → IsListed r (redexes sys w t) → IsAt t r
     each (var x) r h = absurd h
     each (app f ts) r h = each_parts f ts r (λ l. each_from 1 ts r l) (listed_either r (map (at_root w) (hits sys (app f ts) (rules_with_root sys f))) (redexes_from sys w 1 ts) h)
 
-    each_from : (k : ℕ) (ts : Terms) (r : Place) → IsListed r (redexes_from sys w k ts) → IsIn k ts r
+    each_from : (k : ℕ) (ts : Terms) (r : RedexPlace) → IsListed r (redexes_from sys w k ts) → IsIn k ts r
     each_from k nil r h = absurd h
     each_from k (cons t ts) r h = each_first k t ts r (λ q l. each t q l) (λ l. each_from (suc k) ts r l) (listed_either r (map (below k) (redexes sys w t)) (redexes_from sys w (suc k) ts) h)
 
@@ -70,7 +70,7 @@ module _ (sys : System) (w : ℕ) where
         no (app f ts) h (s, e) = cc
     none_at_variable x (k ∷ p) i m = absurd (let e = m.stands in cc)
 
-    abbrev place : Position → ℕ → Place
+    abbrev place : Position → ℕ → RedexPlace
     place p i = record { which = w; position = p; rule = i }
 
     mutual
@@ -93,26 +93,26 @@ module _ (sys : System) (w : ℕ) where
       whole_from n (cons t ts) (suc (suc k)) p i s e m l q =
           listed_right (place (l ∷ p) i) (map (below n) (redexes sys w t)) (redexes_from sys w (suc n) ts) (whole_from (suc n) ts (suc k) p i s e m l (omega (arith, q)))
 
-  below_keeps : (k : ℕ) (a b : Place) → IsEarlier a b → IsEarlier (below k a) (below k b)
+  below_keeps : (k : ℕ) (a b : RedexPlace) → IsEarlierRedex a b → IsEarlierRedex (below k a) (below k b)
   below_keeps k a b (inl h) = inl h
   below_keeps k a b (inr (e, inl h)) = inr (e, inl (inr (refl, h)))
   below_keeps k a b (inr (e, inr (p, h))) = inr (e, inr (ap (λ q. k ∷ q) p, h))
 
   -- places in the first argument are earlier than those in the later ones
-  first_earlier : (k : ℕ) (t : Term) (ts : Terms) (a b : Place) → IsListed a (map (below k) (redexes sys w t)) → IsListed b (redexes_from sys w (suc k) ts) → IsEarlier a b
+  first_earlier : (k : ℕ) (t : Term) (ts : Terms) (a b : RedexPlace) → IsListed a (map (below k) (redexes sys w t)) → IsListed b (redexes_from sys w (suc k) ts) → IsEarlierRedex a b
   first_earlier k t ts a b l m = go (listed_of_map (below k) a (redexes sys w t) l) (each_from (suc k) ts b m)
     where
-      go : (q : Place) × IsListed q (redexes sys w t) × (a ≡ below k q) → IsIn (suc k) ts b → IsEarlier a b
+      go : (q : RedexPlace) × IsListed q (redexes sys w t) × (a ≡ below k q) → IsIn (suc k) ts b → IsEarlierRedex a b
       go (q, inq, e) (j, s, r, here, d, (is, n)) =
           let less : k < suc k + j = omega arith in
           let one : q.which ≡ w = (each t q inq).0 in
-          subst (λ x. IsEarlier x b) (sym e) (subst (IsEarlier (below k q)) (sym d) (inr (one ∙ sym is, inl (inl less))))
+          subst (λ x. IsEarlierRedex x b) (sym e) (subst (IsEarlierRedex (below k q)) (sym d) (inr (one ∙ sym is, inl (inl less))))
 
-  root_earlier : (f : ℕ) (ts : Terms) (a b : Place) → IsListed a (map (at_root w) (hits sys (app f ts) (rules_with_root sys f))) → IsListed b (redexes_from sys w 1 ts) → IsEarlier a b
+  root_earlier : (f : ℕ) (ts : Terms) (a b : RedexPlace) → IsListed a (map (at_root w) (hits sys (app f ts) (rules_with_root sys f))) → IsListed b (redexes_from sys w 1 ts) → IsEarlierRedex a b
   root_earlier f ts a b l m = go (hit_each sys w (app f ts) (rules_with_root sys f) a l) (each_from 1 ts b m)
     where
-      go : (i : ℕ) × (a ≡ at_root w i) × IsAmong i (rules_with_root sys f) × MatchesAt sys (app f ts) [] i → IsIn 1 ts b → IsEarlier a b
-      go (i, e, among, n) (j, s, r, here, d, (is, k)) = subst (λ x. IsEarlier x b) (sym e) (subst (IsEarlier (at_root w i)) (sym d) (inr (sym is, inl tt)))
+      go : (i : ℕ) × (a ≡ at_root w i) × IsAmong i (rules_with_root sys f) × MatchesAt sys (app f ts) [] i → IsIn 1 ts b → IsEarlierRedex a b
+      go (i, e, among, n) (j, s, r, here, d, (is, k)) = subst (λ x. IsEarlierRedex x b) (sym e) (subst (IsEarlierRedex (at_root w i)) (sym d) (inr (sym is, inl tt)))
 
   mutual
     sorted : IsWellFormed sys → (t : Term) → IsSorted (redexes sys w t)

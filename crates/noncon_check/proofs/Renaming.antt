@@ -13,7 +13,7 @@ use Rattle.automata.proofs.Renamed.{by_automaton_to}
 use Rattle.certificates.specs.Evidence.{InfeasibilityEvidence, by_caps, by_automaton}
 use Rattle.certificates.specs.Reasons.{EvidenceReason, tcap_unifies, tcap_large, not_allowed, not_root, sides_differ, conflict_number, conflict_left, conflict_unifies, conflict_large, auto_number, auto_any, auto_misses, auto_wide, auto_not_closed, auto_wide_right, auto_reaches, join_left, join_right, join_differs, unfeasible_number, unfeasible_first, unfeasible_second, first_reducible, second_reducible, unfeasible_unifies, unfeasible_large}
 use Rattle.certificates.specs.Sizes.{DoConditionsFit}
-use Rattle.validity.specs.Evidence.{IsJudged}
+use Rattle.valid_certificates.specs.Evidence.{IsInfeasibilityJudged}
 use Rattle.noncon_check.specs.Judged.{AreJudged}
 
 module _ (rho : ℕ → ℕ) where
@@ -189,7 +189,7 @@ module _ (rho : ℕ → ℕ) where
     by_caps_to sys cs (Some unfeasible_large) h = absurd h
 
     -- evidence for conditions is the same for renamed ones
-    pub judged_to : (sys : System) (cs : List Condition) (e : InfeasibilityEvidence) (o : Option EvidenceReason) → IsJudged sys cs e o → IsJudged sys (conditions_renamed cs) e o
+    pub judged_to : (sys : System) (cs : List Condition) (e : InfeasibilityEvidence) (o : Option EvidenceReason) → IsInfeasibilityJudged sys cs e o → IsInfeasibilityJudged sys (conditions_renamed cs) e o
     judged_to sys cs by_caps o h = by_caps_to sys cs o h
     judged_to sys cs (by_automaton k a) o h = by_automaton_to rho sys cs k a o h
 

@@ -20,7 +20,7 @@ use Rattle.rewriting.specs.Overlaps.{conditions_under}
 use Rattle.certificates.specs.Evidence.{InfeasibilityEvidence}
 use Rattle.certificates.specs.Reasons.{EvidenceReason}
 use Rattle.validity.specs.declared.CheckError.{CheckError}
-use Rattle.validity.specs.Peaks.{Place, IsListed}
+use Rattle.valid_certificates.specs.Peaks.{RedexPlace, IsListed}
 use Rattle.noncon_check.specs.Judged.{with_new, AreJudged, IsJudgedAt}
 use Rattle.noncon_check.specs.Walks.{Judgement, Pass, PlacesAnswer}
 use Rattle.noncon_check.proofs.Walks.{answers_to}
@@ -86,7 +86,7 @@ module _ (sys : System) (t : Term) (n : ℕ) (r : Rule) (is : rule_at sys n ≡ 
   pub unmatched_pass : (J : Judgement) (p : Position) (es : List math.Redex) (w at : ℕ) → HasNoMatch empty r.left t → Pass J p es at (map (at_root w) (hits sys t (n ∷ []))) at
   unmatched_pass J p es w at none = subst (λ is. Pass J p es at (map (at_root w) is) at) (sym (hit_no none)) refl
 
-  judged_here : (own w : ℕ) (m : Bindings) → IsLeastMatch empty m r.left t → (q : Place) → IsListed q (at_root w n ∷ []) → (e : InfeasibilityEvidence) (o : Option EvidenceReason)
+  judged_here : (own w : ℕ) (m : Bindings) → IsLeastMatch empty m r.left t → (q : RedexPlace) → IsListed q (at_root w n ∷ []) → (e : InfeasibilityEvidence) (o : Option EvidenceReason)
       → AreJudged sys (conditions_under (with_new own m) r.conditions) e o → IsJudgedAt sys own t q e o
   judged_here own w m h q (inl s) e o j =
       subst (λ z. IsJudgedAt sys own t z e o) (sym s) (record { rule = r; match = m; matches = record { is_rule = is; redex = t; stands = refl; matches = h }; judged = j })

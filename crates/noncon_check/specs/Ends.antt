@@ -10,7 +10,7 @@ use Rattle.term_core.specs.declared.terms.Term.{Term}
 use Rattle.cert_model.specs.ReasonView.{rejected_view}
 use Rattle.validity.specs.declared.CheckError.{CheckError}
 use Rattle.validity.specs.declared.CheckError.TheVariants.{Rejected, NoMemory}
-use Rattle.validity.specs.Peaks.{Place, IsRedexJudged, AreShownApart, AreNotShownApart}
+use Rattle.valid_certificates.specs.Peaks.{RedexPlace, IsRedexJudged, AreShownApart, AreNotShownApart}
 use Rattle.noncon_check.specs.Redexes.{AreRedexesOf}
 use Rattle.noncon_check.specs.Walks.{PlacesAnswer}
 
@@ -37,7 +37,7 @@ ApartAnswers sys u v apart (Err NoMemory) = Unit {0}
 
 -- the redexes of the end with this number are judged by the entries from a number on
 pub record AreJudgedFrom (sys : System) (which : ℕ) (t : math.Term) (es : List Redex) (at : ℕ) (result : Result ℕ CheckError) : Type 0 where
-  pub places : List Place
+  pub places : List RedexPlace
   pub are : AreRedexesOf sys which t places
   pub answer : PlacesAnswer (IsRedexJudged sys t) [] es at places result
 

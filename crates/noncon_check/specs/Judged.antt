@@ -15,8 +15,8 @@ use Rattle.term_core.specs.RuleView.{condition_view}
 use Rattle.term_core.specs.declared.systems.Cond.{Cond}
 use Rattle.term_core.specs.declared.terms.TermError.{TermError}
 use Rattle.term_core.specs.declared.terms.TermError.TheVariants.{NoPosition, TooLarge, NoMemory}
-use Rattle.validity.specs.Evidence.{IsJudged}
-use Rattle.validity.specs.Peaks.{Place}
+use Rattle.valid_certificates.specs.Evidence.{IsInfeasibilityJudged}
+use Rattle.valid_certificates.specs.Peaks.{RedexPlace}
 
 abbrev pub value_or_new : ℕ → ℕ → Option Term → Term
 value_or_new n k o = unwrap_or o (var (n + k))
@@ -27,10 +27,10 @@ with_new n match k = value_or_new n k (get match k)
 
 -- the evidence is judged; conditions of which a side does not fit count as ones with a large cap
 abbrev pub AreJudged : System → List Condition → InfeasibilityEvidence → Option EvidenceReason → Type 0
-AreJudged sys cs evidence o = (DoConditionsFit cs × IsJudged sys cs evidence o) ⊎ ((DoConditionsFit cs → ⊥) × (o ≡ Some tcap_large))
+AreJudged sys cs evidence o = (DoConditionsFit cs × IsInfeasibilityJudged sys cs evidence o) ⊎ ((DoConditionsFit cs → ⊥) × (o ≡ Some tcap_large))
 
 -- so it is for the conditions of the rule that matches at the place
-pub record IsJudgedAt (sys : System) (n : ℕ) (t : Term) (r : Place) (evidence : InfeasibilityEvidence) (o : Option EvidenceReason) : Type 0 where
+pub record IsJudgedAt (sys : System) (n : ℕ) (t : Term) (r : RedexPlace) (evidence : InfeasibilityEvidence) (o : Option EvidenceReason) : Type 0 where
   pub rule : Rule
   pub match : Bindings
   pub matches : RuleMatches sys t r.rule r.position rule match

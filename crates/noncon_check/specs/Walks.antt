@@ -7,31 +7,31 @@ use Rattle.certificates.specs.Reasons.{EvidenceReason, Rejection, redex_fails}
 use Rattle.cert_model.specs.ReasonView.{rejected_view}
 use Rattle.validity.specs.declared.CheckError.{CheckError}
 use Rattle.validity.specs.declared.CheckError.TheVariants.{Rejected, NoMemory}
-use Rattle.validity.specs.Peaks.{Place, place_of, IsMissed}
+use Rattle.valid_certificates.specs.Peaks.{RedexPlace, entry_place, IsMissed}
 use Rattle.noncon_check.specs.Redexes.{behind}
 
 -- what is judged of evidence for a place
 abbrev pub Judgement : Type 1
-Judgement = Place → InfeasibilityEvidence → Option EvidenceReason → Type 0
+Judgement = RedexPlace → InfeasibilityEvidence → Option EvidenceReason → Type 0
 
 -- the entry at a number, from 0, is for the place behind p, and is judged
-pub record IsEntry (J : Judgement) (p : Position) (es : List Redex) (at : ℕ) (r : Place) (o : Option EvidenceReason) : Type 0 where
+pub record IsEntry (J : Judgement) (p : Position) (es : List Redex) (at : ℕ) (r : RedexPlace) (o : Option EvidenceReason) : Type 0 where
   pub entry : Redex
   pub stands : slice_get es at ≡ Some entry
-  pub place : place_of entry ≡ behind p r
+  pub place : entry_place entry ≡ behind p r
   pub judged : J r entry.evidence o
 
 -- no entry for the place stands there
-abbrev pub IsAbsent : List Redex → ℕ → Place → Type 0
-IsAbsent es at r = (e : Redex) → slice_get es at ≡ Some e → place_of e ≢ r
+abbrev pub IsAbsent : List Redex → ℕ → RedexPlace → Type 0
+IsAbsent es at r = (e : Redex) → slice_get es at ≡ Some e → entry_place e ≢ r
 
 -- the entries from one number up to another are for the places, with valid evidence
-abbrev pub Pass : Judgement → Position → List Redex → ℕ → List Place → ℕ → Type 0
+abbrev pub Pass : Judgement → Position → List Redex → ℕ → List RedexPlace → ℕ → Type 0
 Pass J p es at [] after = at ≡ after
 Pass J p es at (r ∷ rs) after = IsEntry J p es at r None × Pass J p es (suc at) rs after
 
 -- the first reason why the entries from a number on are not
-abbrev pub Fail : Judgement → Position → List Redex → ℕ → List Place → Rejection → Type 0
+abbrev pub Fail : Judgement → Position → List Redex → ℕ → List RedexPlace → Rejection → Type 0
 Fail J p es at [] reason = ⊥
 Fail J p es at (r ∷ rs) reason =
     (IsAbsent es at (behind p r) × IsMissed (behind p r) reason)
@@ -39,12 +39,12 @@ Fail J p es at (r ∷ rs) reason =
     ⊎ (IsEntry J p es at r None × Fail J p es (suc at) rs reason)
 
 -- the number of the next entry, or the first reason
-abbrev pub PlacesAnswer : Judgement → Position → List Redex → ℕ → List Place → Result ℕ CheckError → Type 0
+abbrev pub PlacesAnswer : Judgement → Position → List Redex → ℕ → List RedexPlace → Result ℕ CheckError → Type 0
 PlacesAnswer J p es at rs (Ok after) = Pass J p es at rs after
 PlacesAnswer J p es at rs (Err (Rejected reason)) = Fail J p es at rs (rejected_view reason)
 PlacesAnswer J p es at rs (Err NoMemory) = Unit {0}
 
 -- the reason is that the redex should have had the next entry
-abbrev pub MissedAnswers : Place → CheckError → Type 0
+abbrev pub MissedAnswers : RedexPlace → CheckError → Type 0
 MissedAnswers r (Rejected reason) = IsMissed r (rejected_view reason)
 MissedAnswers r NoMemory = Unit {0}

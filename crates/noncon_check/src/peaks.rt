@@ -5,7 +5,7 @@ ghost use Rattle.certificates.specs.Sizes.{IsShort};
 ghost use Rattle.term_core.specs.View.{view};
 ghost use Rattle.cert_model.specs.DerivationView.{derivation_view};
 ghost use Rattle.cert_model.specs.CertificateView.{peak_view};
-ghost use Rattle.validity.specs.Laws.{ReachesApart};
+ghost use Rattle.valid_certificates.specs.Laws.{ReachesApart};
 ghost use Rattle.validity.specs.Answers.{PeakAnswers};
 ghost use Rattle.noncon_check.specs.Ends.{FirstAnswers, SecondAnswers};
 ghost use Rattle.noncon_check.specs.Judges.{AreFew};
@@ -15,7 +15,8 @@ use cert_model::{Peak, Rejected};
 use derivation::{ReplayError, replay};
 use std::alloc::Global;
 use term_core::{System, Term};
-use validity::{CheckError, valid_peaks_reach_apart};
+use valid_certificates::valid_peaks_reach_apart;
+use validity::CheckError;
 
 // The end of the first derivation.
 fn first_end(alloc: Global, sys: &System, peak: &Peak) -> Result<Term, CheckError>
@@ -65,7 +66,7 @@ pub fn check_peak(alloc: Global, sys: &System, peak: &Peak) -> Result<(), CheckE
     requires second_short { IsShort (derivation_view peak.now.second) }
     requires few { AreFew (peak_view peak.now).apart }
     ensures judged { PeakAnswers sys.now (peak_view peak.now) result }
-    ensures sound { OnOk result (ReachesApart sys.now (view peak.now.start)) }
+    ensures sound { OnOk result (ReachesApart sys.now (peak_view peak.now)) }
 {
     valid_peaks_reach_apart();
     let _rules = sys.rules();

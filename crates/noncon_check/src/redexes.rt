@@ -1,4 +1,4 @@
-ghost use Rattle.std.specs.Prelude.{◌≡◌, ◌≢◌, ◌≤◌, ◌<◌, ◌++◌, ◌∷◌, ◌↔◌, [], Some, OnOk, IfOk, IsTrue, MatchOption, IsSome, map, slice_get};
+ghost use Rattle.std.specs.Prelude.{◌≡◌, ◌≢◌, ◌≤◌, ◌<◌, ◌++◌, ◌∷◌, ◌↔◌, [], Some, OnOk, IsTrue, MatchOption, IsSome, map, slice_get};
 ghost use Rattle.rewriting.specs.Terms.{size};
 ghost use Rattle.rewriting.specs.Rules.{rule_at};
 ghost use Rattle.rewriting.specs.Overlaps.{conditions_under};
@@ -7,14 +7,14 @@ ghost use Rattle.term_core.specs.View.{view};
 ghost use Rattle.term_core.specs.RuleView.{rule_view, condition_view};
 ghost use Rattle.term_core.specs.SystemView.{IsSound};
 ghost use Rattle.cert_model.specs.CertificateView.{redex_view};
-ghost use Rattle.validity.specs.Peaks.{place_of};
+ghost use Rattle.valid_certificates.specs.Peaks.{entry_place};
 ghost use Rattle.noncon_check.specs.Redexes.{hits, at_root, behind, redexes};
 ghost use Rattle.noncon_check.specs.Judged.{with_new, AreJudged, IsJudgedAt};
 ghost use Rattle.noncon_check.specs.Walks.{IsAbsent, PlacesAnswer, MissedAnswers};
 ghost use Rattle.noncon_check.specs.Judges.{IsReady};
 
 use crate::conditions::judge_conditions;
-use cert_model::{Redex, Rejected};
+use cert_model::{Redex, Rejected, copy_numbers};
 use infeasible::Refusal;
 use matching::{Match, match_term};
 use rule_index::RuleIndex;
@@ -42,19 +42,11 @@ fn enter(path: &mut Vec<u32>, k: u32) -> Result<(), NoMemory>
     Ok(())
 }
 
-fn copied(alloc: Global, path: &[u32]) -> Result<Vec<u32>, NoMemory>
-    ensures { IfOk result (λ copy. copy.items ≡ path.now) }
-{
-    let mut copy = Vec::with_capacity(alloc, path.len())?;
-    copy.extend_from_slice(path)?;
-    Ok(copy)
-}
-
 // A redex that has no entry where one should stand.
 fn missed(alloc: Global, which: u32, path: &[u32], rule: u32) -> CheckError
     ensures { MissedAnswers (behind path.now (at_root which rule)) result }
 {
-    match copied(alloc, path) {
+    match copy_numbers(alloc, path) {
         Ok(pos) => CheckError::Rejected(Rejected::NotNormal { which, pos, rule }),
         Err(_) => CheckError::NoMemory,
     }
@@ -62,7 +54,7 @@ fn missed(alloc: Global, which: u32, path: &[u32], rule: u32) -> CheckError
 
 // Whether the entry is for this redex.
 fn is_for(entry: &Redex, which: u32, path: &[u32], rule: u32) -> bool
-    ensures { IsTrue result ↔ (place_of (redex_view entry.now) ≡ behind path.now (at_root which rule)) }
+    ensures { IsTrue result ↔ (entry_place (redex_view entry.now) ≡ behind path.now (at_root which rule)) }
 {
     entry.which == which && entry.rule == rule && entry.pos.as_slice() == path
 }
@@ -70,7 +62,7 @@ fn is_for(entry: &Redex, which: u32, path: &[u32], rule: u32) -> bool
 impl<'a> Judge<'a> {
     // The entry with this number, from 0, where it is for the redex.
     fn entry_for(&self, at: usize, path: &[u32], rule: u32) -> Option<&'a Redex>
-        ensures { MatchOption result (IsAbsent (map redex_view self.now.entries.now) at (behind path.now (at_root self.now.which rule))) (λ e. (slice_get (map redex_view self.now.entries.now) at ≡ Some (redex_view e.now)) × (place_of (redex_view e.now) ≡ behind path.now (at_root self.now.which rule))) }
+        ensures { MatchOption result (IsAbsent (map redex_view self.now.entries.now) at (behind path.now (at_root self.now.which rule))) (λ e. (slice_get (map redex_view self.now.entries.now) at ≡ Some (redex_view e.now)) × (entry_place (redex_view e.now) ≡ behind path.now (at_root self.now.which rule))) }
     {
         let entry = self.entries.get(at)?;
         if is_for(entry, self.which, path, rule) {

@@ -7,7 +7,7 @@ use Rattle.std.proofs.lemmas.Bool.{cases_lt, cases_eq}
 use Rattle.std.proofs.lemmas.List.{get_or_past, get_or-set_same, get_or-set_other}
 use Rattle.std.proofs.lemmas.List.Elements.{filter-append}
 use Rattle.std.proofs.lemmas.Nat.Bits.{bit_at-zero, bit_at-lt, bit_at_or, bit_at_set_same, bit_at_set_other, same_from_bits_below}
-use Rattle.number_sets.specs.Members.{IsIn}
+use Rattle.rewriting.specs.Lists.{IsAmong}
 use Rattle.number_sets.specs.Sets.{below, is_set, members, members_below, IsLacking}
 use Rattle.number_sets.specs.Words.{AreHad, IsFirstLacking, AreJoined}
 use Rattle.number_sets.specs.declared.words.NumberSet.{NumberSet}
@@ -38,13 +38,13 @@ set_within words q s = go (cases_lt (q / 64) (length words))
     go (inr l) = absurd (not_in_zero words q (get_or_past words (q / 64) 0 l) s)
 
 -- the numbers of words are those with a bit
-pub in_words : (words : List ℕ) (q : ℕ) → IsIn q (members_below words (64 * length words)) ↔ (is_set words q ≡ true)
+pub in_words : (words : List ℕ) (q : ℕ) → IsAmong q (members_below words (64 * length words)) ↔ (is_set words q ≡ true)
 in_words words q = (
   λ h. (in_filter (is_set words) q (below (64 * length words)) h).1,
   λ s. filter_in (is_set words) q (below (64 * length words)) (in_below (64 * length words) q (set_within words q s)) s,
 )
 
-pub in_members : (s : NumberSet) (q : ℕ) → IsIn q (members s) ↔ (is_set s.words.items q ≡ true)
+pub in_members : (s : NumberSet) (q : ℕ) → IsAmong q (members s) ↔ (is_set s.words.items q ≡ true)
 in_members s q = in_words s.words.items q
 
 -- the numbers in order, one more at a time
@@ -85,7 +85,7 @@ some_word words p fits some none = some (same_from_bits_below 64 (get_or words p
         let at : (64 * p + i) / 64 ≡ p = omega arith in
         let place : (64 * p + i) % 64 ≡ i = omega arith in
         let never : bit_at (get_or words p 0) i ≡ 1 → ⊥ =
-        λ b. subst (λ (l : List ℕ). IsIn (64 * p + i) l) none ((in_words words (64 * p + i)).1 (of_bit words (64 * p + i) p at (ap (bit_at (get_or words p 0)) place ∙ b))) in
+        λ b. subst (λ (l : List ℕ). IsAmong (64 * p + i) l) none ((in_words words (64 * p + i)).1 (of_bit words (64 * p + i) p at (ap (bit_at (get_or words p 0)) place ∙ b))) in
         omega (arith, never, bit_at-lt (get_or words p 0) i)
 
 pub empty_by : (s : NumberSet) (words : List ℕ) → words ≡ s.words.items → (n : ℕ) → length words ≤ n → ((k : ℕ) → k < n → get_or words k 0 ≡ 0) → members s ≡ []
@@ -191,14 +191,14 @@ module _ (s o : NumberSet) (words others : List ℕ) (here : words ≡ s.words.i
   pub had_by : (n : ℕ) → AreHad words others n → AreHad s.words.items o.words.items n
   had_by n h = subst (λ (l : List ℕ). AreHad s.words.items l n) there (subst (λ (l : List ℕ). AreHad l others n) here h)
 
-pub had_all : (s o : NumberSet) (n : ℕ) → AreHad s.words.items o.words.items (64 * n) → length s.words.items ≤ n → (q : ℕ) → IsIn q (members s) → IsIn q (members o)
+pub had_all : (s o : NumberSet) (n : ℕ) → AreHad s.words.items o.words.items (64 * n) → length s.words.items ≤ n → (q : ℕ) → IsAmong q (members s) → IsAmong q (members o)
 had_all s o n h long q i = let set = (in_members s q).0 i in let low = set_within s.words.items q set in (in_members o q).1 (h q (omega arith) set)
 
 -- sets that are joined
 pub joined_first : (old others new : List ℕ) → ((k : ℕ) → get_or new k 0 ≡ get_or old k 0) → AreJoined old others new 0
 joined_first old others new same q = (λ s. inl (set_alike new old q (same (q / 64)) s), λ h. ⊎_elim (λ s. set_alike old new q (sym (same (q / 64))) s) (λ (l, s). absurd (omega arith)) h)
 
-pub joined_all : (s o t : NumberSet) (n : ℕ) → AreJoined s.words.items o.words.items t.words.items (64 * n) → length o.words.items ≤ n → (q : ℕ) → IsIn q (members t) ↔ (IsIn q (members s) ⊎ IsIn q (members o))
+pub joined_all : (s o t : NumberSet) (n : ℕ) → AreJoined s.words.items o.words.items t.words.items (64 * n) → length o.words.items ≤ n → (q : ℕ) → IsAmong q (members t) ↔ (IsAmong q (members s) ⊎ IsAmong q (members o))
 joined_all s o t n h long q = (
   λ i. ⊎_elim (λ a. inl ((in_members s q).1 a)) (λ b. inr ((in_members o q).1 b.1)) ((h q).0 ((in_members t q).0 i)),
   λ e.
@@ -209,7 +209,7 @@ joined_all s o t n h long q = (
 
 -- a set that gets a number
 pub put_in : (s : NumberSet) (words : List ℕ) (n w : ℕ) → ((k : ℕ) → get_or words k 0 ≡ get_or s.words.items k 0) → n / 64 < length words → w ≡ get_or words (n / 64) 0
-    → (made : List ℕ) → made ≡ set words (n / 64) (bit_or w (1 * 2 ^ (n % 64) % 2 ^ 64)) → (q : ℕ) → IsIn q (members_below made (64 * length made)) ↔ (IsIn q (members s) ⊎ (q ≡ n))
+    → (made : List ℕ) → made ≡ set words (n / 64) (bit_or w (1 * 2 ^ (n % 64) % 2 ^ 64)) → (q : ℕ) → IsAmong q (members_below made (64 * length made)) ↔ (IsAmong q (members s) ⊎ (q ≡ n))
 put_in s words n w same inside at made is q =
     let all : made ≡ set words (n / 64) (bit_or (get_or words (n / 64) 0) (1 * 2 ^ (n % 64) % 2 ^ 64)) = is ∙ ap (λ (v : ℕ). set words (n / 64) (bit_or v (1 * 2 ^ (n % 64) % 2 ^ 64))) at in
     let put = bit_put words n inside q in (
@@ -223,8 +223,8 @@ put_in s words n w same inside at made is q =
     )
 
 -- a set of one number
-pub alone_is : (s t : NumberSet) (n : ℕ) → members s ≡ [] → ((q : ℕ) → IsIn q (members t) ↔ (IsIn q (members s) ⊎ (q ≡ n))) → members t ≡ n ∷ []
+pub alone_is : (s t : NumberSet) (n : ℕ) → members s ≡ [] → ((q : ℕ) → IsAmong q (members t) ↔ (IsAmong q (members s) ⊎ (q ≡ n))) → members t ≡ n ∷ []
 alone_is s t n none h = same_numbers (members t) (n ∷ []) (members_ascending t) (λ i j d l k. absurd (omega arith)) (λ q. (
-  λ i. ⊎_elim (λ m. absurd (subst (λ (l : List ℕ). IsIn q l) none m)) (λ e. inl e) ((h q).0 i),
+  λ i. ⊎_elim (λ m. absurd (subst (λ (l : List ℕ). IsAmong q l) none m)) (λ e. inl e) ((h q).0 i),
   λ i. (h q).1 (⊎_elim (λ e. inr e) (λ f. absurd f) i),
 ))

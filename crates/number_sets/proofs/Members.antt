@@ -5,60 +5,43 @@ use Rattle.std.specs.List.Sorted.{IsStrictlyIncreasing}
 use Rattle.std.proofs.lemmas.Bool.{cases_lt}
 use Rattle.std.proofs.lemmas.List.{get_or_append_left, get_or_push}
 use Rattle.std.proofs.lemmas.List.Kept.{AllPairs-from_increasing, IsStrictlyIncreasing-filter}
-use Rattle.number_sets.specs.Members.{IsIn}
+use Rattle.rewriting.specs.Lists.{IsAmong}
+use Rattle.rewriting.proofs.Lists.{among_left, among_right, among_either}
 use Rattle.number_sets.specs.Sets.{below, is_set, members}
 use Rattle.number_sets.specs.declared.words.NumberSet.{NumberSet}
 
-pub in_contains : {X : Type 0} (x : X) (xs : List X) → IsIn x xs → Contains xs x
+pub in_contains : {X : Type 0} (x : X) (xs : List X) → IsAmong x xs → Contains xs x
 in_contains x [] h = absurd h
 in_contains x (y ∷ ys) (inl e) = (0, omega arith, sym e)
 in_contains x (y ∷ ys) (inr h) = let c = in_contains x ys h in let low = c.1 in (suc c.0, omega arith, c.2)
 
-pub in_left : {X : Type 0} (x : X) (xs ys : List X) → IsIn x xs → IsIn x (xs ++ ys)
-in_left x [] ys h = absurd h
-in_left x (z ∷ xs) ys (inl e) = inl e
-in_left x (z ∷ xs) ys (inr h) = inr (in_left x xs ys h)
-
-pub in_right : {X : Type 0} (x : X) (xs ys : List X) → IsIn x ys → IsIn x (xs ++ ys)
-in_right x [] ys h = h
-in_right x (z ∷ xs) ys h = inr (in_right x xs ys h)
-
-in_cases_in : {X : Type 0} (x y : X) (xs ys : List X) → IsIn x xs ⊎ IsIn x ys → IsIn x (y ∷ xs) ⊎ IsIn x ys
-in_cases_in x y xs ys (inl h) = inl (inr h)
-in_cases_in x y xs ys (inr h) = inr h
-
-pub in_cases : {X : Type 0} (x : X) (xs ys : List X) → IsIn x (xs ++ ys) → IsIn x xs ⊎ IsIn x ys
-in_cases x [] ys h = inr h
-in_cases x (z ∷ xs) ys (inl e) = inl (inl e)
-in_cases x (z ∷ xs) ys (inr h) = in_cases_in x z xs ys (in_cases x xs ys h)
-
-filtered : {X : Type 0} (p : X → Bool) (x y : X) (ys fs : List X) → (IsIn x fs → IsIn x ys × (p x ≡ true)) → (b : Bool) → p y ≡ b → IsIn x (cond b (y ∷ fs) fs) → IsIn x (y ∷ ys) × (p x ≡ true)
+filtered : {X : Type 0} (p : X → Bool) (x y : X) (ys fs : List X) → (IsAmong x fs → IsAmong x ys × (p x ≡ true)) → (b : Bool) → p y ≡ b → IsAmong x (cond b (y ∷ fs) fs) → IsAmong x (y ∷ ys) × (p x ≡ true)
 filtered p x y ys fs rest true e (inl f) = (inl f, ap p f ∙ e)
 filtered p x y ys fs rest true e (inr h) = let r = rest h in (inr r.0, r.1)
 filtered p x y ys fs rest false e h = let r = rest h in (inr r.0, r.1)
 
-pub in_filter : {X : Type 0} (p : X → Bool) (x : X) (xs : List X) → IsIn x (filter p xs) → IsIn x xs × (p x ≡ true)
+pub in_filter : {X : Type 0} (p : X → Bool) (x : X) (xs : List X) → IsAmong x (filter p xs) → IsAmong x xs × (p x ≡ true)
 in_filter p x [] h = absurd h
 in_filter p x (y ∷ ys) h = filtered p x y ys (filter p ys) (λ k. in_filter p x ys k) (p y) refl h
 
-kept : {X : Type 0} (b : Bool) (x y : X) (fs : List X) → IsIn x fs → IsIn x (cond b (y ∷ fs) fs)
+kept : {X : Type 0} (b : Bool) (x y : X) (fs : List X) → IsAmong x fs → IsAmong x (cond b (y ∷ fs) fs)
 kept true x y fs h = inr h
 kept false x y fs h = h
 
-pub filter_in : {X : Type 0} (p : X → Bool) (x : X) (xs : List X) → IsIn x xs → p x ≡ true → IsIn x (filter p xs)
+pub filter_in : {X : Type 0} (p : X → Bool) (x : X) (xs : List X) → IsAmong x xs → p x ≡ true → IsAmong x (filter p xs)
 filter_in p x [] h t = absurd h
-filter_in p x (y ∷ ys) (inl e) t = subst (λ b. IsIn x (cond b (y ∷ filter p ys) (filter p ys))) (sym (ap p (sym e) ∙ t)) (inl e)
+filter_in p x (y ∷ ys) (inl e) t = subst (λ b. IsAmong x (cond b (y ∷ filter p ys) (filter p ys))) (sym (ap p (sym e) ∙ t)) (inl e)
 filter_in p x (y ∷ ys) (inr h) t = kept (p y) x y (filter p ys) (filter_in p x ys h t)
 
-pub none_in : {X : Type 0} (xs : List X) → ((x : X) → IsIn x xs → ⊥) → xs ≡ []
+pub none_in : {X : Type 0} (xs : List X) → ((x : X) → IsAmong x xs → ⊥) → xs ≡ []
 none_in [] h = refl
 none_in (x ∷ xs) h = absurd (h x (inl refl))
 
 -- the numbers below n
-pub in_below : (n k : ℕ) → k < n → IsIn k (below n)
+pub in_below : (n k : ℕ) → k < n → IsAmong k (below n)
 in_below zero k h = absurd (omega arith)
 in_below (suc n) k h =
-    ⊎_elim (λ (l : k < n). in_left k (below n) (n ∷ []) (in_below n k l)) (λ l. let here : k ≡ n = omega arith in in_right k (below n) (n ∷ []) (inl here)) (cases_lt k n)
+    ⊎_elim (λ (l : k < n). among_left k (below n) (n ∷ []) (in_below n k l)) (λ l. let here : k ≡ n = omega arith in among_right k (below n) (n ∷ []) (inl here)) (cases_lt k n)
 
 length-below : (n : ℕ) → length (below n) ≡ n
 length-below zero = refl
@@ -84,7 +67,7 @@ pub members_ascending : (s : NumberSet) → AllPairs ◌<◌ (members s)
 members_ascending s = AllPairs-from_increasing (members s) (members_increasing s)
 
 -- lists in order with the same numbers
-above_first : (x : ℕ) (xs : List ℕ) → AllPairs ◌<◌ (x ∷ xs) → (q : ℕ) → IsIn q xs → x < q
+above_first : (x : ℕ) (xs : List ℕ) → AllPairs ◌<◌ (x ∷ xs) → (q : ℕ) → IsAmong q xs → x < q
 above_first x xs a q h =
     let c = in_contains q xs h in
     let low : suc c.0 < length (x ∷ xs) = let l = c.1 in omega arith in
@@ -93,13 +76,13 @@ above_first x xs a q h =
 later : (x : ℕ) (xs : List ℕ) → AllPairs ◌<◌ (x ∷ xs) → AllPairs ◌<◌ xs
 later x xs a i j d l h = a (suc i) (suc j) d (omega arith) (omega arith)
 
-pub same_numbers : (xs ys : List ℕ) → AllPairs ◌<◌ xs → AllPairs ◌<◌ ys → ((q : ℕ) → IsIn q xs ↔ IsIn q ys) → xs ≡ ys
+pub same_numbers : (xs ys : List ℕ) → AllPairs ◌<◌ xs → AllPairs ◌<◌ ys → ((q : ℕ) → IsAmong q xs ↔ IsAmong q ys) → xs ≡ ys
 same_numbers [] [] a b h = refl
 same_numbers [] (y ∷ ys) a b h = absurd ((h y).1 (inl refl))
 same_numbers (x ∷ xs) [] a b h = absurd ((h x).0 (inl refl))
 same_numbers (x ∷ xs) (y ∷ ys) a b h = ap (λ (z : ℕ). z ∷ xs) first ∙ ap (λ (zs : List ℕ). y ∷ zs) (same_numbers xs ys (later x xs a) (later y ys b) rest)
   where
-    met : (x ≡ y) ⊎ IsIn x ys → (y ≡ x) ⊎ IsIn y xs → x ≡ y
+    met : (x ≡ y) ⊎ IsAmong x ys → (y ≡ x) ⊎ IsAmong y xs → x ≡ y
     met (inl e) k = e
     met (inr i) (inl e) = sym e
     met (inr i) (inr k) = let l = above_first x xs a y k in let m = above_first y ys b x i in absurd (omega arith)
@@ -107,13 +90,13 @@ same_numbers (x ∷ xs) (y ∷ ys) a b h = ap (λ (z : ℕ). z ∷ xs) first ∙
     first : x ≡ y
     first = met ((h x).0 (inl refl)) ((h y).1 (inl refl))
 
-    there : (q : ℕ) → IsIn q xs → (q ≡ y) ⊎ IsIn q ys → IsIn q ys
+    there : (q : ℕ) → IsAmong q xs → (q ≡ y) ⊎ IsAmong q ys → IsAmong q ys
     there q i (inl e) = let l = above_first x xs a q i in let f = first in absurd (omega arith)
     there q i (inr k) = k
 
-    back : (q : ℕ) → IsIn q ys → (q ≡ x) ⊎ IsIn q xs → IsIn q xs
+    back : (q : ℕ) → IsAmong q ys → (q ≡ x) ⊎ IsAmong q xs → IsAmong q xs
     back q i (inl e) = let l = above_first y ys b q i in let f = first in absurd (omega arith)
     back q i (inr k) = k
 
-    rest : (q : ℕ) → IsIn q xs ↔ IsIn q ys
+    rest : (q : ℕ) → IsAmong q xs ↔ IsAmong q ys
     rest q = (λ i. there q i ((h q).0 (inr i)), λ i. back q i ((h q).1 (inr i)))

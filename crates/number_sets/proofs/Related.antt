@@ -2,12 +2,12 @@
 use Rattle.std.proofs.Common.{◌≡◌, ◌↔◌, ◌⊎◌, inl, inr, ⊎_elim, ℕ, zero, suc, ◌+◌, ◌<◌, ◌≤◌, Bool, true, false, not, IsTrue, if◌then◌else◌, nat_le, leb-true, leb-false, List, [], ◌∷◌, ◌++◌, map, length, get_or, take, take_all, Option, None, Some, slice_get, refl, ap, sym, subst, ◌∙◌, arith}
 use Rattle.std.proofs.Math.ListN.{set}
 use Rattle.std.proofs.lemmas.Bool.{cases_lt}
-use Rattle.number_sets.specs.Members.{IsIn}
+use Rattle.rewriting.specs.Lists.{IsAmong}
 use Rattle.number_sets.specs.Sets.{members, IsLacking}
 use Rattle.number_sets.specs.Relation.{members_of, row_of, Relates, PairAnswers, earlier_pair}
 use Rattle.number_sets.specs.declared.words.NumberSet.{NumberSet}
 use Rattle.number_sets.specs.declared.rows.NumberRelation.{NumberRelation}
-use Rattle.number_sets.proofs.Members.{in_cases, in_left, in_right}
+use Rattle.rewriting.proofs.Lists.{among_either, among_left, among_right}
 
 -- the numbers in the row at a place
 abbrev pub members_in : List NumberSet → ℕ → List ℕ
@@ -29,11 +29,11 @@ same_rows (r ∷ rows) (o ∷ others) zero e = cc
 same_rows (r ∷ rows) (o ∷ others) (suc p) e = let rest : map members rows ≡ map members others = cc in same_rows rows others p rest
 
 -- a row that gets the numbers of S
-pub put_row : (S : ℕ → Type 0) (rows : List NumberSet) (n : ℕ) (old new : NumberSet) → n < length rows → old ≡ get_or rows n old → ((q : ℕ) → IsIn q (members new) ↔ (IsIn q (members old) ⊎ S q))
-    → (p q : ℕ) → IsIn q (members_in (set rows n new) p) ↔ (IsIn q (members_in rows p) ⊎ ((p ≡ n) × S q))
+pub put_row : (S : ℕ → Type 0) (rows : List NumberSet) (n : ℕ) (old new : NumberSet) → n < length rows → old ≡ get_or rows n old → ((q : ℕ) → IsAmong q (members new) ↔ (IsAmong q (members old) ⊎ S q))
+    → (p q : ℕ) → IsAmong q (members_in (set rows n new) p) ↔ (IsAmong q (members_in rows p) ⊎ ((p ≡ n) × S q))
 put_row S [] n old new inside is step p q = absurd (omega arith)
 put_row S (r ∷ rows) zero old new inside is step zero q =
-    let same = subst (λ (s : NumberSet). IsIn q (members new) ↔ (IsIn q (members s) ⊎ S q)) is (step q) in
+    let same = subst (λ (s : NumberSet). IsAmong q (members new) ↔ (IsAmong q (members s) ⊎ S q)) is (step q) in
     (λ h. ⊎_elim (λ i. inl i) (λ s. inr (refl, s)) (same.0 h), λ h. same.1 (⊎_elim (λ i. inl i) (λ s. inr s.1) h))
 put_row S (r ∷ rows) zero old new inside is step (suc p) q = (λ h. inl h, λ h. ⊎_elim (λ i. i) (λ s. let e = s.0 in absurd (omega arith)) h)
 put_row S (r ∷ rows) (suc n) old new inside is step zero q = (λ h. inl h, λ h. ⊎_elim (λ i. i) (λ s. let e = s.0 in absurd (omega arith)) h)
@@ -43,30 +43,30 @@ put_row S (r ∷ rows) (suc n) old new inside is step (suc p) q =
 
 -- a relation whose row at a number gets the numbers of S, once there is place for it
 pub put_in_row : (S : ℕ → Type 0) (first : NumberRelation) (rows made : List NumberSet) (n : ℕ) (old new : NumberSet) → ((p : ℕ) → members_in rows p ≡ row_of first p) → n + 1 ≤ length rows → old ≡ get_or rows n old
-    → ((q : ℕ) → IsIn q (members new) ↔ (IsIn q (members old) ⊎ S q)) → made ≡ set rows n new → (p q : ℕ) → IsIn q (members_in made p) ↔ (Relates first p q ⊎ ((p ≡ n) × S q))
+    → ((q : ℕ) → IsAmong q (members new) ↔ (IsAmong q (members old) ⊎ S q)) → made ≡ set rows n new → (p q : ℕ) → IsAmong q (members_in made p) ↔ (Relates first p q ⊎ ((p ≡ n) × S q))
 put_in_row S first rows made n old new same inside is step e p q =
-    subst (λ (l : List NumberSet). IsIn q (members_in l p) ↔ (Relates first p q ⊎ ((p ≡ n) × S q))) (sym e)
-    (subst (λ (l : List ℕ). IsIn q (members_in (set rows n new) p) ↔ (IsIn q l ⊎ ((p ≡ n) × S q))) (same p) (put_row S rows n old new (omega arith) is step p q))
+    subst (λ (l : List NumberSet). IsAmong q (members_in l p) ↔ (Relates first p q ⊎ ((p ≡ n) × S q))) (sym e)
+    (subst (λ (l : List ℕ). IsAmong q (members_in (set rows n new) p) ↔ (IsAmong q l ⊎ ((p ≡ n) × S q))) (same p) (put_row S rows n old new (omega arith) is step p q))
 
 -- one of the elements so far, and one more
-pub one_more : {A B C S : Type 0} (p x : ℕ) (xs ys : List ℕ) → ys ≡ xs ++ x ∷ [] → A ↔ (B ⊎ (IsIn p xs × S)) → C ↔ (A ⊎ ((p ≡ x) × S)) → C ↔ (B ⊎ (IsIn p ys × S))
+pub one_more : {A B C S : Type 0} (p x : ℕ) (xs ys : List ℕ) → ys ≡ xs ++ x ∷ [] → A ↔ (B ⊎ (IsAmong p xs × S)) → C ↔ (A ⊎ ((p ≡ x) × S)) → C ↔ (B ⊎ (IsAmong p ys × S))
 one_more {A = A} {B = B} {C = C} {S = S} p x xs ys e front more = (into, back)
   where
-    there : IsIn p xs ⊎ (p ≡ x) → IsIn p ys
-    there (inl i) = subst (λ (l : List ℕ). IsIn p l) (sym e) (in_left p xs (x ∷ []) i)
-    there (inr s) = subst (λ (l : List ℕ). IsIn p l) (sym e) (in_right p xs (x ∷ []) (inl s))
+    there : IsAmong p xs ⊎ (p ≡ x) → IsAmong p ys
+    there (inl i) = subst (λ (l : List ℕ). IsAmong p l) (sym e) (among_left p xs (x ∷ []) i)
+    there (inr s) = subst (λ (l : List ℕ). IsAmong p l) (sym e) (among_right p xs (x ∷ []) (inl s))
 
-    into : C → B ⊎ (IsIn p ys × S)
+    into : C → B ⊎ (IsAmong p ys × S)
     into c = ⊎_elim (λ a. ⊎_elim (λ b. inl b) (λ i. inr (there (inl i.0), i.1)) (front.0 a)) (λ h. inr (there (inr h.0), h.1)) (more.0 c)
 
-    one : IsIn p xs ⊎ IsIn p (x ∷ []) → S → C
+    one : IsAmong p xs ⊎ IsAmong p (x ∷ []) → S → C
     one (inl i) s = more.1 (inl (front.1 (inr (i, s))))
     one (inr (inl h)) s = more.1 (inr (h, s))
     one (inr (inr f)) s = absurd f
 
-    back : B ⊎ (IsIn p ys × S) → C
+    back : B ⊎ (IsAmong p ys × S) → C
     back (inl b) = more.1 (inl (front.1 (inl b)))
-    back (inr (i, s)) = one (in_cases p xs (x ∷ []) (subst (λ (l : List ℕ). IsIn p l) e i)) s
+    back (inr (i, s)) = one (among_either p xs (x ∷ []) (subst (λ (l : List ℕ). IsAmong p l) e i)) s
 
 -- one of the numbers below n, and n
 pub below_more : {A C : Type 0} (P : ℕ → Type 0) (n : ℕ) → A ↔ ((s : ℕ) × (s < n) × P s) → C ↔ (A ⊎ P n) → C ↔ ((s : ℕ) × (s < n + 1) × P s)
@@ -152,28 +152,28 @@ first_of_all r other n (Some (p, q)) low front = record {
 }
 
 -- a row that is empty, and one that is not
-pub has_some : (xs ys : List ℕ) (b : Bool) → IsTrue b ↔ (xs ≡ []) → xs ≡ ys → IsTrue (not b) ↔ ((q : ℕ) × IsIn q ys)
-has_some xs ys true h e = (λ t. absurd (cc), λ i. absurd (subst (λ (l : List ℕ). IsIn i.0 l) (sym e ∙ h.0 refl) i.1))
+pub has_some : (xs ys : List ℕ) (b : Bool) → IsTrue b ↔ (xs ≡ []) → xs ≡ ys → IsTrue (not b) ↔ ((q : ℕ) × IsAmong q ys)
+has_some xs ys true h e = (λ t. absurd (cc), λ i. absurd (subst (λ (l : List ℕ). IsAmong i.0 l) (sym e ∙ h.0 refl) i.1))
 has_some [] ys false h e = let never = h.1 refl in absurd (cc)
-has_some (x ∷ xs) ys false h e = (λ t. (x, subst (λ (l : List ℕ). IsIn x l) e (inl refl)), λ i. refl)
+has_some (x ∷ xs) ys false h e = (λ t. (x, subst (λ (l : List ℕ). IsAmong x l) e (inl refl)), λ i. refl)
 
-pub copied_all : (rows others : List NumberSet) (n : ℕ) → length rows ≤ n → map members others ≡ map members (take n rows) → (p q : ℕ) → IsIn q (members_in others p) ↔ IsIn q (members_in rows p)
+pub copied_all : (rows others : List NumberSet) (n : ℕ) → length rows ≤ n → map members others ≡ map members (take n rows) → (p q : ℕ) → IsAmong q (members_in others p) ↔ IsAmong q (members_in rows p)
 copied_all rows others n long front p q =
     let same = same_rows others rows p (front ∙ ap (map members) (take_all n rows long)) in
-    (λ i. subst (λ (l : List ℕ). IsIn q l) same i, λ i. subst (λ (l : List ℕ). IsIn q l) (sym same) i)
+    (λ i. subst (λ (l : List ℕ). IsAmong q l) same i, λ i. subst (λ (l : List ℕ). IsAmong q l) (sym same) i)
 
 -- pairs by way of a number, one number more
 pub below_none : {A : Type 0} (P : ℕ → Type 0) → (A → ⊥) → A ↔ ((s : ℕ) × (s < 0) × P s)
 below_none P never = (λ a. absurd (never a), λ r. let low = r.1 in absurd (omega arith))
 
 module _ (r by old new : NumberRelation) (n : ℕ) (front : (p q : ℕ) → Relates old p q ↔ ((s : ℕ) × (s < n) × (Relates by s p × Relates r s q))) where
-  pub carried_more : (lefts rights : List ℕ) (last : NumberRelation) → new ≡ last → lefts ≡ row_of by n → rights ≡ row_of r n → ((p q : ℕ) → Relates last p q ↔ (Relates old p q ⊎ (IsIn p lefts × IsIn q rights)))
+  pub carried_more : (lefts rights : List ℕ) (last : NumberRelation) → new ≡ last → lefts ≡ row_of by n → rights ≡ row_of r n → ((p q : ℕ) → Relates last p q ↔ (Relates old p q ⊎ (IsAmong p lefts × IsAmong q rights)))
       → (p q : ℕ) → Relates new p q ↔ ((s : ℕ) × (s < n + 1) × (Relates by s p × Relates r s q))
   carried_more lefts rights last is here there more p q =
       below_more (λ (s : ℕ). Relates by s p × Relates r s q) n (front p q)
       (subst (λ (m : NumberRelation). Relates m p q ↔ (Relates old p q ⊎ (Relates by n p × Relates r n q))) (sym is)
-      (subst (λ (l : List ℕ). Relates last p q ↔ (Relates old p q ⊎ (IsIn p l × Relates r n q))) here
-      (subst (λ (l : List ℕ). Relates last p q ↔ (Relates old p q ⊎ (IsIn p lefts × IsIn q l))) there (more p q))))
+      (subst (λ (l : List ℕ). Relates last p q ↔ (Relates old p q ⊎ (IsAmong p l × Relates r n q))) here
+      (subst (λ (l : List ℕ). Relates last p q ↔ (Relates old p q ⊎ (IsAmong p lefts × IsAmong q l))) there (more p q))))
 
   pub carried_skip : new ≡ old → ((p q : ℕ) → Relates by n p → Relates r n q → ⊥) → (p q : ℕ) → Relates new p q ↔ ((s : ℕ) × (s < n + 1) × (Relates by s p × Relates r s q))
   carried_skip is never p q =
@@ -188,16 +188,16 @@ carried_all r by made n low front p q =
 
 -- pairs that are turned, one number more
 module _ (r old new : NumberRelation) (n : ℕ) (front : (p q : ℕ) → Relates old p q ↔ ((s : ℕ) × (s < n) × ((q ≡ s) × Relates r s p))) where
-  pub turned_more : (rights alone : List ℕ) (last : NumberRelation) → new ≡ last → rights ≡ row_of r n → alone ≡ n ∷ [] → ((p q : ℕ) → Relates last p q ↔ (Relates old p q ⊎ (IsIn p rights × IsIn q alone)))
+  pub turned_more : (rights alone : List ℕ) (last : NumberRelation) → new ≡ last → rights ≡ row_of r n → alone ≡ n ∷ [] → ((p q : ℕ) → Relates last p q ↔ (Relates old p q ⊎ (IsAmong p rights × IsAmong q alone)))
       → (p q : ℕ) → Relates new p q ↔ ((s : ℕ) × (s < n + 1) × ((q ≡ s) × Relates r s p))
   turned_more rights alone last is here one more p q = below_more (λ (s : ℕ). (q ≡ s) × Relates r s p) n (front p q)
       (λ h. ⊎_elim (λ o. inl o) (λ i. inr (⊎_elim (λ e. e) (λ f. absurd f) i.1, i.0)) (step.0 h), λ h. step.1 (⊎_elim (λ o. inl o) (λ i. inr (i.1, inl i.0)) h))
     where
-      step : Relates new p q ↔ (Relates old p q ⊎ (Relates r n p × IsIn q (n ∷ [])))
+      step : Relates new p q ↔ (Relates old p q ⊎ (Relates r n p × IsAmong q (n ∷ [])))
       step =
-          subst (λ (m : NumberRelation). Relates m p q ↔ (Relates old p q ⊎ (Relates r n p × IsIn q (n ∷ [])))) (sym is)
-          (subst (λ (l : List ℕ). Relates last p q ↔ (Relates old p q ⊎ (IsIn p l × IsIn q (n ∷ [])))) here
-          (subst (λ (l : List ℕ). Relates last p q ↔ (Relates old p q ⊎ (IsIn p rights × IsIn q l))) one (more p q)))
+          subst (λ (m : NumberRelation). Relates m p q ↔ (Relates old p q ⊎ (Relates r n p × IsAmong q (n ∷ [])))) (sym is)
+          (subst (λ (l : List ℕ). Relates last p q ↔ (Relates old p q ⊎ (IsAmong p l × IsAmong q (n ∷ [])))) here
+          (subst (λ (l : List ℕ). Relates last p q ↔ (Relates old p q ⊎ (IsAmong p rights × IsAmong q l))) one (more p q)))
 
   pub turned_skip : new ≡ old → ((p : ℕ) → Relates r n p → ⊥) → (p q : ℕ) → Relates new p q ↔ ((s : ℕ) × (s < n + 1) × ((q ≡ s) × Relates r s p))
   turned_skip is never p q =
@@ -211,5 +211,5 @@ turned_all r made n low front p q = (
 )
 
 -- a row that is not there
-pub none_found : (numbers : List ℕ) → [] ≡ numbers → (q : ℕ) → IsIn q numbers → ⊥
-none_found numbers e q i = subst (λ (l : List ℕ). IsIn q l) (sym e) i
+pub none_found : (numbers : List ℕ) → [] ≡ numbers → (q : ℕ) → IsAmong q numbers → ⊥
+none_found numbers e q i = subst (λ (l : List ℕ). IsAmong q l) (sym e) i

@@ -3,7 +3,7 @@ use Rattle.std.proofs.Common.{◌≡◌, ◌↔◌, ◌⊎◌, inl, inr, ⊎_eli
 use Rattle.std.specs.Int.{bit_at}
 use Rattle.std.proofs.lemmas.Bool.{cases_lt}
 use Rattle.std.proofs.lemmas.Nat.Bits.{bit_at-lt, bit_at_and}
-use Rattle.number_sets.specs.Members.{IsIn}
+use Rattle.rewriting.specs.Lists.{IsAmong}
 use Rattle.number_sets.specs.Sets.{members}
 use Rattle.number_sets.specs.declared.words.NumberSet.{NumberSet}
 use Rattle.number_sets.proofs.Bits.{bit_of, of_bit, set_within, in_members}
@@ -17,7 +17,7 @@ pub record AreShared (old others new : List ℕ) (n : ℕ) : Type 0 where
 shared_at : (old others new : List ℕ) (n q : ℕ) → AreShared old others new n → length new ≤ n → q / 64 < length new → bit_at (get_or new (q / 64) 0) (q % 64) ≡ min (bit_at (get_or old (q / 64) 0) (q % 64)) (bit_at (get_or others (q / 64) 0) (q % 64))
 shared_at old others new n q h long inside = ap (λ (w : ℕ). bit_at w (q % 64)) (h.done (q / 64) (omega arith)) ∙ bit_at_and (get_or old (q / 64) 0) (get_or others (q / 64) 0) (q % 64)
 
-pub shared_all : (s o t : NumberSet) (n : ℕ) → AreShared s.words.items o.words.items t.words.items n → length t.words.items ≤ n → (q : ℕ) → IsIn q (members t) ↔ (IsIn q (members s) × IsIn q (members o))
+pub shared_all : (s o t : NumberSet) (n : ℕ) → AreShared s.words.items o.words.items t.words.items n → length t.words.items ≤ n → (q : ℕ) → IsAmong q (members t) ↔ (IsAmong q (members s) × IsAmong q (members o))
 shared_all s o t n h long q = (
   λ i.
       let bit = (in_members t q).0 i in
@@ -42,14 +42,14 @@ shared_all s o t n h long q = (
 )
 
 -- the numbers below a count, one more at a time
-pub none_below : (xs : List ℕ) → xs ≡ [] → (q : ℕ) → IsIn q xs ↔ (q < 0)
-none_below xs e q = (λ i. absurd (subst (λ (l : List ℕ). IsIn q l) e i), λ (l : q < 0). absurd (omega arith))
+pub none_below : (xs : List ℕ) → xs ≡ [] → (q : ℕ) → IsAmong q xs ↔ (q < 0)
+none_below xs e q = (λ i. absurd (subst (λ (l : List ℕ). IsAmong q l) e i), λ (l : q < 0). absurd (omega arith))
 
-pub one_below : (old new : List ℕ) (n : ℕ) → ((q : ℕ) → IsIn q old ↔ (q < n)) → ((q : ℕ) → IsIn q new ↔ (IsIn q old ⊎ (q ≡ n))) → (q : ℕ) → IsIn q new ↔ (q < n + 1)
+pub one_below : (old new : List ℕ) (n : ℕ) → ((q : ℕ) → IsAmong q old ↔ (q < n)) → ((q : ℕ) → IsAmong q new ↔ (IsAmong q old ⊎ (q ≡ n))) → (q : ℕ) → IsAmong q new ↔ (q < n + 1)
 one_below old new n front more q = (
   λ i. ⊎_elim (λ o. let low = (front q).0 o in omega arith) (λ e. omega arith) ((more q).0 i),
   λ (l : q < n + 1). (more q).1 (⊎_elim (λ (low : q < n). inl ((front q).1 low)) (λ (high : n ≤ q). inr (omega arith)) (cases_lt q n)),
 )
 
-pub all_below : (xs : List ℕ) (n count : ℕ) → n ≡ count → ((q : ℕ) → IsIn q xs ↔ (q < n)) → (q : ℕ) → IsIn q xs ↔ (q < count)
-all_below xs n count e h q = subst (λ (k : ℕ). IsIn q xs ↔ (q < k)) e (h q)
+pub all_below : (xs : List ℕ) (n count : ℕ) → n ≡ count → ((q : ℕ) → IsAmong q xs ↔ (q < n)) → (q : ℕ) → IsAmong q xs ↔ (q < count)
+all_below xs n count e h q = subst (λ (k : ℕ). IsAmong q xs ↔ (q < k)) e (h q)

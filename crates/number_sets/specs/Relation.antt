@@ -1,7 +1,7 @@
 -- Relations between numbers.
 use Rattle.std.specs.Prelude.{ℕ, ◌≡◌, ◌<◌, ◌⊎◌, if◌then◌else◌, nat_le, List, [], Option, None, Some, slice_get}
 use Rattle.std.specs.Borrow.{Bor}
-use Rattle.number_sets.specs.Members.{IsIn}
+use Rattle.rewriting.specs.Lists.{IsAmong}
 use Rattle.number_sets.specs.Sets.{members}
 use Rattle.number_sets.specs.declared.words.NumberSet.{NumberSet}
 use Rattle.number_sets.specs.declared.rows.NumberRelation.{NumberRelation}
@@ -21,7 +21,7 @@ row_of r p = members_of (slice_get r.rows.items p)
 
 -- p is related to q
 abbrev pub Relates : NumberRelation → ℕ → ℕ → Type 0
-Relates r p q = IsIn q (row_of r p)
+Relates r p q = IsAmong q (row_of r p)
 
 -- (p, q) is the first pair that another relation lacks, in order by the right number, then the left
 pub record IsFirstPair (r other : NumberRelation) (p q : ℕ) : Type 0 where

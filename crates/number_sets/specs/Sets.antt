@@ -1,7 +1,7 @@
 -- Sets of numbers as the bits of words.
 use Rattle.std.specs.Prelude.{ℕ, zero, suc, ◌<◌, ◌*◌, ◌/◌, ◌%◌, Bool, nat_eq, List, [], ◌∷◌, ◌++◌, filter, length, get_or, Option, None, Some}
 use Rattle.std.specs.Int.{bit_at}
-use Rattle.number_sets.specs.Members.{IsIn}
+use Rattle.rewriting.specs.Lists.{IsAmong}
 use Rattle.number_sets.specs.declared.words.NumberSet.{NumberSet}
 
 -- the numbers below n
@@ -22,10 +22,10 @@ members s = members_below s.words.items (64 * length s.words.items)
 
 -- q is the least of some numbers that others lack
 pub record IsLacking (numbers others : List ℕ) (q : ℕ) : Type 0 where
-  pub inside : IsIn q numbers
-  pub lacking : IsIn q others → ⊥
-  pub earlier : (p : ℕ) → IsIn p numbers → p < q → IsIn p others
+  pub inside : IsAmong q numbers
+  pub lacking : IsAmong q others → ⊥
+  pub earlier : (p : ℕ) → IsAmong p numbers → p < q → IsAmong p others
 
 abbrev pub LackingAnswers : List ℕ → List ℕ → Option ℕ → Type 0
-LackingAnswers numbers others None = (q : ℕ) → IsIn q numbers → IsIn q others
+LackingAnswers numbers others None = (q : ℕ) → IsAmong q numbers → IsAmong q others
 LackingAnswers numbers others (Some q) = IsLacking numbers others q

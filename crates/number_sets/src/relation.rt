@@ -1,5 +1,5 @@
 ghost use Rattle.std.specs.Prelude.{◌≡◌, ◌↔◌, ◌⊎◌, ◌<◌, ◌≤◌, ℕ, IfOk, OnOk, IsTrue, vec_len};
-ghost use Rattle.number_sets.specs.Members.{IsIn};
+ghost use Rattle.rewriting.specs.Lists.{IsAmong};
 ghost use Rattle.number_sets.specs.Sets.{members, LackingAnswers};
 ghost use Rattle.number_sets.specs.Relation.{row_of, members_at, Relates, PairAnswers, earlier_pair};
 
@@ -87,7 +87,7 @@ impl NumberRelation {
 
     /// Relates a number to all of a set.
     pub fn insert_all(&mut self, alloc: Global, left: u32, set: &NumberSet) -> Result<(), NoMemory>
-        ensures { OnOk result ((p q : ℕ) → Relates self.new p q ↔ (Relates self.old p q ⊎ ((p ≡ left) × IsIn q (members set.now)))) }
+        ensures { OnOk result ((p q : ℕ) → Relates self.new p q ↔ (Relates self.old p q ⊎ ((p ≡ left) × IsAmong q (members set.now)))) }
     {
         let place = left as usize;
         self.lengthen(alloc, place + 1)?;
@@ -119,7 +119,7 @@ impl NumberRelation {
 
     // Relates each of some numbers to all of a set.
     fn insert_each(&mut self, alloc: Global, lefts: &[u32], set: &NumberSet) -> Result<(), NoMemory>
-        ensures { OnOk result ((p q : ℕ) → Relates self.new p q ↔ (Relates self.old p q ⊎ (IsIn p lefts.now × IsIn q (members set.now)))) }
+        ensures { OnOk result ((p q : ℕ) → Relates self.new p q ↔ (Relates self.old p q ⊎ (IsAmong p lefts.now × IsAmong q (members set.now)))) }
     {
         for left in lefts {
             self.insert_all(alloc, *left, set)?;

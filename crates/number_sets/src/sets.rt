@@ -1,5 +1,5 @@
 ghost use Rattle.std.specs.Prelude.{◌≡◌, ◌↔◌, ◌⊎◌, ◌<◌, ◌≤◌, ◌+◌, ◌*◌, ◌∷◌, ℕ, [], get_or, vec_len, IfOk, OnOk, IsTrue};
-ghost use Rattle.number_sets.specs.Members.{IsIn};
+ghost use Rattle.rewriting.specs.Lists.{IsAmong};
 ghost use Rattle.number_sets.specs.Sets.{is_set, members, members_below, LackingAnswers};
 ghost use Rattle.number_sets.specs.Words.{AreHad, IsFirstLacking};
 
@@ -73,7 +73,7 @@ impl NumberSet {
 
     /// The set of the numbers below a count.
     pub fn below(alloc: Global, count: u32) -> Result<NumberSet, NoMemory>
-        ensures { IfOk result (λ set. (q : ℕ) → IsIn q (members set) ↔ (q < count)) }
+        ensures { IfOk result (λ set. (q : ℕ) → IsAmong q (members set) ↔ (q < count)) }
     {
         let mut set = NumberSet::new(alloc);
         for number in 0..count {
@@ -104,7 +104,7 @@ impl NumberSet {
 
     /// Puts a number into the set.
     pub fn insert(&mut self, number: u32) -> Result<(), NoMemory>
-        ensures { OnOk result ((q : ℕ) → IsIn q (members self.new) ↔ (IsIn q (members self.old) ⊎ (q ≡ number))) }
+        ensures { OnOk result ((q : ℕ) → IsAmong q (members self.new) ↔ (IsAmong q (members self.old) ⊎ (q ≡ number))) }
     {
         let place = number as usize / BITS;
         self.lengthen(place + 1)?;
@@ -114,7 +114,7 @@ impl NumberSet {
 
     /// Puts the numbers of another set into the set.
     pub fn insert_all(&mut self, other: &NumberSet) -> Result<(), NoMemory>
-        ensures { OnOk result ((q : ℕ) → IsIn q (members self.new) ↔ (IsIn q (members self.old) ⊎ IsIn q (members other.now))) }
+        ensures { OnOk result ((q : ℕ) → IsAmong q (members self.new) ↔ (IsAmong q (members self.old) ⊎ IsAmong q (members other.now))) }
     {
         self.lengthen(other.words.len())?;
         for place in 0..other.words.len() {
@@ -125,7 +125,7 @@ impl NumberSet {
 
     /// Leaves out the numbers that another set has not.
     pub fn keep_shared(&mut self, other: &NumberSet)
-        ensures { (q : ℕ) → IsIn q (members self.new) ↔ (IsIn q (members self.old) × IsIn q (members other.now)) }
+        ensures { (q : ℕ) → IsAmong q (members self.new) ↔ (IsAmong q (members self.old) × IsAmong q (members other.now)) }
     {
         self.words.truncate(other.words.len());
         for place in 0..self.words.len() {
@@ -135,7 +135,7 @@ impl NumberSet {
 
     /// Whether the set has a number.
     pub fn has(&self, number: u32) -> bool
-        ensures { IsTrue result ↔ IsIn number (members self.now) }
+        ensures { IsTrue result ↔ IsAmong number (members self.now) }
     {
         bit(&self.words, number as usize)
     }

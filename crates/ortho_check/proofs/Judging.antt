@@ -10,8 +10,8 @@ use Rattle.cert_model.specs.ReasonView.{rejected_view}
 use Rattle.level_theorem.specs.AlmostOrthogonal.{DoLevelsCommute, LevelsCommute, AlmostOrthogonalSystemsAreConfluent}
 use Rattle.validity.specs.declared.CheckError.{CheckError}
 use Rattle.validity.specs.declared.CheckError.TheVariants.{Rejected, NoMemory}
-use Rattle.validity.specs.declared.CertKind.TheVariants.{Ortho}
-use Rattle.validity.specs.Confluence.{IsInOrthoClasses, IsOrthoRejected, not_left_linear, not_type3, not_oriented, not_right_stable, ortho_pairs_fail}
+use Rattle.valid_certificates.specs.Kinds.{ortho}
+use Rattle.valid_certificates.specs.Confluence.{IsInOrthoClasses, IsOrthoRejected, not_left_linear, not_type3, not_oriented, not_right_stable, ortho_pairs_fail}
 use Rattle.validity.specs.Answers.{SettleAnswers, OrthoAnswers}
 use Rattle.ortho_check.specs.Answers.{ClassAnswers, ClassesAnswer}
 use Rattle.ortho_check.proofs.Sound.{almost_orthogonal}
@@ -40,7 +40,7 @@ module _ (sys : System) where
   not_in_classes es (Rejected reason) h = h es
   not_in_classes es NoMemory h = absurd h
 
-  pub in_classes : (es : List PairEntry) (a : Result (Unit {0}) CheckError) → IsInOrthoClasses sys → SettleAnswers Ortho sys es a → OrthoAnswers sys es a
+  pub in_classes : (es : List PairEntry) (a : Result (Unit {0}) CheckError) → IsInOrthoClasses sys → SettleAnswers ortho sys es a → OrthoAnswers sys es a
   in_classes es (Ok _) classes h = record { classes = classes; pairs = h }
   in_classes es (Err (Rejected reason)) classes h = ortho_pairs_fail (rejected_view reason) classes h
   in_classes es (Err NoMemory) classes h = tt

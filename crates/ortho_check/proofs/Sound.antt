@@ -18,11 +18,11 @@ use Rattle.certificates.specs.Judging.{hypothesis_at}
 use Rattle.certificates.specs.Reasons.{not_allowed}
 use Rattle.level_theorem.specs.Evidence.{NeverMeet, IsHarmless, trivial, infeasible, conflict}
 use Rattle.level_theorem.specs.AlmostOrthogonal.{IsAlmostOrthogonal}
-use Rattle.validity.specs.declared.CertKind.TheVariants.{Ortho}
-use Rattle.validity.specs.PairEvidence.{IsPairJudged, IsConflictJudged, inner_conditions_of, outer_conditions_of}
-use Rattle.validity.specs.Confluence.{IsValidOrtho}
-use Rattle.validity.proofs.Valid.{judged_infeasible}
-use Rattle.validity.proofs.Settled.{settled}
+use Rattle.valid_certificates.specs.Kinds.{ortho}
+use Rattle.valid_certificates.specs.PairEvidence.{IsPairJudged, IsConflictJudged, inner_conditions_of, outer_conditions_of}
+use Rattle.valid_certificates.specs.Confluence.{IsValidOrtho}
+use Rattle.valid_certificates.proofs.Valid.{judged_infeasible}
+use Rattle.valid_certificates.proofs.Settled.{settled}
 
 reached : (sys : System) (n : ℕ) (a b : Term) → Steps sys n a b → Reaches sys a b
 reached sys n = Star-mono (λ x y h. (n, h))
@@ -74,7 +74,7 @@ module _ (sys : System) (m : Substitution) (p : Position) (inner outer : Rule) (
       conflict x.0 y.0 x.1 y.1 x.2 y.2 (left_of_x ∙ (same ∙ sym left_of_y))
       (subst₂ (NeverMeet sys) (sym right_of_x) (sym right_of_y) (never_meet sys c.right d.right clashes))
 
-  harmless : (e : PairEvidence) → o.position ≡ p → IsPairJudged Ortho sys o e None → IsHarmless sys m p inner outer o.pair
+  harmless : (e : PairEvidence) → o.position ≡ p → IsPairJudged ortho sys o e None → IsHarmless sys m p inner outer o.pair
   harmless trivial_pair at (inl (allowed, judged)) = trivial (sym at ∙ judged.0) judged.1
   harmless (infeasible_pair e) at (inl (allowed, judged)) = infeasible (judged_infeasible sys o.pair.conditions e judged)
   harmless (conflicting_pair a b) at (inl (allowed, judged)) = in_conflict a b judged
@@ -92,6 +92,6 @@ almost_orthogonal sys es good valid =
       right_stable = valid.classes.right_stable;
       overlaps =
           λ i p j o.
-          let s = settled Ortho sys es valid.pairs i p j o in
+          let s = settled ortho sys es valid.pairs i p j o in
           (value s.by, s.listed.pair, s.pair, harmless sys (value s.by) p o.inner o.outer o.part s.listed s.pair s.counted s.evidence s.is_position s.judged);
     }

@@ -4,10 +4,10 @@ use Rattle.rewriting.specs.Rules.{System, EachRule}
 use Rattle.certificates.specs.Certificates.{PairEntry}
 use Rattle.certificates.specs.Reasons.{Class, Blame, class_fails}
 use Rattle.cert_model.specs.ReasonView.{rejected_view}
-use Rattle.ctrs_classes.specs.Blames.{IsInClass}
+use Rattle.certificates.specs.Blames.{IsInClass}
 use Rattle.validity.specs.declared.CheckError.{CheckError}
 use Rattle.validity.specs.declared.CheckError.TheVariants.{Rejected, NoMemory}
-use Rattle.validity.specs.Confluence.{IsInOrthoClasses, IsBlameOf, IsOrthoRejected}
+use Rattle.valid_certificates.specs.Confluence.{IsInOrthoClasses, IsBlameOf, IsOrthoRejected}
 
 -- every rule is in the class, or the blame of the first that is not
 abbrev pub ClassAnswers : System → Class → Result (Unit {0}) CheckError → Type 0

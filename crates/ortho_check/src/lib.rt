@@ -6,7 +6,7 @@ ghost use Rattle.rewriting.specs.Confluence.{IsConfluent};
 ghost use Rattle.cert_model.specs.ReasonView.{class_view};
 ghost use Rattle.cert_model.specs.CertificateView.{pair_entry_view};
 ghost use Rattle.level_theorem.specs.AlmostOrthogonal.{DoLevelsCommute};
-ghost use Rattle.validity.specs.Entries.{ArePairsShort};
+ghost use Rattle.valid_certificates.specs.Entries.{ArePairsShort};
 ghost use Rattle.validity.specs.Answers.{OrthoAnswers};
 ghost use Rattle.ortho_check.specs.Answers.{ClassAnswers, ClassesAnswer};
 
@@ -18,9 +18,6 @@ use std::alloc::Global;
 use term_core::System;
 use validity::CertKind;
 pub use validity::CheckError;
-
-#[cfg(test)]
-mod tests;
 
 // That every rule is in the class.
 fn check_class(sys: &System, class: Class) -> Result<(), CheckError>

@@ -26,8 +26,8 @@ use Rattle.irreducible.specs.declared.Irreducible.TheVariants.{Yes, No, TooLarge
 use Rattle.refuter.specs.Answers.{RefutesAnswers}
 use Rattle.refuter.specs.declared.Refusal.{Refusal}
 use Rattle.refuter.specs.declared.Refusal.TheVariants.{Reason, NoMemory}
-use Rattle.validity.specs.declared.CertKind.{CertKind}
-use Rattle.validity.specs.PairEvidence.{IsAllowed, inner_conditions_of, outer_conditions_of, AreConditionsOf, IsConflictJudged, IsJoinJudged, DerivesTwo, IsUnfeasibleJudged, IsEvidenceJudged, IsPairJudged}
+use Rattle.valid_certificates.specs.Kinds.{Kind}
+use Rattle.valid_certificates.specs.PairEvidence.{IsAllowed, inner_conditions_of, outer_conditions_of, AreConditionsOf, IsConflictJudged, IsJoinJudged, DerivesTwo, IsUnfeasibleJudged, IsEvidenceJudged, IsPairJudged}
 use Rattle.pair_check.specs.Judges.{IsConflictOf, EndAnswers, AreIrreducibleApart}
 
 -- a judgement that gives another one for each reason and for none

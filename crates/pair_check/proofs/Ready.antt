@@ -7,6 +7,7 @@ use Rattle.rewriting.specs.Unifiers.{even, odd}
 use Rattle.rewriting.specs.Rules.{Condition, Rule, System, rule_at, sides}
 use Rattle.rewriting.specs.Systems.{Each, IsSystem}
 use Rattle.rewriting.specs.Overlaps.{conditions_under}
+use Rattle.rewriting.proofs.Conditions.{length-conditions_under}
 use Rattle.unifier_run.specs.Run.{value}
 use Rattle.unifier_run.specs.Overlaps.{Overlap, IsOverlapOf}
 use Rattle.certificates.specs.Sizes.{DoConditionsFit}
@@ -16,10 +17,6 @@ use Rattle.pair_check.specs.Judges.{IsReady}
 conditions_fit : (cs : List Condition) → Each Fits (sides cs) → DoConditionsFit cs
 conditions_fit [] h = tt
 conditions_fit (c ∷ cs) (l, (r, rest)) = (l, r, conditions_fit cs rest)
-
-length-conditions_under : (s : Substitution) (cs : List Condition) → length (conditions_under s cs) ≡ length cs
-length-conditions_under s [] = refl
-length-conditions_under s (c ∷ cs) = ap suc (length-conditions_under s cs)
 
 few_conditions : (sys : System) (i : ℕ) (r : Rule) → IsSystem sys → rule_at sys i ≡ Some r → length r.conditions ≤ 100
 few_conditions sys zero r sound e = absurd (cc)

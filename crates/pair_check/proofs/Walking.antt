@@ -1,18 +1,19 @@
 -- One overlap after the other.
 use Rattle.std.proofs.Common.{ℕ, zero, suc, ◌≡◌, ◌+◌, ◌<◌, ◌≤◌, inl, inr, List, [], ◌∷◌, map, drop, length, slice_get, get_or, Option, None, Some, Result, Ok, Err, refl, sym, ap, ap₂, ◌∙◌, subst, subst₂, arith}
 use Rattle.rewriting.specs.Rules.{System}
-use Rattle.unifier_run.specs.Overlaps.{Overlap, triple, IsListed, AreOverlaps}
+use Rattle.rewriting.specs.Lists.{IsAmong}
+use Rattle.unifier_run.specs.Overlaps.{Overlap, triple, AreOverlaps}
 use Rattle.certificates.specs.Certificates.{PairEntry}
 use Rattle.certificates.specs.Reasons.{EvidenceReason, Rejection, pair_extra, evidence_fails}
 use Rattle.cert_model.specs.ReasonView.{rejected_view}
 use Rattle.critical_pairs.specs.Answers.{OverlapsAnswers}
 use Rattle.critical_pairs.specs.declared.OverlapError.{OverlapError}
 use Rattle.critical_pairs.specs.declared.OverlapError.TheVariants.{PairTooLarge, TooManyPairs, NoMemory as no_memory}
-use Rattle.validity.specs.declared.CertKind.{CertKind}
+use Rattle.valid_certificates.specs.Kinds.{Kind}
 use Rattle.validity.specs.declared.CheckError.{CheckError}
 use Rattle.validity.specs.declared.CheckError.TheVariants.{Rejected, NoMemory}
-use Rattle.validity.specs.Entries.{triple_of, ArePairsShort, IsPairShort, AreNotSettled, pair_is_large, pairs_are_many, entry_fails, DoNotSettle}
-use Rattle.validity.specs.PairEvidence.{IsPairJudged}
+use Rattle.valid_certificates.specs.Entries.{triple_of, ArePairsShort, IsPairShort, AreNotSettled, pair_is_large, pairs_are_many, entry_fails, DoNotSettle}
+use Rattle.valid_certificates.specs.PairEvidence.{IsPairJudged}
 use Rattle.validity.specs.Answers.{SettleAnswers}
 use Rattle.pair_check.specs.Walk.{EachIsOverlap, MissingAnswers, RefusedAnswers, IsSettled, IsNotSettled, EntryAnswers, SettledAnswers}
 
@@ -44,7 +45,7 @@ item_at f [] i x h e = absurd (omega (arith, h))
 item_at f (y ∷ xs) zero x h e = ap (λ z. Some (f z)) (sym e)
 item_at f (y ∷ xs) (suc i) x h e = item_at f xs i x (omega (arith, h)) e
 
-pub listed_at : (os : List Overlap) (i : ℕ) (o : Overlap) → slice_get os i ≡ Some o → IsListed o os
+pub listed_at : (os : List Overlap) (i : ℕ) (o : Overlap) → slice_get os i ≡ Some o → IsAmong o os
 listed_at [] i o e = absurd (cc)
 listed_at (q ∷ os) zero o e = inl (let same : o ≡ q = cc in same)
 listed_at (q ∷ os) (suc i) o e = inr (listed_at os i o e)
@@ -54,7 +55,7 @@ short_at [] i e h at = absurd (cc)
 short_at (d ∷ es) zero e h at = (let same : d ≡ e = cc in subst (λ z. IsPairShort z.evidence) same h.0)
 short_at (d ∷ es) (suc i) e h at = short_at es i e h.1 at
 
-module _ (kind : CertKind) (sys : System) where
+module _ (kind : Kind) (sys : System) where
   -- the entry for one overlap
   module _ (n : ℕ) (o : Overlap) (e : Option PairEntry) where
     pub none_here : e ≡ None → (r : CheckError) → MissingAnswers o r → EntryAnswers kind sys n o e (Err r)
@@ -117,13 +118,13 @@ pub each_is : (sys : System) (os : List Overlap) → AreOverlaps sys os → Each
 each_is sys os h o l = (h.are.each o l).0
 
 -- the overlaps are those of the system
-pub all_settled : (kind : CertKind) (sys : System) (os : List Overlap) (es : List PairEntry) → AreOverlaps sys os → (r : Result (Unit {0}) CheckError) → SettledAnswers kind sys 1 os es r → SettleAnswers kind sys es r
+pub all_settled : (kind : Kind) (sys : System) (os : List Overlap) (es : List PairEntry) → AreOverlaps sys os → (r : Result (Unit {0}) CheckError) → SettledAnswers kind sys 1 os es r → SettleAnswers kind sys es r
 all_settled kind sys os es are (Ok _) h = (os, are, h)
 all_settled kind sys os es are (Err (Rejected reason)) h = entry_fails os (rejected_view reason) are h
 all_settled kind sys os es are (Err NoMemory) h = tt
 
 -- the overlaps have no list
-pub refused_so : (kind : CertKind) (sys : System) (es : List PairEntry) (e : OverlapError) (r : CheckError) → OverlapsAnswers sys (Err e) → RefusedAnswers e r → SettleAnswers kind sys es (Err r)
+pub refused_so : (kind : Kind) (sys : System) (es : List PairEntry) (e : OverlapError) (r : CheckError) → OverlapsAnswers sys (Err e) → RefusedAnswers e r → SettleAnswers kind sys es (Err r)
 refused_so kind sys es (PairTooLarge i p j) (Rejected reason) h is = subst (DoNotSettle kind sys es) (sym is) (pair_is_large i p.items j h)
 refused_so kind sys es TooManyPairs (Rejected reason) h is = subst (DoNotSettle kind sys es) (sym is) (pairs_are_many h)
 refused_so kind sys es no_memory (Rejected reason) h is = absurd is

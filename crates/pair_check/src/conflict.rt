@@ -7,7 +7,7 @@ ghost use Rattle.term_core.specs.View.{view};
 ghost use Rattle.term_core.specs.RuleView.{condition_view};
 ghost use Rattle.critical_pairs.specs.View.{overlap_view};
 ghost use Rattle.refuter.specs.Answers.{RefutesAnswers};
-ghost use Rattle.validity.specs.PairEvidence.{IsConflictJudged};
+ghost use Rattle.valid_certificates.specs.PairEvidence.{IsConflictJudged};
 ghost use Rattle.pair_check.specs.Judges.{IsConflictOf};
 
 use cert_model::EvidenceReason;

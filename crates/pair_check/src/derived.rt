@@ -9,7 +9,7 @@ ghost use Rattle.term_core.specs.RuleView.{condition_view};
 ghost use Rattle.cert_model.specs.DerivationView.{derivation_view};
 ghost use Rattle.critical_pairs.specs.View.{overlap_view};
 ghost use Rattle.refuter.specs.Answers.{RefutesAnswers};
-ghost use Rattle.validity.specs.PairEvidence.{IsJoinJudged, IsUnfeasibleJudged};
+ghost use Rattle.valid_certificates.specs.PairEvidence.{IsJoinJudged, IsUnfeasibleJudged};
 ghost use Rattle.pair_check.specs.Judges.{EndAnswers, AreIrreducibleApart};
 
 use crate::conflict::condition;

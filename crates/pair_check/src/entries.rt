@@ -1,33 +1,26 @@
 // The entries of a certificate, one for each overlap in order.
-ghost use Rattle.std.specs.Prelude.{◌≡◌, ◌<◌, ◌≤◌, ◌+◌, ◌↔◌, IsTrue, IfOk, length, map, slice_get};
+ghost use Rattle.std.specs.Prelude.{◌≡◌, ◌<◌, ◌≤◌, ◌+◌, ◌↔◌, IsTrue, length, map, slice_get};
 ghost use Rattle.unifier_run.specs.Overlaps.{triple, IsOverlapOf};
 ghost use Rattle.cert_model.specs.CertificateView.{pair_entry_view};
 ghost use Rattle.critical_pairs.specs.View.{overlap_view};
-ghost use Rattle.validity.specs.Entries.{triple_of, ArePairsShort};
+ghost use Rattle.valid_certificates.specs.Entries.{triple_of, ArePairsShort};
 ghost use Rattle.validity.specs.Answers.{SettleAnswers};
+ghost use Rattle.validity.specs.KindView.{kind_view};
 ghost use Rattle.pair_check.specs.Walk.{EachIsOverlap, MissingAnswers, RefusedAnswers, EntryAnswers, SettledAnswers};
 
 use crate::evidence::judge_evidence;
-use cert_model::{PairEntry, Rejected};
+use cert_model::{PairEntry, Rejected, copy_numbers};
 use critical_pairs::{Overlap, OverlapError, overlaps};
 use refuter::Refusal;
 use std::alloc::Global;
-use term_core::{NoMemory, System};
+use term_core::System;
 use validity::{CertKind, CheckError};
-
-fn copied(alloc: Global, numbers: &[u32]) -> Result<Vec<u32>, NoMemory>
-    ensures { IfOk result (λ copy. copy.items ≡ numbers.now) }
-{
-    let mut copy = Vec::with_capacity(alloc, numbers.len())?;
-    copy.extend_from_slice(numbers)?;
-    Ok(copy)
-}
 
 // An overlap that has no entry where one should stand.
 fn missing(alloc: Global, overlap: &Overlap) -> CheckError
     ensures { MissingAnswers (overlap_view overlap.now) result }
 {
-    match copied(alloc, &overlap.pos) {
+    match copy_numbers(alloc, &overlap.pos) {
         Ok(pos) => CheckError::Rejected(Rejected::PairMissing {
             inner: overlap.inner,
             pos,
@@ -42,7 +35,7 @@ fn refused(alloc: Global, e: &OverlapError) -> CheckError
     ensures { RefusedAnswers e.now result }
 {
     match e {
-        OverlapError::PairTooLarge { inner, pos, outer } => match copied(alloc, pos) {
+        OverlapError::PairTooLarge { inner, pos, outer } => match copy_numbers(alloc, pos) {
             Ok(pos) => CheckError::Rejected(Rejected::PairTooLarge {
                 inner: *inner,
                 pos,
@@ -76,7 +69,7 @@ fn judge_entry(
     requires overlap { IsOverlapOf sys.now (overlap_view overlap.now) }
     requires few { at < 20000 }
     requires short { ArePairsShort (map pair_entry_view pairs.now) }
-    ensures { EntryAnswers kind sys.now (at + 1) (overlap_view overlap.now) (slice_get (map pair_entry_view pairs.now) at) result }
+    ensures { EntryAnswers (kind_view kind) sys.now (at + 1) (overlap_view overlap.now) (slice_get (map pair_entry_view pairs.now) at) result }
 {
     let Some(entry) = pairs.get(at) else {
         return Err(missing(alloc, overlap));
@@ -105,7 +98,7 @@ fn settle(
     requires overlaps { EachIsOverlap sys.now (map overlap_view overlaps.now) }
     requires few { length overlaps.now ≤ 20000 }
     requires short { ArePairsShort (map pair_entry_view pairs.now) }
-    ensures { SettledAnswers kind sys.now 1 (map overlap_view overlaps.now) (map pair_entry_view pairs.now) result }
+    ensures { SettledAnswers (kind_view kind) sys.now 1 (map overlap_view overlaps.now) (map pair_entry_view pairs.now) result }
 {
     for (i, overlap) in overlaps.iter().enumerate() {
         judge_entry(alloc, sys, kind, overlap, pairs, i)?;
@@ -132,7 +125,7 @@ pub fn check_pairs(
     pairs: &[PairEntry],
 ) -> Result<(), CheckError>
     requires short { ArePairsShort (map pair_entry_view pairs.now) }
-    ensures { SettleAnswers kind sys.now (map pair_entry_view pairs.now) result }
+    ensures { SettleAnswers (kind_view kind) sys.now (map pair_entry_view pairs.now) result }
 {
     match overlaps(alloc, sys) {
         Ok(found) => settle(alloc, sys, kind, &found, pairs),

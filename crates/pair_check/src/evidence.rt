@@ -3,8 +3,9 @@ ghost use Rattle.unifier_run.specs.Overlaps.{IsOverlapOf};
 ghost use Rattle.cert_model.specs.EvidenceView.{pair_evidence_view};
 ghost use Rattle.critical_pairs.specs.View.{overlap_view};
 ghost use Rattle.refuter.specs.Answers.{RefutesAnswers};
-ghost use Rattle.validity.specs.PairEvidence.{IsTrivialJudged, IsEvidenceJudged, IsPairJudged};
-ghost use Rattle.validity.specs.Entries.{IsPairShort};
+ghost use Rattle.valid_certificates.specs.PairEvidence.{IsTrivialJudged, IsEvidenceJudged, IsPairJudged};
+ghost use Rattle.valid_certificates.specs.Entries.{IsPairShort};
+ghost use Rattle.validity.specs.KindView.{kind_view};
 ghost use Rattle.pair_check.specs.Judges.{IsReady};
 
 use crate::conflict::judge_conflict;
@@ -67,7 +68,7 @@ pub fn judge_evidence(
 ) -> Result<(), Refusal>
     requires overlap { IsOverlapOf sys.now (overlap_view overlap.now) }
     requires short { IsPairShort (pair_evidence_view evidence.now) }
-    ensures { RefutesAnswers (IsPairJudged kind sys.now (overlap_view overlap.now) (pair_evidence_view evidence.now)) result }
+    ensures { RefutesAnswers (IsPairJudged (kind_view kind) sys.now (overlap_view overlap.now) (pair_evidence_view evidence.now)) result }
 {
     if !allowed(kind, evidence) {
         return Err(Refusal::Reason(EvidenceReason::NotAllowed));

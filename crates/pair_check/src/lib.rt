@@ -5,8 +5,6 @@ mod conflict;
 mod derived;
 mod entries;
 mod evidence;
-#[cfg(test)]
-mod tests;
 
 pub use entries::check_pairs;
 pub use evidence::judge_evidence;

@@ -7,9 +7,9 @@ use Rattle.certificates.specs.Reasons.{Rejection}
 use Rattle.cert_model.specs.ReasonView.{rejected_view}
 use Rattle.validity.specs.declared.CheckError.{CheckError}
 use Rattle.validity.specs.declared.CheckError.TheVariants.{Rejected, NoMemory}
-use Rattle.validity.specs.declared.CertKind.TheVariants.{Quasi}
+use Rattle.valid_certificates.specs.Kinds.{quasi}
 use Rattle.validity.specs.Answers.{SettleAnswers, QuasiAnswers}
-use Rattle.validity.specs.Confluence.{IsQuasiRejected, not_deterministic, side_is_reducible, measure_is_bad, unraveling_is_large, quasi_pairs_fail}
+use Rattle.valid_certificates.specs.Confluence.{IsQuasiRejected, not_deterministic, side_is_reducible, measure_is_bad, unraveling_is_large, quasi_pairs_fail}
 use Rattle.quasi_check.specs.Parts.{AreRulesGood, AreRulesRejected, class_is_left, side_reduces, RulesAnswers, IsMeasureRejected, reason_is_told, rule_is_large, MeasureAnswers}
 
 module _ (Is : Judgement → Type 0) (sys : System) (es : List PairEntry) where
@@ -29,7 +29,7 @@ module _ (Is : Judgement → Type 0) (sys : System) (es : List PairEntry) where
   measure_rejected (Rejected reason) rules h = measure_fails (rejected_view reason) rules h
   measure_rejected NoMemory rules h = tt
 
-  pub pairs_judged : (a : Result (Unit {0}) CheckError) → AreRulesGood sys → Is good → SettleAnswers Quasi sys es a → QuasiAnswers Is sys es a
+  pub pairs_judged : (a : Result (Unit {0}) CheckError) → AreRulesGood sys → Is good → SettleAnswers quasi sys es a → QuasiAnswers Is sys es a
   pairs_judged (Ok _) rules measure h = record { deterministic = rules.deterministic; irreducible = rules.irreducible; measure = measure; pairs = h }
   pairs_judged (Err (Rejected reason)) rules measure h = quasi_pairs_fail (rejected_view reason) rules.deterministic rules.irreducible measure h
   pairs_judged (Err NoMemory) rules measure h = tt

@@ -4,4 +4,3 @@ pub mod SoundEvidence
 pub mod Sound
 pub mod Answers
 pub mod Walks
-pub mod NoRules

@@ -12,17 +12,17 @@ use Rattle.descent_theorem.specs.Bounded.{IsBoundedAndSettled, BoundedAndSettled
 use Rattle.descent_theorem.specs.Evidence.{AreOverlapsSettled}
 use Rattle.std.specs.Prelude.{OnOk}
 use Rattle.validity.specs.declared.CheckError.{CheckError}
-use Rattle.validity.specs.declared.CertKind.TheVariants.{Quasi}
+use Rattle.valid_certificates.specs.Kinds.{quasi}
 use Rattle.validity.specs.Answers.{QuasiAnswers}
-use Rattle.validity.specs.Confluence.{IsValidQuasi}
-use Rattle.validity.specs.Entries.{DoSettle}
-use Rattle.validity.proofs.Settled.{settled}
+use Rattle.valid_certificates.specs.Confluence.{IsValidQuasi}
+use Rattle.valid_certificates.specs.Entries.{DoSettle}
+use Rattle.valid_certificates.proofs.Settled.{settled}
 use Rattle.quasi_check.proofs.SoundPairs.{pair_over}
 use Rattle.quasi_check.proofs.SoundEvidence.{none_unifies, judged_settles}
 
-overlaps_settled : (sys : System) (es : List PairEntry) → IsWellFormed sys → DoSettle Quasi sys es → AreOverlapsSettled sys
+overlaps_settled : (sys : System) (es : List PairEntry) → IsWellFormed sys → DoSettle quasi sys es → AreOverlapsSettled sys
 overlaps_settled sys es well pairs i p j o =
-    let s = settled Quasi sys es pairs i p j o in
+    let s = settled quasi sys es pairs i p j o in
     let over = pair_over sys well i p j o.inner o.outer o.part o.place s.by s.outcome s.listed.pair s.pair in
     (value s.by, s.listed.pair, s.pair, judged_settles sys well s.listed over s.evidence s.judged)
 

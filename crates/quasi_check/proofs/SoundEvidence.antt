@@ -13,9 +13,9 @@ use Rattle.certificates.specs.Reasons.{not_allowed}
 use Rattle.certificates.specs.Soundness.{AreConditionsOver}
 use Rattle.certificates.proofs.Sound.{derivation_reaches}
 use Rattle.descent_theorem.specs.Evidence.{IsSettled, infeasible, joining, unfeasible}
-use Rattle.validity.specs.declared.CertKind.TheVariants.{Quasi}
-use Rattle.validity.specs.PairEvidence.{IsPairJudged, IsEvidenceJudged, IsAllowed, IsJoinJudged, IsOutcomeOfTwo}
-use Rattle.validity.proofs.Valid.{judged_infeasible}
+use Rattle.valid_certificates.specs.Kinds.{quasi}
+use Rattle.valid_certificates.specs.PairEvidence.{IsPairJudged, IsEvidenceJudged, IsAllowed, IsJoinJudged, IsOutcomeOfTwo}
+use Rattle.valid_certificates.proofs.Valid.{judged_infeasible}
 use Rattle.quasi_check.proofs.SoundPairs.{IsPairOver}
 
 -- a term all of whose runs clash is absolutely irreducible
@@ -49,13 +49,13 @@ module _ (sys : System) (good : IsWellFormed sys) (o : Overlap) (over : IsPairOv
       (λ n b values meets. derivation_reaches sys good o.pair.conditions over.conditions c.left e v start two.second _ n values meets)
       (none_unifies sys u one) (none_unifies sys v other) (not_unifiable u v run)
 
-  evidence_settles : (e : PairEvidence) → IsAllowed Quasi e → IsEvidenceJudged sys o e None → IsSettled sys o.pair
+  evidence_settles : (e : PairEvidence) → IsAllowed quasi e → IsEvidenceJudged sys o e None → IsSettled sys o.pair
   evidence_settles trivial_pair allowed h = absurd allowed
   evidence_settles (infeasible_pair e) allowed h = infeasible (judged_infeasible sys o.pair.conditions e h)
   evidence_settles (conflicting_pair a b) allowed h = absurd allowed
   evidence_settles (joined_pair d e) allowed h = joined_settles d e h
   evidence_settles (unfeasible_pair k d e) allowed h = unfeasible_settles k d e h
 
-  pub judged_settles : (e : PairEvidence) → IsPairJudged Quasi sys o e None → IsSettled sys o.pair
+  pub judged_settles : (e : PairEvidence) → IsPairJudged quasi sys o e None → IsSettled sys o.pair
   judged_settles e (inl (allowed, h)) = evidence_settles e allowed h
   judged_settles e (inr (_, h)) = absurd (let none : None ≡ Some not_allowed = h in cc)

@@ -9,13 +9,13 @@ use Rattle.rewriting.specs.Classes.{IsAt}
 use Rattle.unifier_run.specs.Run.{Outcome, unifier, clash, too_large}
 use Rattle.unifier_run.specs.Irreducible.{DoAllClash, IsFirstOutcome}
 use Rattle.unifier_run.proofs.Unique.{runs_same}
-use Rattle.validity.specs.Confluence.{IsFirstReducible}
+use Rattle.valid_certificates.specs.Confluence.{IsFirstReducible}
 use Rattle.term_core.specs.declared.systems.Cond.{Cond}
 use Rattle.term_core.specs.RuleView.{condition_view}
 use Rattle.irreducible.specs.declared.Irreducible.{Irreducible}
 use Rattle.irreducible.specs.declared.Irreducible.TheVariants.{No, TooLarge}
 use Rattle.irreducible.specs.Answers.{IrreducibleAnswers}
-use Rattle.quasi_check.specs.declared.sides.Place.{Place}
+use Rattle.quasi_check.specs.declared.sides.SidePlace.{SidePlace}
 use Rattle.quasi_check.specs.Sides.{DoSidesClash, IsFirstCondition, ConditionAnswers, SideAnswers}
 
 -- a run that ends in something else
@@ -73,7 +73,7 @@ found_at sys cs ds o k h e same = subst (λ z. IsFirstCondition sys z k) same (s
 pub none_found : (sys : System) (cs ds : List Condition) (o : Option ℕ) → ConditionAnswers sys cs o → o ≡ None → cs ≡ ds → DoSidesClash sys ds
 none_found sys cs ds o h e same = subst (DoSidesClash sys) same (subst (ConditionAnswers sys cs) e h)
 
-pub side_found : (sys : System) (o : Option Place) (place : Place) → SideAnswers sys o → o ≡ Some place → IsFirstReducible sys place.rule place.cond
+pub side_found : (sys : System) (o : Option SidePlace) (place : SidePlace) → SideAnswers sys o → o ≡ Some place → IsFirstReducible sys place.rule place.cond
 side_found sys o place h e = subst (SideAnswers sys) e h
 
 -- a test that decides a fact

@@ -7,7 +7,7 @@ use Rattle.certificates.specs.Reasons.{deterministic, Blame, MeasureReason, Reje
 use Rattle.cert_model.specs.ReasonView.{rejected_view}
 use Rattle.validity.specs.declared.CheckError.{CheckError}
 use Rattle.validity.specs.declared.CheckError.TheVariants.{Rejected, NoMemory}
-use Rattle.validity.specs.Confluence.{IsBlameOf, AreRightSidesIrreducible, IsFirstReducible}
+use Rattle.valid_certificates.specs.Confluence.{IsBlameOf, AreRightSidesIrreducible, IsFirstReducible}
 
 -- deterministic, and the right side of each condition is absolutely irreducible
 pub record AreRulesGood (sys : System) : Type 0 where

@@ -3,8 +3,8 @@ use Rattle.std.specs.Prelude.{ℕ, suc, ◌≡◌, ◌<◌, List, Option, None, 
 use Rattle.rewriting.specs.Rules.{Condition, System}
 use Rattle.rewriting.specs.Classes.{IsAt}
 use Rattle.unifier_run.specs.Irreducible.{DoAllClash}
-use Rattle.validity.specs.Confluence.{AreRightSidesIrreducible, IsFirstReducible}
-use Rattle.quasi_check.specs.declared.sides.Place.{Place}
+use Rattle.valid_certificates.specs.Confluence.{AreRightSidesIrreducible, IsFirstReducible}
+use Rattle.quasi_check.specs.declared.sides.SidePlace.{SidePlace}
 
 -- the right side of each condition is absolutely irreducible, by the runs
 abbrev pub DoSidesClash : System → List Condition → Type 0
@@ -25,6 +25,6 @@ ConditionAnswers sys cs None = DoSidesClash sys cs
 ConditionAnswers sys cs (Some k) = IsFirstCondition sys cs k
 
 -- the first of all rules, or none
-abbrev pub SideAnswers : System → Option Place → Type 0
+abbrev pub SideAnswers : System → Option SidePlace → Type 0
 SideAnswers sys None = AreRightSidesIrreducible sys
 SideAnswers sys (Some place) = IsFirstReducible sys place.rule place.cond

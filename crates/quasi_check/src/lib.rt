@@ -3,8 +3,6 @@
 
 mod quasi;
 mod sides;
-#[cfg(test)]
-mod tests;
 
 pub use quasi::check_quasi;
 pub use validity::CheckError;

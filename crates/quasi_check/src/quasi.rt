@@ -1,7 +1,7 @@
 ghost use Rattle.std.specs.Prelude.{OnOk, map};
 ghost use Rattle.rewriting.specs.Confluence.{IsConfluent};
 ghost use Rattle.cert_model.specs.CertificateView.{pair_entry_view};
-ghost use Rattle.validity.specs.Entries.{ArePairsShort};
+ghost use Rattle.valid_certificates.specs.Entries.{ArePairsShort};
 ghost use Rattle.validity.specs.Answers.{QuasiAnswers};
 ghost use Rattle.quasi_check.specs.Parts.{RulesAnswers, MeasureAnswers};
 

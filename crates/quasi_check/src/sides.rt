@@ -11,7 +11,7 @@ use term_core::{Cond, NoMemory, System, Term};
 
 /// A condition of a rule; both are numbered from 1.
 #[derive(Clone, Copy)]
-pub(crate) struct Place {
+pub(crate) struct SidePlace {
     pub(crate) rule: u32,
     pub(crate) cond: u32,
 }
@@ -41,12 +41,12 @@ fn first_condition(alloc: Global, sys: &System, conds: &[Cond]) -> Result<Option
 }
 
 // The first such condition of the first rule that has one.
-pub(crate) fn first_reducible(alloc: Global, sys: &System) -> Result<Option<Place>, NoMemory>
+pub(crate) fn first_reducible(alloc: Global, sys: &System) -> Result<Option<SidePlace>, NoMemory>
     ensures { IfOk result (λ first. SideAnswers sys.now first) }
 {
     for (i, rule) in sys.rules().iter().enumerate() {
         if let Some(cond) = first_condition(alloc, sys, &rule.conds)? {
-            return Ok(Some(Place {
+            return Ok(Some(SidePlace {
                 rule: i as u32 + 1,
                 cond,
             }));

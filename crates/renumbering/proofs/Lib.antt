@@ -1,3 +1,5 @@
 pub mod Rows
 pub mod Spreads
 pub mod Numbered
+pub mod Filling
+pub mod Lengths

@@ -7,8 +7,9 @@ use Rattle.rewriting.specs.Variables.{occurs, occurs_in, with_variables, with_va
 use Rattle.rewriting.specs.Substitutions.{Substitution, apply, apply_all}
 use Rattle.rewriting.proofs.Instances.{or_cases, or_right, apply_all-agree}
 use Rattle.std.proofs.lemmas.Bool.{or_left}
-use Rattle.renumbering.specs.Rows.{IsFront, naming, IsNumbered}
-use Rattle.renumbering.proofs.Rows.{front_at, front_length}
+use Rattle.rewriting.specs.Lists.{IsFront}
+use Rattle.renumbering.specs.Rows.{naming, IsNumbered}
+use Rattle.rewriting.proofs.Lists.{front_at, front_length}
 use Rattle.term_core.specs.View.{view, views}
 use Rattle.term_core.specs.declared.terms.Term.{Term, Var, Fun}
 use Rattle.term_core.proofs.Views.{view-Var, view-Fun, views-drop}
@@ -23,7 +24,7 @@ numbered_none xs = record { names = refl; below = λ m o. absurd (cc) }
 
 pub numbered_grows : (xs ys : List ℕ) (ts us : Terms) → IsFront xs ys → AreNumbered xs ts us → AreNumbered ys ts us
 numbered_grows xs ys ts us f n = record {
-  names = n.names ∙ apply_all-agree (naming xs) (naming ys) us (λ m o. ap var (sym (front_at xs ys m f (n.below m o))));
+  names = n.names ∙ apply_all-agree (naming xs) (naming ys) us (λ m o. ap var (sym (front_at xs ys 0 m f (n.below m o))));
   below = λ m o. (let long = front_length xs ys f in let low = n.below m o in omega arith);
 }
 

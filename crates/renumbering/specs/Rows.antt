@@ -1,16 +1,8 @@
 -- Rows of variables, and terms with places of a row for their variables.
-use Rattle.std.specs.Prelude.{ℕ, ◌≡◌, ◌<◌, true, List, ◌++◌, length, get_or}
+use Rattle.std.specs.Prelude.{ℕ, ◌≡◌, ◌<◌, true, List, length, get_or}
 use Rattle.rewriting.specs.Terms.{Term, var}
 use Rattle.rewriting.specs.Variables.{occurs}
 use Rattle.rewriting.specs.Substitutions.{Substitution, apply}
-
--- the second row begins with the first
-abbrev pub IsFront : List ℕ → List ℕ → Type 0
-IsFront xs ys = (rest : List ℕ) × (ys ≡ xs ++ rest)
-
--- no number stands at two places
-abbrev pub AreDistinct : List ℕ → Type 0
-AreDistinct xs = (i j : ℕ) → i < length xs → j < length xs → get_or xs i 0 ≡ get_or xs j 0 → i ≡ j
 
 -- the number m of a row stands for its variable; the numbers past the row for 0
 abbrev pub naming : List ℕ → Substitution

@@ -1,4 +1,6 @@
-//! Numbering variables by first occurrence.
+//! Numbering variables by first occurrence, so that terms that differ in the names of variables alone become one.
+//!
+//! f(x7, g(x3, x7)) becomes f(x0, g(x1, x0)), and the row 7, 3 tells what the numbers stand for.
 #![tactic(auto)]
 
 ghost use Rattle.std.specs.Prelude.{◌≡◌, ◌<◌, ℕ, true, [], Some, IfOk, OnOk, length, slice_get, get_or};
@@ -7,7 +9,8 @@ ghost use Rattle.rewriting.specs.Substitutions.{apply};
 ghost use Rattle.rewriting.specs.Unifiers.{odd};
 ghost use Rattle.term_core.specs.View.{view};
 ghost use Rattle.renumbering.specs.Spread.{spreading};
-ghost use Rattle.renumbering.specs.Rows.{IsFront, AreDistinct, naming, IsNumbered};
+ghost use Rattle.rewriting.specs.Lists.{IsFront, AreDistinct};
+ghost use Rattle.renumbering.specs.Rows.{naming, IsNumbered};
 
 use indexmap::IndexSet;
 use std::alloc::Global;
@@ -26,7 +29,7 @@ impl Model for Numbering {
     ghost Value = { List ℕ };
 
     ghost use Rattle.renumbering.specs.NumberingView.{row_of};
-    ghost use Rattle.renumbering.specs.Rows.{AreDistinct};
+    ghost use Rattle.rewriting.specs.Lists.{AreDistinct};
 
     ghost view = { row_of };
 

@@ -6,7 +6,8 @@ use Rattle.rewriting.specs.Substitutions.{Substitution, apply, apply_all, compos
 use Rattle.rewriting.specs.Unifiers.{even, odd}
 use Rattle.rewriting.specs.Rules.{Condition, System, left_sides, right_sides}
 use Rattle.rewriting.proofs.Instances.{apply_all-apply_all, apply_all-agree}
-use Rattle.renumbering.specs.Rows.{AreDistinct, naming}
+use Rattle.rewriting.specs.Lists.{AreDistinct}
+use Rattle.renumbering.specs.Rows.{naming}
 use Rattle.unifier_run.specs.Run.{Outcome, IsOutcome}
 use Rattle.unifier_run.proofs.Renamed.{renamed_outcome, stays, names, runs_with_names}
 use Rattle.caps.specs.Caps.{Cap, Caps, node, any, holes, filled, all_filled, constants, IsTop, IsCapOf, AreCapsOf}
@@ -15,7 +16,7 @@ use Rattle.term_core.specs.View.{views}
 use Rattle.term_core.specs.declared.terms.Term as T
 use Rattle.tcap_infeasible.specs.Comparing.{HaveRow}
 use Rattle.tcap_infeasible.proofs.Tried.{not_lt}
-use Rattle.tcap_infeasible.proofs.Filling.{filling, filling_within, filling_one}
+use Rattle.renumbering.proofs.Filling.{filling, filling_within, filling_one}
 
 -- numbers below 2^31 become the odd numbers of their variables, holes even
 abbrev pub apart : List ℕ → ℕ → ℕ

@@ -5,11 +5,11 @@ use Rattle.std.proofs.lemmas.Option.{slice_get_within, get_or_from_slice_get}
 use Rattle.rewriting.specs.Terms.{Term, Terms, var, app, nil, cons, size, size_all, depth, depth_all, Fits}
 use Rattle.rewriting.specs.Variables.{occurs, occurs_in}
 use Rattle.rewriting.proofs.Instances.{or_cases}
-use Rattle.renumbering.specs.Rows.{AreDistinct, IsFront}
+use Rattle.rewriting.specs.Lists.{AreDistinct, IsFront}
 use Rattle.unifier_run.proofs.Renamed.{renamed, all_renamed}
 use Rattle.tcap_infeasible.specs.Keys.{IsKey, IsKeyed, AreKeyed}
 use Rattle.tcap_infeasible.proofs.Tried.{not_lt}
-use Rattle.tcap_infeasible.proofs.Filling.{filling, filling_within, filling_one}
+use Rattle.renumbering.proofs.Filling.{filling, filling_within, filling_one}
 
 -- the symbol that a symbol past the first n stands for
 abbrev pub shifted : ℕ → List ℕ → ℕ → ℕ

@@ -3,7 +3,6 @@ pub mod Roots
 pub mod Sizes
 pub mod Args
 pub mod Sides
-pub mod Filling
 pub mod Apart
 pub mod Keyed
 pub mod Named

@@ -7,7 +7,7 @@ use Rattle.rewriting.specs.Rules.{System}
 use Rattle.caps.specs.Caps.{Cap as MathCap, Caps, kept, node, no_caps, caps, any, holes, holes_in, filled, all_filled, constants, IsTop, IsCapOf, AreCapsOf}
 use Rattle.tcap_infeasible.specs.Keys.{IsKeyed, AreKeyed}
 use Rattle.tcap_infeasible.specs.Thawing.{LiesOn, LieOn, thawed, all_thawed}
-use Rattle.tcap_infeasible.proofs.Filling.{filling, filling_within}
+use Rattle.renumbering.proofs.Filling.{filling, filling_within}
 use Rattle.tcap_infeasible.proofs.Keyed.{shifted, key_shifted}
 use Rattle.tcap_infeasible.proofs.Named.{named, all_named, named_holes}
 

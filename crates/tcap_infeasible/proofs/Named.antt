@@ -7,14 +7,14 @@ use Rattle.rewriting.specs.Unifiers.{even, odd}
 use Rattle.rewriting.specs.Signatures.{IsOver, AreOver}
 use Rattle.rewriting.specs.Rules.{Rule, System, rule_at}
 use Rattle.rewriting.specs.Systems.{IsSystem}
-use Rattle.renumbering.specs.Rows.{AreDistinct}
+use Rattle.rewriting.specs.Lists.{AreDistinct}
 use Rattle.unifier_run.specs.Run.{Outcome, unifier, clash, too_large, IsOutcome}
 use Rattle.unifier_run.specs.Overlaps.{IsOutcomeOf}
 use Rattle.unifier_run.specs.Irreducible.{IsFirstRule, DoRulesClash}
 use Rattle.unifier_run.proofs.Renamed.{renamed, all_renamed, renamed_outcome, runs_to}
 use Rattle.caps.specs.Caps.{Cap, Caps, hole, kept, node, no_caps, caps, holes, holes_in, filled, all_filled, constants, frozen, IsTop, IsCapOf, AreCapsOf, IsCapLarge, AreCapsLarge}
 use Rattle.tcap_infeasible.proofs.Tried.{rule_of}
-use Rattle.tcap_infeasible.proofs.Filling.{filling}
+use Rattle.renumbering.proofs.Filling.{filling}
 use Rattle.tcap_infeasible.proofs.Keyed.{shifted, shifted_below, shifted_past, shifted_one}
 
 -- the cap with phi of each variable that stays, and sigma of each symbol

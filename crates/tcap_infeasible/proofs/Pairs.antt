@@ -5,7 +5,7 @@ use Rattle.rewriting.specs.Terms.{Term, var, app, nil, cons, size, Fits}
 use Rattle.rewriting.specs.Substitutions.{apply, apply_all}
 use Rattle.rewriting.specs.Rules.{System}
 use Rattle.rewriting.specs.Systems.{IsSystem, IsWellFormed}
-use Rattle.renumbering.specs.Rows.{AreDistinct, IsFront}
+use Rattle.rewriting.specs.Lists.{AreDistinct, IsFront}
 use Rattle.unifier_run.specs.Run.{Outcome, unifier, clash, too_large, IsOutcome}
 use Rattle.unifier_run.proofs.Renamed.{renamed, all_renamed, renamed_outcome, stays, names, runs_to, runs_with_names}
 use Rattle.caps.specs.Caps.{Cap, Caps, hole, kept, any, node, no_caps, caps, holes, holes_in, filled, all_filled, constants, IsCapOf, IsCapLarge}
@@ -19,7 +19,7 @@ use Rattle.tcap_infeasible.specs.declared.capping.Leaf.TheVariants.{Kept}
 use Rattle.tcap_infeasible.specs.Frozen.{HasConstants}
 use Rattle.tcap_infeasible.specs.Compared.{PairAnswers, KeepsInstancesApart, GivesApart, IsFrozenOutcome, FrozenPairAnswers}
 use Rattle.tcap_infeasible.proofs.Tried.{not_lt, rule_of}
-use Rattle.tcap_infeasible.proofs.Filling.{filling}
+use Rattle.renumbering.proofs.Filling.{filling}
 use Rattle.tcap_infeasible.proofs.Keyed.{shifted, shifted_past, shifted_one, keyed_renamed, keyed_below, keyed_grows}
 use Rattle.tcap_infeasible.proofs.Named.{named, all_named, named_holes, cap_named, large_named}
 
@@ -190,7 +190,7 @@ answer_apart sys u v (Ok TooLarge) sound h = tt
 answer_apart sys u v (Err e) sound h = tt
 
 pub none_distinct : (row : List ℕ) → row ≡ [] → AreDistinct row
-none_distinct row e = subst AreDistinct (sym e) (λ i j h. absurd (omega (arith, h)))
+none_distinct row e = subst AreDistinct (sym e) tt
 
 pub short_row : (start row : List ℕ) (t : Term) → start ≡ [] → length row ≤ length start + size t → Fits t → length row ≤ 10000
 short_row start row t e grown fit = let none : length start ≡ 0 = ap length e in let few = fit.nodes in omega (arith, grown, none, few)

@@ -4,15 +4,15 @@ use Rattle.rewriting.specs.Terms as math
 use Rattle.rewriting.specs.Terms.{Terms, app, nil, cons, size, size_all}
 use Rattle.rewriting.specs.Variables.{with_new}
 use Rattle.unifier_run.specs.Run.{append}
-use Rattle.renumbering.specs.Rows.{AreDistinct, IsFront}
-use Rattle.renumbering.proofs.Rows.{front_refl, front_trans}
+use Rattle.rewriting.specs.Lists.{AreDistinct, IsFront}
+use Rattle.rewriting.proofs.Lists.{front_refl, front_trans}
 use Rattle.term_core.specs.View.{view, views}
 use Rattle.term_core.specs.declared.terms.Term.{Term, Var, Fun}
 use Rattle.term_core.proofs.Views.{view-Fun, view-Var}
 use Rattle.term_core.proofs.Instances.{take_all}
 use Rattle.tcap_infeasible.specs.Keys.{IsKey, IsKeyed, AreKeyed}
 use Rattle.tcap_infeasible.proofs.Args.{views_with, take_suc, size_take}
-use Rattle.tcap_infeasible.proofs.Sides.{variables_length}
+use Rattle.renumbering.proofs.Lengths.{variables_length}
 use Rattle.tcap_infeasible.proofs.Keyed.{key_grows, all_keyed_grows}
 
 -- a row grows by at most one variable

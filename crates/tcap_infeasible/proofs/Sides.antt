@@ -7,7 +7,9 @@ use Rattle.rewriting.specs.Terms.{Terms, var, app, nil, cons, size, size_all, Fi
 use Rattle.rewriting.specs.Variables.{with_new, with_variables, with_variables_of}
 use Rattle.rewriting.specs.Rules.{System, left_sides, right_sides}
 use Rattle.certificates.specs.Sizes.{DoConditionsFit}
-use Rattle.renumbering.specs.Rows.{AreDistinct, IsFront, IsNumbered}
+use Rattle.rewriting.specs.Lists.{AreDistinct, IsFront}
+use Rattle.renumbering.specs.Rows.{IsNumbered}
+use Rattle.renumbering.proofs.Lengths.{variables_length}
 use Rattle.renumbering.proofs.Numbered.{AreNumbered, numbered_none, numbered_more}
 use Rattle.caps.specs.Caps.{any, AreCapsOf, AreCapsLarge, IsCapLarge}
 use Rattle.term_core.specs.View.{view, views}
@@ -82,24 +84,6 @@ lefts_are sys cs k us next h capped =
     let e : length (lefts cs) ≡ length cs = simp length-map in
     subst (λ z. AreCapsOf sys any z capped.shapes) (ap views (take_all (lefts cs) k (omega (arith, e, h))) ∙ views_lefts cs) capped.are
 
--- a row grows by no more variables than a term has nodes
-new_length : (xs : List ℕ) (y : ℕ) → length (with_new xs y) ≤ length xs + 1
-new_length xs y = go (list_any (nat_eq y) xs)
-  where
-    go : (b : Bool) → length (if b then xs else (xs ++ y ∷ [])) ≤ length xs + 1
-    go true = omega arith
-    go false = (let e : length (xs ++ y ∷ []) ≡ length xs + 1 = length-append xs (y ∷ []) in omega (arith, e))
-
-mutual
-  pub variables_length : (xs : List ℕ) (t : math.Term) → length (with_variables xs t) ≤ length xs + size t
-  variables_length xs (var y) = new_length xs y
-  variables_length xs (app f ts) = let k = all_variables_length xs ts in omega (arith, k)
-
-  all_variables_length : (xs : List ℕ) (ts : Terms) → length (with_variables_of xs ts) ≤ length xs + size_all ts
-  all_variables_length xs nil = omega arith
-  all_variables_length xs (cons t ts) =
-      let first = variables_length xs t in let rest = all_variables_length (with_variables xs t) ts in omega (arith, first, rest)
-
 -- the right sides that have got their numbers
 pub record Numbered (cs : List Cond) (k : ℕ) (row : List ℕ) (us : List Term) : Type 0 where
   pub distinct : AreDistinct row
@@ -107,7 +91,7 @@ pub record Numbered (cs : List Cond) (k : ℕ) (row : List ℕ) (us : List Term)
   pub are : AreNumbered row (views (take k (rights cs))) (views us)
 
 pub none_numbered : (cs : List Cond) (row : List ℕ) → row ≡ [] → Numbered cs 0 row []
-none_numbered cs row e = subst (λ z. Numbered cs 0 z []) (sym e) (record { distinct = λ i j h. absurd (omega (arith, h)); few = omega arith; are = numbered_none [] })
+none_numbered cs row e = subst (λ z. Numbered cs 0 z []) (sym e) (record { distinct = tt; few = omega arith; are = numbered_none [] })
 
 pub one_numbered : (cs : List Cond) (k : ℕ) (row more : List ℕ) (us vs : List Term) (c : Cond) (u : Term) → k < length cs → c ≡ get_or cs k c → DoConditionsFit (map condition_view cs) → Numbered cs k row us
     → more ≡ with_variables row (view c.right) → IsFront row more → AreDistinct more → IsNumbered more (view c.right) (view u) → vs ≡ us ++ u ∷ [] → Numbered cs (k + 1) more vs

@@ -26,7 +26,7 @@ use Rattle.tcap_infeasible.specs.Reducts.{KeepsReducts, KeepsOwnReducts}
 use Rattle.tcap_infeasible.specs.Thawing.{LiesOn, LieOn, thawed, all_thawed}
 use Rattle.tcap_infeasible.proofs.Args.{views_with}
 use Rattle.tcap_infeasible.proofs.Sizes.{cap_small}
-use Rattle.tcap_infeasible.proofs.Filling.{filling}
+use Rattle.renumbering.proofs.Filling.{filling}
 use Rattle.tcap_infeasible.proofs.Keyed.{shifted, keyed_renamed, keyed_size}
 use Rattle.tcap_infeasible.proofs.Named.{named, cap_named, large_named}
 use Rattle.tcap_infeasible.proofs.Pairs.{well_formed}

@@ -8,8 +8,10 @@ use Rattle.rewriting.specs.Variables.{occurs}
 use Rattle.rewriting.specs.Signatures.{Signature}
 use Rattle.rewriting.specs.Rules.{Rule, System, rule_at}
 use Rattle.rewriting.specs.Systems.{CountsFrom, terms_of_rule, rule_variables, IsRule, AreRules, IsSystem}
-use Rattle.rewriting.proofs.Variables.{IsAmong, variables_have_all}
+use Rattle.rewriting.specs.Lists.{IsAmong}
+use Rattle.rewriting.proofs.Variables.{variables_have_all}
 use Rattle.rewriting.proofs.Instances.{or_left, apply-agree}
+use Rattle.rewriting.proofs.Lists.{counted_below}
 use Rattle.unifier_run.specs.Run.{value, Outcome, clash, Takes, roots_differ, ends, last_equation, IsOutcome}
 use Rattle.unifier_run.specs.Overlaps.{IsOutcomeOf}
 use Rattle.unifier_run.specs.Irreducible.{DoRulesClash}
@@ -62,11 +64,6 @@ pub rule_of : (arities : Signature) (rs : List Rule) (i : ℕ) (r : Rule) → Ar
 rule_of arities [] i r h e = absurd (cc)
 rule_of arities (q ∷ rs) zero r h e = (let same : q ≡ r = cc in subst (IsRule arities) same h.0)
 rule_of arities (q ∷ rs) (suc i) r h e = rule_of arities rs i r h.1 e
-
-counted_below : (n : ℕ) (xs : List ℕ) (x : ℕ) → CountsFrom n xs → IsAmong x xs → x < n + length xs
-counted_below n [] x h m = absurd m
-counted_below n (y ∷ ys) x h (inl e) = let k = h.0 in omega (arith, k, e)
-counted_below n (y ∷ ys) x h (inr m) = let k = counted_below (suc n) ys x h.1 m in omega (arith, k)
 
 pub left_small : (arities : Signature) (r : Rule) → IsRule arities r → (k : ℕ) → occurs k r.left ≡ true → k < 2 ^ 31
 left_small arities r h k o =

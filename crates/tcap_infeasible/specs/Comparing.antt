@@ -5,7 +5,8 @@ use Rattle.rewriting.specs.Terms.{Terms}
 use Rattle.rewriting.specs.Substitutions.{apply_all}
 use Rattle.rewriting.specs.Variables.{occurs_in}
 use Rattle.rewriting.specs.Rules.{Condition, System, left_sides}
-use Rattle.renumbering.specs.Rows.{AreDistinct, naming}
+use Rattle.rewriting.specs.Lists.{AreDistinct}
+use Rattle.renumbering.specs.Rows.{naming}
 use Rattle.caps.specs.Caps.{Caps, any, all_filled, constants, AreCapsOf, AreCapsLarge}
 use Rattle.term_core.specs.View.{views}
 use Rattle.term_core.specs.declared.terms.Term.{Term}

@@ -2,7 +2,7 @@
 use Rattle.std.specs.Prelude.{ℕ, ◌≡◌, ◌+◌, ◌-◌, ◌<◌, ◌≤◌, ◌^◌, ◌⊎◌, List, length, Some, slice_get}
 use Rattle.rewriting.specs.Terms.{Term, var, app, Terms, nil, cons}
 use Rattle.rewriting.specs.Rules.{System}
-use Rattle.renumbering.specs.Rows.{AreDistinct}
+use Rattle.rewriting.specs.Lists.{AreDistinct}
 
 -- g is f for one of the first n symbols, else n and a place of what f is past them
 abbrev pub IsKey : ℕ → List ℕ → ℕ → ℕ → Type 0

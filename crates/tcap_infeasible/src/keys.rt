@@ -1,7 +1,7 @@
 // Terms with small numbers for their variables, which so have constants in 32 bits.
 ghost use Rattle.std.specs.Prelude.{◌≡◌, ◌≤◌, ◌<◌, ◌+◌, ◌^◌, IfOk, OnOk, length};
 ghost use Rattle.rewriting.specs.Terms as math;
-ghost use Rattle.renumbering.specs.Rows.{IsFront, AreDistinct};
+ghost use Rattle.rewriting.specs.Lists.{IsFront, AreDistinct};
 ghost use Rattle.term_core.specs.View.{view};
 ghost use Rattle.tcap_infeasible.specs.Keys.{IsKey, IsKeyed};
 

@@ -8,7 +8,7 @@ use Rattle.rewriting.specs.Variables.{occurs, occurs_in}
 use Rattle.rewriting.specs.Substitutions.{Bindings}
 use Rattle.rewriting.proofs.Instances.{or_cases, or_right}
 use Rattle.term_core.specs.View.{view, views}
-use Rattle.term_core.specs.SubstView.{Covers}
+use Rattle.rewriting.specs.Matching.{Covers}
 use Rattle.term_core.specs.declared.terms.Term.{Term, Var, Fun}
 use Rattle.term_core.proofs.Views.{view-Var, view-Fun}
 

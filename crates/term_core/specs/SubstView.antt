@@ -1,8 +1,7 @@
 -- The finite map that a `Subst` stands for.
-use Rattle.std.specs.Prelude.{◌≡◌, ℕ, true, List, map, IsSome, Result, Ok, Err}
-use Rattle.std.specs.FinMap.{from_entries, get}
+use Rattle.std.specs.Prelude.{◌≡◌, ℕ, List, map, Result, Ok, Err}
+use Rattle.std.specs.FinMap.{from_entries}
 use Rattle.rewriting.specs.Terms as math
-use Rattle.rewriting.specs.Variables.{occurs}
 use Rattle.rewriting.specs.Substitutions.{Bindings}
 use Rattle.term_core.specs.View.{view}
 use Rattle.term_core.specs.declared.terms.Term.{Term}
@@ -11,10 +10,6 @@ use Rattle.term_core.specs.declared.terms.TermError.TheVariants.{NoPosition, Too
 
 abbrev pub bindings_of : List (ℕ × Term) → Bindings
 bindings_of es = from_entries (map (λ e. (e.0, view e.1)) es)
-
--- every variable of the term is bound
-abbrev pub Covers : Bindings → math.Term → Type 0
-Covers b t = (x : ℕ) → occurs x t ≡ true → IsSome (get b x)
 
 -- the instance, where it fits
 abbrev pub ApplyAnswers : math.Term → Result Term TermError → Type 0

@@ -38,11 +38,12 @@ pub record IsSmall (r : math.Rule) : Type 0 where
   pub few_conditions : length r.conditions ≤ 100
   pub fits : Each Fits (terms_of_rule r)
 
--- a rule as a system has it
+-- a rule as a system has it, with the number of its variables
 pub record IsSound (arities : Signature) (r : Rule) : Type 0 where
   pub rule : IsRule arities (rule_view r)
   pub counted : r.vars ≡ length (rule_variables (rule_view r))
 
+-- each of them is one
 abbrev pub AreSound : Signature → List Rule → Type 0
 AreSound arities [] = Unit {0}
 AreSound arities (r ∷ rs) = IsSound arities r × AreSound arities rs

@@ -12,5 +12,8 @@ pub use positions::{replace, subterm};
 pub use soundness::is_over;
 pub use subst::Subst;
 pub use systems::{Cond, Head, Rule, System, SystemFault};
-pub use terms::{NoMemory, Term, TermError, depth, equal, fits, size, try_clone};
+pub use terms::{
+    MAX_DEPTH, MAX_NODES, NoMemory, Term, TermError, depth, equal, fits, room_after, size,
+    try_clone,
+};
 pub use variables::{is_linear, vars};

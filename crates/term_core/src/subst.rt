@@ -29,7 +29,8 @@ impl Model for Subst {
 }
 
 impl Subst {
-    ghost use Rattle.term_core.specs.SubstView.{ApplyAnswers, Covers};
+    ghost use Rattle.rewriting.specs.Matching.{Covers};
+    ghost use Rattle.term_core.specs.SubstView.{ApplyAnswers};
 
     /// The empty map, which grows by this allocator.
     pub fn new(alloc: Global) -> Subst

@@ -1,4 +1,4 @@
-ghost use Rattle.std.specs.Prelude.{◌≡◌, ◌<◌, ◌+◌, ◌^◌, map, length};
+ghost use Rattle.std.specs.Prelude.{◌≡◌, ◌<◌, ◌+◌, ◌^◌, OnOk, map, length};
 ghost use Rattle.rewriting.specs.Systems.{condition_count, IsSystem};
 ghost use Rattle.term_core.specs.RuleView.{rule_view, AreCounted};
 
@@ -66,13 +66,15 @@ impl Model for System {
 }
 
 impl System {
-    ghost use Rattle.term_core.specs.SystemView.{MakeAnswers};
+    ghost use Rattle.term_core.specs.SystemView.{MakeAnswers, AreSound};
 
-    /// The system of these symbols and rules, or the first fault of the first rule that has one.
+    /// The system of these symbols and rules, where each rule is sound as it is handed in, its `vars` included;
+    /// or the first fault of the first rule that has one.
     pub fn make(arities: Vec<u32>, rules: Vec<Rule>) -> Result<System, SystemFault>
         requires few_symbols { length arities.items + condition_count (map rule_view rules.items) < 2 ^ 31 }
         requires few_rules { length rules.items + condition_count (map rule_view rules.items) < 2 ^ 31 }
-        ensures { MakeAnswers arities.items rules.items result }
+        ensures answer { MakeAnswers arities.items rules.items result }
+        ensures sound { OnOk result (AreSound arities.items rules.items) }
     {
         first_fault(&arities, &rules)?;
         Ok(System { arities, rules })

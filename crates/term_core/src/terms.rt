@@ -74,8 +74,8 @@ impl<T: Drop> From<AllocFailed<T>> for TermError {
     }
 }
 
-// The room that t leaves of a number of nodes, where it has no more nodes and levels than these.
-pub(crate) fn room_after(t: &Term, room: u32, levels: u32) -> Option<u32>
+/// The room that a term leaves of a number of nodes, where it has no more nodes and levels than these.
+pub fn room_after(t: &Term, room: u32, levels: u32) -> Option<u32>
     ensures nodes { IfSome result (λ left. left + math.size (view t.now) ≡ room) }
     ensures levels { IfSome result (λ _. math.depth (view t.now) ≤ levels) }
     ensures none { IfNone result ((room < math.size (view t.now)) ⊎ (levels < math.depth (view t.now))) }

@@ -3,27 +3,30 @@ use Rattle.std.proofs.Common.{◌≡◌, ◌↔◌, ℕ, zero, suc, ◌+◌, ◌
 use Rattle.std.proofs.Math.ListN.{set}
 use Rattle.std.specs.List.{filter}
 use Rattle.std.proofs.lemmas.Bool.{cases_lt}
+use Rattle.std.proofs.lemmas.Option.{get_or_from_slice_get, slice_get_within}
 use Rattle.rewriting.specs.Terms.{Term}
 use Rattle.certificates.specs.Evidence.{Transition, Automaton}
-use Rattle.automata.specs.Runs.{Has, Reach, at, RunsFrom0}
+use Rattle.automata.specs.Runs.{Moves, Reach, at, RunsFrom0}
 use Rattle.automata.specs.Evidence.{IsAccepted}
 use Rattle.cert_model.specs.EvidenceView.{transition_view}
 use Rattle.cert_model.specs.declared.evidence.Transition as cert
 use Rattle.number_sets.specs.Relation.{Relates}
 use Rattle.number_sets.specs.declared.rows.NumberRelation.{NumberRelation}
-use Rattle.automaton_runs.specs.Members.{IsIn}
+use Rattle.rewriting.specs.Lists.{IsAmong}
+use Rattle.automaton_runs.specs.Counted.{Indexed, Finds}
 use Rattle.automaton_runs.specs.Counting.{chosen, symbol_key}
 use Rattle.automaton_runs.specs.Indexed.{pointed}
 use Rattle.automaton_runs.specs.Choices.{Batch}
 use Rattle.automaton_runs.specs.Reached.{AreWhere, Reaches}
-use Rattle.automaton_runs.proofs.Members.{contains_in, in_contains, in_map, in_map_back}
+use Rattle.rewriting.proofs.Lists.{among_map, among_of_map}
+use Rattle.automaton_runs.proofs.Members.{contains_in, in_contains}
 use Rattle.automaton_runs.proofs.Counted.{symbol_from, symbol_to}
 use Rattle.automaton_runs.proofs.Twins.{all_of}
 use Rattle.tree_automata.specs.Accepts.{IsOneAccepting, IsMarked}
 use Rattle.tree_automata.proofs.Lists.{in_front}
 
 -- the element at a place
-pub at_in : {X : Type 0} (xs : List X) (i : ℕ) (x : X) → i < length xs → x ≡ get_or xs i x → IsIn x xs
+pub at_in : {X : Type 0} (xs : List X) (i : ℕ) (x : X) → i < length xs → x ≡ get_or xs i x → IsAmong x xs
 at_in [] i x h e = absurd (omega arith)
 at_in (y ∷ ys) zero x h e = inl e
 at_in (y ∷ ys) (suc i) x h e = inr (at_in ys i x (omega arith) e)
@@ -41,42 +44,61 @@ itself (y ∷ ys) (suc i) d h = go ys i (omega arith)
 -- one of the listed states is related to some number
 module _ (a : Automaton) (r : NumberRelation) (listed : List ℕ) (same : listed ≡ a.accepting) (i : ℕ) where
   pub accepting_here : i < length listed → get_or listed i 0 < a.states → ((k : ℕ) × Relates r (get_or listed i 0) k) → IsOneAccepting a r
-  accepting_here inside low (k, there) = (get_or listed i 0, k, there, (in_contains _ a.accepting (subst (IsIn (get_or listed i 0)) same (at_in listed i _ inside (itself listed i 0 inside))), low))
+  accepting_here inside low (k, there) = (get_or listed i 0, k, there, (in_contains _ a.accepting (subst (IsAmong (get_or listed i 0)) same (at_in listed i _ inside (itself listed i 0 inside))), low))
 
-  pub none_more : i < length listed → ((q k : ℕ) → IsIn q (take i listed) → q < a.states → Relates r q k → ⊥) → (get_or listed i 0 < a.states → ((k : ℕ) × Relates r (get_or listed i 0) k) → ⊥)
-      → (q k : ℕ) → IsIn q (take (i + 1) listed) → q < a.states → Relates r q k → ⊥
+  pub none_more : i < length listed → ((q k : ℕ) → IsAmong q (take i listed) → q < a.states → Relates r q k → ⊥) → (get_or listed i 0 < a.states → ((k : ℕ) × Relates r (get_or listed i 0) k) → ⊥)
+      → (q k : ℕ) → IsAmong q (take (i + 1) listed) → q < a.states → Relates r q k → ⊥
   none_more inside front never q k h low there =
       ⊎_elim (λ f. front q k f low there) (λ e. never (subst (λ (p : ℕ). p < a.states) e low) (k, subst (λ (p : ℕ). Relates r p k) e there))
       (in_front listed i (get_or listed i 0) q inside (itself listed i 0 inside) h)
 
-  pub none_at_all : length listed ≤ i → ((q k : ℕ) → IsIn q (take i listed) → q < a.states → Relates r q k → ⊥) → IsOneAccepting a r → ⊥
-  none_at_all past front (q, k, there, acc) = front q k (subst (IsIn q) (sym (all_of listed i past)) (subst (IsIn q) (sym same) (contains_in q a.accepting acc.0))) acc.1 there
+  pub none_at_all : length listed ≤ i → ((q k : ℕ) → IsAmong q (take i listed) → q < a.states → Relates r q k → ⊥) → IsOneAccepting a r → ⊥
+  none_at_all past front (q, k, there, acc) = front q k (subst (IsAmong q) (sym (all_of listed i past)) (subst (IsAmong q) (sym same) (contains_in q a.accepting acc.0))) acc.1 there
 
 -- states 0
-module _ (a : Automaton) (f n : ℕ) (refs : List (Bor cert.Transition)) (is : pointed refs ≡ filter (chosen symbol_key a.states f) a.transitions) (i : ℕ) where
-  pub zero_here : (x : Bor cert.Transition) → i < length refs → x ≡ get_or refs i x → x.now.args.items ≡ replicate n 0 → x.now.target ≡ 0 → Has a (Some f) (replicate n 0) 0
+module _ (a : Indexed) (f n : ℕ) (refs : List (Bor cert.Transition)) (is : pointed refs ≡ filter (chosen a.symbols symbol_key a.automaton.states f) a.automaton.transitions) (i : ℕ) where
+  pub zero_here : (x : Bor cert.Transition) → i < length refs → x ≡ get_or refs i x → x.now.args.items ≡ replicate n 0 → x.now.target ≡ 0 → Finds a (Some f) (replicate n 0) 0
   zero_here x inside here zeros target =
       let t = transition_view x.now in
-      let there : IsIn t (pointed refs) = in_map (λ (r : Bor cert.Transition). transition_view r.now) x refs (at_in refs i x inside here) in
-      let has = symbol_from a f t (subst (λ (l : List Transition). IsIn t l) is there) in
-      subst (λ (q : ℕ). Has a (Some f) (replicate n 0) q) target (subst (λ (qs : List ℕ). Has a (Some f) qs x.now.target) zeros has)
+      let there : IsAmong t (pointed refs) = among_map (λ (r : Bor cert.Transition). transition_view r.now) x refs (at_in refs i x inside here) in
+      let has = symbol_from a f t (subst (λ (l : List Transition). IsAmong t l) is there) in
+      subst (λ (q : ℕ). Finds a (Some f) (replicate n 0) q) target (subst (λ (qs : List ℕ). Finds a (Some f) qs x.now.target) zeros has)
 
-  pub zero_more : (x : Bor cert.Transition) → i < length refs → x ≡ get_or refs i x → ((t : Transition) → IsIn t (pointed (take i refs)) → t.arguments ≡ replicate n 0 → t.target ≡ 0 → ⊥)
-      → (x.now.args.items ≡ replicate n 0 → x.now.target ≡ 0 → ⊥) → (t : Transition) → IsIn t (pointed (take (i + 1) refs)) → t.arguments ≡ replicate n 0 → t.target ≡ 0 → ⊥
+  pub zero_more : (x : Bor cert.Transition) → i < length refs → x ≡ get_or refs i x → ((t : Transition) → IsAmong t (pointed (take i refs)) → t.arguments ≡ replicate n 0 → t.target ≡ 0 → ⊥)
+      → (x.now.args.items ≡ replicate n 0 → x.now.target ≡ 0 → ⊥) → (t : Transition) → IsAmong t (pointed (take (i + 1) refs)) → t.arguments ≡ replicate n 0 → t.target ≡ 0 → ⊥
   zero_more x inside here front never t h zeros target =
       let view : Bor cert.Transition → Transition = λ r. transition_view r.now in
-      let b = in_map_back view t (take (i + 1) refs) h in
-      ⊎_elim (λ k. front t (subst (λ (u : Transition). IsIn u (pointed (take i refs))) (sym b.2) (in_map view b.0 (take i refs) k)) zeros target)
+      let b = among_of_map view t (take (i + 1) refs) h in
+      ⊎_elim (λ k. front t (subst (λ (u : Transition). IsAmong u (pointed (take i refs))) (sym b.2) (among_map view b.0 (take i refs) k)) zeros target)
       (λ e.
       let same : t ≡ transition_view x.now = b.2 ∙ ap view e in
       never (ap (λ (u : Transition). u.arguments) (sym same) ∙ zeros) (ap (λ (u : Transition). u.target) (sym same) ∙ target))
       (in_front refs i x b.0 inside here b.1)
 
-  pub zero_nowhere : length refs ≤ i → ((t : Transition) → IsIn t (pointed (take i refs)) → t.arguments ≡ replicate n 0 → t.target ≡ 0 → ⊥) → Has a (Some f) (replicate n 0) 0 → ⊥
+  pub zero_nowhere : length refs ≤ i → ((t : Transition) → IsAmong t (pointed (take i refs)) → t.arguments ≡ replicate n 0 → t.target ≡ 0 → ⊥) → Finds a (Some f) (replicate n 0) 0 → ⊥
   zero_nowhere past front has =
       let t : Transition = record { symbol = Some f; arguments = replicate n 0; target = 0 } in
-      let there = subst (λ (l : List Transition). IsIn t l) (sym is) (symbol_to a f (replicate n 0) 0 has) in
-      front t (subst (λ (l : List (Bor cert.Transition)). IsIn t (pointed l)) (sym (all_of refs i past)) there) refl refl
+      let there = subst (λ (l : List Transition). IsAmong t l) (sym is) (symbol_to a f (replicate n 0) 0 has) in
+      front t (subst (λ (l : List (Bor cert.Transition)). IsAmong t (pointed l)) (sym (all_of refs i past)) there) refl refl
+
+-- the symbols below a number, one more at a time
+pub zeros_more : (arities items : List ℕ) (M : Moves) (i : ℕ) → items ≡ arities → M (Some i) (replicate (get_or items i 0) 0) 0 → ((g n : ℕ) → g < i → slice_get arities g ≡ Some n → M (Some g) (replicate n 0) 0)
+    → (g n : ℕ) → g < i + 1 → slice_get arities g ≡ Some n → M (Some g) (replicate n 0) 0
+zeros_more arities items M i same here front g n l e =
+    ⊎_elim (λ (h : g < i). front g n h e)
+    (λ (h : i ≤ g).
+    let one : g ≡ i = omega arith in
+    let at_i : slice_get items i ≡ Some n = subst (λ (k : ℕ). slice_get items k ≡ Some n) one (subst (λ (xs : List ℕ). slice_get xs g ≡ Some n) (sym same) e) in
+    let value : get_or items i 0 ≡ n = get_or_from_slice_get items i n 0 at_i in
+    subst (λ (k : ℕ). M (Some k) (replicate n 0) 0) (sym one) (subst (λ (m : ℕ). M (Some i) (replicate m 0) 0) value here))
+    (cases_lt g i)
+
+pub zeros_all : (arities items : List ℕ) (M : Moves) (i : ℕ) → items ≡ arities → length items ≤ i → ((g n : ℕ) → g < i → slice_get arities g ≡ Some n → M (Some g) (replicate n 0) 0)
+    → (f n : ℕ) → slice_get arities f ≡ Some n → M (Some f) (replicate n 0) 0
+zeros_all arities items M i same past front f n e =
+    let low = slice_get_within arities f n e in
+    let long = ap length same in
+    front f n (omega arith) e
 
 -- marks
 set_here : (marks : List Bool) (q : ℕ) (b : Bool) → q < length marks → slice_get (set marks q b) q ≡ Some b
@@ -106,28 +128,28 @@ mark_more E old new n b inside front is here q low = by (cases_lt q n)
         subst (λ (p : ℕ). IsMarked new p ↔ E p) same known
 
 -- runs with all variables at the state 0
-abbrev pub AreFrom0 : Automaton → Term → NumberRelation → Type 0
-AreFrom0 a t r = (q k : ℕ) → Relates r q k ↔ ((k ≡ 0) × Reach (Has a) (at (λ x. 0)) t q)
+abbrev pub AreFrom0 : Indexed → Term → NumberRelation → Type 0
+AreFrom0 a t r = (q k : ℕ) → Relates r q k ↔ ((k ≡ 0) × Reach (Finds a) (at (λ x. 0)) t q)
 
 -- the one choice for no occurrences
-pub from_0 : (a : Automaton) (t : Term) (b : Batch) (r : NumberRelation) → b.states ≡ 1 → b.length ≡ 0 → b.number ≡ 0 → AreWhere b (Reaches a [] t) r → AreFrom0 a t r
+pub from_0 : (a : Indexed) (t : Term) (b : Batch) (r : NumberRelation) → b.states ≡ 1 → b.length ≡ 0 → b.number ≡ 0 → AreWhere b (Reaches a [] t) r → AreFrom0 a t r
 from_0 a t b r states long first where_ q k =
     let one : b.states ^ b.length ≡ 1 = ap₂ (λ (n m : ℕ). n ^ m) states long in (
       λ h. let there = (where_ q k).0 h in let low = there.0.1 in (omega arith, there.1),
       λ h. let zero_is = h.0 in (where_ q k).1 ((omega arith, omega arith), h.1),
     )
 
-pub accepted_is : (a i : Automaton) (t : Term) (r : NumberRelation) (b : Bool) → i ≡ a → AreFrom0 i t r → (IsTrue b ↔ IsOneAccepting a r) → IsTrue b ↔ IsAccepted a t
+pub accepted_is : (a : Automaton) (i : Indexed) (t : Term) (r : NumberRelation) (b : Bool) → i.automaton ≡ a → AreFrom0 i t r → (IsTrue b ↔ IsOneAccepting a r) → IsTrue b ↔ IsAccepted i.symbols a t
 accepted_is a i t r b same all one =
-    let own = subst (λ (x : Automaton). AreFrom0 x t r) same all in (
+    let own : AreFrom0 (record { symbols = i.symbols; automaton = a }) t r = subst (λ (x : Automaton). AreFrom0 (record { symbols = i.symbols; automaton = x }) t r) same all in (
       λ h. let (q, k, there, acc) = one.0 h in (q, acc, (acc.1, ((own q k).0 there).1)),
       λ (q, acc, run). one.1 (q, 0, (own q 0).1 (refl, run.1), acc),
     )
 
-pub marks_are : (a i : Automaton) (t : Term) (r : NumberRelation) (marks : List Bool) → i ≡ a → AreFrom0 i t r → ((q : ℕ) → q < length marks → IsMarked marks q ↔ ((k : ℕ) × Relates r q k)) → length marks ≡ a.states
-    → (q : ℕ) → q < a.states → IsMarked marks q ↔ RunsFrom0 a t q
+pub marks_are : (a : Automaton) (i : Indexed) (t : Term) (r : NumberRelation) (marks : List Bool) → i.automaton ≡ a → AreFrom0 i t r → ((q : ℕ) → q < length marks → IsMarked marks q ↔ ((k : ℕ) × Relates r q k)) → length marks ≡ a.states
+    → (q : ℕ) → q < a.states → IsMarked marks q ↔ RunsFrom0 i.symbols a t q
 marks_are a i t r marks same all marked long q low =
-    let own = subst (λ (x : Automaton). AreFrom0 x t r) same all in
+    let own : AreFrom0 (record { symbols = i.symbols; automaton = a }) t r = subst (λ (x : Automaton). AreFrom0 (record { symbols = i.symbols; automaton = x }) t r) same all in
     let m = marked q (let inside : q < length marks = omega arith in inside) in (
       λ h. let there = m.0 h in (low, ((own q there.0).0 there.1).1),
       λ run. m.1 (0, (own q 0).1 (refl, run.1)),

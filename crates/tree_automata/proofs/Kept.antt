@@ -1,44 +1,35 @@
 -- Right sides that are kept, and the first that is not.
 use Rattle.std.proofs.Common.{◌≡◌, ◌↔◌, ℕ, ◌<◌, Bool, true, false, if◌then◌else◌, nat_eq, List, [], ◌∷◌, Option, Some, None, refl, sym, subst, arith}
 use Rattle.std.specs.List.{All}
-use Rattle.std.proofs.lemmas.List.Elements.{All-head, All-tail}
 use Rattle.rewriting.specs.Terms.{Term, var, app, Terms}
-use Rattle.rewriting.specs.Rules.{Rule, System}
-use Rattle.ctrs_classes.specs.Blames.{leaves}
-use Rattle.certificates.specs.Evidence.{Automaton}
-use Rattle.automata.specs.Runs.{Has, ReachBy}
+use Rattle.rewriting.specs.Rules.{Rule}
+use Rattle.rewriting.specs.Variables.{variable_occurrences}
+use Rattle.automata.specs.Runs.{ReachBy}
 use Rattle.automata.specs.Closed.{IsChoice, state_of, IsKept, IsRuleKept}
 use Rattle.number_sets.specs.Relation.{Relates}
 use Rattle.number_sets.specs.declared.rows.NumberRelation.{NumberRelation}
+use Rattle.automaton_runs.specs.Counted.{Indexed, Finds}
 use Rattle.automaton_runs.specs.Choices.{Batch, choice_of}
 use Rattle.automaton_runs.specs.Reached.{AreWhere, Reaches}
 use Rattle.automaton_runs.specs.declared.runs.Arrival.{Arrival}
+use Rattle.automata.proofs.Asked.{state_below}
 use Rattle.tree_automata.specs.Kept.{IsInclusion, IsVariable, IsKeptBy}
 use Rattle.tree_automata.specs.Batches.{FailureAnswers}
 use Rattle.tree_automata.specs.Open.{OpenAnswers}
 use Rattle.tree_automata.proofs.Open.{reached_state}
 
-pub state_below : (n : ℕ) (names cs : List ℕ) (x : ℕ) → 0 < n → All (λ q. q < n) cs → state_of names cs x < n
-state_below n [] cs x some all = some
-state_below n (y ∷ ys) [] x some all = some
-state_below n (y ∷ ys) (c ∷ cs) x some all = by (nat_eq x y) (All-head (λ q. q < n) c cs all) (state_below n ys cs x some (All-tail (λ q. q < n) c cs all))
-  where
-    by : (b : Bool) → c < n → state_of ys cs x < n → (if b then c else state_of ys cs x) < n
-    by true here rest = here
-    by false here rest = rest
-
-module _ (sys : System) (a : Automaton) (r : NumberRelation) where
-  kept_at : (names cs : List ℕ) (right : Term) (q : ℕ) → (IsVariable right → IsInclusion sys a r) → All (λ p. p < a.states) cs → q < a.states → IsKeptBy r a names right cs q ↔ IsKept sys (Has a) (state_of names cs) right q
+module _ (a : Indexed) (r : NumberRelation) where
+  kept_at : (names cs : List ℕ) (right : Term) (q : ℕ) → (IsVariable right → IsInclusion a r) → All (λ p. p < a.automaton.states) cs → q < a.automaton.states → IsKeptBy r a names right cs q ↔ IsKept (Finds a) (state_of names cs) right q
   kept_at names cs (app f ts) q asked all low = (λ h. h, λ h. h)
   kept_at names cs (var x) q asked all low =
       let is = asked tt (state_of names cs x) q in
-      (λ h. (is.0 h).2, λ twins. is.1 (state_below a.states names cs x (omega arith) all, low, twins))
+      (λ h. (is.0 h).2, λ twins. is.1 (state_below a.automaton.states (omega arith) names cs all x, low, twins))
 
-  module _ (rule : Rule) (asked : IsVariable rule.right → IsInclusion sys a r) where
-    pub kept_is : (cs : List ℕ) (q : ℕ) → IsChoice a.states rule.left cs → ReachBy (Has a) rule.left cs q → IsKeptBy r a (leaves rule.left) rule.right cs q ↔ IsRuleKept sys (Has a) rule cs q
-    kept_is cs q choice reach = kept_at (leaves rule.left) cs rule.right q asked choice.states (reached_state a rule.left cs q choice reach)
+  module _ (rule : Rule) (asked : IsVariable rule.right → IsInclusion a r) where
+    pub kept_is : (cs : List ℕ) (q : ℕ) → IsChoice a.automaton.states rule.left cs → ReachBy (Finds a) rule.left cs q → IsKeptBy r a (variable_occurrences rule.left) rule.right cs q ↔ IsRuleKept (Finds a) rule cs q
+    kept_is cs q choice reach = kept_at (variable_occurrences rule.left) cs rule.right q asked choice.states (reached_state a rule.left cs q choice reach)
 
-    pub open_answers : (o : Option Arrival) → FailureAnswers a rule.left (IsKeptBy r a (leaves rule.left) rule.right) o → OpenAnswers sys a rule o
+    pub open_answers : (o : Option Arrival) → FailureAnswers a rule.left (IsKeptBy r a (variable_occurrences rule.left) rule.right) o → OpenAnswers a rule o
     open_answers None all = λ cs q choice reach. (kept_is cs q choice reach).0 (all cs q choice reach)
     open_answers (Some arrival) first =
         record {
@@ -49,7 +40,7 @@ module _ (sys : System) (a : Automaton) (r : NumberRelation) where
         }
 
 -- the choices of a batch by which a right side is kept
-module _ (r : NumberRelation) (a : Automaton) (b : Batch) (names : List ℕ) where
+module _ (r : NumberRelation) (a : Indexed) (b : Batch) (names : List ℕ) where
   pub kept_variable : (t : Term) (x : ℕ) (reached carried : NumberRelation) → t ≡ var x → AreWhere b (Reaches a names t) reached → ((p q : ℕ) → Relates carried p q ↔ ((s : ℕ) × Relates r s p × Relates reached s q)) → AreWhere b (IsKeptBy r a names t) carried
   kept_variable t x reached carried e where_ step =
       let own = subst (λ (u : Term). AreWhere b (Reaches a names u) reached) e where_ in

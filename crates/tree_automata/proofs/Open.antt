@@ -7,9 +7,10 @@ use Rattle.std.proofs.lemmas.List.Elements.{All-head}
 use Rattle.rewriting.specs.Terms as math
 use Rattle.rewriting.specs.Rules.{Rule, System, rule_at}
 use Rattle.certificates.specs.Evidence.{Transition, Automaton}
-use Rattle.automata.specs.Runs.{Has, ReachBy}
-use Rattle.automata.specs.Closed.{IsChoice, Includes, IsRuleKept, IsClosed, IsFirstOpen, IsWide, IsFirstWide}
-use Rattle.automaton_runs.specs.Members.{IsIn}
+use Rattle.automata.specs.Runs.{ReachBy}
+use Rattle.automata.specs.Closed.{IsChoice, Includes, IsRuleKept, HasOver, IsClosed, IsFirstOpen, IsWide, IsFirstWide}
+use Rattle.automaton_runs.specs.Counted.{Indexed, Finds, under}
+use Rattle.rewriting.specs.Lists.{IsAmong}
 use Rattle.automaton_runs.specs.Counting.{chosen, target_key}
 use Rattle.tree_automata.specs.Open.{IsRuleClosed, IsOpenAt, HaveTwins}
 use Rattle.std.proofs.lemmas.List.{length-map}
@@ -20,8 +21,8 @@ use Rattle.tree_automata.proofs.Lists.{mapped_at}
 use Rattle.automaton_runs.proofs.Looked.{looked_to}
 
 -- a state that a term reaches is one of the automaton
-pub reached_state : (a : Automaton) (t : math.Term) (cs : List ℕ) (q : ℕ) → IsChoice a.states t cs → ReachBy (Has a) t cs q → q < a.states
-reached_state a (math.var x) cs q choice r = All-head (λ p. p < a.states) q [] (subst (All (λ p. p < a.states)) r choice.states)
+pub reached_state : (a : Indexed) (t : math.Term) (cs : List ℕ) (q : ℕ) → IsChoice a.automaton.states t cs → ReachBy (Finds a) t cs q → q < a.automaton.states
+reached_state a (math.var x) cs q choice r = All-head (λ p. p < a.automaton.states) q [] (subst (All (λ p. p < a.automaton.states)) r choice.states)
 reached_state a (math.app f ts) cs q choice (qs, has, r) = has.target
 
 module _ (P : Rule → Type 0) where
@@ -42,11 +43,11 @@ module _ (P : Rule → Type 0) where
 pub numbered : (sys : System) (i n : ℕ) (r : Rule) → n ≡ i + 1 → slice_get sys.rules i ≡ Some r → rule_at sys n ≡ Some r
 numbered sys i n r c e = let next : suc i ≡ n = omega arith in subst (λ (k : ℕ). rule_at sys k ≡ Some r) next e
 
-pub all_closed : (sys : System) (a : Automaton) (i : ℕ) → length sys.rules ≤ i → ((k : ℕ) (q : Rule) → k < i → slice_get sys.rules k ≡ Some q → IsRuleClosed sys a q) → IsClosed sys a
-all_closed sys a i l front n r cs q at choice reach = each_all (IsRuleClosed sys a) sys i l front n r at cs q choice reach
+pub all_closed : (sys : System) (a : Automaton) (i : ℕ) → length sys.rules ≤ i → ((k : ℕ) (q : Rule) → k < i → slice_get sys.rules k ≡ Some q → IsRuleClosed (under sys a) q) → IsClosed sys a
+all_closed sys a i l front n r cs q at choice reach = each_all (IsRuleClosed (under sys a)) sys i l front n r at cs q choice reach
 
-pub first_open_of : (sys : System) (a : Automaton) (i n : ℕ) (r : Rule) (cs : List ℕ) (q : ℕ) → n ≡ i + 1 → slice_get sys.rules i ≡ Some r → IsOpenAt sys a r cs q
-    → ((k : ℕ) (p : Rule) → k < i → slice_get sys.rules k ≡ Some p → IsRuleClosed sys a p) → IsFirstOpen sys a n cs q
+pub first_open_of : (sys : System) (a : Automaton) (i n : ℕ) (r : Rule) (cs : List ℕ) (q : ℕ) → n ≡ i + 1 → slice_get sys.rules i ≡ Some r → IsOpenAt (under sys a) r cs q
+    → ((k : ℕ) (p : Rule) → k < i → slice_get sys.rules k ≡ Some p → IsRuleClosed (under sys a) p) → IsFirstOpen sys a n cs q
 first_open_of sys a i n r cs q c e at_first front =
     record {
       rule = r;
@@ -55,13 +56,13 @@ first_open_of sys a i n r cs q c e at_first front =
       reached = at_first.reached;
       fails = at_first.fails;
       earlier = λ j p ds s at choice reach before.
-          ⊎_elim (λ l. each_before (IsRuleClosed sys a) sys i n c front j p l at ds s choice reach)
+          ⊎_elim (λ l. each_before (IsRuleClosed (under sys a)) sys i n c front j p l at ds s choice reach)
           (λ h.
           let there : rule_at sys n ≡ Some p = subst (λ (k : ℕ). rule_at sys k ≡ Some p) h.0 at in
           let here = numbered sys i n r c e in
           let same : r ≡ p = cc in
-          let early : (t : Rule) → r ≡ t → IsChoice a.states t.left ds → ReachBy (Has a) t.left ds s → IsRuleKept sys (Has a) t ds s =
-          λ t f. subst (λ (u : Rule). IsChoice a.states u.left ds → ReachBy (Has a) u.left ds s → IsRuleKept sys (Has a) u ds s) f (λ x y. at_first.earlier ds s x y h.1) in
+          let early : (t : Rule) → r ≡ t → IsChoice a.states t.left ds → ReachBy (HasOver sys a) t.left ds s → IsRuleKept (HasOver sys a) t ds s =
+          λ t f. subst (λ (u : Rule). IsChoice a.states u.left ds → ReachBy (HasOver sys a) u.left ds s → IsRuleKept (HasOver sys a) u ds s) f (λ x y. at_first.earlier ds s x y h.1) in
           early p same choice reach)
           before;
     }
@@ -72,8 +73,8 @@ first_wide_of sys a i n r c e wide front =
     record { rule = r; is_rule = numbered sys i n r c e; wide = wide; earlier = λ j p l at w. each_before (λ q. IsWide a q.left → ⊥) sys i n c front j p l at w }
 
 -- twins
-pub twins_include : (sys : System) (a : Automaton) (q p : ℕ) (ts : List Transition) → ((t : Transition) → IsIn t (filter (chosen target_key a.states p) a.transitions) → IsIn t ts) → HaveTwins sys a ts q → Includes sys (Has a) q p
-twins_include sys a q p ts whole twins s qs head has = twins (record { symbol = s; arguments = qs; target = p }) (whole _ (looked_to a target_key p s qs p has refl)) head
+pub twins_include : (a : Indexed) (q p : ℕ) (ts : List Transition) → ((t : Transition) → IsAmong t (filter (chosen a.symbols target_key a.automaton.states p) a.automaton.transitions) → IsAmong t ts) → HaveTwins a ts q → Includes (Finds a) q p
+twins_include a q p ts whole twins s qs has = twins (record { symbol = s; arguments = qs; target = p }) (whole _ (looked_to a target_key p s qs p has refl))
 
 -- the rules of a program's system
 module _ (sys : System) (rules : List data_rule.Rule) (i : ℕ) (rule : data_rule.Rule) (same : map rule_view rules ≡ sys.rules) where

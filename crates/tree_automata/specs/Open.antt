@@ -3,10 +3,11 @@ use Rattle.std.specs.Prelude.{ℕ, List, Option, None, Some}
 use Rattle.rewriting.specs.Rules.{Rule, System}
 use Rattle.certificates.specs.Evidence.{Transition, Automaton}
 use Rattle.certificates.specs.Reasons.{EvidenceReason, auto_wide, auto_not_closed}
-use Rattle.automata.specs.Runs.{Has, ReachBy}
-use Rattle.automata.specs.Closed.{IsChoice, IsHead, IsRuleKept, IsClosed, IsFirstOpen, AreNarrow, IsFirstWide}
+use Rattle.automata.specs.Runs.{ReachBy}
+use Rattle.automata.specs.Closed.{IsChoice, IsRuleKept, IsClosed, IsFirstOpen, AreNarrow, IsFirstWide}
+use Rattle.automaton_runs.specs.Counted.{Indexed, Finds}
 use Rattle.automaton_runs.specs.Arrivals.{IsArrivalBefore}
-use Rattle.automaton_runs.specs.Members.{IsIn}
+use Rattle.rewriting.specs.Lists.{IsAmong}
 use Rattle.automaton_runs.specs.declared.runs.Arrival.{Arrival}
 
 -- no left side is wide, or the first rule whose left side is
@@ -22,20 +23,20 @@ IsOpenJudged sys a (Some (auto_not_closed i cs q)) = IsFirstOpen sys a i cs q
 IsOpenJudged sys a (Some _) = ⊥
 
 -- the right side of the rule is kept at all arrivals of its left side
-abbrev pub IsRuleClosed : System → Automaton → Rule → Type 0
-IsRuleClosed sys a r = (cs : List ℕ) (q : ℕ) → IsChoice a.states r.left cs → ReachBy (Has a) r.left cs q → IsRuleKept sys (Has a) r cs q
+abbrev pub IsRuleClosed : Indexed → Rule → Type 0
+IsRuleClosed a r = (cs : List ℕ) (q : ℕ) → IsChoice a.automaton.states r.left cs → ReachBy (Finds a) r.left cs q → IsRuleKept (Finds a) r cs q
 
 -- with these states the left side reaches q, and the right side is not kept there, first among its arrivals
-pub record IsOpenAt (sys : System) (a : Automaton) (r : Rule) (cs : List ℕ) (q : ℕ) : Type 0 where
-  pub choice : IsChoice a.states r.left cs
-  pub reached : ReachBy (Has a) r.left cs q
-  pub fails : IsRuleKept sys (Has a) r cs q → ⊥
-  pub earlier : (ds : List ℕ) (p : ℕ) → IsChoice a.states r.left ds → ReachBy (Has a) r.left ds p → IsArrivalBefore (ds, p) (cs, q) → IsRuleKept sys (Has a) r ds p
+pub record IsOpenAt (a : Indexed) (r : Rule) (cs : List ℕ) (q : ℕ) : Type 0 where
+  pub choice : IsChoice a.automaton.states r.left cs
+  pub reached : ReachBy (Finds a) r.left cs q
+  pub fails : IsRuleKept (Finds a) r cs q → ⊥
+  pub earlier : (ds : List ℕ) (p : ℕ) → IsChoice a.automaton.states r.left ds → ReachBy (Finds a) r.left ds p → IsArrivalBefore (ds, p) (cs, q) → IsRuleKept (Finds a) r ds p
 
-abbrev pub OpenAnswers : System → Automaton → Rule → Option Arrival → Type 0
-OpenAnswers sys a r None = IsRuleClosed sys a r
-OpenAnswers sys a r (Some arrival) = IsOpenAt sys a r arrival.choice.items arrival.state
+abbrev pub OpenAnswers : Indexed → Rule → Option Arrival → Type 0
+OpenAnswers a r None = IsRuleClosed a r
+OpenAnswers a r (Some arrival) = IsOpenAt a r arrival.choice.items arrival.state
 
--- each of the transitions whose head is one of the system has its twin to q
-abbrev pub HaveTwins : System → Automaton → List Transition → ℕ → Type 0
-HaveTwins sys a ts q = (t : Transition) → IsIn t ts → IsHead sys t.symbol t.arguments → Has a t.symbol t.arguments q
+-- each of the transitions has its twin to q
+abbrev pub HaveTwins : Indexed → List Transition → ℕ → Type 0
+HaveTwins a ts q = (t : Transition) → IsAmong t ts → Finds a t.symbol t.arguments q

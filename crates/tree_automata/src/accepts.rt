@@ -2,11 +2,12 @@ ghost use Rattle.std.specs.Prelude.{◌≡◌, ◌↔◌, ◌<◌, ◌≤◌, �
 ghost use Rattle.number_sets.specs.Relation.{Relates};
 ghost use Rattle.rewriting.specs.Terms as math;
 ghost use Rattle.certificates.specs.Evidence as evidence;
-ghost use Rattle.automata.specs.Runs.{Has, Reach, at, RunsFrom0};
+ghost use Rattle.automata.specs.Runs.{Reach, at, RunsFrom0};
 ghost use Rattle.automata.specs.Closed.{AcceptsAll};
 ghost use Rattle.automata.specs.Evidence.{IsAccepted};
 ghost use Rattle.term_core.specs.View.{view};
 ghost use Rattle.cert_model.specs.EvidenceView.{automaton_view};
+ghost use Rattle.automaton_runs.specs.Counted.{Finds};
 ghost use Rattle.tree_automata.specs.Accepts.{IsMarked, IsOneAccepting};
 
 use automaton_runs::{AutomatonIndex, Batch, reached};
@@ -31,7 +32,7 @@ fn are_zeros(numbers: &[u32], count: u32) -> bool
 
 // Whether the symbol leads from states 0 to state 0.
 fn keeps_zero(index: &AutomatonIndex<'_>, f: u32, arity: u32) -> bool
-    ensures { IsTrue result ↔ Has index.now (Some f) (replicate arity 0) 0 }
+    ensures { IsTrue result ↔ Finds index.now (Some f) (replicate arity 0) 0 }
 {
     for transition in index.with_symbol(f) {
         if transition.target == 0 && are_zeros(&transition.args, arity) {
@@ -43,7 +44,7 @@ fn keeps_zero(index: &AutomatonIndex<'_>, f: u32, arity: u32) -> bool
 
 // Whether state 0 accepts all.
 pub(crate) fn accepts_all(index: &AutomatonIndex<'_>, sys: &System) -> bool
-    ensures { IsTrue result ↔ AcceptsAll sys.now index.now }
+    ensures { IsTrue result ↔ AcceptsAll sys.now (Finds index.now) }
 {
     let _rules = sys.rules();
     for (f, arity) in sys.arities().iter().enumerate() {
@@ -72,7 +73,7 @@ fn reached_from_0(
     index: &AutomatonIndex<'_>,
     t: &Term,
 ) -> Result<NumberRelation, NoMemory>
-    ensures { IfOk result (λ r. (q k : ℕ) → Relates r q k ↔ ((k ≡ 0) × Reach (Has index.now) (at (λ x. 0)) (view t.now) q)) }
+    ensures { IfOk result (λ r. (q k : ℕ) → Relates r q k ↔ ((k ≡ 0) × Reach (Finds index.now) (at (λ x. 0)) (view t.now) q)) }
 {
     let batch = Batch::new(alloc, 1, 0, 0)?;
     reached(alloc, index, &batch, &[], t)
@@ -85,8 +86,8 @@ pub(crate) fn is_accepted(
     a: &Automaton,
     t: &Term,
 ) -> Result<bool, NoMemory>
-    requires { index.now ≡ automaton_view a.now }
-    ensures { IfOk result (λ yes. IsTrue yes ↔ IsAccepted (automaton_view a.now) (view t.now)) }
+    requires { index.now.automaton ≡ automaton_view a.now }
+    ensures { IfOk result (λ yes. IsTrue yes ↔ IsAccepted index.now.symbols (automaton_view a.now) (view t.now)) }
 {
     let reached = reached_from_0(alloc, index, t)?;
     Ok(is_one_accepting(&reached, a))
@@ -109,18 +110,19 @@ pub trait Runs {
     ghost automaton: { Self → evidence.Automaton };
 
     /// Marks the states that a term reaches where its variables have the state 0; whether one of them is accepting.
+    /// For a system over whose symbols the term is, these are the transitions that count.
     fn reaches(&self, alloc: Global, t: &Term, out: &mut [bool]) -> Result<bool, NoMemory>
         requires long { length out.old ≡ (automaton self.now).states }
         requires fits { math.Fits (view t.now) }
-        ensures marks { OnOk result ((q : ℕ) → q < (automaton self.now).states → IsMarked out.new q ↔ RunsFrom0 (automaton self.now) (view t.now) q) }
-        ensures hit { IfOk result (λ hit. IsTrue hit ↔ IsAccepted (automaton self.now) (view t.now)) };
+        ensures marks { OnOk result ((q : ℕ) → q < (automaton self.now).states → IsMarked out.new q ↔ RunsFrom0 None (automaton self.now) (view t.now) q) }
+        ensures hit { IfOk result (λ hit. IsTrue hit ↔ IsAccepted None (automaton self.now) (view t.now)) };
 }
 
 impl Runs for Automaton {
     ghost automaton = { automaton_view };
 
     fn reaches(&self, alloc: Global, t: &Term, out: &mut [bool]) -> Result<bool, NoMemory> {
-        let index = AutomatonIndex::new(alloc, self)?;
+        let index = AutomatonIndex::new(alloc, None, self)?;
         let reached = reached_from_0(alloc, &index, t)?;
         mark_all(&reached, self.states, out);
         Ok(is_one_accepting(&reached, self))

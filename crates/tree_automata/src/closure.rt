@@ -1,12 +1,13 @@
 ghost use Rattle.std.specs.Prelude.{◌≡◌, ◌+◌, ◌≤◌, ◌^◌, IfOk, length};
 ghost use Rattle.rewriting.specs.Terms as math;
-ghost use Rattle.ctrs_classes.specs.Blames.{leaves};
+ghost use Rattle.rewriting.specs.Variables.{variable_occurrences};
 ghost use Rattle.automata.specs.Closed.{IsWide, AreNarrow};
 ghost use Rattle.automata.specs.Evidence.{IsClosureJudged};
 ghost use Rattle.term_core.specs.View.{view};
 ghost use Rattle.term_core.specs.RuleView.{rule_view};
 ghost use Rattle.cert_model.specs.EvidenceView.{automaton_view};
 ghost use Rattle.refuter.specs.Answers.{RefutesAnswers};
+ghost use Rattle.automaton_runs.specs.Counted.{under};
 ghost use Rattle.automaton_runs.specs.Choices.{start};
 ghost use Rattle.tree_automata.specs.Kept.{IsKeptBy};
 ghost use Rattle.tree_automata.specs.Batches.{HoldsBelow, FailureBelowAnswers, FailureAnswers};
@@ -33,9 +34,9 @@ fn first_open_in(
     batch: &Batch,
 ) -> Result<Option<Arrival>, NoMemory>
     requires fits { math.Fits (view rule.now.left) }
-    requires few { index.now.states ^ length names.now ≤ 1000000 }
-    requires names { names.now ≡ leaves (view rule.now.left) }
-    requires states { batch.now.states ≡ index.now.states }
+    requires few { index.now.automaton.states ^ length names.now ≤ 1000000 }
+    requires names { names.now ≡ variable_occurrences (view rule.now.left) }
+    requires states { batch.now.states ≡ index.now.automaton.states }
     requires length { batch.now.length ≡ length names.now }
     requires before { HoldsBelow index.now (view rule.now.left) (IsKeptBy inclusion.now index.now names.now (view rule.now.right)) (start batch.now) }
     ensures { IfOk result (FailureBelowAnswers index.now (view rule.now.left) (IsKeptBy inclusion.now index.now names.now (view rule.now.right)) (start batch.now + 4096)) }
@@ -63,8 +64,8 @@ fn first_open(
     rule: &Rule,
 ) -> Result<Option<Arrival>, NoMemory>
     requires fits { math.Fits (view rule.now.left) }
-    requires narrow { IsWide index.now (view rule.now.left) → ⊥ }
-    ensures { IfOk result (FailureAnswers index.now (view rule.now.left) (IsKeptBy inclusion.now index.now (leaves (view rule.now.left)) (view rule.now.right))) }
+    requires narrow { IsWide index.now.automaton (view rule.now.left) → ⊥ }
+    ensures { IfOk result (FailureAnswers index.now (view rule.now.left) (IsKeptBy inclusion.now index.now (variable_occurrences (view rule.now.left)) (view rule.now.right))) }
 {
     let names = occurrences(alloc, &rule.left)?;
     let possible = possible_batches(alloc, index, &rule.left, names.len())?;
@@ -80,10 +81,27 @@ fn first_open(
     Ok(None)
 }
 
+// The index of an automaton by the symbols of a system.
+pub(crate) fn index_under<'a>(
+    alloc: Global,
+    sys: &'a System,
+    a: &'a Automaton,
+) -> Result<AutomatonIndex<'a>, NoMemory>
+    ensures { IfOk result (λ index. index ≡ under sys.now (automaton_view a.now)) }
+{
+    AutomatonIndex::new(alloc, Some(sys.arities()), a)
+}
+
 // Whether every right side is kept, or the first that is not.
-fn judge_rules(alloc: Global, index: &AutomatonIndex<'_>, sys: &System) -> Result<(), Refusal>
-    requires { AreNarrow sys.now index.now }
-    ensures { RefutesAnswers (IsOpenJudged sys.now index.now) result }
+fn judge_rules(
+    alloc: Global,
+    index: &AutomatonIndex<'_>,
+    sys: &System,
+    a: &Automaton,
+) -> Result<(), Refusal>
+    requires index { index.now ≡ under sys.now (automaton_view a.now) }
+    requires narrow { AreNarrow sys.now (automaton_view a.now) }
+    ensures { RefutesAnswers (IsOpenJudged sys.now (automaton_view a.now)) result }
 {
     let inclusion = inclusion_if_asked(alloc, index, sys)?;
     let mut number: u32 = 0;
@@ -109,7 +127,7 @@ fn judge_rules(alloc: Global, index: &AutomatonIndex<'_>, sys: &System) -> Resul
 pub fn is_closed(alloc: Global, sys: &System, a: &Automaton) -> Result<(), Refusal>
     ensures { RefutesAnswers (λ o. IsClosureJudged sys.now (automaton_view a.now) o) result }
 {
-    let index = AutomatonIndex::new(alloc, a)?;
-    judge_widths(alloc, &index, sys)?;
-    judge_rules(alloc, &index, sys)
+    let index = index_under(alloc, sys, a)?;
+    judge_widths(alloc, sys, a)?;
+    judge_rules(alloc, &index, sys, a)
 }

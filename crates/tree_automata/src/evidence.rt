@@ -9,9 +9,8 @@ ghost use Rattle.cert_model.specs.EvidenceView.{automaton_view};
 ghost use Rattle.refuter.specs.Answers.{RefutesAnswers};
 
 use crate::accepts::{accepts_all, is_accepted};
-use crate::closure::is_closed;
-use crate::exclusion::excludes;
-use automaton_runs::AutomatonIndex;
+use crate::closure::{index_under, is_closed};
+use crate::exclusion::judge_exclusion;
 use cert_model::{Automaton, EvidenceReason};
 use refuter::{Refusal, Refuter};
 use std::alloc::Global;
@@ -40,7 +39,7 @@ fn judge_condition(alloc: Global, sys: &System, cond: &Cond, a: &Automaton) -> R
     requires right { math.Fits (view cond.now.right) }
     ensures { RefutesAnswers (λ o. IsConditionJudged sys.now (condition_view cond.now) (automaton_view a.now) o) result }
 {
-    let index = AutomatonIndex::new(alloc, a)?;
+    let index = index_under(alloc, sys, a)?;
     if !accepts_all(&index, sys) {
         return Err(Refusal::Reason(EvidenceReason::AutoAny));
     }
@@ -48,7 +47,7 @@ fn judge_condition(alloc: Global, sys: &System, cond: &Cond, a: &Automaton) -> R
         return Err(Refusal::Reason(EvidenceReason::AutoMisses));
     }
     match is_closed(alloc, sys, a) {
-        Ok(()) => excludes(alloc, a, &cond.right),
+        Ok(()) => judge_exclusion(alloc, &index, a, &cond.right),
         Err(why) => Err(why),
     }
 }

@@ -1,36 +1,22 @@
 ghost use Rattle.std.specs.Prelude.{◌≡◌, ◌↔◌, length, IfOk, IsTrue};
 ghost use Rattle.number_sets.specs.Sets.{members};
-ghost use Rattle.automata.specs.Runs.{Has};
-ghost use Rattle.automata.specs.Closed.{IsHead, Includes};
+ghost use Rattle.automata.specs.Closed.{Includes};
 ghost use Rattle.term_core.specs.View.{view};
+ghost use Rattle.automaton_runs.specs.Counted.{Finds};
 ghost use Rattle.automaton_runs.specs.Reached.{AreWhere};
 ghost use Rattle.tree_automata.specs.Kept.{AreIncluding, IsInclusion, IsInclusionIfAsked, IsVariable, IsKeptBy};
 
 use automaton_runs::{AutomatonIndex, Batch, reached};
-use cert_model::Transition;
 use number_sets::{NumberRelation, NumberSet};
 use std::alloc::Global;
 use term_core::{NoMemory, System, Term};
 
-// Whether the transition is for a symbol of the system with as many arguments as its arity, or for variables.
-fn is_headed(sys: &System, transition: &Transition) -> bool
-    ensures { IsTrue result ↔ IsHead sys.now transition.now.symbol transition.now.args.items }
-{
-    match transition.symbol {
-        Some(f) => match sys.arities().get(f as usize) {
-            Some(arity) => *arity as usize == transition.args.len(),
-            None => false,
-        },
-        None => transition.args.is_empty(),
-    }
-}
-
 // Whether each transition to p has its twin to q.
-fn includes(index: &AutomatonIndex<'_>, sys: &System, q: u32, p: u32) -> bool
-    ensures { IsTrue result ↔ Includes sys.now (Has index.now) q p }
+fn includes(index: &AutomatonIndex<'_>, q: u32, p: u32) -> bool
+    ensures { IsTrue result ↔ Includes (Finds index.now) q p }
 {
     for transition in index.with_target(p) {
-        if is_headed(sys, transition) && !index.has(transition.symbol, &transition.args, q) {
+        if !index.has(transition.symbol, &transition.args, q) {
             return false;
         }
     }
@@ -38,17 +24,12 @@ fn includes(index: &AutomatonIndex<'_>, sys: &System, q: u32, p: u32) -> bool
 }
 
 // The states that include p.
-fn including(
-    alloc: Global,
-    index: &AutomatonIndex<'_>,
-    sys: &System,
-    p: u32,
-) -> Result<NumberSet, NoMemory>
-    ensures { IfOk result (λ set. AreIncluding sys.now index.now p (members set)) }
+fn including(alloc: Global, index: &AutomatonIndex<'_>, p: u32) -> Result<NumberSet, NoMemory>
+    ensures { IfOk result (λ set. AreIncluding index.now p (members set)) }
 {
     let mut set = NumberSet::new(alloc);
     for q in 0..index.states() {
-        if includes(index, sys, q, p) {
+        if includes(index, q, p) {
             set.insert(q)?;
         }
     }
@@ -56,16 +37,12 @@ fn including(
 }
 
 // Each state with those that include it.
-fn inclusion(
-    alloc: Global,
-    index: &AutomatonIndex<'_>,
-    sys: &System,
-) -> Result<NumberRelation, NoMemory>
-    ensures { IfOk result (IsInclusion sys.now index.now) }
+fn inclusion(alloc: Global, index: &AutomatonIndex<'_>) -> Result<NumberRelation, NoMemory>
+    ensures { IfOk result (IsInclusion index.now) }
 {
     let mut made = NumberRelation::new(alloc);
     for p in 0..index.states() {
-        made.insert_all(alloc, p, &including(alloc, index, sys, p)?)?;
+        made.insert_all(alloc, p, &including(alloc, index, p)?)?;
     }
     Ok(made)
 }
@@ -89,7 +66,7 @@ pub(crate) fn inclusion_if_asked(
 {
     for rule in sys.rules() {
         if is_variable(&rule.right) {
-            return inclusion(alloc, index, sys);
+            return inclusion(alloc, index);
         }
     }
     Ok(NumberRelation::new(alloc))

@@ -1,8 +1,9 @@
+ghost use Rattle.cert_model.specs.EvidenceView.{automaton_view};
 ghost use Rattle.refuter.specs.Answers.{RefutesAnswers};
 ghost use Rattle.tree_automata.specs.Open.{IsWidthJudged};
 
-use automaton_runs::{AutomatonIndex, has_more_choices, occurrences};
-use cert_model::EvidenceReason;
+use automaton_runs::{has_more_choices, occurrences};
+use cert_model::{Automaton, EvidenceReason};
 use refuter::Refusal;
 use std::alloc::Global;
 use term_core::System;
@@ -11,18 +12,14 @@ use term_core::System;
 pub(crate) const MAX_CHOICES: u32 = 1_000_000;
 
 // Whether no left side is wide, or the first rule whose left side is.
-pub(crate) fn judge_widths(
-    alloc: Global,
-    index: &AutomatonIndex<'_>,
-    sys: &System,
-) -> Result<(), Refusal>
-    ensures { RefutesAnswers (IsWidthJudged sys.now index.now) result }
+pub(crate) fn judge_widths(alloc: Global, sys: &System, a: &Automaton) -> Result<(), Refusal>
+    ensures { RefutesAnswers (IsWidthJudged sys.now (automaton_view a.now)) result }
 {
     let mut number: u32 = 0;
     'rules: for rule in sys.rules() {
         number += 1;
         let names = occurrences(alloc, &rule.left)?;
-        if has_more_choices(index.states(), names.len(), MAX_CHOICES) {
+        if has_more_choices(a.states, names.len(), MAX_CHOICES) {
             return Err(Refusal::Reason(EvidenceReason::AutoWide { rule: number }));
         }
     }

@@ -1,4 +1,9 @@
-//! Most general unifiers of lists of terms.
+//! Most general unifiers of lists of terms, by a run that stops at terms beyond the limits of size, and terms with other
+//! numbers for their variables.
+//!
+//! `unify_terms` of f(x, b) and f(a, y) gives x = a and y = b. f(a) and g(a) clash, and so do x and f(x), since x occurs
+//! in what it would be bound to. Where both terms are to have variables of their own, one is unified with 2k for each
+//! variable k, the other with 2k + 1: `rename(alloc, &t, 2, 1)`.
 #![tactic(auto)]
 
 mod bound;

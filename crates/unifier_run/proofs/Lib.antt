@@ -2,9 +2,11 @@ pub mod Values
 pub mod Lists
 pub mod Agree
 pub mod General
+pub mod Terminates
 pub mod Unique
 pub mod Equal
 pub mod Maps
 pub mod Triples
 pub mod Spots
 pub mod Renamed
+pub mod Total

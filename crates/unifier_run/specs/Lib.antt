@@ -2,3 +2,4 @@ pub mod Run
 pub mod Laws
 pub mod Overlaps
 pub mod Irreducible
+pub mod Totality

@@ -1,13 +1,15 @@
 -- The list of a system's overlaps: a set of triples, sorted, each with its conditional critical pair under the unifier of
 -- the run (after Ohlebusch, Advanced Topics in Term Rewriting, chapter 7).
 use Rattle.std.specs.Prelude.{ℕ, ◌≡◌, ◌≤◌, ◌⊎◌, List, [], ◌∷◌, length}
+use Rattle.rewriting.specs.Lists.{IsAmong, IsSorted}
 use Rattle.rewriting.specs.Terms.{Term, nil, cons, Fits}
 use Rattle.rewriting.specs.Positions.{Position}
 use Rattle.rewriting.specs.Substitutions.{apply}
 use Rattle.rewriting.specs.Unifiers.{even, odd}
 use Rattle.rewriting.specs.Rules.{Rule, System, sides}
 use Rattle.rewriting.specs.Systems.{Each}
-use Rattle.rewriting.specs.Overlaps.{IsPlace, IsEarlier, CriticalPair, IsCriticalPair}
+use Rattle.rewriting.specs.Overlaps.{IsEarlierOverlap}
+use Rattle.rewriting.specs.Overlaps.{IsPlace, CriticalPair, IsCriticalPair}
 use Rattle.unifier_run.specs.Run.{Binding, value, Outcome, unifier, clash, too_large, IsOutcome}
 
 -- an inner rule's number, a position, an outer rule's number
@@ -57,26 +59,16 @@ pub record IsTooLargeAt (sys : System) (i : ℕ) (p : Position) (j : ℕ) : Type
   pub why : IsOutcomeOf inner.left part too_large
       ⊎ ((by : List Binding) × (pair : CriticalPair) × IsOutcomeOf inner.left part (unifier by) × IsCriticalPair (value by) p inner outer part pair × (DoesPairFit pair → ⊥))
 
--- the overlap is one of the list
-abbrev pub IsListed : Overlap → List Overlap → Type 0
-IsListed o [] = ⊥
-IsListed o (q ∷ os) = (o ≡ q) ⊎ IsListed o os
-
--- each is earlier than those behind it
-abbrev pub IsBeforeAll : Overlap → List Overlap → Type 0
-IsBeforeAll o [] = Unit {0}
-IsBeforeAll o (q ∷ os) = IsEarlier (triple o) (triple q) × IsBeforeAll o os
-
-abbrev pub IsSorted : List Overlap → Type 0
-IsSorted [] = Unit {0}
-IsSorted (o ∷ os) = IsBeforeAll o os × IsSorted os
+-- overlaps are in the order of their triples
+abbrev pub ComesBefore : Overlap → Overlap → Type 0
+ComesBefore o q = IsEarlierOverlap (triple o) (triple q)
 
 -- the list has exactly the overlaps at the triples that count, in order; at each other such triple the run ends in a clash
 pub record AreOverlapsAt (sys : System) (Counts : Triple → Type 0) (os : List Overlap) : Type 0 where
-  pub each : (o : Overlap) → IsListed o os → IsOverlapOf sys o × Counts (triple o)
-  pub sorted : IsSorted os
+  pub each : (o : Overlap) → IsAmong o os → IsOverlapOf sys o × Counts (triple o)
+  pub sorted : IsSorted ComesBefore os
   pub whole : (i : ℕ) (p : Position) (j : ℕ) (inner outer : Rule) (part : Term) → IsPlace sys i p j inner outer part → Counts (i, (p, j))
-      → IsOutcomeOf inner.left part clash ⊎ ((o : Overlap) × IsListed o os × (triple o ≡ (i, (p, j))))
+      → IsOutcomeOf inner.left part clash ⊎ ((o : Overlap) × IsAmong o os × (triple o ≡ (i, (p, j))))
 
 -- those at all triples, at most 20,000
 pub record AreOverlaps (sys : System) (os : List Overlap) : Type 0 where
@@ -87,7 +79,7 @@ pub record AreOverlaps (sys : System) (os : List Overlap) : Type 0 where
 pub record IsPairTooLarge (sys : System) (i : ℕ) (p : Position) (j : ℕ) : Type 0 where
   pub is_large : IsTooLargeAt sys i p j
   pub before : List Overlap
-  pub are_before : AreOverlapsAt sys (λ t. IsEarlier t (i, (p, j))) before
+  pub are_before : AreOverlapsAt sys (λ t. IsEarlierOverlap t (i, (p, j))) before
   pub few : length before ≤ 20000
 
 -- there is an overlap with 20,000 before it, and no triple before it is too large
@@ -95,5 +87,5 @@ pub record AreTooManyOverlaps (sys : System) : Type 0 where
   pub next : Overlap
   pub is_overlap : IsOverlapOf sys next
   pub before : List Overlap
-  pub are_before : AreOverlapsAt sys (λ t. IsEarlier t (triple next)) before
+  pub are_before : AreOverlapsAt sys (λ t. IsEarlierOverlap t (triple next)) before
   pub many : length before ≡ 20000

@@ -2,6 +2,7 @@
 #![tactic(auto)]
 
 ghost use Rattle.unifier_run.specs.Laws.{MapsHaveTheValues, OutcomesAreUnique, UnifiersAreMostGeneral, UnifiersAreIdempotent, ClashesHaveNoUnifier};
+ghost use Rattle.unifier_run.specs.Totality.{RunsHaveOutcomes, TermsAreJudged, OverlapsAreDefined};
 
 /// A run has at most one outcome. Its unifier is most general and idempotent, and a clash means that
 /// there is none (Baader and Nipkow, Term Rewriting and All That, section 4.6).
@@ -11,4 +12,12 @@ pub fn laws_of_runs()
     ensures idempotent { UnifiersAreIdempotent }
     ensures clash { ClashesHaveNoUnifier }
     ensures values { MapsHaveTheValues }
+{}
+
+/// Every run has an outcome, every term is judged, and every system has its list of overlaps, whatever its size, or a
+/// first refusal.
+pub fn runs_are_total()
+    ensures runs { RunsHaveOutcomes }
+    ensures terms { TermsAreJudged }
+    ensures overlaps { OverlapsAreDefined }
 {}

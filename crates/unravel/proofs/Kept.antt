@@ -6,7 +6,7 @@ use Rattle.rewriting.specs.Terms as math
 use Rattle.rewriting.specs.Terms.{Term, var, app, Terms, nil, cons, terms_of, Fits}
 use Rattle.rewriting.specs.Substitutions.{apply, apply_all}
 use Rattle.rewriting.specs.Variables.{with_new, with_variables, with_variables_of}
-use Rattle.rewriting.specs.Unraveling.{variable_terms, keeper, place_of}
+use Rattle.rewriting.specs.Unraveling.{variable_terms, keeper, index_in}
 
 size-variable_terms : (xs : List ℕ) → math.size_all (variable_terms xs) ≡ length xs
 size-variable_terms [] = refl
@@ -39,10 +39,10 @@ fits_kept f t xs h =
     (omega (arith, s, n), omega (arith, d, l))
 
 -- the place in what is left of a list
-pub place_here : (xs : List ℕ) (i x : ℕ) → i < length xs → place_of (drop i xs) x ≡ (if nat_eq x (get_or xs i 0) then zero else suc (place_of (drop (i + 1) xs) x))
+pub place_here : (xs : List ℕ) (i x : ℕ) → i < length xs → index_in (drop i xs) x ≡ (if nat_eq x (get_or xs i 0) then zero else suc (index_in (drop (i + 1) xs) x))
 place_here xs i x h = rw add-one (go xs i h)
   where
-    go : (ys : List ℕ) (k : ℕ) → k < length ys → place_of (drop k ys) x ≡ (if nat_eq x (get_or ys k 0) then zero else suc (place_of (drop (suc k) ys) x))
+    go : (ys : List ℕ) (k : ℕ) → k < length ys → index_in (drop k ys) x ≡ (if nat_eq x (get_or ys k 0) then zero else suc (index_in (drop (suc k) ys) x))
     go [] k h = absurd (omega arith)
     go (y ∷ ys) zero h = refl
     go (y ∷ ys) (suc k) h = go ys k (omega arith)

@@ -2,7 +2,7 @@
 use Rattle.std.specs.Prelude.{ℕ, List}
 use Rattle.rewriting.specs.Terms as math
 use Rattle.rewriting.specs.Substitutions.{Substitution}
-use Rattle.rewriting.specs.Unraveling.{keeper, place_of}
+use Rattle.rewriting.specs.Unraveling.{keeper, index_in}
 use Rattle.term_core.specs.View.{view}
 use Rattle.unravel.specs.declared.sides.Side.{Side}
 use Rattle.unravel.specs.declared.sides.Side.TheVariants.{Plain, Kept}
@@ -18,4 +18,4 @@ DoesPartFit (Kept symbol term known) = math.Fits (view term.now)
 
 -- each variable becomes its place in the list
 abbrev pub numbered : List ℕ → Substitution
-numbered order = λ x. math.var (place_of order x)
+numbered order = λ x. math.var (index_in order x)

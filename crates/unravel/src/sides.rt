@@ -3,7 +3,7 @@ ghost use Rattle.std.specs.Prelude.{◌≡◌, ◌↔◌, ◌<◌, ◌^◌, ◌+
 ghost use Rattle.rewriting.specs.Terms as math;
 ghost use Rattle.rewriting.specs.Substitutions.{apply, apply_all};
 ghost use Rattle.rewriting.specs.Variables.{with_new, with_variables, with_variables_of};
-ghost use Rattle.rewriting.specs.Unraveling.{place_of, variable_terms};
+ghost use Rattle.rewriting.specs.Unraveling.{index_in, variable_terms};
 ghost use Rattle.term_core.specs.View.{view, views};
 ghost use Rattle.unravel.specs.SideView.{side_view, DoesPartFit, numbered};
 
@@ -25,7 +25,7 @@ pub enum Side<'a> {
 #[tactic(auto, using(crate::proofs::Kept::place_here))]
 fn place(order: &[u32], x: u32) -> u32
     requires { length order.now < 2 ^ 32 }
-    ensures { result ≡ place_of order.now x }
+    ensures { result ≡ index_in order.now x }
 {
     let mut place = 0;
     for y in order {

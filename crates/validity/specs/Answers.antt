@@ -6,10 +6,10 @@ use Rattle.interpretations.specs.Judgement.{Judgement}
 use Rattle.cert_model.specs.ReasonView.{rejected_view}
 use Rattle.validity.specs.declared.CheckError.{CheckError}
 use Rattle.validity.specs.declared.CheckError.TheVariants.{Rejected, NoMemory}
-use Rattle.validity.specs.declared.CertKind.{CertKind}
-use Rattle.validity.specs.Peaks.{IsValidPeak, IsPeakRejected}
-use Rattle.validity.specs.Entries.{DoSettle, DoNotSettle}
-use Rattle.validity.specs.Confluence.{IsValidOrtho, IsOrthoRejected, IsValidQuasi, IsQuasiRejected}
+use Rattle.valid_certificates.specs.Kinds.{Kind}
+use Rattle.valid_certificates.specs.Peaks.{IsValidPeak, IsPeakRejected}
+use Rattle.valid_certificates.specs.Entries.{DoSettle, DoNotSettle}
+use Rattle.valid_certificates.specs.Confluence.{IsValidOrtho, IsOrthoRejected, IsValidQuasi, IsQuasiRejected}
 
 -- the peak is valid, or the first reason why it is not
 abbrev pub PeakAnswers : System → Peak → Result (Unit {0}) CheckError → Type 0
@@ -18,7 +18,7 @@ PeakAnswers sys peak (Err (Rejected reason)) = IsPeakRejected sys peak (rejected
 PeakAnswers sys peak (Err NoMemory) = Unit {0}
 
 -- the entries settle all overlaps, or the first reason why they do not
-abbrev pub SettleAnswers : CertKind → System → List PairEntry → Result (Unit {0}) CheckError → Type 0
+abbrev pub SettleAnswers : Kind → System → List PairEntry → Result (Unit {0}) CheckError → Type 0
 SettleAnswers kind sys es (Ok _) = DoSettle kind sys es
 SettleAnswers kind sys es (Err (Rejected reason)) = DoNotSettle kind sys es (rejected_view reason)
 SettleAnswers kind sys es (Err NoMemory) = Unit {0}

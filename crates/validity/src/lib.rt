@@ -1,13 +1,13 @@
-//! What makes a certificate valid, and why one is rejected.
+//! What the checks of certificates answer, and what the searches for them do.
 #![tactic(auto)]
 
 ghost use Rattle.std.specs.Prelude.{◌≡◌, ◌↔◌, IsTrue};
 ghost use Rattle.cert_model.specs.EvidenceView.{pair_evidence_view};
-ghost use Rattle.validity.specs.PairEvidence.{IsAllowed};
-ghost use Rattle.validity.specs.Laws.{ValidPeaksReachApart, CertificatesHaveOneAnswer};
+ghost use Rattle.valid_certificates.specs.PairEvidence.{IsAllowed};
+ghost use Rattle.validity.specs.KindView.{kind_view};
 ghost use Rattle.validity.specs.declared.CheckError.TheVariants.{NoMemory as no_memory};
 
-use cert_model::{PairEvidence, Rejected};
+use cert_model::{Certificate, PairEvidence, Rejected};
 use term_core::NoMemory;
 
 /// Why a check does not answer Ok.
@@ -26,6 +26,17 @@ impl From<NoMemory> for CheckError {
     }
 }
 
+/// What a search for a certificate found within its budget.
+#[derive(Debug, Drop)]
+pub enum Search {
+    /// The first valid certificate of the search's space.
+    Found(Certificate),
+    /// The space holds no valid certificate.
+    Nothing,
+    /// The budget was spent.
+    Spent,
+}
+
 /// The kinds of certificates that show that a system is confluent.
 #[derive(Clone, Copy, Debug, PartialEq, Eq)]
 pub enum CertKind {
@@ -37,7 +48,7 @@ pub enum CertKind {
 
 /// Whether certificates of the kind may give the evidence for an overlap. Takes no memory.
 pub fn allowed(kind: CertKind, e: &PairEvidence) -> bool
-    ensures { IsTrue result ↔ IsAllowed kind (pair_evidence_view e.now) }
+    ensures { IsTrue result ↔ IsAllowed (kind_view kind) (pair_evidence_view e.now) }
 {
     match (kind, e) {
         (_, PairEvidence::Infeasible(_)) => true,
@@ -51,13 +62,3 @@ pub fn allowed(kind: CertKind, e: &PairEvidence) -> bool
         (CertKind::Quasi, PairEvidence::Unfeasible { .. }) => true,
     }
 }
-
-/// The start of a valid peak reaches two terms that have no common reduct.
-pub fn valid_peaks_reach_apart()
-    ensures { ValidPeaksReachApart }
-{}
-
-/// A certificate is rejected for one reason, and then it is not valid.
-pub fn certificates_have_one_answer()
-    ensures { CertificatesHaveOneAnswer }
-{}

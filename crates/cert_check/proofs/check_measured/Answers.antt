@@ -1,7 +1,7 @@
 use Rattle.std.proofs.Common.{sym, subst, map}
 use Rattle.cert_model.specs.CertificateView.{pair_entry_view}
 use Rattle.validity.specs.Answers.{QuasiAnswers}
-use Rattle.validity.specs.Certificates.{IsMeasureJudged}
+use Rattle.valid_certificates.specs.Certificates.{IsMeasureJudged}
 use Rattle.cert_check.proofs.check_measured.Goals as goal
 
 pub returns-clause-judged : goal.returns-clause-judged

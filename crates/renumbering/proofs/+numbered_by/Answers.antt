@@ -1,4 +1,4 @@
-use Rattle.renumbering.proofs.Rows.{front_trans}
+use Rattle.rewriting.proofs.Lists.{front_trans}
 use Rattle.renumbering.proofs.Numbered.{numbered_more, row_more, numbered_variable, numbered_symbol, row_symbol}
 use Rattle.renumbering.proofs.+numbered_by.Goals as goal
 

@@ -1,7 +1,7 @@
 use Rattle.std.proofs.Common.{◌≡◌, take, drop}
 use Rattle.rewriting.specs.Variables.{with_variables_of}
 use Rattle.term_core.specs.View.{views}
-use Rattle.renumbering.specs.Rows.{IsFront, AreDistinct}
+use Rattle.rewriting.specs.Lists.{IsFront, AreDistinct}
 use Rattle.renumbering.proofs.Numbered.{AreNumbered}
 use Rattle.renumbering.proofs.+numbered_by.Given as goal
 

@@ -2,7 +2,7 @@ use Rattle.std.proofs.Common.{◌≡◌, map, length, subst, sym, arith}
 use Rattle.term_core.specs.View.{view}
 use Rattle.term_core.specs.RuleView.{rule_view}
 use Rattle.cert_model.specs.EvidenceView.{transition_view}
-use Rattle.automaton_grow.specs.Growing.{HasStates}
+use Rattle.automata.specs.Growth.{HasStates}
 use Rattle.automaton_grow.proofs.States.{room_at}
 use Rattle.automaton_grow.proofs.Rules.{first_zero, first_next, first_low, rule_of, sides_fit, rule_low, narrow_at, same_count}
 use Rattle.automaton_grow.proofs.Parts.{rules_begin, rules_next, rules_error, rules_end}

@@ -1,6 +1,6 @@
 use Rattle.std.proofs.Common.{◌↔◌, ◌+◌, ℕ, take, subst, sym}
 use Rattle.std.proofs.lemmas.Result.{IfOk-weaker}
-use Rattle.number_sets.specs.Members.{IsIn}
+use Rattle.rewriting.specs.Lists.{IsAmong}
 use Rattle.number_sets.specs.Sets.{members}
 use Rattle.number_sets.specs.Relation.{Relates}
 use Rattle.number_sets.specs.declared.rows.NumberRelation.{NumberRelation}
@@ -27,7 +27,7 @@ reached-returns-in_ok-args-in-Fun t c =
     let names = c.args.names.now in
     let rs = c.deref-in-Fun.result.now in
     let all = members c.all.result.now in
-    IfOk-weaker c.reached_from.result (λ r. (q k : ℕ) → Relates r q k ↔ (IsIn k all × IsReachedFrom a c.in-Fun.f rs q k)) (AreWhere b (Reaches a names (view c.args.t.now)))
+    IfOk-weaker c.reached_from.result (λ r. (q k : ℕ) → Relates r q k ↔ (IsAmong k all × IsReachedFrom a c.in-Fun.f rs q k)) (AreWhere b (Reaches a names (view c.args.t.now)))
     (λ r. symbol_reached b a names c.args.t.now c.in-Fun.f c.in-Fun.args c.deref.result.now rs all r c.in-Fun.is c.deref.ensures.value
     (subst (AreEvaluated b a names c.deref.result.now) (sym c.deref-in-Fun.ensures.value) c.in_ok-args-in-Fun.ensures) c.all.ensures) c.reached_from.ensures
 

@@ -7,4 +7,4 @@ use Rattle.automaton_runs.proofs.batch_runs.put_by_first.Given as goal
 
 abbrev pub invariant-loop-state : goal.invariant-loop-state
 invariant-loop-state l =
-    (q k : ℕ) → Relates l.made q k ↔ (Relates l.fn.made q k ⊎ ((s : ℕ) × (s < l.state) × (((p : ℕ) × Relates l.first s p) × HaveLeads l.f (members l.all) l.args (filter (chosen first_key l.index.states s) l.index.transitions) q k)))
+    (q k : ℕ) → Relates l.made q k ↔ (Relates l.fn.made q k ⊎ ((s : ℕ) × (s < l.state) × (((p : ℕ) × Relates l.first s p) × HaveLeads l.f (members l.all) l.args (filter (chosen l.index.symbols first_key l.index.automaton.states s) l.index.automaton.transitions) q k)))

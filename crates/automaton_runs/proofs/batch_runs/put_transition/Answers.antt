@@ -1,5 +1,5 @@
 use Rattle.std.proofs.Common.{◌↔◌, ◌⊎◌, ◌∙◌, List, ℕ, sym, subst}
-use Rattle.number_sets.specs.Members.{IsIn}
+use Rattle.rewriting.specs.Lists.{IsAmong}
 use Rattle.number_sets.specs.Sets.{members}
 use Rattle.number_sets.specs.Relation.{Relates}
 use Rattle.number_sets.specs.declared.rows.NumberRelation.{NumberRelation}
@@ -18,7 +18,7 @@ returns-after-not-is_empty c q k =
     let old = c.args.made.now in
     let set = members c.in_ok-set.set in
     let symbol = option_is t.symbol f (sym c.eq.ensures ∙ c.if-eq.true) in
-    let shared = λ (n : ℕ). subst (λ (l : List ℕ). IsIn n set ↔ (IsIn n all × AreRelated rs l n)) c.deref-then-are_lefts.ensures.value (c.in_ok-set.ensures n) in
+    let shared = λ (n : ℕ). subst (λ (l : List ℕ). IsAmong n set ↔ (IsAmong n all × AreRelated rs l n)) c.deref-then-are_lefts.ensures.value (c.in_ok-set.ensures n) in
     elim c.if-not-is_empty.branch [
       | then-not-is_empty+in_ok-insert_all w ↦
           subst (λ (r : NumberRelation). Relates r q k ↔ (Relates old q k ⊎ Leads f all rs t q k)) (sym w.made-is) (lead_put f all rs t old w.insert_all.new.self symbol set shared w.in_ok-insert_all.ensures q k)

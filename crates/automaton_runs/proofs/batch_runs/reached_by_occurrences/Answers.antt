@@ -1,6 +1,7 @@
 use Rattle.std.proofs.Common.{length, ap, arith, ◌∙◌}
 use Rattle.std.proofs.lemmas.Result.{IfOk-weaker}
-use Rattle.automata.specs.Runs.{Has, ReachBy}
+use Rattle.automata.specs.Runs.{ReachBy}
+use Rattle.automaton_runs.specs.Counted.{Finds}
 use Rattle.term_core.specs.View.{view}
 use Rattle.number_sets.specs.Sets.{below}
 use Rattle.automaton_runs.specs.Reached.{AreWhere}
@@ -20,5 +21,5 @@ reached-requires c = ap length (c.deref.ensures.value ∙ c.in_ok-names.ensures)
 
 pub returns : goal.returns
 returns c =
-    IfOk-weaker c.reached.result _ (AreWhere c.args.batch.now (ReachBy (Has c.args.index.now) (view c.args.t.now)))
+    IfOk-weaker c.reached.result _ (AreWhere c.args.batch.now (ReachBy (Finds c.args.index.now) (view c.args.t.now)))
     (λ r. where_occurrences c.args.index.now c.args.batch.now (view c.args.t.now) (view c.in_ok-linear.field-0) c.deref.result.now r c.requires.length (c.deref.ensures.value ∙ c.in_ok-names.ensures ∙ ap below c.occurrences.ensures) c.in_ok-linear.ensures) c.reached.ensures

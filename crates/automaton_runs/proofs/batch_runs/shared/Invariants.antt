@@ -1,8 +1,8 @@
 use Rattle.std.proofs.Common.{◌↔◌, ℕ, take}
-use Rattle.number_sets.specs.Members.{IsIn}
+use Rattle.rewriting.specs.Lists.{IsAmong}
 use Rattle.number_sets.specs.Sets.{members}
 use Rattle.automaton_runs.specs.Reached.{AreRelated}
 use Rattle.automaton_runs.proofs.batch_runs.shared.Given as goal
 
 abbrev pub invariant-loop-place : goal.invariant-loop-place
-invariant-loop-place l = (k : ℕ) → IsIn k (members l.set) ↔ (IsIn k (members l.all) × AreRelated (take l.place l.args) (take l.place l.states) k)
+invariant-loop-place l = (k : ℕ) → IsAmong k (members l.set) ↔ (IsAmong k (members l.all) × AreRelated (take l.place l.args) (take l.place l.states) k)

@@ -2,7 +2,8 @@ use Rattle.std.proofs.Common.{◌↔◌, ◌∙◌, sym, ap, subst, map, take, L
 use Rattle.std.specs.List.{filter}
 use Rattle.certificates.specs.Evidence.{Transition}
 use Rattle.cert_model.specs.EvidenceView.{transition_view}
-use Rattle.automaton_runs.specs.Members.{IsIn}
+use Rattle.rewriting.specs.Lists.{IsAmong}
+use Rattle.automaton_runs.specs.Counted.{symbols_of}
 use Rattle.automaton_runs.specs.Counting.{counts}
 use Rattle.automaton_runs.specs.Twins.{known_view}
 use Rattle.automaton_runs.proofs.Members.{mapped_more}
@@ -15,12 +16,12 @@ loop-transition-preserved c = λ u.
     let items = c.deref-transition-items.result.now in
     let i = c.loop-transition.transition-index in
     let new = map known_view c.put_known.new.known.keys in
-    subst (λ (ts : List Transition). IsIn u new ↔ IsIn u (filter (counts n) ts)) (sym (mapped_more transition_view items i c.transition-item.result c.loop-transition-test.true c.transition-item.is))
-    (known_more n (map transition_view (take i items)) (transition_view c.transition-item.result) (map known_view c.loop-transition.known.keys) new c.loop-transition.invariant c.in_ok-put_known.ensures u)
+    subst (λ (ts : List Transition). IsAmong u new ↔ IsAmong u (filter (counts (symbols_of c.args.arities) n) ts)) (sym (mapped_more transition_view items i c.transition-item.result c.loop-transition-test.true c.transition-item.is))
+    (known_more (symbols_of c.args.arities) n (map transition_view (take i items)) (transition_view c.transition-item.result) (map known_view c.loop-transition.known.keys) new c.loop-transition.invariant c.in_ok-put_known.ensures u)
 
 pub returns : goal.returns
 returns c = λ u.
     let n = c.args.automaton.now.states in
     let old = map known_view c.loop-transition.known.keys in
-    subst (λ (ts : List Transition). IsIn u old ↔ IsIn u (filter (counts n) ts))
+    subst (λ (ts : List Transition). IsAmong u old ↔ IsAmong u (filter (counts (symbols_of c.args.arities) n) ts))
     (ap (map transition_view) (all_of c.deref-transition-items.result.now c.loop-transition.transition-index c.loop-transition-test.false ∙ c.deref-transition-items.ensures.value)) (c.loop-transition.invariant u)

@@ -1,6 +1,6 @@
 use Rattle.std.proofs.Common.{◌≡◌, ◌+◌, ◌<◌, ◌∙◌, ℕ, List, ap, sym, subst, arith, length, take}
 use Rattle.rewriting.specs.Terms.{size}
-use Rattle.ctrs_classes.specs.Blames.{leaves, leaves_of}
+use Rattle.rewriting.specs.Variables.{variable_occurrences, variable_occurrences_of}
 use Rattle.term_core.specs.View.{view, views}
 use Rattle.term_core.specs.declared.terms.Term.{Term}
 use Rattle.automaton_runs.specs.Linear.{linear_all}
@@ -13,8 +13,8 @@ put_numbers-requires t c =
     let ts = c.deref-arg-items.result.now in
     let i = c.loop-arg.arg-index in
     let shown = ap length (leaves_shown c.args.t.now c.in-Fun.f c.in-Fun.args c.in-Fun.is) in
-    let same = ap (λ (l : List Term). length (leaves_of (views l))) c.deref-arg-items.ensures.value in
-    let bound : c.loop-arg.next + length (leaves (view c.arg-item.result)) < 4294967296 =
+    let same = ap (λ (l : List Term). length (variable_occurrences_of (views l))) c.deref-arg-items.ensures.value in
+    let bound : c.loop-arg.next + length (variable_occurrences (view c.arg-item.result)) < 4294967296 =
     omega (arith, count_more ts i c.arg-item.result c.loop-arg-test.true c.arg-item.is, count_within ts (i + 1), c.loop-arg.invariant.next, c.requires) in
     (subst (λ (n : ℕ). size (view c.arg-item.result) < n) c.decreases (size_below c.args.t.now c.in-Fun.f c.in-Fun.args ts i c.arg-item.result c.in-Fun.is c.deref-arg-items.ensures.value c.loop-arg-test.true c.arg-item.is), bound)
 
@@ -34,7 +34,7 @@ returns-after-loop-arg t c =
     let ts = c.deref-arg-items.result.now in
     let whole : take c.loop-arg.arg-index ts ≡ ts = all_of ts c.loop-arg.arg-index c.loop-arg-test.false in
     let shown = leaves_shown c.args.t.now c.in-Fun.f c.in-Fun.args c.in-Fun.is in
-    let names : leaves_of (views (take c.loop-arg.arg-index ts)) ≡ leaves (view c.args.t.now) = ap (λ (l : List Term). leaves_of (views l)) (whole ∙ c.deref-arg-items.ensures.value) ∙ sym shown in record {
+    let names : variable_occurrences_of (views (take c.loop-arg.arg-index ts)) ≡ variable_occurrences (view c.args.t.now) = ap (λ (l : List Term). variable_occurrences_of (views l)) (whole ∙ c.deref-arg-items.ensures.value) ∙ sym shown in record {
       next = c.loop-arg.invariant.next ∙ ap (λ (l : List ℕ). c.args.next.now + length l) names;
       term =
           numbered_symbol c.args.next.now c.args.t.now c.in-Fun.f c.in-Fun.args c.loop-arg.made ts c.in-Fun.is c.deref-arg-items.ensures.value

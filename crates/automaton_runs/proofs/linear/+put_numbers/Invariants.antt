@@ -1,5 +1,5 @@
 use Rattle.std.proofs.Common.{◌≡◌, ◌+◌, length, take}
-use Rattle.ctrs_classes.specs.Blames.{leaves_of}
+use Rattle.rewriting.specs.Variables.{variable_occurrences_of}
 use Rattle.rewriting.specs.Terms.{size}
 use Rattle.term_core.specs.View.{view, views}
 use Rattle.automaton_runs.specs.Linear.{linear_all}
@@ -10,6 +10,6 @@ decreases-put_numbers l = size (view l.t.now)
 
 abbrev pub invariant-loop-arg : goal.invariant-loop-arg
 invariant-loop-arg l = record {
-  next : l.next ≡ l.fn.next + length (leaves_of (views (take l.arg-index l.arg-items)));
+  next : l.next ≡ l.fn.next + length (variable_occurrences_of (views (take l.arg-index l.arg-items)));
   made : views l.made.items ≡ linear_all l.fn.next (views (take l.arg-index l.arg-items));
 }

@@ -2,7 +2,7 @@ use Rattle.std.proofs.Common.{◌≡◌, ◌↔◌, ◌+◌, ℕ, Some, slice_ge
 use Rattle.std.specs.List.{AllZip}
 use Rattle.std.proofs.lemmas.Result.{IfOk-weaker}
 use Rattle.std.proofs.lemmas.Option.{same_Some}
-use Rattle.number_sets.specs.Members.{IsIn}
+use Rattle.rewriting.specs.Lists.{IsAmong}
 use Rattle.number_sets.specs.Sets.{members}
 use Rattle.number_sets.specs.Relation.{Relates}
 use Rattle.number_sets.specs.declared.rows.NumberRelation.{NumberRelation}
@@ -36,7 +36,7 @@ may_reach-returns-in_ok-args-in-Fun t c =
     let all = members c.args.all.now in
     let places = c.args.places.now in
     let made = c.deref-in-Fun.result.now in
-    IfOk-weaker c.reached_from.result (λ r. (q k : ℕ) → Relates r q k ↔ (IsIn k all × IsReachedFrom a c.in-Fun.f made q k)) (MayReach a all places (view c.args.t.now))
+    IfOk-weaker c.reached_from.result (λ r. (q k : ℕ) → Relates r q k ↔ (IsAmong k all × IsReachedFrom a c.in-Fun.f made q k)) (MayReach a all places (view c.args.t.now))
     (λ r. may_symbol a all places c.args.t.now c.in-Fun.f c.in-Fun.args c.deref.result.now made r c.in-Fun.is c.deref.ensures.value
     (subst (AllZip (λ t r. MayReach a all places (view t) r) c.deref.result.now) (sym c.deref-in-Fun.ensures.value) c.in_ok-args-in-Fun.ensures)) c.reached_from.ensures
 

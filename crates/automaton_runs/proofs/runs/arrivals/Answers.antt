@@ -1,5 +1,5 @@
 use Rattle.std.proofs.Common.{◌≡◌, ◌↔◌, ◌+◌, ◌*◌, ◌^◌, ◌<◌, ℕ, List, map, length, ap, ap₂, sym, subst, arith}
-use Rattle.ctrs_classes.specs.Blames.{leaves}
+use Rattle.rewriting.specs.Variables.{variable_occurrences}
 use Rattle.term_core.specs.View.{view}
 use Rattle.automaton_runs.specs.Arrivals.{arrival_view, AreArrivalsBelow}
 use Rattle.automaton_runs.specs.Choices.{start}
@@ -23,7 +23,7 @@ returns c =
     let a = c.args.index.now in
     let t = view c.args.t.now in
     let whole : c.loop-number.number ≡ c.batches-number-end.result = omega arith in
-    let long : c.len-length.result ≡ length (leaves t) = omega (arith, c.len-length.ensures, c.in_ok-occurrences.field-0.ok.0, ap length c.in_ok-occurrences.ensures) in
-    let power : c.states.result ^ c.len-length.result ≡ a.states ^ length (leaves t) = ap₂ (λ (n m : ℕ). n ^ m) c.states.ensures long in
+    let long : c.len-length.result ≡ length (variable_occurrences t) = omega (arith, c.len-length.ensures, c.in_ok-occurrences.field-0.ok.0, ap length c.in_ok-occurrences.ensures) in
+    let power : c.states.result ^ c.len-length.result ≡ a.automaton.states ^ length (variable_occurrences t) = ap₂ (λ (n m : ℕ). n ^ m) c.states.ensures long in
     let counted = subst (λ (n : ℕ). (number : ℕ) → (number < c.batches-number-end.result) ↔ (4096 * number < n)) power c.batches-number-end.ensures in
     arrivals_end a t c.loop-number.number c.batches-number-end.result (map arrival_view c.loop-number.rows.items) counted whole c.loop-number.invariant

@@ -1,7 +1,7 @@
 use Rattle.std.proofs.Common.{◌≡◌, ◌++◌, drop}
-use Rattle.ctrs_classes.specs.Blames.{leaves_of}
+use Rattle.rewriting.specs.Variables.{variable_occurrences_of}
 use Rattle.term_core.specs.View.{views}
 use Rattle.automaton_runs.proofs.width.+put_occurrences.Given as goal
 
 abbrev pub invariant-loop-arg : goal.invariant-loop-arg
-invariant-loop-arg l = l.out.items ++ leaves_of (views (drop l.arg-index l.arg-items)) ≡ l.fn.out.items ++ leaves_of (views l.arg-items)
+invariant-loop-arg l = l.out.items ++ variable_occurrences_of (views (drop l.arg-index l.arg-items)) ≡ l.fn.out.items ++ variable_occurrences_of (views l.arg-items)

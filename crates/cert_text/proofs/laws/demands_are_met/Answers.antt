@@ -1,5 +1,5 @@
-use Rattle.cert_text.proofs.OneAnswer.{passing}
-use Rattle.cert_text.proofs.PassWhole.{passed_is_certificate}
+use Rattle.cert_laws.proofs.OneAnswer.{passing}
+use Rattle.cert_laws.proofs.PassWhole.{passed_is_certificate}
 use Rattle.cert_text.proofs.laws.demands_are_met.Goals as goal
 
 pub returns-clause-certificates_pass : goal.returns-clause-certificates_pass

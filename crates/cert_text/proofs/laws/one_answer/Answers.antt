@@ -1,5 +1,5 @@
-use Rattle.cert_text.proofs.OneAnswer.{one_answer, never_both}
-use Rattle.cert_text.proofs.Inside.{places_within}
+use Rattle.cert_laws.proofs.OneAnswer.{one_answer, never_both}
+use Rattle.cert_laws.proofs.Inside.{places_within}
 use Rattle.cert_text.proofs.laws.one_answer.Goals as goal
 
 pub returns-clause-refusal : goal.returns-clause-refusal

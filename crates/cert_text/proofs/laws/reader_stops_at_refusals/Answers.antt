@@ -1,4 +1,4 @@
-use Rattle.cert_text.proofs.ExactReader.{reader_is_exact, answers_are_read, one_or_the_other}
+use Rattle.cert_laws.proofs.ExactReader.{reader_is_exact, answers_are_read, one_or_the_other}
 use Rattle.cert_text.proofs.laws.reader_stops_at_refusals.Goals as goal
 
 pub returns-clause-exact : goal.returns-clause-exact

@@ -1,4 +1,4 @@
-use Rattle.cert_text.proofs.Rows.{all_rows}
+use Rattle.cert_laws.proofs.Rows.{all_rows}
 use Rattle.cert_text.proofs.laws.worked_refusals.Goals as goal
 
 pub returns : goal.returns

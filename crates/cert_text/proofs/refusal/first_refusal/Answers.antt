@@ -1,6 +1,6 @@
 use Rattle.std.proofs.Common.{rules, ◌≡◌, ◌∙◌, sym, ◌<◌, subst, length, List}
-use Rattle.cert_text.specs.Items.{Item}
-use Rattle.cert_text.specs.ReaderView.{item_view, items_view}
+use Rattle.cert_grammar.specs.Items.{Item}
+use Rattle.cert_refusals.specs.ReaderView.{item_view, items_view}
 use Rattle.cert_text.proofs.StepByStep.{Stands, goes_further, popped, none_left, refused_there, handed_error, accepted_there, refused_behind}
 use Rattle.cert_text.proofs.refusal.first_refusal.Goals as goal
 

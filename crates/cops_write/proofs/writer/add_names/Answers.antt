@@ -1,5 +1,5 @@
 use Rattle.std.proofs.Common.{◌∙◌, List, ℕ, map, ap, sym}
-use Rattle.cops_read.specs.Meaning.{with_name, with_names}
+use Rattle.cops_names.specs.NameLists.{with_name, with_names}
 use Rattle.cops_write.specs.Text.{variable_text}
 use Rattle.cops_write.proofs.Rules.{next_variable, no_variable, variables_are}
 use Rattle.cops_write.proofs.writer.add_names.Goals as goal
@@ -7,7 +7,7 @@ use Rattle.cops_write.proofs.writer.add_names.Goals as goal
 pub variables-preserved : goal.variables-preserved
 variables-preserved c =
     next_variable (variable_text c.args.names.now c.args.number) c.variables.set c.add.new.self c.variables.x c.args.rule.now.vars c.variables-test.true
-    (c.in_ok-add.ensures ∙ ap (with_name c.variables.set) c.variable_name.ensures)
+    (c.in_ok-add.ensures.names ∙ ap (with_name c.variables.set) c.variable_name.ensures)
     ∙ c.variables.invariant
 
 pub returns : goal.returns

@@ -1,6 +1,6 @@
 use Rattle.std.proofs.Common.{◌≡◌, ◌-◌, map}
 use Rattle.term_core.specs.Numbering.{numbers_from}
-use Rattle.cops_read.specs.Meaning.{with_names}
+use Rattle.cops_names.specs.NameLists.{with_names}
 use Rattle.cops_write.specs.Text.{variable_text}
 use Rattle.cops_write.proofs.writer.add_names.Given as goal
 

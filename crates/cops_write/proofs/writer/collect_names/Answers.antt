@@ -1,6 +1,6 @@
 use Rattle.std.proofs.Common.{◌≡◌, ◌+◌, ◌∙◌, ℕ, suc, List, map, drop, ap, sym, arith}
 use Rattle.term_core.specs.RuleView.{rule_view}
-use Rattle.cops_read.specs.Meaning.{with_names}
+use Rattle.cops_names.specs.NameLists.{with_names}
 use Rattle.cops_write.specs.Text.{names_from}
 use Rattle.cops_write.proofs.Rules.{numbered_at, names_behind}
 use Rattle.cops_write.proofs.writer.collect_names.Goals as goal

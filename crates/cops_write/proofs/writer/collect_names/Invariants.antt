@@ -1,6 +1,6 @@
 use Rattle.std.proofs.Common.{◌≡◌, ◌+◌, [], drop, map}
 use Rattle.term_core.specs.RuleView.{rule_view}
-use Rattle.cops_read.specs.Meaning.{with_names}
+use Rattle.cops_names.specs.NameLists.{with_names}
 use Rattle.cops_write.specs.Text.{names_from}
 use Rattle.cops_write.proofs.writer.collect_names.Given as goal
 

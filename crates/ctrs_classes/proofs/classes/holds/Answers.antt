@@ -1,5 +1,5 @@
 use Rattle.std.proofs.lemmas.Bool.{false≢true}
-use Rattle.ctrs_classes.proofs.Outside.{blamed_outside}
+use Rattle.certificates.proofs.Blames.{blamed_outside}
 use Rattle.ctrs_classes.proofs.classes.holds.Goals as goal
 
 pub returns-in-Some : goal.returns-in-Some

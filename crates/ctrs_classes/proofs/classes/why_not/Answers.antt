@@ -1,8 +1,8 @@
-use Rattle.std.proofs.Common.{ℕ, ◌+◌, refl, sym, subst, arith, map}
+use Rattle.std.proofs.Common.{refl, sym, subst, arith}
 use Rattle.rewriting.specs.Systems.{AreRules}
 use Rattle.term_core.specs.RuleView.{rule_view}
 use Rattle.cert_model.specs.ReasonView.{class_view}
-use Rattle.ctrs_classes.specs.Blames.{IsInClass}
+use Rattle.certificates.specs.Blames.{IsInClass}
 use Rattle.ctrs_classes.proofs.Prefixes.{rule_here, rule_number, rules_next, rules_all}
 use Rattle.ctrs_classes.proofs.classes.why_not.Goals as goal
 

@@ -2,7 +2,7 @@ use Rattle.std.proofs.Common.{ℕ, ◌≤◌, ◌≡◌, Some}
 use Rattle.rewriting.specs.Rules as rules
 use Rattle.rewriting.specs.Rules.{rule_at}
 use Rattle.cert_model.specs.ReasonView.{class_view}
-use Rattle.ctrs_classes.specs.Blames.{IsInClass}
+use Rattle.certificates.specs.Blames.{IsInClass}
 use Rattle.ctrs_classes.proofs.classes.why_not.Given as goal
 
 abbrev pub invariant-loop-i : goal.invariant-loop-i

@@ -1,5 +1,4 @@
-use Rattle.std.proofs.Common.{ℕ, ◌+◌, inr, add-one}
-use Rattle.rewriting.specs.Rules.{Condition}
+use Rattle.std.proofs.Common.{inr, add-one}
 use Rattle.rewriting.specs.Classes.{known}
 use Rattle.rewriting.specs.Variables.{IsWithin}
 use Rattle.term_core.specs.RuleView.{condition_view, rule_view}

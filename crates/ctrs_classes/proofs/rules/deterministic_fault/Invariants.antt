@@ -1,9 +1,8 @@
 use Rattle.std.proofs.Common.{ℕ, ◌<◌}
 use Rattle.rewriting.specs.Rules.{Condition}
-use Rattle.rewriting.specs.Classes.{IsAt, known, IsStable}
+use Rattle.rewriting.specs.Classes.{IsAt, known}
 use Rattle.rewriting.specs.Variables.{IsWithin}
 use Rattle.term_core.specs.RuleView.{rule_view}
-use Rattle.ctrs_classes.specs.Blames.{IsFresh}
 use Rattle.ctrs_classes.proofs.rules.deterministic_fault.Given as goal
 
 abbrev pub invariant-loop-i : goal.invariant-loop-i

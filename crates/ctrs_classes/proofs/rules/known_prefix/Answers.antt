@@ -1,10 +1,8 @@
-use Rattle.std.proofs.Common.{ℕ, ◌≡◌, ap, length, arith}
-use Rattle.std.proofs.lemmas.Bool.{false≢true}
-use Rattle.rewriting.specs.Rules.{Condition}
+use Rattle.std.proofs.Common.{◌≡◌, ap, length, arith}
 use Rattle.rewriting.specs.Classes.{known}
 use Rattle.rewriting.specs.Variables.{IsWithin}
-use Rattle.term_core.specs.RuleView.{condition_view, rule_view}
-use Rattle.ctrs_classes.proofs.Prefixes.{cond_at, good_next, conditions_length, stops_here, goes_through}
+use Rattle.term_core.specs.RuleView.{rule_view}
+use Rattle.ctrs_classes.proofs.Prefixes.{cond_at, good_next, stops_here, goes_through}
 use Rattle.ctrs_classes.proofs.rules.known_prefix.Goals as goal
 
 pub returns-in-Some : goal.returns-in-Some

@@ -1,8 +1,7 @@
-use Rattle.std.proofs.Common.{ℕ, ◌+◌, add-one}
-use Rattle.rewriting.specs.Rules.{Condition}
+use Rattle.std.proofs.Common.{add-one}
 use Rattle.rewriting.specs.Classes.{IsStable}
 use Rattle.term_core.specs.RuleView.{condition_view, rule_view}
-use Rattle.ctrs_classes.specs.Blames.{IsFresh}
+use Rattle.certificates.specs.Blames.{IsFresh}
 use Rattle.ctrs_classes.proofs.Prefixes.{cond_at, good_next, good_all, conditions_length}
 use Rattle.ctrs_classes.proofs.rules.right_stable_fault.Goals as goal
 

@@ -1,6 +1,6 @@
 use Rattle.std.proofs.Common.{ap₂}
 use Rattle.certificates.proofs.Unique.{derives_unique}
-use Rattle.derivation.proofs.Outcomes.{never_both, fails_unique}
+use Rattle.certificates.proofs.Outcomes.{never_both, fails_unique}
 use Rattle.derivation.proofs.laws.outcomes_are_unique.Goals as goal
 
 pub returns-clause-ends : goal.returns-clause-ends

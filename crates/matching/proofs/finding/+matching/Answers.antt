@@ -3,7 +3,8 @@ use Rattle.term_core.proofs.Views.{view-Var, views-drop}
 use Rattle.rewriting.specs.Terms.{var}
 use Rattle.rewriting.specs.Matching.{IsLeastMatch}
 use Rattle.term_core.specs.View.{view}
-use Rattle.matching.proofs.Progress.{advance, lengths_differ, bound_least}
+use Rattle.rewriting.proofs.LeastMatches.{bound_least}
+use Rattle.matching.proofs.Progress.{advance, lengths_differ}
 use Rattle.matching.proofs.finding.+matching.Goals as goal
 
 pub match_all-returns-then-ps-ss : goal.match_all-returns-then-ps-ss

@@ -6,7 +6,7 @@ use Rattle.term_core.proofs.Rules.{handed_on}
 use Rattle.cert_model.specs.DerivationView.{derivation_view}
 use Rattle.critical_pairs.specs.View.{overlap_view}
 use Rattle.refuter.specs.Answers.{RefutesAnswers}
-use Rattle.validity.specs.PairEvidence.{IsUnfeasibleJudged}
+use Rattle.valid_certificates.specs.PairEvidence.{IsUnfeasibleJudged}
 use Rattle.pair_check.proofs.Judging.{numbered_fits, first_fails, second_fails, unfeasible_judged}
 use Rattle.pair_check.proofs.derived.judge_unfeasible.Goals as goal
 

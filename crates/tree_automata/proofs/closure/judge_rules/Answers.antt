@@ -1,5 +1,8 @@
-use Rattle.std.proofs.Common.{◌+◌, ℕ, refl, ap, subst}
+use Rattle.std.proofs.Common.{◌+◌, ℕ, Some, refl, ap, sym, subst}
 use Rattle.term_core.specs.RuleView.{rule_view}
+use Rattle.automata.specs.Closed.{IsWide}
+use Rattle.cert_model.specs.EvidenceView.{automaton_view}
+use Rattle.automaton_runs.specs.Counted.{Indexed}
 use Rattle.tree_automata.specs.Open.{IsRuleClosed, OpenAnswers}
 use Rattle.tree_automata.proofs.Kept.{open_answers}
 use Rattle.tree_automata.proofs.Open.{rule_stands, rules_past, left_fits, numbered, all_closed, first_open_of, each_more}
@@ -13,7 +16,8 @@ first_open-requires-clause-fits c =
 pub first_open-requires-clause-narrow : goal.first_open-requires-clause-narrow
 first_open-requires-clause-narrow c =
     let at = rule_stands c.args.sys.now c.rules-rule-items.result.now c.rules.rule-index c.rule-item.result c.rules-rule-items.ensures.rules c.rules-test.true c.rule-item.is in
-    c.requires (c.rules.rule-index + 1) (rule_view c.rule-item.result) (numbered c.args.sys.now c.rules.rule-index (c.rules.rule-index + 1) (rule_view c.rule-item.result) refl at)
+    subst (λ (x : Indexed). IsWide x.automaton (rule_view c.rule-item.result).left → ⊥) (sym c.requires.index)
+    (c.requires.narrow (c.rules.rule-index + 1) (rule_view c.rule-item.result) (numbered c.args.sys.now c.rules.rule-index (c.rules.rule-index + 1) (rule_view c.rule-item.result) refl at))
 
 pub returns-in-Some : goal.returns-in-Some
 returns-in-Some c =
@@ -22,8 +26,10 @@ returns-in-Some c =
     let r = rule_view c.rule-item.result in
     let at = rule_stands sys c.rules-rule-items.result.now c.rules.rule-index c.rule-item.result c.rules-rule-items.ensures.rules c.rules-test.true c.rule-item.is in
     let asked = c.in_ok-inclusion.ensures (c.rules.rule-index + 1) r (numbered sys c.rules.rule-index (c.rules.rule-index + 1) r refl at) in
-    first_open_of sys a c.rules.rule-index (c.rules.number + 1) r c.in-Some.arrival.choice.items c.in-Some.arrival.state (ap (λ (k : ℕ). k + 1) c.rules.invariant.counted) at
-    (subst (OpenAnswers sys a r) c.in-Some.is (open_answers sys a c.in_ok-inclusion.inclusion r asked c.in_ok-first_open.field-0 c.in_ok-first_open.ensures)) c.rules.invariant.closed
+    first_open_of sys (automaton_view c.args.a.now) c.rules.rule-index (c.rules.number + 1) r c.in-Some.arrival.choice.items c.in-Some.arrival.state (ap (λ (k : ℕ). k + 1) c.rules.invariant.counted) at
+    (subst (λ (x : Indexed). OpenAnswers x r (Some c.in-Some.arrival)) c.requires.index
+    (subst (OpenAnswers a r) c.in-Some.is (open_answers a c.in_ok-inclusion.inclusion r asked c.in_ok-first_open.field-0 c.in_ok-first_open.ensures)))
+    (λ k q l e. subst (λ (x : Indexed). IsRuleClosed x q) c.requires.index (c.rules.invariant.closed k q l e))
 
 pub rules-preserved : goal.rules-preserved
 rules-preserved c =
@@ -34,10 +40,11 @@ rules-preserved c =
     let asked = c.in_ok-inclusion.ensures (c.rules.rule-index + 1) r (numbered sys c.rules.rule-index (c.rules.rule-index + 1) r refl at) in record {
       counted = ap (λ (k : ℕ). k + 1) c.rules.invariant.counted;
       closed =
-          each_more (IsRuleClosed sys a) sys.rules c.rules.rule-index r at
-          (subst (OpenAnswers sys a r) c.in-None.is (open_answers sys a c.in_ok-inclusion.inclusion r asked c.in_ok-first_open.field-0 c.in_ok-first_open.ensures)) c.rules.invariant.closed;
+          each_more (IsRuleClosed a) sys.rules c.rules.rule-index r at
+          (subst (OpenAnswers a r) c.in-None.is (open_answers a c.in_ok-inclusion.inclusion r asked c.in_ok-first_open.field-0 c.in_ok-first_open.ensures)) c.rules.invariant.closed;
     }
 
 pub returns : goal.returns
 returns c =
-    all_closed c.args.sys.now c.args.index.now c.rules.rule-index (rules_past c.args.sys.now c.rules-rule-items.result.now c.rules.rule-index c.rules-rule-items.ensures.rules c.rules-test.false) c.rules.invariant.closed
+    all_closed c.args.sys.now (automaton_view c.args.a.now) c.rules.rule-index (rules_past c.args.sys.now c.rules-rule-items.result.now c.rules.rule-index c.rules-rule-items.ensures.rules c.rules-test.false)
+    (λ k q l e. subst (λ (x : Indexed). IsRuleClosed x q) c.requires.index (c.rules.invariant.closed k q l e))

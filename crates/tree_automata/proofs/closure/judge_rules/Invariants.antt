@@ -6,5 +6,5 @@ use Rattle.tree_automata.proofs.closure.judge_rules.Given as goal
 abbrev pub invariant-rules : goal.invariant-rules
 invariant-rules l = record {
   counted : l.number ≡ l.rule-index;
-  closed : (k : ℕ) (r : Rule) → k < l.rule-index → slice_get l.sys.rules k ≡ Some r → IsRuleClosed l.sys l.index r;
+  closed : (k : ℕ) (r : Rule) → k < l.rule-index → slice_get l.sys.rules k ≡ Some r → IsRuleClosed l.index r;
 }

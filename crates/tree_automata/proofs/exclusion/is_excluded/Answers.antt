@@ -1,6 +1,6 @@
 use Rattle.std.proofs.Common.{◌≡◌, ◌≤◌, ◌*◌, ◌^◌, ◌∙◌, ℕ, length, refl, ap₂, sym, subst}
 use Rattle.std.proofs.lemmas.Bool.{false≢true}
-use Rattle.ctrs_classes.specs.Blames.{leaves}
+use Rattle.rewriting.specs.Variables.{variable_occurrences}
 use Rattle.certificates.specs.Evidence.{Automaton}
 use Rattle.automata.specs.Closed.{Excludes}
 use Rattle.term_core.specs.View.{view}
@@ -19,7 +19,7 @@ returns-then-is_one_accepting c =
       λ ex.
           absurd
           (batch_accepts a t b.batch (b.ensures.states ∙ c.states-then-has.ensures) (b.ensures.length ∙ c.requires.length) c.in_ok-reached.reached c.in_ok-reached.ensures
-          (subst (λ (x : Automaton). IsOneAccepting x c.in_ok-reached.reached) (sym c.requires.index) (c.if-is_one_accepting.ensures.0 refl)) (subst (λ (x : Automaton). Excludes x t) (sym c.requires.index) ex)),
+          (subst (λ (x : Automaton). IsOneAccepting x c.in_ok-reached.reached) (sym c.requires.index) (c.if-is_one_accepting.ensures.0 refl)) (subst (λ (x : Automaton). Excludes a.symbols x t) (sym c.requires.index) ex)),
     )
 
 pub loop-number-preserved : goal.loop-number-preserved
@@ -39,9 +39,9 @@ pub returns : goal.returns
 returns c =
     let a = c.args.index.now in
     let t = view c.args.t.now in
-    let count : c.states.result ^ c.args.occurrences ≡ a.states ^ length (leaves t) = ap₂ (λ (n m : ℕ). n ^ m) c.states.ensures c.requires.length in (
+    let count : c.states.result ^ c.args.occurrences ≡ a.automaton.states ^ length (variable_occurrences t) = ap₂ (λ (n m : ℕ). n ^ m) c.states.ensures c.requires.length in (
       λ _.
-          subst (λ (x : Automaton). Excludes x t) c.requires.index
+          subst (λ (x : Automaton). Excludes a.symbols x t) c.requires.index
           (excluded a t
           (throughout a t (IsNot a t) (4096 * c.loop-number.number)
           (subst (λ (n : ℕ). n ≤ 4096 * c.loop-number.number) count (past_all c.batches-number-end.result (c.states.result ^ c.args.occurrences) c.loop-number.number c.batches-number-end.ensures c.loop-number-test.false))

@@ -4,4 +4,4 @@ use Rattle.tree_automata.specs.Open.{HaveTwins}
 use Rattle.tree_automata.proofs.sides.includes.Given as goal
 
 abbrev pub invariant-loop-transition : goal.invariant-loop-transition
-invariant-loop-transition l = HaveTwins l.sys l.index (pointed (take l.transition-index l.transition-items)) l.q
+invariant-loop-transition l = HaveTwins l.index (pointed (take l.transition-index l.transition-items)) l.q

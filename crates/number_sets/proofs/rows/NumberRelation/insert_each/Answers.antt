@@ -1,6 +1,6 @@
 use Rattle.std.proofs.Common.{◌↔◌, ◌⊎◌, ℕ, ◌+◌, List, get_or, take, take_all, subst, arith}
 use Rattle.std.proofs.lemmas.List.{take_more}
-use Rattle.number_sets.specs.Members.{IsIn}
+use Rattle.rewriting.specs.Lists.{IsAmong}
 use Rattle.number_sets.specs.Sets.{members}
 use Rattle.number_sets.specs.Relation.{Relates}
 use Rattle.number_sets.proofs.Related.{one_more}
@@ -14,5 +14,5 @@ loop-left-preserved c =
 
 pub returns : goal.returns
 returns c = λ p q.
-    subst (λ (l : List ℕ). Relates c.loop-left.self p q ↔ (Relates c.args.self.now p q ⊎ (IsIn p l × IsIn q (members c.args.set.now)))) (take_all c.loop-left.left-index c.args.lefts.now (omega arith))
+    subst (λ (l : List ℕ). Relates c.loop-left.self p q ↔ (Relates c.args.self.now p q ⊎ (IsAmong p l × IsAmong q (members c.args.set.now)))) (take_all c.loop-left.left-index c.args.lefts.now (omega arith))
     (c.loop-left.invariant p q)

@@ -1,7 +1,7 @@
 use Rattle.std.proofs.Common.{◌↔◌, ◌<◌, ℕ}
-use Rattle.number_sets.specs.Members.{IsIn}
+use Rattle.rewriting.specs.Lists.{IsAmong}
 use Rattle.number_sets.specs.Sets.{members}
 use Rattle.number_sets.proofs.words.NumberSet.below.Given as goal
 
 abbrev pub invariant-loop-number : goal.invariant-loop-number
-invariant-loop-number l = (q : ℕ) → IsIn q (members l.set) ↔ (q < l.number)
+invariant-loop-number l = (q : ℕ) → IsAmong q (members l.set) ↔ (q < l.number)

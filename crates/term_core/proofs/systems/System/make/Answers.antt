@@ -6,8 +6,8 @@ use Rattle.term_core.specs.SystemView.{MakeAnswers}
 use Rattle.term_core.proofs.Rules.{sound_rules, sound_counted, handed_on}
 use Rattle.term_core.proofs.systems.System.make.Goals as goal
 
-pub returns-in_err-first_fault : goal.returns-in_err-first_fault
-returns-in_err-first_fault c =
+pub returns-in_err-first_fault-clause-answer : goal.returns-in_err-first_fault-clause-answer
+returns-in_err-first_fault-clause-answer c =
     let fault = c.in_err-first_fault.field-0.0 in
     let same : IsErrAnd c.from_residual.result (λ e. e ≡ fault) = c.from_residual.ensures.1 in
     let found = c.in_err-first_fault.ensures {u = tt} in

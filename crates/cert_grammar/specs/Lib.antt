@@ -1,0 +1,14 @@
+pub mod Words
+pub mod Steps
+pub mod Limits
+pub mod EvidenceText
+pub mod CertificateText
+pub mod Reading
+pub mod ReadingTerms
+pub mod Marks
+pub mod WordMarks
+pub mod CertificateMarks
+pub mod Refusals
+pub mod Scans
+pub mod Items
+pub mod FirstRefusal

@@ -1,0 +1,11 @@
+//! The text of a certificate: its grammar, its limits, what its words must meet, and which refusal a text has.
+#![tactic(auto)]
+
+mod limits;
+mod words;
+
+pub use limits::{
+    MOST_ENTRIES, MOST_LEVELS, MOST_NESTING, MOST_NODES, MOST_NUMBERS, MOST_PAIRS, MOST_REDEXES,
+    MOST_STATES, MOST_STEPS, MOST_TRANSITIONS,
+};
+pub use words::{behind, is_id};

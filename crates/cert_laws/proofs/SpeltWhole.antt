@@ -1,0 +1,160 @@
+-- The marks of certificates within limits: all pass, and their text is the certificate's.
+use Rattle.std.proofs.Common.{◌≡◌, ℕ, suc, ◌+◌, ◌<◌, ◌≤◌, Bool, true, false, List, [], ◌∷◌, ◌++◌, length, Option, Some, None, refl, ap, codes, decimal, append-nil, arith}
+use Rattle.std.specs.Prelude.{unwrap_or}
+use Rattle.rewriting.specs.Unraveling.{Head, file, auxiliary}
+use Rattle.certificates.specs.Evidence.{Transition, Automaton, InfeasibilityEvidence, by_caps, by_automaton, PairEvidence, trivial_pair, infeasible_pair, conflicting_pair, joined_pair, unfeasible_pair}
+use Rattle.certificates.specs.Certificates.{PairEntry, LinearEntry, MeasureCertificate, linear_measure, Redex, Apartness, by_normal_forms, by_rigid_caps, Certificate, ortho_certificate, quasi_certificate, peak_certificate}
+use Rattle.cops_read.specs.NameTable.{NameTable}
+use Rattle.cert_grammar.specs.Words.{largest, position_text, term_text, name_of}
+use Rattle.cert_grammar.specs.Steps.{derivation_text}
+use Rattle.cert_grammar.specs.EvidenceText.{numbers_text, further_states_text, states_text, head_text, transitions_text, automaton_text, infeasibility_text, evidence_text, pairs_text, AreAtMost, AreStates, IsHead, AreTransitions, IsAutomaton, IsInfeasibility, IsEvidence, ArePairs, IsName}
+use Rattle.cert_grammar.specs.CertificateText.{measured_text, entries_text, measure_text, redexes_text, apart_text, body_text, certificate_text, answer_line, IsMeasured, AreEntries, IsMeasure, AreRedexes, IsApart, CanBeSpelt}
+use Rattle.cert_grammar.specs.Marks.{Counted, limit, in_range, is_few, fits_answer, is_answer, Mark, fixed, word}
+use Rattle.cert_grammar.specs.WordMarks.{numeral, number, position, term_marks, derivation_marks}
+use Rattle.cert_grammar.specs.CertificateMarks.{state, accepting_marks, further_states_marks, states_marks, head_marks, transitions_marks, automaton_marks, infeasibility_marks, evidence_marks, pairs_marks, coefficients_marks, measured_marks, entries_marks, measure_marks, redexes_marks, apart_marks, body_marks, certificate_marks}
+use Rattle.cert_grammar.proofs.OneTerm.{name_is}
+use Rattle.cert_laws.proofs.Spelt.{Spells, nothing, put_fixed, put_word, put_both, put_number, put_count, put_position, put_symbol, put_arity, numeral_fits, met_first, pass_range, pass_few}
+use Rattle.cert_laws.proofs.SpeltTerms.{spelt_term, spelt_derivation, same_text}
+
+put_state : (names : NameTable) (bound q : ℕ) (ms : List Mark) (t : List ℕ) → bound ≤ 1000 → q < bound → Spells names ms t → Spells names (state bound q ∷ ms) (decimal q ++ t)
+put_state names bound q ms t few lt h = put_word names (numeral q) (decimal q) (in_range 0 0 bound q ∷ []) ms t (numeral_fits q (omega arith)) (pass_range names 0 0 bound q [] (omega arith) lt refl) h
+
+spelt_accepting : (qs : List ℕ) (names : NameTable) (bound : ℕ) → bound ≤ 1000 → AreStates bound qs → Spells names (accepting_marks bound qs) (numbers_text qs)
+spelt_accepting [] names bound few h = nothing names
+spelt_accepting (q ∷ qs) names bound few h = put_fixed names (codes " ") _ _ (put_state names bound q _ _ few h.0 (spelt_accepting qs names bound few h.1))
+
+spelt_further_states : (qs : List ℕ) (names : NameTable) (bound : ℕ) → bound ≤ 1000 → AreStates bound qs → Spells names (further_states_marks bound qs) (further_states_text qs)
+spelt_further_states [] names bound few h = put_fixed names (codes ")") [] [] (nothing names)
+spelt_further_states (q ∷ qs) names bound few h = put_fixed names (codes ",") _ _ (put_state names bound q _ _ few h.0 (spelt_further_states qs names bound few h.1))
+
+spelt_states : (qs : List ℕ) (names : NameTable) (bound : ℕ) → bound ≤ 1000 → AreStates bound qs → Spells names (states_marks bound qs) (states_text qs)
+spelt_states [] names bound few h = nothing names
+spelt_states (q ∷ qs) names bound few h = put_fixed names (codes "(") _ _ (put_state names bound q _ _ few h.0 (spelt_further_states qs names bound few h.1))
+
+spelt_head : (f : Option ℕ) (names : NameTable) (bound : ℕ) (qs : List ℕ) → bound ≤ 1000 → IsHead names f qs → AreStates bound qs → Spells names (head_marks (name_of names) bound f qs) (head_text names f qs)
+spelt_head None names bound qs few h s = put_fixed names (codes "|") [] [] (nothing names)
+spelt_head (Some f) names bound qs few h s =
+    let e = name_is names f (length qs) h.0 h.1 in
+    put_symbol names f h.0 [] _ (states_text qs) e h.1.identifier h.1.found refl
+    (same_text names _ _ _ (append-nil (states_text qs)) (put_both names (states_marks bound qs) _ (states_text qs) [] (spelt_states qs names bound few s) (put_arity names f h.0 (length qs) e h.1)))
+
+spelt_transitions : (ts : List Transition) (names : NameTable) (bound : ℕ) → bound ≤ 1000 → AreTransitions names bound ts → Spells names (transitions_marks (name_of names) bound ts) (transitions_text names ts)
+spelt_transitions [] names bound few h = nothing names
+spelt_transitions (t ∷ ts) names bound few h =
+    put_both names (head_marks (name_of names) bound t.symbol t.arguments ++ (fixed (codes " ") ∷ state bound t.target ∷ fixed (codes "\n") ∷ [])) (transitions_marks (name_of names) bound ts) (head_text names t.symbol t.arguments ++ (codes " " ++ (decimal t.target ++ codes "\n"))) (transitions_text names ts)
+    (put_both names (head_marks (name_of names) bound t.symbol t.arguments) (fixed (codes " ") ∷ state bound t.target ∷ fixed (codes "\n") ∷ []) (head_text names t.symbol t.arguments) (codes " " ++ (decimal t.target ++ codes "\n"))
+    (spelt_head t.symbol names bound t.arguments few h.0 h.1)
+    (put_fixed names (codes " ") _ _ (put_state names bound t.target _ _ few h.2 (put_fixed names (codes "\n") [] [] (nothing names)))))
+    (spelt_transitions ts names bound few h.3)
+
+spelt_automaton : (a : Automaton) (names : NameTable) → IsAutomaton names a → Spells names (automaton_marks (name_of names) a) (automaton_text names a)
+spelt_automaton a names h =
+    let few = h.few in
+    let long = h.number in
+    put_fixed names (codes "states ") _ _ (put_word names (numeral a.states) (decimal a.states) (in_range 0 1 (suc largest) a.states ∷ is_few Counted.states a.states ∷ []) _ _ (numeral_fits a.states (omega arith))
+    (pass_range names 0 1 (suc largest) a.states (is_few Counted.states a.states ∷ []) h.some (omega arith) (pass_few names Counted.states a.states [] few refl))
+    (put_fixed names (codes "\naccepting") _ _ (put_both names (accepting_marks a.states a.accepting) _ (numbers_text a.accepting) _ (spelt_accepting a.accepting names a.states few h.accepting)
+    (put_fixed names (codes "\ntransitions ") _ _ (put_count names Counted.transitions (length a.transitions) _ _ (omega arith) long (put_fixed names (codes "\n") _ _ (spelt_transitions a.transitions names a.states few h.transitions)))))))
+
+spelt_infeasibility : (e : InfeasibilityEvidence) (names : NameTable) → IsInfeasibility names e → Spells names (infeasibility_marks (name_of names) e) (infeasibility_text names e)
+spelt_infeasibility by_caps names h = put_fixed names (codes "tcap\n") [] [] (nothing names)
+spelt_infeasibility (by_automaton k a) names h = put_fixed names (codes "auto ") _ _ (put_number names k _ _ h.0 (put_fixed names (codes "\n") _ _ (spelt_automaton a names h.1)))
+
+spelt_evidence : (e : PairEvidence) (names : NameTable) → IsEvidence names e → Spells names (evidence_marks (name_of names) e) (evidence_text names e)
+spelt_evidence trivial_pair names h = put_fixed names (codes "trivial\n") [] [] (nothing names)
+spelt_evidence (infeasible_pair e) names h = spelt_infeasibility e names h
+spelt_evidence (conflicting_pair a b) names h = put_fixed names (codes "conflict ") _ _ (put_number names a _ _ h.0 (put_fixed names (codes " ") _ _ (put_number names b _ _ h.1 (put_fixed names (codes "\n") [] [] (nothing names)))))
+spelt_evidence (joined_pair d e) names h = put_fixed names (codes "join\n") _ _ (put_both names (derivation_marks d) (derivation_marks e) (derivation_text d) (derivation_text e) (spelt_derivation d names h.0) (spelt_derivation e names h.1))
+spelt_evidence (unfeasible_pair k d e) names h = put_fixed names (codes "unfeasible ") _ _ (put_number names k _ _ h.0 (put_fixed names (codes "\n") _ _ (put_both names (derivation_marks d) (derivation_marks e) (derivation_text d) (derivation_text e) (spelt_derivation d names h.1) (spelt_derivation e names h.2))))
+
+put_counted : (names : NameTable) (bytes : List ℕ) (what : Counted) (n : ℕ) (ms : List Mark) (t : List ℕ) → n ≤ limit what → Spells names ms t → Spells names (word bytes (is_few what n ∷ []) ∷ ms) (bytes ++ t)
+put_counted names bytes what n ms t few h = put_word names bytes bytes (is_few what n ∷ []) ms t refl (pass_few names what n [] few refl) h
+
+spelt_pairs : (ps : List PairEntry) (names : NameTable) (n : ℕ) → n + length ps ≤ 20001 → ArePairs names ps → Spells names (pairs_marks (name_of names) n ps) (pairs_text names ps)
+spelt_pairs [] names n few h = nothing names
+spelt_pairs (p ∷ ps) names n few h =
+    let more : n + suc (length ps) ≤ 20001 = few in
+    put_both names (word (codes "pair") (is_few Counted.pairs n ∷ []) ∷ fixed (codes " ") ∷ number p.inner ∷ fixed (codes " ") ∷ position p.position ∷ fixed (codes " ") ∷ number p.outer ∷ fixed (codes " ") ∷ evidence_marks (name_of names) p.evidence) (pairs_marks (name_of names) (suc n) ps)
+    (codes "pair " ++ (decimal p.inner ++ (codes " " ++ (position_text p.position ++ (codes " " ++ (decimal p.outer ++ (codes " " ++ evidence_text names p.evidence))))))) (pairs_text names ps)
+    (put_counted names (codes "pair") Counted.pairs n _ _ (omega arith) (put_fixed names (codes " ") _ _ (put_number names p.inner _ _ h.0 (put_fixed names (codes " ") _ _ (put_position names p.position _ _ h.1
+    (put_fixed names (codes " ") _ _ (put_number names p.outer _ _ h.2 (put_fixed names (codes " ") _ _ (spelt_evidence p.evidence names h.3)))))))))
+    (spelt_pairs ps names (suc n) (omega arith) h.4)
+
+spelt_redexes : (rs : List Redex) (names : NameTable) (n : ℕ) → n + length rs ≤ 20001 → AreRedexes names rs → Spells names (redexes_marks (name_of names) n rs) (redexes_text names rs)
+spelt_redexes [] names n few h = nothing names
+spelt_redexes (r ∷ rs) names n few h =
+    let more : n + suc (length rs) ≤ 20001 = few in
+    put_both names (word (codes "redex") (is_few Counted.redexes n ∷ []) ∷ fixed (codes " ") ∷ number r.which ∷ fixed (codes " ") ∷ position r.position ∷ fixed (codes " ") ∷ number r.rule ∷ fixed (codes " ") ∷ infeasibility_marks (name_of names) r.evidence) (redexes_marks (name_of names) (suc n) rs)
+    (codes "redex " ++ (decimal r.which ++ (codes " " ++ (position_text r.position ++ (codes " " ++ (decimal r.rule ++ (codes " " ++ infeasibility_text names r.evidence))))))) (redexes_text names rs)
+    (put_counted names (codes "redex") Counted.redexes n _ _ (omega arith) (put_fixed names (codes " ") _ _ (put_number names r.which _ _ h.0 (put_fixed names (codes " ") _ _ (put_position names r.position _ _ h.1
+    (put_fixed names (codes " ") _ _ (put_number names r.rule _ _ h.2 (put_fixed names (codes " ") _ _ (spelt_infeasibility r.evidence names h.3)))))))))
+    (spelt_redexes rs names (suc n) (omega arith) h.4)
+
+spelt_coefficients : (ks : List ℕ) (names : NameTable) (n : ℕ) → n + length ks ≤ 201 → AreAtMost largest ks → Spells names (coefficients_marks n ks) (numbers_text ks)
+spelt_coefficients [] names n few h = nothing names
+spelt_coefficients (k ∷ ks) names n few h =
+    let more : n + suc (length ks) ≤ 201 = few in
+    let small : k ≤ largest = h.0 in
+    put_fixed names (codes " ") _ _ (put_word names (numeral k) (decimal k) (in_range 0 0 (suc largest) k ∷ is_few Counted.numbers n ∷ []) _ _ (numeral_fits k h.0)
+    (pass_range names 0 0 (suc largest) k (is_few Counted.numbers n ∷ []) (omega arith) (omega arith) (pass_few names Counted.numbers n [] (omega arith) refl)) (spelt_coefficients ks names (suc n) (omega arith) h.1))
+
+name_there : (names : NameTable) (f : ℕ) (name : List ℕ) → IsName names f name → name_of names f ≡ name
+name_there names f name h = ap (λ (o : Option (List ℕ)). unwrap_or o []) h.named
+
+spelt_measured : (a : Head) (names : NameTable) (n : ℕ) → n ≤ 25000 → IsMeasured names a → Spells names (measured_marks (name_of names) n a) (measured_text names a)
+spelt_measured (file f) names n few h =
+    same_text names _ _ _ (ap (λ (w : List ℕ). codes "fun " ++ w) (append-nil (name_of names f)))
+    (put_counted names (codes "fun") Counted.entries n _ _ few (put_fixed names (codes " ") _ _ (put_symbol names f h.0 [] [] [] (name_there names f h.0 h.1) h.1.identifier h.1.found refl (nothing names))))
+spelt_measured (auxiliary r c) names n few h =
+    same_text names _ _ _ (ap (λ (w : List ℕ). codes "aux " ++ (decimal r ++ (codes " " ++ w))) (append-nil (decimal c)))
+    (put_counted names (codes "aux") Counted.entries n _ _ few (put_fixed names (codes " ") _ _ (put_number names r _ _ h.0 (put_fixed names (codes " ") _ _ (put_number names c [] [] h.1 (nothing names))))))
+
+spelt_entries : (es : List LinearEntry) (names : NameTable) (n : ℕ) → n + length es ≤ 25001 → AreEntries names es → Spells names (entries_marks (name_of names) n es) (entries_text names es)
+spelt_entries [] names n few h = nothing names
+spelt_entries (e ∷ es) names n few h =
+    let more : n + suc (length es) ≤ 25001 = few in
+    put_both names (measured_marks (name_of names) n e.head ++ (coefficients_marks 1 e.coefficients ++ (fixed (codes "\n") ∷ []))) (entries_marks (name_of names) (suc n) es) (measured_text names e.head ++ (numbers_text e.coefficients ++ codes "\n")) (entries_text names es)
+    (put_both names (measured_marks (name_of names) n e.head) _ (measured_text names e.head) _ (spelt_measured e.head names n (omega arith) h.0)
+    (put_both names (coefficients_marks 1 e.coefficients) _ (numbers_text e.coefficients) (codes "\n") (spelt_coefficients e.coefficients names 1 (let q : length e.coefficients ≤ 200 = h.1 in omega arith) h.2) (put_fixed names (codes "\n") [] [] (nothing names))))
+    (spelt_entries es names (suc n) (omega arith) h.3)
+
+spelt_measure : (m : MeasureCertificate) (names : NameTable) → IsMeasure names m → Spells names (measure_marks (name_of names) m) (measure_text names m)
+spelt_measure (linear_measure es) names h = put_fixed names (codes "linear\n") _ _ (spelt_entries es names 1 (let q : length es ≤ 25000 = h.0 in omega arith) h.1)
+
+spelt_apart : (a : Apartness) (names : NameTable) → IsApart names a → Spells names (apart_marks (name_of names) a) (apart_text names a)
+spelt_apart (by_normal_forms rs) names h = put_fixed names (codes "normal\n") _ _ (spelt_redexes rs names 1 (let q : length rs ≤ 20000 = h.0 in omega arith) h.1)
+spelt_apart by_rigid_caps names h = put_fixed names (codes "caps\n") [] [] (nothing names)
+
+put_kind : (names : NameTable) (bytes : List ℕ) (told : Bool) (given : Option Bool) (ms : List Mark) (t : List ℕ) → is_answer told given ≡ true → Spells names ms t → Spells names (word bytes (fits_answer told given ∷ []) ∷ ms) (bytes ++ t)
+put_kind names bytes told given ms t e h = put_word names bytes bytes (fits_answer told given ∷ []) ms t refl (met_first names (fits_answer told given) [] e refl) h
+
+-- the answer for which a certificate is
+abbrev pub answer_of : Certificate → Bool
+answer_of (ortho_certificate ps) = true
+answer_of (quasi_certificate m ps) = true
+answer_of (peak_certificate p) = false
+
+spelt_body : (c : Certificate) (names : NameTable) (given : Option Bool) → is_answer (answer_of c) given ≡ true → CanBeSpelt names c → Spells names (body_marks (name_of names) given c) (body_text names c)
+spelt_body (ortho_certificate ps) names given e h =
+    put_kind names (codes "ortho") true given _ _ e (put_fixed names (codes "\n") _ _ (spelt_pairs ps names 1 (let q : length ps ≤ 20000 = h.0 in omega arith) h.1))
+spelt_body (quasi_certificate m ps) names given e h =
+    put_kind names (codes "quasi") true given _ _ e (put_fixed names (codes "\n") _ _ (put_both names (measure_marks (name_of names) m) (pairs_marks (name_of names) 1 ps) (measure_text names m) (pairs_text names ps) (spelt_measure m names h.0) (spelt_pairs ps names 1 (let q : length ps ≤ 20000 = h.1 in omega arith) h.2)))
+spelt_body (peak_certificate p) names given e h =
+    put_kind names (codes "peak") false given _ _ e (put_fixed names (codes "\n") _ _ (put_fixed names (codes "start ") _ _
+    (put_both names (term_marks (name_of names) 1 1 p.start) _ (term_text names p.start) _ (spelt_term p.start names 1 1 h.0 (let q = h.1.nodes in omega (arith, q)) (let q = h.1.levels in omega (arith, q)))
+    (put_fixed names (codes "\n") _ _ (put_both names (derivation_marks p.first) _ (derivation_text p.first) _ (spelt_derivation p.first names h.2) (put_both names (derivation_marks p.second) _ (derivation_text p.second) _ (spelt_derivation p.second names h.3) (spelt_apart p.apart names h.4)))))))
+
+fits_none : (told : Bool) → is_answer told None ≡ true
+fits_none true = refl
+fits_none false = refl
+
+spelt_lines : (c : Certificate) (names : NameTable) (given : Option Bool) → is_answer (answer_of c) given ≡ true → CanBeSpelt names c → Spells names (fixed (codes "concon 1\n") ∷ (body_marks (name_of names) given c ++ (fixed (codes "end\n") ∷ []))) (certificate_text names c)
+spelt_lines c names given e h = put_fixed names (codes "concon 1\n") _ _ (put_both names (body_marks (name_of names) given c) _ (body_text names c) (codes "end\n") (spelt_body c names given e h) (put_fixed names (codes "end\n") [] [] (nothing names)))
+
+pub spelt_alone : (c : Certificate) (names : NameTable) → CanBeSpelt names c → Spells names (certificate_marks (name_of names) None c) (certificate_text names c)
+spelt_alone c names h = spelt_lines c names None (fits_none (answer_of c)) h
+
+pub spelt_answered : (c : Certificate) (names : NameTable) → CanBeSpelt names c → Spells names (certificate_marks (name_of names) (Some (answer_of c)) c) (answer_line c ++ certificate_text names c)
+spelt_answered (ortho_certificate ps) names h = put_fixed names (codes "YES\n") _ _ (spelt_lines (ortho_certificate ps) names (Some true) refl h)
+spelt_answered (quasi_certificate m ps) names h = put_fixed names (codes "YES\n") _ _ (spelt_lines (quasi_certificate m ps) names (Some true) refl h)
+spelt_answered (peak_certificate p) names h = put_fixed names (codes "NO\n") _ _ (spelt_lines (peak_certificate p) names (Some false) refl h)

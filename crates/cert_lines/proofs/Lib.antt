@@ -1,0 +1,16 @@
+pub mod Places
+pub mod Lines
+pub mod OneReading
+pub mod Exits
+pub mod Loops
+pub mod Arguments
+pub mod Parts
+pub mod Splits
+pub mod Marks
+pub mod Transitions
+pub mod AutomatonLines
+pub mod EvidenceLines
+pub mod PairLines
+pub mod MeasureLines
+pub mod PeakLines
+pub mod Whole

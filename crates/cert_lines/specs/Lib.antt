@@ -1,0 +1,4 @@
+pub mod ReadingParts
+pub mod ReadingEvidence
+pub mod ReadingCertificates
+pub mod Answers

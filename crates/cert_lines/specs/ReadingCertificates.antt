@@ -1,0 +1,60 @@
+-- What the reader finds of measures, peaks and certificates.
+use Rattle.std.specs.Prelude.{◌≡◌, ◌≤◌, ℕ, List, ◌∷◌, ◌++◌, Bool, if◌then◌else◌, length, codes}
+use Rattle.rewriting.specs.Terms.{Fits}
+use Rattle.rewriting.specs.Unraveling.{Head}
+use Rattle.certificates.specs.Certificates.{PairEntry, LinearEntry, MeasureCertificate, Redex, Apartness, Peak, Certificate}
+use Rattle.cops_read.specs.NameTable.{NameTable}
+use Rattle.cert_grammar.specs.Words.{largest, IsSpelt}
+use Rattle.cert_grammar.specs.Limits.{IsDerivation}
+use Rattle.cert_grammar.specs.EvidenceText.{numbers_text, pairs_text, AreAtMost, ArePairs}
+use Rattle.cert_grammar.specs.CertificateText.{measured_text, entries_text, measure_text, redexes_text, apart_text, peak_text, body_text, certificate_text, answer_line, IsMeasured, AreEntries, IsMeasure, AreRedexes, IsApart, CanBeSpelt}
+use Rattle.cert_lines.specs.ReadingParts.{StopsAt, ends_part}
+use Rattle.cert_lines.specs.ReadingEvidence.{PlaceAt, InfeasibilityAt}
+
+-- a symbol that is measured
+abbrev pub MeasuredAt : NameTable → List ℕ → Head × List ℕ → Type 0
+MeasuredAt names bytes x = (bytes ≡ measured_text names x.0 ++ x.1) × IsMeasured names x.0 × StopsAt ends_part x.1
+
+-- a line of a measure
+abbrev pub EntryAt : NameTable → List ℕ → LinearEntry × List ℕ → Type 0
+EntryAt names bytes x = (bytes ≡ measured_text names x.0.head ++ (numbers_text x.0.coefficients ++ 10 ∷ x.1)) × IsMeasured names x.0.head × (length x.0.coefficients ≤ 200) × AreAtMost largest x.0.coefficients
+
+-- no line of a measure begins here
+abbrev pub BeginsNoEntry : List ℕ → Type 0
+BeginsNoEntry bytes = ((b : List ℕ) → bytes ≡ codes "fun " ++ b → ⊥) × ((b : List ℕ) → bytes ≡ codes "aux " ++ b → ⊥)
+
+-- all lines of a measure
+abbrev pub EntriesAt : NameTable → List ℕ → List LinearEntry × List ℕ → Type 0
+EntriesAt names bytes x = (bytes ≡ entries_text names x.0 ++ x.1) × (length x.0 ≤ 25000) × AreEntries names x.0 × BeginsNoEntry x.1
+
+-- a redex with its evidence
+abbrev pub RedexAt : NameTable → List ℕ → Redex × List ℕ → Type 0
+RedexAt names bytes x = (b : List ℕ) × (c : List ℕ) × (bytes ≡ codes "redex " ++ b) × PlaceAt b ((x.0.which, (x.0.position, x.0.rule)), c) × InfeasibilityAt names c (x.0.evidence, x.1)
+
+-- all bytes are redexes and the last line, a way to be apart and the last line, and so on
+abbrev pub IsRedexesText : NameTable → List ℕ → List Redex → Type 0
+IsRedexesText names bytes redexes = (bytes ≡ redexes_text names redexes ++ codes "end\n") × (length redexes ≤ 20000) × AreRedexes names redexes
+
+abbrev pub IsApartText : NameTable → List ℕ → Apartness → Type 0
+IsApartText names bytes a = (bytes ≡ apart_text names a ++ codes "end\n") × IsApart names a
+
+abbrev pub IsPeakText : NameTable → List ℕ → Peak → Type 0
+IsPeakText names bytes p = (bytes ≡ peak_text names p ++ codes "end\n") × IsSpelt names p.start × Fits p.start × IsDerivation 50 p.first × IsDerivation 50 p.second × IsApart names p.apart
+
+abbrev pub IsQuasiText : NameTable → List ℕ → MeasureCertificate × List PairEntry → Type 0
+IsQuasiText names bytes x = (bytes ≡ measure_text names x.0 ++ (pairs_text names x.1 ++ codes "end\n")) × IsMeasure names x.0 × (length x.1 ≤ 20000) × ArePairs names x.1
+
+abbrev pub IsBodyText : NameTable → List ℕ → Certificate → Type 0
+IsBodyText names bytes c = (bytes ≡ body_text names c ++ codes "end\n") × CanBeSpelt names c
+
+-- all bytes are a certificate without an answer line
+abbrev pub IsPlainText : NameTable → List ℕ → Certificate → Type 0
+IsPlainText names bytes c = (bytes ≡ certificate_text names c) × CanBeSpelt names c
+
+-- the certificate is for the answer
+abbrev pub HasAnswer : Bool → Certificate → Type 0
+HasAnswer positive c = answer_line c ≡ (if positive then codes "YES\n" else codes "NO\n")
+
+-- all bytes are a certificate for the answer, behind the answer line
+abbrev pub IsAnsweredText : NameTable → List ℕ → Bool → Certificate → Type 0
+IsAnsweredText names bytes positive c = IsPlainText names bytes c × HasAnswer positive c

@@ -1,0 +1,15 @@
+//! The lines and words of a certificate, read exactly: the certificate of which the bytes are the text, if there is one.
+#![tactic(auto)]
+
+mod automata;
+mod error;
+mod evidence;
+mod measures;
+mod peaks;
+mod reader;
+mod steps;
+mod terms;
+mod words;
+
+pub use error::Unread;
+pub use reader::certificate;

@@ -1,0 +1,10 @@
+use Rattle.cert_grammar.specs.Items.{pairs_from}
+use Rattle.cert_refusals.specs.ReaderView.{items_view}
+use Rattle.cert_refusals.proofs.Taken.{here_first, step_refused, step_goes}
+use Rattle.cert_refusals.proofs.list_steps.pairs.Goals as goal
+
+pub returns-in_err-pair : goal.returns-in_err-pair
+returns-in_err-pair c = λ names. step_refused names c.args.at c.args.left.now (pairs_from c.args.number) (items_view c.args.stack.now.items) c.pair.new.stack.items _ _ _ _ _ (here_first _ _ _ c.in-Some.ensures.there) c.from_residual.ensures.1 (c.in_err-pair.ensures.judged names)
+
+pub returns-in-Some : goal.returns-in-Some
+returns-in-Some c = λ names. step_goes names c.args.at c.args.left.now (pairs_from c.args.number) (items_view c.args.stack.now.items) _ _ _ _ (here_first _ _ _ c.in-Some.ensures.there) (c.in_ok-pair.ensures.judged names) c.in-Some.ensures.rest c.in-Some.ensures.within c.in_ok-pair.ensures.pushed

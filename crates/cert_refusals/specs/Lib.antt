@@ -1,0 +1,2 @@
+pub mod ReaderView
+pub mod CertRefusals

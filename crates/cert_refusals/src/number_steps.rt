@@ -1,0 +1,143 @@
+//! Steps at numbers, positions and measured names.
+
+ghost use Rattle.std.specs.Prelude.{◌≡◌, ◌≤◌, ◌<◌, ◌+◌, ◌∷◌, ◌++◌, [], ℕ, List, suc, length, map, take, drop, Some, None, false, true, OnOk, IfOk, IfErr, MatchResult};
+ghost use Rattle.cops_read.specs.NameTable.{NameTable};
+ghost use Rattle.cert_grammar.specs.Items as spec;
+ghost use Rattle.cert_grammar.specs.Marks.{syntax, in_range};
+ghost use Rattle.cert_grammar.specs.Scans as scans;
+ghost use Rattle.cert_grammar.specs.FirstRefusal.{is_there, longest};
+ghost use Rattle.cert_refusals.specs.ReaderView.{bare, told, IsTold, IsLeadRead, text_view, between_view, frames_view, item_view, items_view, automaton_view, term_view, Demands, IsFixed, IsNumber, StepAnswers, step_at};
+ghost use Rattle.cert_refusals.specs.declared.error.CertError.TheVariants.{NoMemory};
+
+use crate::demands::{few, known, one_more, position, short};
+use crate::error::{CertCount, CertError};
+use crate::items::{Between, Item, Lead, front};
+use crate::list_steps::{push, push_derivations, push_steps, stuck};
+use cops_read::Names;
+
+/// The number at the front, and what is behind it.
+pub fn number(left: &[u8], at: usize) -> Result<(&[u8], &[u8]), CertError>
+    requires { at + length left.now ≤ usize.MAX }
+    ensures { IsNumber at left.now (λ x. x.0.now) (λ x. x.1.now) result }
+{
+    match front(Lead::Number, left) {
+        Some(parts) => Ok(parts),
+        None => Err(stuck(&[Lead::Number], left, at)),
+    }
+}
+
+/// A number that is not too great, and then these bytes.
+pub fn any_number<'a>(
+    stack: &mut Vec<Item<'a>>,
+    left: &'a [u8],
+    at: usize,
+    between: Between,
+) -> Result<&'a [u8], CertError>
+    requires { at + length left.now ≤ usize.MAX }
+    ensures { (names : NameTable) → StepAnswers (step_at names at (spec.any_number (between_view between)) stack.old.items left.now) at left.now stack.new.items (λ rest. rest.now) result }
+{
+    let (word, rest) = number(left, at)?;
+    short(word, at)?;
+    push(stack, Item::Between(between))?;
+    Ok(rest)
+}
+
+/// The condition of an entry.
+pub fn measured_condition<'a>(
+    stack: &mut Vec<Item<'a>>,
+    left: &'a [u8],
+    at: usize,
+) -> Result<&'a [u8], CertError>
+    requires { at + length left.now ≤ usize.MAX }
+    ensures { (names : NameTable) → StepAnswers (step_at names at spec.measured_condition stack.old.items left.now) at left.now stack.new.items (λ rest. rest.now) result }
+{
+    let (word, rest) = number(left, at)?;
+    short(word, at)?;
+    push(stack, Item::CoefficientsBehind(0))?;
+    Ok(rest)
+}
+
+pub fn any_position<'a>(
+    stack: &mut Vec<Item<'a>>,
+    left: &'a [u8],
+    at: usize,
+    between: Between,
+) -> Result<&'a [u8], CertError>
+    requires { at + length left.now ≤ usize.MAX }
+    ensures { (names : NameTable) → StepAnswers (step_at names at (spec.any_position (between_view between)) stack.old.items left.now) at left.now stack.new.items (λ rest. rest.now) result }
+{
+    let Some((word, rest)) = front(Lead::Position, left) else {
+        return Err(stuck(&[Lead::Position], left, at));
+    };
+    position(word, at)?;
+    push(stack, Item::Between(between))?;
+    Ok(rest)
+}
+
+pub fn measured_name<'a>(
+    names: &Names,
+    stack: &mut Vec<Item<'a>>,
+    left: &'a [u8],
+    at: usize,
+) -> Result<&'a [u8], CertError>
+    requires { at + length left.now ≤ usize.MAX }
+    ensures { StepAnswers (step_at names.now at (spec.measured_name) stack.old.items left.now) at left.now stack.new.items (λ rest. rest.now) result }
+{
+    let Some((name, rest)) = front(Lead::Name, left) else {
+        return Err(stuck(&[Lead::Name], left, at));
+    };
+    known(names, name, at)?;
+    push(stack, Item::CoefficientsBehind(0))?;
+    Ok(rest)
+}
+
+/// A number of an entry, the one with this number.
+pub fn coefficient<'a>(
+    stack: &mut Vec<Item<'a>>,
+    left: &'a [u8],
+    at: usize,
+    count: usize,
+) -> Result<&'a [u8], CertError>
+    requires { at + length left.now ≤ usize.MAX }
+    ensures { (names : NameTable) → StepAnswers (step_at names at (spec.coefficient count) stack.old.items left.now) at left.now stack.new.items (λ rest. rest.now) result }
+{
+    let (word, rest) = number(left, at)?;
+    short(word, at)?;
+    few(CertCount::Numbers, count, at)?;
+    push(stack, Item::CoefficientsBehind(count))?;
+    Ok(rest)
+}
+
+pub fn step_count<'a>(
+    stack: &mut Vec<Item<'a>>,
+    left: &'a [u8],
+    at: usize,
+    level: usize,
+) -> Result<&'a [u8], CertError>
+    requires { at + length left.now ≤ usize.MAX }
+    ensures { (names : NameTable) → StepAnswers (step_at names at (spec.nesting_count level) stack.old.items left.now) at left.now stack.new.items (λ rest. rest.now) result }
+{
+    let (word, rest) = number(left, at)?;
+    let count = short(word, at)?;
+    few(CertCount::Steps, count as usize, at)?;
+    push_steps(stack, level, count)?;
+    push(stack, Item::Between(Between::Line))?;
+    Ok(rest)
+}
+
+/// The number of derivations behind a step in this nesting.
+pub fn condition_count<'a>(
+    stack: &mut Vec<Item<'a>>,
+    left: &'a [u8],
+    at: usize,
+    level: usize,
+) -> Result<&'a [u8], CertError>
+    requires { at + length left.now ≤ usize.MAX }
+    ensures { (names : NameTable) → StepAnswers (step_at names at (spec.condition_count level) stack.old.items left.now) at left.now stack.new.items (λ rest. rest.now) result }
+{
+    let (word, rest) = number(left, at)?;
+    let count = short(word, at)?;
+    push_derivations(stack, one_more(level)?, count)?;
+    push(stack, Item::Between(Between::Line))?;
+    Ok(rest)
+}

@@ -1,0 +1,20 @@
+-- The texts of the members of a certificate's lists.
+use Rattle.std.specs.Prelude.{ℕ, List, ◌++◌, decimal, codes}
+use Rattle.certificates.specs.Evidence.{Transition}
+use Rattle.certificates.specs.Certificates.{PairEntry, LinearEntry, Redex}
+use Rattle.cops_read.specs.NameTable.{NameTable}
+use Rattle.cert_grammar.specs.Words.{position_text}
+use Rattle.cert_grammar.specs.EvidenceText.{numbers_text, head_text, infeasibility_text, evidence_text}
+use Rattle.cert_grammar.specs.CertificateText.{measured_text}
+
+abbrev pub transition_text : NameTable → Transition → List ℕ
+transition_text names t = head_text names t.symbol t.arguments ++ (codes " " ++ (decimal t.target ++ codes "\n"))
+
+abbrev pub pair_text : NameTable → PairEntry → List ℕ
+pair_text names p = codes "pair " ++ (decimal p.inner ++ (codes " " ++ (position_text p.position ++ (codes " " ++ (decimal p.outer ++ (codes " " ++ evidence_text names p.evidence))))))
+
+abbrev pub entry_text : NameTable → LinearEntry → List ℕ
+entry_text names e = measured_text names e.head ++ (numbers_text e.coefficients ++ codes "\n")
+
+abbrev pub redex_text : NameTable → Redex → List ℕ
+redex_text names r = codes "redex " ++ (decimal r.which ++ (codes " " ++ (position_text r.position ++ (codes " " ++ (decimal r.rule ++ (codes " " ++ infeasibility_text names r.evidence))))))

@@ -1,0 +1,11 @@
+//! The text of a certificate, put part by part into what takes bytes.
+#![tactic(auto)]
+
+mod output;
+mod writer;
+mod written_evidence;
+mod written_steps;
+mod written_terms;
+
+pub use output::{Counter, Output, Writer};
+pub use writer::put_certificate;

@@ -1,0 +1,155 @@
+ghost use Rattle.std.specs.Prelude.{map};
+ghost use Rattle.cert_model.specs.EvidenceView.{transition_view, automaton_view, inf_evidence_view, pair_evidence_view};
+ghost use Rattle.cert_model.specs.CertificateView.{pair_entry_view};
+ghost use Rattle.cert_writing.specs.WrittenParts.{transition_text, pair_text};
+ghost use Rattle.cert_grammar.specs.EvidenceText.{numbers_text, further_states_text, states_text, head_text, transitions_text, automaton_text, infeasibility_text, evidence_text, pairs_text};
+
+use crate::output::{Output, put_number};
+use crate::written_steps::put_derivation;
+use crate::written_terms::{put_name, put_position};
+use cert_model::{Automaton, InfEvidence, PairEntry, PairEvidence, Transition};
+use cops_read::Names;
+
+/// Numbers with a space before each.
+pub fn put_numbers<O: Output>(to: &mut O, numbers: &[u32])
+    ensures { O.took to.old (numbers_text numbers.now) to.new }
+{
+    'numbers: for number in numbers {
+        to.put(b" ");
+        put_number(to, *number as usize);
+    }
+}
+
+// The states behind one, each with a comma before it, and the bracket.
+fn put_further_states<O: Output>(to: &mut O, states: &[u32])
+    ensures { O.took to.old (further_states_text states.now) to.new }
+{
+    'states: for state in states {
+        to.put(b",");
+        put_number(to, *state as usize);
+    }
+    to.put(b")");
+}
+
+// Nothing, or states in brackets.
+fn put_states<O: Output>(to: &mut O, states: &[u32])
+    ensures { O.took to.old (states_text states.now) to.new }
+{
+    if let [first, rest @ ..] = states {
+        to.put(b"(");
+        put_number(to, *first as usize);
+        put_further_states(to, rest);
+    }
+}
+
+// A symbol with the states of its arguments, or a bar for variables.
+fn put_head<O: Output>(to: &mut O, names: &Names, symbol: Option<u32>, states: &[u32])
+    ensures { O.took to.old (head_text names.now symbol states.now) to.new }
+{
+    match symbol {
+        Some(f) => {
+            put_name(to, names, f);
+            put_states(to, states);
+        }
+        None => to.put(b"|"),
+    }
+}
+
+fn put_transition<O: Output>(to: &mut O, names: &Names, transition: &Transition)
+    ensures { O.took to.old (transition_text names.now (transition_view transition.now)) to.new }
+{
+    put_head(to, names, transition.symbol, &transition.args);
+    to.put(b" ");
+    put_number(to, transition.target as usize);
+    to.put(b"\n");
+}
+
+fn put_transitions<O: Output>(to: &mut O, names: &Names, transitions: &[Transition])
+    ensures { O.took to.old (transitions_text names.now (map transition_view transitions.now)) to.new }
+{
+    'transitions: for transition in transitions {
+        put_transition(to, names, transition);
+    }
+}
+
+fn put_automaton<O: Output>(to: &mut O, names: &Names, automaton: &Automaton)
+    ensures { O.took to.old (automaton_text names.now (automaton_view automaton.now)) to.new }
+{
+    to.put(b"states ");
+    put_number(to, automaton.states as usize);
+    to.put(b"\naccepting");
+    put_numbers(to, &automaton.accepting);
+    to.put(b"\ntransitions ");
+    put_number(to, automaton.transitions.len());
+    to.put(b"\n");
+    put_transitions(to, names, &automaton.transitions);
+}
+
+/// Evidence that conditions are never met.
+pub fn put_infeasibility<O: Output>(to: &mut O, names: &Names, evidence: &InfEvidence)
+    ensures { O.took to.old (infeasibility_text names.now (inf_evidence_view evidence.now)) to.new }
+{
+    match evidence {
+        InfEvidence::Tcap => to.put(b"tcap\n"),
+        InfEvidence::Auto { cond, automaton } => {
+            to.put(b"auto ");
+            put_number(to, *cond as usize);
+            to.put(b"\n");
+            put_automaton(to, names, automaton);
+        }
+    }
+}
+
+fn put_evidence<O: Output>(to: &mut O, names: &Names, evidence: &PairEvidence)
+    ensures { O.took to.old (evidence_text names.now (pair_evidence_view evidence.now)) to.new }
+{
+    match evidence {
+        PairEvidence::Trivial => to.put(b"trivial\n"),
+        PairEvidence::Infeasible(evidence) => put_infeasibility(to, names, evidence),
+        PairEvidence::Conflict { inner, outer } => {
+            to.put(b"conflict ");
+            put_number(to, *inner as usize);
+            to.put(b" ");
+            put_number(to, *outer as usize);
+            to.put(b"\n");
+        }
+        PairEvidence::Join { left, right } => {
+            to.put(b"join\n");
+            put_derivation(to, left);
+            put_derivation(to, right);
+        }
+        PairEvidence::Unfeasible {
+            cond,
+            first,
+            second,
+        } => {
+            to.put(b"unfeasible ");
+            put_number(to, *cond as usize);
+            to.put(b"\n");
+            put_derivation(to, first);
+            put_derivation(to, second);
+        }
+    }
+}
+
+fn put_pair<O: Output>(to: &mut O, names: &Names, pair: &PairEntry)
+    ensures { O.took to.old (pair_text names.now (pair_entry_view pair.now)) to.new }
+{
+    to.put(b"pair ");
+    put_number(to, pair.inner as usize);
+    to.put(b" ");
+    put_position(to, &pair.pos);
+    to.put(b" ");
+    put_number(to, pair.outer as usize);
+    to.put(b" ");
+    put_evidence(to, names, &pair.evidence);
+}
+
+/// Overlaps with their evidence.
+pub fn put_pairs<O: Output>(to: &mut O, names: &Names, pairs: &[PairEntry])
+    ensures { O.took to.old (pairs_text names.now (map pair_entry_view pairs.now)) to.new }
+{
+    'pairs: for pair in pairs {
+        put_pair(to, names, pair);
+    }
+}

@@ -1,5 +1,0 @@
-use Rattle.concon.proofs.TextsRead.{file_unread}
-use Rattle.concon.proofs.judge.system_of.Goals as goal
-
-pub returns-in-Err-clause-answers : goal.returns-in-Err-clause-answers
-returns-in-Err-clause-answers g c = rw c.refusal_of_file.ensures (file_unread _ _ c.in-Err.error c.in-Err.ensures.fault c.in-Err.ensures.longer)

@@ -1,5 +1,0 @@
-use Rattle.concon.proofs.Bounds.{can_be_judged}
-use Rattle.concon.proofs.judge.verdict_on.Goals as goal
-
-pub check-requires : goal.check-requires
-check-requires c = can_be_judged _ _ _ _ _ c.requires.2 c.requires.3

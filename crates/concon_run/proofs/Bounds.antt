@@ -1,0 +1,79 @@
+-- What the readers promise of a certificate is what its check asks.
+use Rattle.std.proofs.Common.{◌≡◌, ℕ, suc, ◌-◌, List, [], ◌∷◌, map, refl, ap, ◌∙◌, arith}
+use Rattle.std.specs.Prelude.{slice_get}
+use Rattle.std.proofs.lemmas.Option.{slice_get-map}
+use Rattle.rewriting.specs.Terms.{Term, Terms, var, app, nil, cons}
+use Rattle.rewriting.specs.Signatures.{IsOver, AreOver}
+use Rattle.rewriting.specs.Rules.{System}
+use Rattle.certificates.specs.Derivations.{Derivation, no_steps, first_step, Step, by_rule, by_hypothesis, Derivations, no_derivations, first_derivation}
+use Rattle.certificates.specs.Evidence.{PairEvidence, trivial_pair, infeasible_pair, conflicting_pair, joined_pair, unfeasible_pair}
+use Rattle.certificates.specs.Certificates.{PairEntry, Apartness, by_normal_forms, by_rigid_caps, Certificate, ortho_certificate, quasi_certificate, peak_certificate}
+use Rattle.certificates.specs.Sizes.{IsShort, AreStepsShort, IsStepShort, AreShort}
+use Rattle.certificates.specs.Sizes as sizes
+use Rattle.valid_certificates.specs.Entries.{IsPairShort, ArePairsShort}
+use Rattle.noncon_check.specs.Judges.{AreFew}
+use Rattle.cert_check.specs.Kinds.{CanBeJudged}
+use Rattle.cops_read.specs.NameTable.{NameTable}
+use Rattle.cops_read.specs.File.{IsFile}
+use Rattle.cert_grammar.specs.Words.{IsSpelt, AreSpelt}
+use Rattle.cert_grammar.specs.Steps as steps
+use Rattle.cert_grammar.specs.Limits.{AreSteps, IsStep, AreDerivations, IsDerivation}
+use Rattle.cert_grammar.specs.EvidenceText.{IsEvidence, ArePairs}
+use Rattle.cert_grammar.specs.CertificateText.{IsApart, IsCertificateText}
+
+-- terms that the names spell are over the arities of the names
+mutual
+  spelt_over : (names : NameTable) (arities : List ℕ) → arities ≡ map (λ s. s.1) names.symbols → (t : Term) → IsSpelt names t → IsOver arities t
+  spelt_over names arities e (var x) h = tt
+  spelt_over names arities e (app f ts) h =
+      (ap (λ (l : List ℕ). slice_get l f) e ∙ slice_get-map (λ (s : List ℕ × ℕ). s.1) names.symbols f ∙ h.0.1.arity, spelt_all_over names arities e ts h.1)
+
+  spelt_all_over : (names : NameTable) (arities : List ℕ) → arities ≡ map (λ s. s.1) names.symbols → (ts : Terms) → AreSpelt names ts → AreOver arities ts
+  spelt_all_over names arities e nil h = tt
+  spelt_all_over names arities e (cons t ts) h = (spelt_over names arities e t h.0, spelt_all_over names arities e ts h.1)
+
+same_count : (d : Derivation) → steps.step_count d ≡ sizes.step_count d
+same_count no_steps = refl
+same_count (first_step s d) = ap suc (same_count d)
+
+mutual
+  steps_short : (levels : ℕ) (d : Derivation) → AreSteps levels d → AreStepsShort d
+  steps_short levels no_steps h = tt
+  steps_short levels (first_step s d) h = (step_short levels s h.0, steps_short levels d h.1)
+
+  step_short : (levels : ℕ) (s : Step) → IsStep levels s → IsStepShort s
+  step_short levels (by_rule i p ds) h = all_short levels ds h.3
+  step_short levels (by_hypothesis k p) h = tt
+
+  all_short : (levels : ℕ) (ds : Derivations) → AreDerivations levels ds → AreShort ds
+  all_short levels no_derivations h = tt
+  all_short levels (first_derivation d ds) h = (omega (arith, same_count d, h.1), steps_short (levels - 1) d h.2, all_short levels ds h.3)
+
+short : (d : Derivation) → IsDerivation 50 d → IsShort d
+short d h = record { few_steps = omega (arith, same_count d, h.1); inner = steps_short 49 d h.2 }
+
+few : (names : NameTable) (a : Apartness) → IsApart names a → AreFew a
+few names (by_normal_forms es) h = let at_most = h.0 in omega arith
+few names by_rigid_caps h = tt
+
+evidence_short : (names : NameTable) (e : PairEvidence) → IsEvidence names e → IsPairShort e
+evidence_short names trivial_pair h = tt
+evidence_short names (infeasible_pair e) h = tt
+evidence_short names (conflicting_pair a b) h = tt
+evidence_short names (joined_pair d e) h = (short d h.0, short e h.1)
+evidence_short names (unfeasible_pair k d e) h = (short d h.1, short e h.2)
+
+pairs_short : (names : NameTable) (es : List PairEntry) → ArePairs names es → ArePairsShort es
+pairs_short names [] h = tt
+pairs_short names (e ∷ es) h = (evidence_short names e.evidence h.3, pairs_short names es h.4)
+
+pub can_be_judged : (file text : List ℕ) (sys : System) (names : NameTable) (c : Certificate) → IsFile file sys names → IsCertificateText names text c → CanBeJudged sys c
+can_be_judged file text sys names (ortho_certificate pairs) f c = pairs_short names pairs c.spelt.1
+can_be_judged file text sys names (quasi_certificate measure pairs) f c = pairs_short names pairs c.spelt.2
+can_be_judged file text sys names (peak_certificate peak) f c = record {
+  fits = c.spelt.1;
+  over = spelt_over names sys.arities f.meant.arities peak.start c.spelt.0;
+  first_short = short peak.first c.spelt.2;
+  second_short = short peak.second c.spelt.3;
+  few = few names peak.apart c.spelt.4;
+}

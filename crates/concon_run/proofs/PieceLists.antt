@@ -1,0 +1,11 @@
+-- Pieces one after the other.
+use Rattle.std.proofs.Common.{◌≡◌, ℕ, List, [], ◌∷◌, ◌++◌, refl, ap}
+use Rattle.std.specs.List.{flat_map}
+use Rattle.std.proofs.lemmas.List.{append-nil}
+use Rattle.concon_run.specs.declared.pieces.Piece.{Piece}
+use Rattle.concon_run.specs.Pieces.{piece_text, pieces_text}
+
+pub pieces-flat : (ps : List Piece) → flat_map piece_text ps ≡ pieces_text ps
+pieces-flat [] = refl
+pieces-flat (p ∷ []) = append-nil (piece_text p)
+pieces-flat (p ∷ q ∷ ps) = ap (λ (x : List ℕ). piece_text p ++ x) (pieces-flat (q ∷ ps))

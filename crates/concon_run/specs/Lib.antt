@@ -1,0 +1,14 @@
+pub mod Status
+pub mod Numbers
+pub mod Pieces
+pub mod Rejections
+pub mod Words
+pub mod Said
+pub mod FileRefusals
+pub mod CertRefusals
+pub mod Outcomes
+pub mod Causes
+pub mod Replies
+pub mod Refusals
+pub mod Judging
+pub mod Rows

@@ -1,0 +1,20 @@
+-- What the pieces of a text spell.
+use Rattle.std.specs.Prelude.{◌++◌, ◌∷◌, ℕ, List, [], decimal}
+use Rattle.concon_run.specs.declared.pieces.Piece.{Piece}
+use Rattle.concon_run.specs.declared.pieces.Piece.TheVariants.{Text, Number, Place, Path, Position, States, Name}
+use Rattle.concon_run.specs.Numbers.{each_behind, dotted, position_text}
+
+abbrev pub piece_text : Piece → List ℕ
+piece_text (Text bytes) = bytes.now
+piece_text (Number n) = decimal n
+piece_text (Place at) = decimal at
+piece_text (Path numbers) = dotted numbers.now
+piece_text (Position numbers) = position_text numbers.now
+piece_text (States numbers) = each_behind 32 numbers.now
+piece_text (Name name) = name.now
+
+-- one piece after the other
+abbrev pub pieces_text : List Piece → List ℕ
+pieces_text [] = []
+pieces_text (p ∷ []) = piece_text p
+pieces_text (p ∷ q ∷ ps) = piece_text p ++ pieces_text (q ∷ ps)

@@ -1,0 +1,58 @@
+-- Each answer and its causes.
+use Rattle.std.specs.Prelude.{◌≡◌, ◌⊎◌, ◌++◌, ℕ, List, Option, codes}
+use Rattle.certificates.specs.Reasons.{Rejection}
+use Rattle.cops_read.specs.NameTable.{NameTable}
+use Rattle.cc_io.specs.Bytes.{appended}
+use Rattle.concon_run.specs.Words.{IsCheck}
+use Rattle.concon_run.specs.Said.{TakesPart}
+use Rattle.concon_run.specs.FileRefusals.{FileRefusal}
+use Rattle.concon_run.specs.CertRefusals.{CertRefusal}
+use Rattle.concon_run.specs.Outcomes.{CheckOutcome, no_system, no_certificate, rejected, ComesTo, IsConfirmed, IsRefuted}
+use Rattle.concon_run.specs.Causes.{Run, bytes_of, told_bytes, HasFailed, Answer, said_of, IsCaused}
+use Rattle.concon_run.specs.declared.status.Status.{Status}
+use Rattle.concon_run.specs.declared.status.Status.TheVariants as status
+
+-- the words are in form, and the check comes to this
+abbrev pub CheckComesTo : Run → CheckOutcome → Type 0
+CheckComesTo run outcome = (file : List ℕ) × (cert : List ℕ) × IsCheck run.words file cert × ComesTo (bytes_of run file) (bytes_of run cert) outcome
+
+abbrev pub IsCertificateRefusal : Run → Type 0
+IsCertificateRefusal run = (refusal : CertRefusal) × CheckComesTo run (no_certificate refusal)
+
+abbrev pub IsFileRefusal : Run → Type 0
+IsFileRefusal run = (refusal : FileRefusal) × CheckComesTo run (no_system refusal)
+
+abbrev pub IsRejection : Run → Type 0
+IsRejection run = (names : NameTable) × (reason : Rejection) × CheckComesTo run (rejected names reason)
+
+-- the words name the text of a system that is confluent
+abbrev pub NamesConfluentSystem : Run → Type 0
+NamesConfluentSystem run = (file : List ℕ) × (cert : List ℕ) × IsCheck run.words file cert × IsConfirmed (bytes_of run file)
+
+-- the words name texts of a system and of a peak, whose derivations lead from the start to two terms without a common reduct
+abbrev pub NamesPeakApart : Run → Type 0
+NamesPeakApart run = (file : List ℕ) × (cert : List ℕ) × IsCheck run.words file cert × IsRefuted (bytes_of run file) (bytes_of run cert)
+
+-- the shelf failed at the file that err names
+abbrev pub IsReadFault : Run → Option (List ℕ) → Option (List ℕ) → Type 0
+IsReadFault run err_old err_new = (name : List ℕ) × HasFailed run name × (err_new ≡ appended err_old (name ++ codes ": read fault\n"))
+
+-- of the answer's text a sink took a proper front, and its faults rose; the other sink took nothing
+abbrev pub IsWriteFault : Run → Option (List ℕ) → Option (List ℕ) → Option (List ℕ) → Option (List ℕ) → ℕ → ℕ → ℕ → ℕ → Type 0
+IsWriteFault run out_old out_new err_old err_new out_before out_now err_before err_now =
+    (answer : Answer) × IsCaused run answer × TakesPart (said_of answer).out out_old out_new out_before out_now
+    × TakesPart (said_of answer).err err_old err_new err_before err_now
+
+-- no check answers so
+abbrev pub IsPossible : Status → Type 0
+IsPossible status.Maybe = ⊥
+IsPossible _ = Unit {0}
+
+-- this status, or one that takes its place: memory was refused, or a sink failed
+abbrev pub IsUnlessHindered : Status → Status → Type 0
+IsUnlessHindered wanted answer = (answer ≡ wanted) ⊎ ((answer ≡ status.NoMemory) ⊎ (answer ≡ status.WriteFault))
+
+-- what the file and the certificate that the words name are told to come to, where no fault of the shelf rose
+abbrev pub CalmlyComesTo : Run → List ℕ → List ℕ → CheckOutcome → Type 0
+CalmlyComesTo run file cert outcome =
+    IsCheck run.words file cert × ComesTo (told_bytes run file) (told_bytes run cert) outcome × (HasFailed run file → ⊥) × (HasFailed run cert → ⊥)

@@ -1,0 +1,18 @@
+//! All that the program does: `run` reads the words, the file and the certificate, has the certificate checked, and writes the
+//! one answer with its status.
+//!
+//! Files come from a `Shelf` and texts go to two `Sink`s, so that its contract speaks of bytes and not of a disk. The program
+//! `concon` hands it the real files and streams.
+#![tactic(auto)]
+
+mod judge;
+mod pieces;
+mod refusals;
+mod rejections;
+mod reply;
+mod status;
+mod top;
+mod words;
+
+pub use status::Status;
+pub use top::run;

@@ -1,0 +1,86 @@
+//! What is to be said, made whole before any of it is written.
+ghost use Rattle.std.specs.Prelude.{◌≡◌, IfOk, [], if◌then◌else◌};
+ghost use Rattle.concon_run.specs.Said.{IsTold};
+ghost use Rattle.concon_run.specs.Pieces.{pieces_text};
+ghost use Rattle.concon_run.specs.Replies.{text_bytes, reply_said, IsSaidIfMemory, no_memory_said};
+
+use crate::pieces::{Piece, put_all};
+use crate::status::Status;
+use cc_io::{Sink, write_all};
+use std::alloc::{AllocError, Global};
+
+/// A text that was made, or that the program has.
+#[derive(Drop)]
+pub enum Text {
+    Fixed(&'static [u8]),
+    Made(Vec<u8>),
+}
+
+/// A status, and the text for out or for err.
+#[derive(Drop)]
+pub struct Reply {
+    pub status: Status,
+    pub to_out: bool,
+    pub text: Text,
+}
+
+fn bytes_of_text(text: &Text) -> &[u8]
+    ensures { result.now ≡ text_bytes text.now }
+{
+    match text {
+        Text::Fixed(bytes) => *bytes,
+        Text::Made(bytes) => bytes.as_slice(),
+    }
+}
+
+/// Says that memory was refused.
+pub fn no_memory() -> Reply
+    ensures { reply_said result ≡ no_memory_said }
+{
+    Reply {
+        status: Status::NoMemory,
+        to_out: false,
+        text: Text::Fixed(b"no memory\n"),
+    }
+}
+
+fn text_of(alloc: Global, pieces: &[Piece]) -> Result<Vec<u8>, AllocError>
+    ensures { IfOk result (λ v. v.items ≡ pieces_text pieces.now) }
+{
+    let mut text = Vec::new(alloc);
+    put_all(&mut text, pieces)?;
+    Ok(text)
+}
+
+/// Says these pieces on err, or that memory was refused.
+pub fn complaint(alloc: Global, status: Status, pieces: &[Piece]) -> Reply
+    ensures { IsSaidIfMemory (record { status = status; out = []; err = pieces_text pieces.now }) (reply_said result) }
+{
+    match text_of(alloc, pieces) {
+        Ok(text) => Reply {
+            status,
+            to_out: false,
+            text: Text::Made(text),
+        },
+        Err(AllocError) => no_memory(),
+    }
+}
+
+/// Writes a reply, and gives the status with which the run ends.
+pub fn deliver<K: Sink, E: Sink>(reply: &Reply, out: &mut K, err: &mut E) -> Status
+    ensures { IsTold (reply_said reply.now) result (K.written out.old) (K.written out.new) (E.written err.old) (E.written err.new)
+        (K.faults out.old) (K.faults out.new) (E.faults err.old) (E.faults err.new) }
+{
+    let bytes = bytes_of_text(&reply.text);
+    if reply.to_out {
+        match write_all(out, bytes) {
+            Ok(()) => reply.status,
+            Err(_) => Status::WriteFault,
+        }
+    } else {
+        match write_all(err, bytes) {
+            Ok(()) => reply.status,
+            Err(_) => Status::WriteFault,
+        }
+    }
+}

@@ -1,0 +1,156 @@
+//! All that the program does.
+ghost use Rattle.std.specs.Prelude.{◌≡◌, ◌⊎◌, ◌++◌, ℕ, List, Some, codes};
+ghost use Rattle.cc_io.specs.Bytes.{appended};
+ghost use Rattle.concon_run.specs.Words.{texts, IsNoCommand};
+ghost use Rattle.concon_run.specs.Said.{IsTold};
+ghost use Rattle.concon_run.specs.Replies.{reply_said, IsSaidIfMemory};
+ghost use Rattle.concon_run.specs.Outcomes.{CheckOutcome, status_of, said_of_outcome};
+ghost use Rattle.concon_run.specs.Causes.{run_of, Answer, said_of, IsCaused, IsRight, IsLeft};
+ghost use Rattle.concon_run.specs.Judging.{answer_of};
+ghost use Rattle.concon_run.specs.Rows.{CheckComesTo, IsFileRefusal, IsCertificateRefusal, IsRejection, NamesConfluentSystem, NamesPeakApart, IsReadFault, IsWriteFault, IsPossible, CalmlyComesTo, IsUnlessHindered};
+
+use crate::judge::{NoVerdict, judge};
+use crate::refusals::refusal_reply;
+use crate::reply::{Reply, Text, deliver};
+use crate::status::Status;
+use crate::words::{Check, command_of};
+use cc_io::{Shelf, Sink};
+use cert_check::Verdict;
+use cert_text::one_answer;
+use cops_read::one_reading;
+use std::alloc::Global;
+use valid_certificates::certificates_have_one_answer;
+
+// Says how the program is used.
+fn usage() -> Reply
+    ensures { reply_said result ≡ said_of Answer.usage }
+{
+    Reply {
+        status: Status::Usage,
+        to_out: false,
+        text: Text::Fixed(b"usage: concon check FILE CERT\n"),
+    }
+}
+
+// What is said of a system that is confluent, or that is not.
+fn verdict_reply(verdict: Verdict) -> Reply
+    ensures { (file : List ℕ) (cert : List ℕ) → reply_said result ≡ said_of_outcome file cert (CheckOutcome.shown verdict) }
+{
+    let (status, text): (Status, &'static [u8]) = match verdict {
+        Verdict::Yes => (Status::Yes, b"YES\n"),
+        Verdict::No => (Status::No, b"NO\n"),
+    };
+    Reply {
+        status,
+        to_out: true,
+        text: Text::Fixed(text),
+    }
+}
+
+// What is said of a check.
+fn reply_to(alloc: Global, check: Check, judged: &Result<Verdict, NoVerdict>) -> Reply
+    ensures { IsSaidIfMemory (said_of (answer_of check.entry.file.now check.entry.cert.now judged.now)) (reply_said result) }
+{
+    match judged {
+        Ok(verdict) => verdict_reply(*verdict),
+        Err(why) => refusal_reply(alloc, check, why),
+    }
+}
+
+// What is to be said. Nothing has been written yet.
+fn decide<S: Shelf>(alloc: Global, words: &[&str], shelf: &mut S) -> Reply
+    ensures { let run = run_of (texts words.now) (S.contents shelf.old) (S.faults shelf.old) (S.faults shelf.new) in
+        (answer : Answer)
+        × IsCaused run answer × IsRight run answer
+        × IsLeft answer (S.begun shelf.old) (S.begun shelf.new) (S.given shelf.old) (S.given shelf.new)
+        × (reply_said result ≡ said_of answer) }
+{
+    match command_of(words) {
+        Some(check) => {
+            let judged = judge(alloc, shelf, check.file, check.cert);
+            reply_to(alloc, check, &judged)
+        }
+        None => usage(),
+    }
+}
+
+fn run_all<S: Shelf, K: Sink, E: Sink>(
+    alloc: Global,
+    words: &[&str],
+    shelf: &mut S,
+    out: &mut K,
+    err: &mut E,
+) -> Status
+    ensures { let run = run_of (texts words.now) (S.contents shelf.old) (S.faults shelf.old) (S.faults shelf.new) in
+        (answer : Answer)
+        × IsCaused run answer × IsRight run answer
+        × IsLeft answer (S.begun shelf.old) (S.begun shelf.new) (S.given shelf.old) (S.given shelf.new)
+        × IsTold (said_of answer) result (K.written out.old) (K.written out.new) (E.written err.old) (E.written err.new)
+        (K.faults out.old) (K.faults out.new) (E.faults err.old) (E.faults err.new) }
+{
+    let reply = decide(alloc, words, shelf);
+    deliver(&reply, out, err)
+}
+
+/// Does what the words say: `check FILE CERT` reads both files and writes the verdict.
+pub fn run<S: Shelf, K: Sink, E: Sink>(
+    alloc: Global,
+    words: &[&str],
+    shelf: &mut S,
+    out: &mut K,
+    err: &mut E,
+) -> Status
+    // One answer is given, for its cause; out and err took its texts, or a proper front of the one that is not empty.
+    ensures answer { let run = run_of (texts words.now) (S.contents shelf.old) (S.faults shelf.old) (S.faults shelf.new) in
+        (answer : Answer)
+        × IsCaused run answer × IsLeft answer (S.begun shelf.old) (S.begun shelf.new) (S.given shelf.old) (S.given shelf.new)
+        × IsTold (said_of answer) result (K.written out.old) (K.written out.new) (E.written err.old) (E.written err.new)
+        (K.faults out.old) (K.faults out.new) (E.faults err.old) (E.faults err.new) }
+    // Where out grew by a text that begins with Y, the system is confluent.
+    ensures yes_is_sound { let run = run_of (texts words.now) (S.contents shelf.old) (S.faults shelf.old) (S.faults shelf.new) in
+        (before : List ℕ) (text : List ℕ) → K.written out.old ≡ Some before → K.written out.new ≡ Some (before ++ (codes "Y" ++ text)) →
+        NamesConfluentSystem run }
+    // Where out grew by a text that begins with N, the system is not confluent.
+    ensures no_is_sound { let run = run_of (texts words.now) (S.contents shelf.old) (S.faults shelf.old) (S.faults shelf.new) in
+        (before : List ℕ) (text : List ℕ) → K.written out.old ≡ Some before → K.written out.new ≡ Some (before ++ (codes "N" ++ text)) →
+        NamesPeakApart run }
+    // Where no fault of the shelf rose, the status and the texts are those of what the two texts come to, unless memory was refused.
+    ensures exactly { let run = run_of (texts words.now) (S.contents shelf.old) (S.faults shelf.old) (S.faults shelf.new) in
+        (file : List ℕ) (cert : List ℕ) (outcome : CheckOutcome) →
+        CalmlyComesTo run file cert outcome →
+        IsTold (said_of_outcome file cert outcome) result (K.written out.old) (K.written out.new) (E.written err.old) (E.written err.new)
+        (K.faults out.old) (K.faults out.new) (E.faults err.old) (E.faults err.new)
+        ⊎ IsTold (said_of Answer.no_memory) result (K.written out.old) (K.written out.new) (E.written err.old) (E.written err.new)
+        (K.faults out.old) (K.faults out.new) (E.faults err.old) (E.faults err.new) }
+    // A valid certificate is answered by what it shows.
+    ensures complete { let run = run_of (texts words.now) (S.contents shelf.old) (S.faults shelf.old) (S.faults shelf.new) in
+        (file : List ℕ) (cert : List ℕ) (verdict : Verdict) →
+        CalmlyComesTo run file cert (CheckOutcome.shown verdict) →
+        IsUnlessHindered (status_of verdict) result }
+    ensures usage { result ≡ Status.Usage → IsNoCommand (texts words.now) }
+    ensures usage_exactly { IsNoCommand (texts words.now) → (result ≡ Status.Usage) ⊎ (result ≡ Status.WriteFault) }
+    ensures nothing_begun { IsNoCommand (texts words.now) → S.begun shelf.new ≡ S.begun shelf.old }
+    ensures nothing_given { IsNoCommand (texts words.now) → S.given shelf.new ≡ S.given shelf.old }
+    ensures file_refused { let run = run_of (texts words.now) (S.contents shelf.old) (S.faults shelf.old) (S.faults shelf.new) in
+        result ≡ Status.FileRefused → IsFileRefusal run }
+    ensures cert_refused { let run = run_of (texts words.now) (S.contents shelf.old) (S.faults shelf.old) (S.faults shelf.new) in
+        result ≡ Status.CertRefused → IsCertificateRefusal run }
+    ensures rejected { let run = run_of (texts words.now) (S.contents shelf.old) (S.faults shelf.old) (S.faults shelf.new) in
+        result ≡ Status.Rejected → IsRejection run }
+    ensures yes { let run = run_of (texts words.now) (S.contents shelf.old) (S.faults shelf.old) (S.faults shelf.new) in
+        result ≡ Status.Yes → CheckComesTo run (CheckOutcome.shown Verdict.Yes) }
+    ensures no { let run = run_of (texts words.now) (S.contents shelf.old) (S.faults shelf.old) (S.faults shelf.new) in
+        result ≡ Status.No → CheckComesTo run (CheckOutcome.shown Verdict.No) }
+    ensures read_fault { let run = run_of (texts words.now) (S.contents shelf.old) (S.faults shelf.old) (S.faults shelf.new) in
+        result ≡ Status.ReadFault → IsReadFault run (E.written err.old) (E.written err.new) }
+    ensures write_fault { let run = run_of (texts words.now) (S.contents shelf.old) (S.faults shelf.old) (S.faults shelf.new) in
+        result ≡ Status.WriteFault → IsWriteFault run
+        (K.written out.old) (K.written out.new) (E.written err.old) (E.written err.new) (K.faults out.old) (K.faults out.new) (E.faults err.old) (E.faults err.new) }
+    ensures no_memory { result ≡ Status.NoMemory → (K.written out.new ≡ K.written out.old) × (E.written err.new ≡ appended (E.written err.old) (codes "no memory\n")) }
+    ensures possible { IsPossible result }
+{
+    one_reading();
+    one_answer();
+    certificates_have_one_answer();
+    run_all(alloc, words, shelf, out, err)
+}

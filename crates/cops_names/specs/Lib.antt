@@ -1,0 +1,4 @@
+pub mod NameTable
+pub mod NameLists
+pub mod NamesView
+pub mod NameSetView

@@ -1,7 +1,0 @@
-use Rattle.std.proofs.Common.{◌∙◌, ap, List, ℕ}
-use Rattle.cops_read.specs.Meaning.{is_among}
-use Rattle.cops_read.proofs.Sets.{any_is}
-use Rattle.cops_read.proofs.name_set.NameSet.has.Goals as goal
-
-pub returns : goal.returns
-returns c = c.contains.ensures ∙ any_is c.args.name.now c.self.inside.names.keys ∙ ap (λ (w : List (List ℕ)). is_among w c.args.name.now) c.self.view_is

@@ -1,0 +1,14 @@
+pub mod Growth
+pub mod Unique
+pub mod Uses
+pub mod Tells
+pub mod Phrases
+pub mod Walks
+pub mod Parts
+pub mod Repeats
+pub mod Events
+pub mod Within
+pub mod Sound
+pub mod Wholes
+pub mod Means
+pub mod Places

@@ -1,0 +1,11 @@
+use Rattle.term_core.specs.View.{view}
+use Rattle.cops_systems.proofs.Parts.{both_read}
+use Rattle.cops_systems.proofs.rules.read_condition.Goals as goal
+
+pub returns-clause-condition : goal.returns-clause-condition
+returns-clause-condition c tree h =
+    let first = rw c.deref.ensures.value at (c.in_ok-left.ensures.side tree.left) in
+    let second = rw (c.deref-2.ensures.value, c.in_ok-left.ensures.block) at (c.in_ok-right.ensures.side tree.right) in
+    both_read c.args.scope.now.block c.args.scope.now.names.symbols c.args.scope.now.variables c.args.rule c.args.number tree
+    c.read_side.new.scope.names.symbols c.read_side.new.scope.variables (view c.in_ok-left.left) (first h.left)
+    c.read_side-2.new.scope.names.symbols c.read_side-2.new.scope.variables (view c.in_ok-right.right) (second h.right)

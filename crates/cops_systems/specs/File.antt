@@ -1,0 +1,42 @@
+-- Which system, with which names, a text spells, or why it spells none.
+use Rattle.std.specs.Prelude.{◌≡◌, ℕ, List, [], map, None, Some}
+use Rattle.file_text.specs.Syntax.{FileTree}
+use Rattle.file_text.specs.Tokens.{TokenCause, HasNoTokens}
+use Rattle.file_text.specs.Refusals.{SyntaxCause}
+use Rattle.file_text.specs.Texts.{IsText, IsNoText}
+use Rattle.rewriting.specs.Rules.{System}
+use Rattle.cops_names.specs.NameTable.{NameTable}
+use Rattle.cops_systems.specs.Meaning.{variables_of, rule_variables, with_rule_symbols, AreRulesOf}
+use Rattle.cops_systems.specs.Refusals.{MeaningCause, refusal_of}
+
+-- The tree means the system with these names, and nothing in it is refused.
+pub record IsSystemOf (file : FileTree) (sys : System) (names : NameTable) : Type 0 where
+  pub accepted : refusal_of file ≡ None
+  pub symbols : names.symbols ≡ with_rule_symbols (variables_of file) [] file.rules
+  pub arities : sys.arities ≡ map (λ s. s.1) names.symbols
+  pub variables : names.variables ≡ map (rule_variables (variables_of file)) file.rules
+  pub rules : AreRulesOf (variables_of file) names.symbols file.rules sys.rules
+
+-- The text spells a tree that means the system with these names.
+pub record IsFile (bytes : List ℕ) (sys : System) (names : NameTable) : Type 0 where
+  pub tree : FileTree
+  pub spelled : IsText bytes tree
+  pub meant : IsSystemOf tree sys names
+
+-- The text spells a tree that means no system, for this cause at this place.
+pub record MeansNothing (bytes : List ℕ) (cause : MeaningCause) (at : ℕ) : Type 0 where
+  pub tree : FileTree
+  pub spelled : IsText bytes tree
+  pub refused : refusal_of tree ≡ Some (cause, at)
+
+-- A text has no tokens, or they spell no tree, or that means no system.
+pub data FileCause : Type 0 where
+  no_tokens : TokenCause → FileCause
+  no_tree : SyntaxCause → FileCause
+  no_meaning : MeaningCause → FileCause
+
+-- The text spells no system, for this cause at this place.
+abbrev pub IsNoFile : List ℕ → FileCause → ℕ → Type 0
+IsNoFile bytes (no_tokens cause) at = HasNoTokens bytes cause at
+IsNoFile bytes (no_tree cause) at = IsNoText bytes cause at
+IsNoFile bytes (no_meaning cause) at = MeansNothing bytes cause at

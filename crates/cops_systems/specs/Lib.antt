@@ -1,0 +1,10 @@
+pub mod Bounds
+pub mod Meaning
+pub mod Uses
+pub mod Refusals
+pub mod Limits
+pub mod File
+pub mod Counts
+pub mod Steps
+pub mod RuleSteps
+pub mod Heads

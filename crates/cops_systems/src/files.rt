@@ -1,0 +1,61 @@
+ghost use Rattle.std.specs.Prelude.{◌≡◌, [], IfOk, Ok, OnOk, map};
+ghost use Rattle.file_text.specs.Syntax as syntax;
+ghost use Rattle.cops_trees.specs.View.{IsFileText, names_view};
+ghost use Rattle.rewriting.specs.Systems.{IsSystem};
+ghost use Rattle.term_core.specs.RuleView.{rule_view, AreCounted};
+ghost use Rattle.cops_names.specs.NameLists.{with_names};
+ghost use Rattle.cops_systems.specs.RuleSteps.{FileAnswers};
+
+use crate::errors::ReadError;
+use crate::heads::{Scope, text_of};
+use crate::rules::read_rules;
+use cops_names::{NameSet, Names};
+use cops_trees::{FileText, Name};
+use std::alloc::Global;
+use term_core::{NoMemory, Rule, System};
+
+fn add_names<'a>(block: &mut NameSet<'a>, names: &[Name<'a>]) -> Result<(), NoMemory>
+    ensures { OnOk result (block.new ≡ with_names block.old (map (λ n. n.text) (names_view names.now))) }
+{
+    'names: for name in names {
+        block.add(text_of(name)?)?;
+    }
+    Ok(())
+}
+
+// The names of the variables' block, each once.
+fn read_block<'a>(alloc: Global, names: &[Name<'a>]) -> Result<NameSet<'a>, NoMemory>
+    ensures { IfOk result (λ block. block ≡ with_names [] (map (λ n. n.text) (names_view names.now))) }
+{
+    let mut block = NameSet::new(alloc);
+    add_names(&mut block, names)?;
+    Ok(block)
+}
+
+// Sound rules make a system.
+fn make_system(arities: Vec<u32>, rules: Vec<Rule>) -> Result<System, ReadError>
+    requires sound { IsSystem (record { arities = arities.items; rules = map rule_view rules.items }) }
+    requires counted { AreCounted rules.items }
+    ensures { result ≡ Ok (record { arities = arities.items; rules = map rule_view rules.items }) }
+{
+    match System::make(arities, rules) {
+        Ok(system) => Ok(system),
+        Err(_) => Err(ReadError::NoMemory),
+    }
+}
+
+/// The system that the tree means, with its names, or the first refusal.
+pub fn read_file<'a>(alloc: Global, file: &FileText<'a>) -> Result<(System, Names), ReadError>
+    requires { (tree : syntax.FileTree) × IsFileText file.now tree }
+    ensures { (tree : syntax.FileTree) → IsFileText file.now tree → FileAnswers tree result }
+{
+    let mut scope = Scope {
+        block: read_block(alloc, &file.variables)?,
+        names: Names::new(alloc),
+        variables: NameSet::new(alloc),
+    };
+    let rules = read_rules(alloc, &mut scope, file.oriented, &file.rules)?;
+    let arities = scope.names.arities(alloc)?;
+    let system = make_system(arities, rules)?;
+    Ok((system, scope.names))
+}

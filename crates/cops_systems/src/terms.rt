@@ -1,0 +1,71 @@
+ghost use Rattle.std.specs.Prelude.{◌≡◌, ◌≤◌, ◌++◌, List, OnOk, drop};
+ghost use Rattle.file_text.specs.Syntax as syntax;
+ghost use Rattle.cops_trees.specs.View.{nodes_view, IsTerm};
+ghost use Rattle.cops_systems.specs.Heads.{side_at};
+ghost use Rattle.cops_systems.specs.Steps.{TermAnswers, ArgumentsAnswers};
+
+use crate::errors::ReadError;
+use crate::heads::{NodePlace, Scope, VariableOrSymbol, read_head};
+use cops_trees::Node;
+use std::alloc::Global;
+use term_core::Term;
+
+// The term that begins at a place of the list of identifiers, and how many identifiers stand before
+// its end. No term runs over the end of the list, so the first arm is never taken.
+#[cycle(term)]
+pub(crate) fn read_term<'a>(
+    alloc: Global,
+    scope: &mut Scope<'a>,
+    nodes: &[Node<'a>],
+    place: NodePlace,
+) -> Result<(Term, usize), ReadError>
+    ensures term { (p : syntax.Phrase) (rest : List syntax.Node) → nodes_view (drop place.before nodes.now) ≡ syntax.flat p ++ rest → TermAnswers scope.old.block scope.old.names.symbols scope.old.variables (side_at place) place.depth place.argument place.before p scope.new.names.symbols scope.new.variables result }
+    ensures few { OnOk result (place.rule ≤ 1000) }
+    ensures block { scope.new.block ≡ scope.old.block }
+    ensures rules { scope.new.names.variables ≡ scope.old.names.variables }
+{
+    let Some(node) = nodes.get(place.before) else {
+        return Err(ReadError::NoMemory);
+    };
+    match read_head(alloc, scope, node, place)? {
+        VariableOrSymbol::Variable(number) => Ok((Term::Var(number), place.before + 1)),
+        VariableOrSymbol::Symbol(number) => {
+            let first = NodePlace {
+                depth: place.depth + 1,
+                argument: 1,
+                before: place.before + 1,
+                ..place
+            };
+            let (terms, next) = read_arguments(alloc, scope, nodes, first, node.arguments)?;
+            Ok((Term::Fun(number, terms), next))
+        }
+    }
+}
+
+// So many terms, of which the first begins at a place, and how many identifiers stand before their end.
+#[cycle(term)]
+fn read_arguments<'a>(
+    alloc: Global,
+    scope: &mut Scope<'a>,
+    nodes: &[Node<'a>],
+    first: NodePlace,
+    count: usize,
+) -> Result<(Vec<Term>, usize), ReadError>
+    ensures terms { (ps : syntax.Phrases) (rest : List syntax.Node) → count ≡ syntax.count ps → nodes_view (drop first.before nodes.now) ≡ syntax.flat_all ps ++ rest → ArgumentsAnswers scope.old.block scope.old.names.symbols scope.old.variables (side_at first) first.depth first.before ps scope.new.names.symbols scope.new.variables result }
+    ensures block { scope.new.block ≡ scope.old.block }
+    ensures rules { scope.new.names.variables ≡ scope.old.names.variables }
+{
+    let mut terms = Vec::new(alloc);
+    let mut before = first.before;
+    'arguments: for argument in 0..count {
+        let place = NodePlace {
+            argument: argument + 1,
+            before,
+            ..first
+        };
+        let (term, next) = read_term(alloc, scope, nodes, place)?;
+        terms.push(term)?;
+        before = next;
+    }
+    Ok((terms, before))
+}

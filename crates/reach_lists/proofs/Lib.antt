@@ -1,0 +1,9 @@
+pub mod Tests
+pub mod Matching
+pub mod Each
+pub mod Equations
+pub mod Derived
+pub mod Growing
+pub mod Short
+pub mod Queue
+pub mod Laws

@@ -1,0 +1,6 @@
+pub mod Matches
+pub mod Sites
+pub mod Solutions
+pub mod Lists
+pub mod Queue
+pub mod Laws

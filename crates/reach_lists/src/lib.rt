@@ -1,0 +1,25 @@
+//! The terms that a term reaches in few steps, with their derivations, and what the list costs: definitions that
+//! contracts cite, and laws over them.
+#![tactic(auto)]
+
+ghost use Rattle.reach_lists.specs.Laws.{StartsAre, ListedTermsAreDerived, ListedDerivationsAreShort, NoTermIsListedTwice, ListsAreShort, ListsCostTheirTerms, ListsGrow, RoundsExpandNewTerms, SuccessorsAreSettled, ListsAreThoseOfQueues};
+
+/// A list begins with its start; each listed term is derived from the start by its derivation; no term is listed twice, and at
+/// most 2,000 are.
+pub fn laws_of_lists()
+    ensures starts { StartsAre }
+    ensures derived { ListedTermsAreDerived }
+    ensures derivations_short { ListedDerivationsAreShort }
+    ensures once { NoTermIsListedTwice }
+    ensures short { ListsAreShort }
+    ensures cost { ListsCostTheirTerms }
+{}
+
+/// One step more makes a list longer at its end, by successors of what the step before added; all successors of the terms of
+/// smaller distance are listed, too large, or left out where 2,000 are listed.
+pub fn lists_are_breadth_first()
+    ensures grow { ListsGrow }
+    ensures rounds { RoundsExpandNewTerms }
+    ensures settled { SuccessorsAreSettled }
+    ensures queue { ListsAreThoseOfQueues }
+{}

@@ -1,0 +1,107 @@
+//! What no file of cases can say: runs over files and sinks that fail.
+use crate::{shelf_of, status_of_run};
+use cc_io::{MemoryShelf, MemorySink};
+use concon_run::Status;
+use std::alloc::Global;
+use std::test::Fail;
+
+const SYSTEM: &str = "(RULES a -> b a -> c)";
+
+const PEAK: &str =
+    "concon 1\npeak\nstart a\nsteps 1\nrule 1 e 0\nsteps 1\nrule 2 e 0\nnormal\nend\n";
+
+const CHECK: &[&str] = &["check", "x.trs", "c.crt"];
+
+// the files of a valid peak, on a shelf that fails at this call
+fn failing_shelf(alloc: Global, call: u64) -> Result<MemoryShelf, Fail> {
+    let mut fails = Vec::new(alloc);
+    fails.push(call)?;
+    Ok(shelf_of(alloc, SYSTEM, PEAK, fails)?)
+}
+
+// a sink that takes two bytes a call, and fails at this call
+fn failing_sink(alloc: Global, call: u64) -> Result<MemorySink, Fail> {
+    let mut fails = Vec::new(alloc);
+    fails.push(call)?;
+    Ok(MemorySink::new(alloc, 100, 2, fails)?)
+}
+
+// whether the words come to this status, with this text on err alone
+fn is_told(
+    alloc: Global,
+    words: &[&str],
+    shelf: &mut MemoryShelf,
+    status: Status,
+    text: &str,
+) -> Result<bool, Fail> {
+    let mut out = MemorySink::new(alloc, 100, 100, Vec::new(alloc))?;
+    let mut err = MemorySink::new(alloc, 100, 100, Vec::new(alloc))?;
+    let found = status_of_run(alloc, words, shelf, &mut out, &mut err);
+    Ok(found == status && out.written().is_empty() && err.written() == text.as_bytes())
+}
+
+const NO_COMMANDS: &[&[&str]] = &[&[], &["check", "x.trs"], &["prove", "x.trs", "c.crt"]];
+
+#[test]
+fn words_that_are_no_command_ask_nothing(rt: HostRuntime) -> Result<(), Fail> {
+    let mut shelf = failing_shelf(rt.alloc(), 1)?;
+    let usage = "usage: concon check FILE CERT\n";
+    for words in NO_COMMANDS {
+        let is_usage = is_told(rt.alloc(), words, &mut shelf, Status::Usage, usage)?;
+        assert!(rt; is_usage);
+    }
+    Ok(())
+}
+
+const FILE_FAULTS: &[(u64, &str)] = &[
+    (1, "x.trs: read fault\n"),
+    (3, "x.trs: read fault\n"),
+    (4, "c.crt: read fault\n"),
+    (6, "c.crt: read fault\n"),
+];
+
+#[test]
+fn a_fault_of_a_file_is_named(rt: HostRuntime) -> Result<(), Fail> {
+    for &(call, text) in FILE_FAULTS {
+        let mut shelf = failing_shelf(rt.alloc(), call)?;
+        let is_named = is_told(rt.alloc(), CHECK, &mut shelf, Status::ReadFault, text)?;
+        assert!(rt; is_named, "call {call}");
+    }
+    Ok(())
+}
+
+#[test]
+fn a_sink_that_fails_has_a_front_of_the_answer(rt: HostRuntime) -> Result<(), Fail> {
+    let alloc = rt.alloc();
+    let mut shelf = shelf_of(alloc, SYSTEM, PEAK, Vec::new(alloc))?;
+    let mut out = failing_sink(alloc, 2)?;
+    let mut err = failing_sink(alloc, 1)?;
+    let answer = status_of_run(alloc, CHECK, &mut shelf, &mut out, &mut err);
+    assert_eq!(rt; answer, Status::WriteFault);
+    assert_eq!(rt; out.written(), b"NO".as_slice());
+    let answer = status_of_run(alloc, &[], &mut shelf, &mut out, &mut err);
+    assert_eq!(rt; answer, Status::WriteFault);
+    assert_eq!(rt; out.written(), b"NO".as_slice());
+    assert_eq!(rt; err.written(), b"".as_slice());
+    Ok(())
+}
+
+const EXIT_CODES: &[(Status, u8)] = &[
+    (Status::Yes, 0),
+    (Status::No, 0),
+    (Status::Maybe, 1),
+    (Status::Rejected, 1),
+    (Status::Usage, 2),
+    (Status::FileRefused, 3),
+    (Status::CertRefused, 3),
+    (Status::ReadFault, 4),
+    (Status::WriteFault, 5),
+    (Status::NoMemory, 6),
+];
+
+#[test]
+fn exit_codes_are_apart(rt: HostRuntime) {
+    for &(status, code) in EXIT_CODES {
+        assert_eq!(rt; status.code(), code);
+    }
+}

@@ -1,0 +1,14 @@
+pub mod Ends
+pub mod Normal
+pub mod Valid
+pub mod OneList
+pub mod OneAnswer
+pub mod Settled
+pub mod OneBlame
+pub mod OneOverlaps
+pub mod OneEvidence
+pub mod OneCertificate
+pub mod EvidenceTotal
+pub mod RedexTotal
+pub mod EntriesTotal
+pub mod Total

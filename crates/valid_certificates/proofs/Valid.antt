@@ -1,0 +1,70 @@
+-- What a valid peak shows.
+use Rattle.std.proofs.Common.{◌≡◌, inl, inr, List, [], ◌∷◌, Some, None, refl, sym, subst, subst₂}
+use Rattle.rewriting.specs.Confluence.{AreApart}
+use Rattle.rewriting.specs.Infeasibility.{IsInfeasible}
+use Rattle.rewriting.specs.Systems.{IsWellFormed}
+use Rattle.rewriting.proofs.Common.{Term, Condition, System, IsOver}
+use Rattle.caps.proofs.Reducts.{never_met as caps_refute}
+use Rattle.caps.proofs.Rigid.{rigid_apart}
+use Rattle.automata.proofs.Kept.{refutes as automaton_refutes}
+use Rattle.certificates.specs.Certificates.{Apartness, Peak, Redex, by_normal_forms, by_rigid_caps}
+use Rattle.certificates.specs.Evidence.{InfeasibilityEvidence, by_caps, by_automaton}
+use Rattle.certificates.specs.Reasons.{tcap_large}
+use Rattle.certificates.proofs.Unique.{derives_unique}
+use Rattle.valid_certificates.specs.Evidence.{IsInfeasibilityJudged}
+use Rattle.valid_certificates.specs.Peaks.{RedexPlace, IsListed, AreRedexes, chosen, IsRedexJudged, AreRefuted, AreShownApart, LeadsTo, IsValidPeak}
+use Rattle.valid_certificates.specs.Laws.{IsUnjoinable, ValidPeaksReachApart}
+use Rattle.valid_certificates.proofs.Ends.{end_reached}
+use Rattle.valid_certificates.proofs.Normal.{IsNeverMet, HasNoRedex, normal_apart}
+
+-- each listed redex has valid evidence
+judged_at : (sys : System) (u v : Term) (rs : List RedexPlace) (es : List Redex) → AreRefuted sys u v rs es → (r : RedexPlace) → IsListed r rs
+    → (e : InfeasibilityEvidence) × IsRedexJudged sys (chosen u v r.which) r e None
+judged_at sys u v [] es h r l = absurd l
+judged_at sys u v (q ∷ rs) [] h r l = absurd h
+judged_at sys u v (q ∷ rs) (e ∷ es) h r (inl is) = subst (λ x. (i : InfeasibilityEvidence) × IsRedexJudged sys (chosen u v x.which) x i None) (sym is) (e.evidence, h.1)
+judged_at sys u v (q ∷ rs) (e ∷ es) h r (inr l) = judged_at sys u v rs es h.2 r l
+
+pub judged_infeasible : (sys : System) (cs : List Condition) (e : InfeasibilityEvidence) → IsInfeasibilityJudged sys cs e None → IsInfeasible sys cs
+judged_infeasible sys cs by_caps h = caps_refute sys cs h
+judged_infeasible sys cs (by_automaton k a) h = automaton_refutes sys cs k a h
+
+-- a rule does not apply where its evidence is valid
+never_met : (sys : System) (t : Term) (r : RedexPlace) (e : InfeasibilityEvidence) → IsRedexJudged sys t r e None → IsNeverMet sys t r.position r.rule
+never_met sys t r e (cs, at, inl (fit, h)) =
+    record { place = r; stands = refl; number = refl; conditions = cs; are = at; never = judged_infeasible sys cs e h }
+never_met sys t r e (cs, at, inr (_, h)) = absurd (let none : None ≡ Some tcap_large = h in cc)
+
+module _ (sys : System) (u v : Term) (rs : List RedexPlace) (es : List Redex) (all : AreRedexes sys u v rs) (refuted : AreRefuted sys u v rs es) where
+  first_normal : HasNoRedex sys u
+  first_normal p i m =
+      let r : RedexPlace = record { which = 1; position = p; rule = i } in
+      let j = judged_at sys u v rs es refuted r (all.whole r (inl (refl, m))) in
+      never_met sys u r j.0 j.1
+
+  second_normal : HasNoRedex sys v
+  second_normal p i m =
+      let r : RedexPlace = record { which = 2; position = p; rule = i } in
+      let j = judged_at sys u v rs es refuted r (all.whole r (inr (refl, m))) in
+      never_met sys v r j.0 j.1
+
+shown_apart : (sys : System) (u v : Term) (a : Apartness) → IsWellFormed sys → AreShownApart sys u v a → AreApart sys u v
+shown_apart sys u v (by_normal_forms es) good (differ, (rs, all, refuted)) =
+    normal_apart sys u v differ (first_normal sys u v rs es all refuted) (second_normal sys u v rs es all refuted)
+shown_apart sys u v by_rigid_caps good h = rigid_apart sys u v good h
+
+-- the ends are determined, and so they are those that are shown to be apart
+ends_unjoinable : (sys : System) (peak : Peak) → IsWellFormed sys → IsOver sys.arities peak.start → (valid : IsValidPeak sys peak) → (u v : Term) → LeadsTo sys peak u v
+    → IsUnjoinable sys peak.start u v
+ends_unjoinable sys peak good over valid u v ends =
+    record {
+      one = end_reached sys peak.start peak.first u good over ends.first;
+      other = end_reached sys peak.start peak.second v good over ends.second;
+      apart =
+          subst₂ (AreApart sys) (derives_unique sys [] peak.start peak.first valid.u u valid.ends.first ends.first)
+          (derives_unique sys [] peak.start peak.second valid.v v valid.ends.second ends.second) (shown_apart sys valid.u valid.v peak.apart good valid.apart);
+    }
+
+pub valid_peaks : ValidPeaksReachApart
+valid_peaks sys peak good over valid =
+    record { leads = (valid.u, valid.v, valid.ends); apart = ends_unjoinable sys peak good over valid }

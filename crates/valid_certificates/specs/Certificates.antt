@@ -1,0 +1,22 @@
+-- Valid certificates of every kind, and the first reason why a certificate is rejected.
+use Rattle.rewriting.specs.Rules.{System}
+use Rattle.interpretations.specs.Judgement.{Judgement}
+use Rattle.interpretations.specs.Judged as linear
+use Rattle.certificates.specs.Certificates.{MeasureCertificate, linear_measure, Certificate, ortho_certificate, quasi_certificate, peak_certificate}
+use Rattle.certificates.specs.Reasons.{Rejection}
+use Rattle.valid_certificates.specs.Confluence.{IsValidOrtho, IsOrthoRejected, IsValidQuasi, IsQuasiRejected}
+use Rattle.valid_certificates.specs.Peaks.{IsValidPeak, IsPeakRejected}
+
+-- what the measure of a certificate is judged to be
+abbrev pub IsMeasureJudged : System → MeasureCertificate → Judgement → Type 0
+IsMeasureJudged sys (linear_measure es) j = linear.IsInterpretationJudged sys es j
+
+abbrev pub IsValid : System → Certificate → Type 0
+IsValid sys (ortho_certificate es) = IsValidOrtho sys es
+IsValid sys (quasi_certificate m es) = IsValidQuasi (IsMeasureJudged sys m) sys es
+IsValid sys (peak_certificate p) = IsValidPeak sys p
+
+abbrev pub IsRejected : System → Certificate → Rejection → Type 0
+IsRejected sys (ortho_certificate es) r = IsOrthoRejected sys es r
+IsRejected sys (quasi_certificate m es) r = IsQuasiRejected (IsMeasureJudged sys m) sys es r
+IsRejected sys (peak_certificate p) r = IsPeakRejected sys p r

@@ -1,0 +1,140 @@
+-- Peaks that show that a system is not confluent, and why a peak is rejected.
+use Rattle.std.specs.Prelude.{ℕ, suc, ◌≡◌, ◌≢◌, ◌⊎◌, ◌<◌, nat_eq, if◌then◌else◌, List, [], ◌∷◌, Option, None, Some}
+use Rattle.std.specs.FinMap.{get}
+use Rattle.rewriting.specs.Terms.{Term}
+use Rattle.rewriting.specs.Positions.{Position, subterm, IsBefore}
+use Rattle.rewriting.specs.Substitutions.{Substitution, Bindings, apply, Matches}
+use Rattle.rewriting.specs.Unifiers.{even, odd}
+use Rattle.rewriting.specs.Rules.{Condition, Rule, System, rule_at}
+use Rattle.rewriting.specs.Overlaps.{conditions_under}
+use Rattle.unifier_run.specs.Run.{Binding, unifier, clash}
+use Rattle.caps.specs.Evidence.{IsRigidOutcome, AreRigidCapsLarge}
+use Rattle.certificates.specs.Evidence.{InfeasibilityEvidence}
+use Rattle.certificates.specs.Certificates.{Apartness, Peak, Redex, by_normal_forms, by_rigid_caps}
+use Rattle.certificates.specs.Judging.{Derives, IsFirstBad, RuleMatches}
+use Rattle.certificates.specs.Sizes.{DoConditionsFit}
+use Rattle.certificates.specs.Reasons.{EvidenceReason, tcap_large, BadStep, Rejection, first_bad, second_bad, same_term, not_normal, redex_extra, redex_fails, caps_unify, caps_large}
+use Rattle.valid_certificates.specs.Evidence.{IsInfeasibilityJudged}
+
+-- the left side of the rule with a number matches at the position
+pub record MatchesAt (sys : System) (t : Term) (p : Position) (i : ℕ) : Type 0 where
+  pub rule : Rule
+  pub part : Term
+  pub is_rule : rule_at sys i ≡ Some rule
+  pub stands : subterm t p ≡ Some part
+  pub matches : Matches rule.left part
+
+-- where a rule matches in one of two terms: which of them, 1 or 2, the position and the rule's number
+pub record RedexPlace : Type 0 where
+  pub which : ℕ
+  pub position : Position
+  pub rule : ℕ
+
+abbrev pub IsRedex : System → Term → Term → RedexPlace → Type 0
+IsRedex sys u v r = ((r.which ≡ 1) × MatchesAt sys u r.position r.rule) ⊎ ((r.which ≡ 2) × MatchesAt sys v r.position r.rule)
+
+-- redexes are in order by the term, then the position, then the rule
+abbrev pub IsEarlierRedex : RedexPlace → RedexPlace → Type 0
+IsEarlierRedex a b =
+    (a.which < b.which) ⊎ ((a.which ≡ b.which) × (IsBefore a.position b.position ⊎ ((a.position ≡ b.position) × (a.rule < b.rule))))
+
+-- the place is one of the list
+abbrev pub IsListed : RedexPlace → List RedexPlace → Type 0
+IsListed r [] = ⊥
+IsListed r (q ∷ rs) = (r ≡ q) ⊎ IsListed r rs
+
+-- each is earlier than those behind it
+abbrev pub IsBeforeAll : RedexPlace → List RedexPlace → Type 0
+IsBeforeAll r [] = Unit {0}
+IsBeforeAll r (q ∷ rs) = IsEarlierRedex r q × IsBeforeAll r rs
+
+abbrev pub IsSorted : List RedexPlace → Type 0
+IsSorted [] = Unit {0}
+IsSorted (r ∷ rs) = IsBeforeAll r rs × IsSorted rs
+
+-- the list has exactly the redexes of two terms, in order
+pub record AreRedexes (sys : System) (u v : Term) (rs : List RedexPlace) : Type 0 where
+  pub each : (r : RedexPlace) → IsListed r rs → IsRedex sys u v r
+  pub whole : (r : RedexPlace) → IsRedex sys u v r → IsListed r rs
+  pub sorted : IsSorted rs
+
+-- the one of two terms that has the number 1 or 2
+abbrev pub chosen : Term → Term → ℕ → Term
+chosen u v which = if nat_eq which 1 then u else v
+
+-- the value of a variable k of a rule at a redex: the term that the match has for it, its variables n as 2n + 1; or 2k where it has none
+abbrev pub value_or_own : ℕ → Option Term → Term
+value_or_own k (Some t) = apply odd t
+value_or_own k None = even k
+
+abbrev pub at_redex : Bindings → Substitution
+at_redex match k = value_or_own k (get match k)
+
+-- the conditions of the rule that matches at a place
+pub record AreConditionsAt (sys : System) (t : Term) (r : RedexPlace) (cs : List Condition) : Type 0 where
+  pub rule : Rule
+  pub match : Bindings
+  pub matches : RuleMatches sys t r.rule r.position rule match
+  pub are : cs ≡ conditions_under (at_redex match) rule.conditions
+
+-- the evidence for a redex is judged; conditions of which a side does not fit count as ones with a large cap
+abbrev pub IsRedexJudged : System → Term → RedexPlace → InfeasibilityEvidence → Option EvidenceReason → Type 0
+IsRedexJudged sys t r evidence o =
+    (cs : List Condition) × AreConditionsAt sys t r cs
+    × ((DoConditionsFit cs × IsInfeasibilityJudged sys cs evidence o) ⊎ ((DoConditionsFit cs → ⊥) × (o ≡ Some tcap_large)))
+
+-- the place that an entry is for
+abbrev pub entry_place : Redex → RedexPlace
+entry_place e = record { which = e.which; position = e.position; rule = e.rule }
+
+-- there is an entry for each of the redexes, in order, with valid evidence, and no other entry
+abbrev pub AreRefuted : System → Term → Term → List RedexPlace → List Redex → Type 0
+AreRefuted sys u v [] [] = Unit {0}
+AreRefuted sys u v [] (e ∷ es) = ⊥
+AreRefuted sys u v (r ∷ rs) [] = ⊥
+AreRefuted sys u v (r ∷ rs) (e ∷ es) = (entry_place e ≡ r) × IsRedexJudged sys (chosen u v r.which) r e.evidence None × AreRefuted sys u v rs es
+
+-- the redex should have had the next entry
+abbrev pub IsMissed : RedexPlace → Rejection → Type 0
+IsMissed r reason = reason ≡ not_normal r.which r.position r.rule
+
+-- the first reason why not, where entries are numbered from n
+abbrev pub AreNotRefuted : System → Term → Term → ℕ → List RedexPlace → List Redex → Rejection → Type 0
+AreNotRefuted sys u v n [] [] reason = ⊥
+AreNotRefuted sys u v n [] (e ∷ es) reason = reason ≡ redex_extra n
+AreNotRefuted sys u v n (r ∷ rs) [] reason = IsMissed r reason
+AreNotRefuted sys u v n (r ∷ rs) (e ∷ es) reason =
+    ((entry_place e ≢ r) × IsMissed r reason)
+    ⊎ ((entry_place e ≡ r) × ((why : EvidenceReason) × IsRedexJudged sys (chosen u v r.which) r e.evidence (Some why) × (reason ≡ redex_fails n why)))
+    ⊎ ((entry_place e ≡ r) × IsRedexJudged sys (chosen u v r.which) r e.evidence None × AreNotRefuted sys u v (suc n) rs es reason)
+
+-- two ends of a peak are shown to be apart: they differ, and each redex is refuted; or their rigid caps clash
+abbrev pub AreShownApart : System → Term → Term → Apartness → Type 0
+AreShownApart sys u v (by_normal_forms es) = (u ≢ v) × ((rs : List RedexPlace) × AreRedexes sys u v rs × AreRefuted sys u v rs es)
+AreShownApart sys u v by_rigid_caps = IsRigidOutcome sys u v clash
+
+-- the first reason why they are not
+abbrev pub AreNotShownApart : System → Term → Term → Apartness → Rejection → Type 0
+AreNotShownApart sys u v (by_normal_forms es) reason =
+    ((u ≡ v) × (reason ≡ same_term)) ⊎ ((u ≢ v) × ((rs : List RedexPlace) × AreRedexes sys u v rs × AreNotRefuted sys u v 1 rs es reason))
+AreNotShownApart sys u v by_rigid_caps reason =
+    (AreRigidCapsLarge sys u v × (reason ≡ caps_large)) ⊎ (((b : List Binding) × IsRigidOutcome sys u v (unifier b)) × (reason ≡ caps_unify))
+
+-- the peak's derivations have no bad step and lead from its start to u and to v
+pub record LeadsTo (sys : System) (peak : Peak) (u v : Term) : Type 0 where
+  pub first : Derives sys [] peak.start peak.first u
+  pub second : Derives sys [] peak.start peak.second v
+
+-- the peak is valid: its ends are shown to be apart
+pub record IsValidPeak (sys : System) (peak : Peak) : Type 0 where
+  pub u : Term
+  pub v : Term
+  pub ends : LeadsTo sys peak u v
+  pub apart : AreShownApart sys u v peak.apart
+
+-- the first reason, in the order of judging, why it is not
+pub data IsPeakRejected (sys : System) (peak : Peak) : Rejection → Type 0 where
+  first_fails : (bad : BadStep) → IsFirstBad sys [] peak.start peak.first bad → IsPeakRejected sys peak (first_bad bad)
+  second_fails : (u : Term) (bad : BadStep) → Derives sys [] peak.start peak.first u → IsFirstBad sys [] peak.start peak.second bad
+      → IsPeakRejected sys peak (second_bad bad)
+  not_apart : (u v : Term) (reason : Rejection) → LeadsTo sys peak u v → AreNotShownApart sys u v peak.apart reason → IsPeakRejected sys peak reason

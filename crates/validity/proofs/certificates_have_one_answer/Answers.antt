@@ -1,5 +1,0 @@
-use Rattle.validity.proofs.OneCertificate.{certificate_answer}
-use Rattle.validity.proofs.certificates_have_one_answer.Goals as goal
-
-pub returns : goal.returns
-returns c = certificate_answer

@@ -1,5 +1,0 @@
-use Rattle.validity.proofs.Valid.{valid_peaks}
-use Rattle.validity.proofs.valid_peaks_reach_apart.Goals as goal
-
-pub returns : goal.returns
-returns c = valid_peaks
