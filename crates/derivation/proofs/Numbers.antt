@@ -8,9 +8,8 @@ use Rattle.rewriting.specs.Terms.{Fits, cons}
 use Rattle.certificates.specs.Judging.{hypothesis_at}
 use Rattle.certificates.specs.Sizes.{DoConditionsFit}
 use Rattle.term_core.specs.declared.systems.Rule as program
-use Rattle.term_core.specs.declared.systems.Cond as condition
-use Rattle.term_core.specs.RuleView.{rule_view, condition_view}
-use Rattle.derivation.specs.Judged.{IsJudgable, DoesConditionFit}
+use Rattle.term_core.specs.RuleView.{rule_view}
+use Rattle.derivation.specs.Judged.{IsJudgable}
 
 module _ {A B : Type 0} (f : A → B) where
   absent : (xs : List A) (i : ℕ) → length xs ≤ i → slice_get (map f xs) i ≡ None
@@ -28,20 +27,12 @@ module _ {A B : Type 0} (f : A → B) where
   got xs i None out e = sym (absent xs i (ltb-false i (length xs) (sym out)))
   got xs i (Some x) in_range e = sym (present xs i x.now (ltb-true i (length xs) (sym in_range)) e)
 
-pub hypothesis_before : (cs : List Condition) (k : ℕ) → (k ≡ 0 → ⊥) → slice_get cs (k - 1) ≡ hypothesis_at cs k
-hypothesis_before cs zero h = absurd (h refl)
-hypothesis_before cs (suc k) h = (let e : suc k - 1 ≡ k = omega arith in ap (slice_get cs) e)
-
--- hypotheses that fit fit one by one
-pub fitting : (cs : List Condition) (i : ℕ) (o : Option (Bor condition.Cond)) → DoConditionsFit cs → option_map (λ h. condition_view h.now) o ≡ slice_get cs i
-    → IfSome o (λ h. DoesConditionFit (condition_view h.now))
-fitting cs i None fits e = tt
-fitting cs i (Some h) fits e = at cs i fits (sym e)
-  where
-    at : (ds : List Condition) (k : ℕ) → DoConditionsFit ds → slice_get ds k ≡ Some (condition_view h.now) → DoesConditionFit (condition_view h.now)
-    at [] k all f = cc
-    at (d ∷ ds) zero (l, r, rest) f = (let same : d ≡ condition_view h.now = cc in subst DoesConditionFit same record { left = l; right = r })
-    at (d ∷ ds) (suc k) (l, r, rest) f = at ds k rest f
+-- the right side of a hypothesis fits
+pub right_fits : (cs : List Condition) (k : ℕ) (c : Condition) → hypothesis_at cs k ≡ Some c → DoConditionsFit cs → Fits c.right
+right_fits cs zero c e fit = cc
+right_fits [] (suc k) c e fit = cc
+right_fits (d ∷ ds) (suc zero) c e (left, right, rest) = (let same : d ≡ c = cc in subst (λ (h : Condition). Fits h.right) same right)
+right_fits (d ∷ ds) (suc (suc k)) c e (left, right, rest) = right_fits ds (suc k) c e rest
 
 pub rule_before : (sys : System) (k : ℕ) → (k ≡ 0 → ⊥) → slice_get sys.rules (k - 1) ≡ rule_at sys k
 rule_before sys zero h = absurd (h refl)

@@ -6,7 +6,7 @@ use Rattle.rewriting.specs.Substitutions.{Bindings, apply, values_of}
 use Rattle.rewriting.specs.Matching.{HasNoMatch, IsLeastMatch, Covers}
 use Rattle.std.specs.FinMap.{empty}
 use Rattle.certificates.specs.Reasons.{StepReason, unbound, too_large}
-use Rattle.rewriting.specs.Rules.{Condition, Rule}
+use Rattle.rewriting.specs.Rules.{Rule}
 use Rattle.certificates.specs.Sizes.{DoConditionsFit}
 use Rattle.term_core.specs.View.{view}
 use Rattle.derivation.specs.declared.places.Counted.{Counted}
@@ -42,11 +42,6 @@ pub record IsCounted (u : Counted) : Type 0 where
 -- the subterm at the position has a number of nodes
 abbrev pub HasSizeAt : math.Term → Position → ℕ → Type 0
 HasSizeAt t p n = (part : math.Term) × (subterm t p ≡ Some part) × (math.size part ≡ n)
-
--- both sides of a condition fit
-pub record DoesConditionFit (c : Condition) : Type 0 where
-  pub left : math.Fits c.left
-  pub right : math.Fits c.right
 
 -- the instance of the right side under the values stands at the position of t in u
 pub record IsContracted (right : math.Term) (values : Bindings) (t : math.Term) (p : Position) (u : math.Term) : Type 0 where

@@ -1,21 +1,19 @@
-ghost use Rattle.std.specs.Prelude.{◌≡◌, [], option_map, IfSome, map};
+ghost use Rattle.std.specs.Prelude.{◌≡◌, [], option_map, IfSome};
 ghost use Rattle.rewriting.specs.Terms as math;
 ghost use Rattle.rewriting.specs.Rules as rules;
 ghost use Rattle.rewriting.specs.Substitutions.{apply, values_of};
 ghost use Rattle.rewriting.specs.Matching.{Covers};
-ghost use Rattle.certificates.specs.Judging.{hypothesis_at};
 ghost use Rattle.certificates.specs.Reasons.{no_redex};
-ghost use Rattle.certificates.specs.Sizes.{DoConditionsFit};
 ghost use Rattle.term_core.specs.View.{view};
-ghost use Rattle.term_core.specs.RuleView.{condition_view, rule_view};
+ghost use Rattle.term_core.specs.RuleView.{rule_view};
 ghost use Rattle.derivation.specs.Errors.{Judged};
-ghost use Rattle.derivation.specs.Judged.{HasNoInstance, IsInstance, IsMatch, IsUnmatchedAt, HasSizeAt, IsJudgable, DoesConditionFit};
+ghost use Rattle.derivation.specs.Judged.{HasNoInstance, IsInstance, IsMatch, IsUnmatchedAt, HasSizeAt, IsJudgable};
 
 use crate::errors::{ReplayError, here};
 use cert_model::StepReason;
 use matching::{Match, match_term};
 use std::alloc::Global;
-use term_core::{Cond, Rule, Subst, System, Term, TermError, size, subterm};
+use term_core::{Rule, Subst, System, Term, TermError, size, subterm};
 
 // The rule with a number.
 pub fn rule_at(sys: &System, number: u32) -> Option<&Rule>
@@ -26,18 +24,6 @@ pub fn rule_at(sys: &System, number: u32) -> Option<&Rule>
         return None;
     }
     sys.rules().get(number as usize - 1)
-}
-
-// The hypothesis with a number.
-pub fn hypothesis(hyps: &[Cond], number: u32) -> Option<&Cond>
-    requires { DoConditionsFit (map condition_view hyps.now) }
-    ensures fits { IfSome result (λ h. DoesConditionFit (condition_view h.now)) }
-    ensures hypothesis { option_map (λ h. condition_view h.now) result ≡ hypothesis_at (map condition_view hyps.now) number }
-{
-    if number == 0 {
-        return None;
-    }
-    hyps.get(number as usize - 1)
 }
 
 // The instance of a term whose variables all have values.

@@ -5,7 +5,7 @@ ghost use Rattle.term_core.specs.View.{view};
 ghost use Rattle.derivation.specs.Judged.{IsCounted, HasSizeAt};
 
 use std::mem;
-use term_core::{Term, depth, size};
+use term_core::{MAX_DEPTH, MAX_NODES, Term, depth, size};
 
 // A term, and the number of its nodes.
 #[derive(Debug, Drop)]
@@ -43,7 +43,7 @@ pub fn replaced(t: Counted, p: &[u32], was: u32, part: Term) -> Option<Counted>
     ensures none { IfNone result ((v : math.Term) → position.replace (view t.term) p.now (view part) ≡ Some v → math.Fits v → ⊥) }
 {
     let nodes = t.nodes + size(&part) - was;
-    if nodes > 10_000 || p.len() + depth(&part) as usize > 400 {
+    if nodes > MAX_NODES || p.len() + depth(&part) as usize > MAX_DEPTH as usize {
         return None;
     }
     Some(Counted {

@@ -10,9 +10,9 @@ ghost use Rattle.derivation.specs.Errors.{Judged};
 ghost use Rattle.derivation.specs.Judged.{IsCounted, HasSizeAt, IsContracted, HasNoContractum};
 
 use crate::errors::{ReplayError, here};
-use crate::instances::{hypothesis, instance};
+use crate::instances::instance;
 use crate::places::{Counted, replaced};
-use cert_model::StepReason;
+use cert_model::{StepReason, condition};
 use std::alloc::Global;
 use term_core::{Cond, Subst, Term, equal, size, subterm, try_clone};
 
@@ -62,7 +62,7 @@ pub fn by_hypothesis(
     requires counted { IsCounted t }
     ensures { Judged (λ u. HypothesisStep (map condition_view hyps.now) (view t.term) number p.now (view u.term) × IsCounted u) (λ path reason. (path ≡ []) × HypothesisFails (map condition_view hyps.now) (view t.term) number p.now reason) result }
 {
-    let Some(h) = hypothesis(hyps, number) else {
+    let Some(h) = condition(hyps, number) else {
         return Err(here(alloc, StepReason::NoSuchHypothesis));
     };
     let Some(was) = nodes_where(&t.term, p, &h.left) else {

@@ -1,8 +1,9 @@
 //! Whether a term is absolutely irreducible.
 #![tactic(auto)]
 
-ghost use Rattle.std.specs.Prelude.{◌≡◌, ◌<◌, ◌^◌, ℕ, true};
+ghost use Rattle.std.specs.Prelude.{◌≡◌, ◌<◌, ◌^◌, ◌↔◌, ℕ, true, IfOk, IsTrue};
 ghost use Rattle.rewriting.specs.Variables.{occurs};
+ghost use Rattle.unifier_run.specs.Irreducible.{DoAllClash};
 ghost use Rattle.term_core.specs.View.{view};
 ghost use Rattle.irreducible.specs.Judging.{JudgeAnswers};
 ghost use Rattle.irreducible.specs.Answers.{IrreducibleAnswers};
@@ -59,4 +60,14 @@ pub fn is_absolutely_irreducible(
     ensures { IrreducibleAnswers sys.now (view t.now) result }
 {
     judge_any(alloc, sys, t)
+}
+
+/// Whether every run for the term ends in a clash; a run that passes the size does not.
+pub fn do_all_clash(alloc: Global, sys: &System, t: &Term) -> Result<bool, NoMemory>
+    ensures { IfOk result (λ b. IsTrue b ↔ DoAllClash sys.now (view t.now)) }
+{
+    match is_absolutely_irreducible(alloc, sys, t)? {
+        Irreducible::Yes => Ok(true),
+        Irreducible::No | Irreducible::TooLarge => Ok(false),
+    }
 }

@@ -1,33 +1,23 @@
 -- From what the parts answer to the judgement of an overlap's evidence.
-use Rattle.std.proofs.Common.{ℕ, zero, suc, ◌≡◌, ◌⊎◌, ◌-◌, ◌≤◌, inl, inr, List, [], ◌∷◌, map, take, drop, length, get_or, slice_get, Option, None, Some, is_some, IfSome, MatchOption, option_map, Bor, Result, Ok, Err, refl, sym, ap, ◌∙◌, subst, arith}
-use Rattle.std.proofs.Math.Dec.{ltb}
+use Rattle.std.proofs.Common.{ℕ, zero, suc, ◌≡◌, ◌-◌, List, [], ◌∷◌, map, take, drop, length, slice_get, Option, None, Some, Result, Ok, Err, sym, ap, ◌∙◌, subst, arith}
 use Rattle.std.proofs.lemmas.List.{take-map, drop-map, take_all, length-drop}
 use Rattle.rewriting.specs.Terms as math
 use Rattle.rewriting.specs.Terms.{Fits}
 use Rattle.rewriting.specs.Rules.{Condition, System}
-use Rattle.unifier_run.specs.Run.{Binding, Outcome, unifier, clash, too_large}
-use Rattle.unifier_run.specs.Overlaps.{Overlap, IsOverlapOf}
-use Rattle.unifier_run.specs.Irreducible.{DoAllClash, IsFirstOutcome}
-use Rattle.unifier_run.proofs.Unique.{runs_same}
+use Rattle.unifier_run.specs.Overlaps.{Overlap}
 use Rattle.certificates.specs.Derivations.{Derivation}
-use Rattle.certificates.specs.Evidence.{PairEvidence}
-use Rattle.certificates.specs.Judging.{Derives, IsFirstBad, hypothesis_at}
-use Rattle.certificates.specs.Reasons.{EvidenceReason, not_allowed, conflict_left, conflict_unifies, conflict_large, BadStep, join_left, join_right, unfeasible_first, unfeasible_second, first_reducible, second_reducible, unfeasible_unifies, unfeasible_large}
+use Rattle.certificates.specs.Judging.{Derives, hypothesis_at}
+use Rattle.certificates.specs.Reasons.{EvidenceReason, conflict_left, conflict_unifies, conflict_large, unfeasible_first, unfeasible_second, first_reducible, second_reducible, unfeasible_unifies, unfeasible_large}
 use Rattle.certificates.specs.Sizes.{DoConditionsFit}
-use Rattle.derivation.proofs.Numbers.{got, hypothesis_before}
 use Rattle.term_core.specs.RuleView.{condition_view}
 use Rattle.term_core.specs.declared.systems.Cond as program
 use Rattle.cert_model.specs.ReasonView.{evidence_reason_view}
 use Rattle.critical_pairs.specs.View.{overlap_view}
 use Rattle.critical_pairs.specs.declared.Overlap as overlap
-use Rattle.irreducible.specs.Answers.{IrreducibleAnswers}
-use Rattle.irreducible.specs.declared.Irreducible.{Irreducible}
-use Rattle.irreducible.specs.declared.Irreducible.TheVariants.{Yes, No, TooLarge}
 use Rattle.refuter.specs.Answers.{RefutesAnswers}
 use Rattle.refuter.specs.declared.Refusal.{Refusal}
 use Rattle.refuter.specs.declared.Refusal.TheVariants.{Reason, NoMemory}
-use Rattle.valid_certificates.specs.Kinds.{Kind}
-use Rattle.valid_certificates.specs.PairEvidence.{IsAllowed, inner_conditions_of, outer_conditions_of, AreConditionsOf, IsConflictJudged, IsJoinJudged, DerivesTwo, IsUnfeasibleJudged, IsEvidenceJudged, IsPairJudged}
+use Rattle.valid_certificates.specs.PairEvidence.{inner_conditions_of, outer_conditions_of, AreConditionsOf, IsConflictJudged, DerivesTwo, IsUnfeasibleJudged}
 use Rattle.pair_check.specs.Judges.{IsConflictOf, EndAnswers, AreIrreducibleApart}
 
 -- a judgement that gives another one for each reason and for none
@@ -35,15 +25,6 @@ pub judged_too : (P Q : Option EvidenceReason → Type 0) → ((o : Option Evide
 judged_too P Q f (Ok _) h = f None h
 judged_too P Q f (Err (Reason reason)) h = f (Some (evidence_reason_view reason)) h
 judged_too P Q f (Err NoMemory) h = tt
-
-matched : (o : Option (Bor program.Cond)) (x : Option Condition) → option_map (λ c. condition_view c.now) o ≡ x → MatchOption o (x ≡ None) (λ c. x ≡ Some (condition_view c.now))
-matched None x e = sym e
-matched (Some c) x e = sym e
-
--- what looking a condition up by its number gives
-pub condition_is : (cs : List program.Cond) (k : ℕ) (o : Option (Bor program.Cond)) → (k ≡ 0 → ⊥) → is_some o ≡ ltb (k - 1) (length cs) → IfSome o (λ c. c.now ≡ get_or cs (k - 1) c.now)
-    → MatchOption o (hypothesis_at (map condition_view cs) k ≡ None) (λ c. hypothesis_at (map condition_view cs) k ≡ Some (condition_view c.now))
-condition_is cs k o h e d = matched o (hypothesis_at (map condition_view cs) k) (got condition_view cs (k - 1) o e d ∙ hypothesis_before (map condition_view cs) k h)
 
 -- the condition with a number fits where all do
 right_fits : (cs : List Condition) (k : ℕ) (c : Condition) → DoConditionsFit cs → slice_get cs k ≡ Some c → Fits c.left × Fits c.right
@@ -95,16 +76,6 @@ module _ (o : overlap.Overlap) where
 
   pub outer_at : (a : ℕ) (x : Option Condition) → hypothesis_at (map condition_view (drop o.inner_conds o.conds.items)) a ≡ x → hypothesis_at (outer_conditions_of (overlap_view o)) a ≡ x
   outer_at a x e = ap (λ z. hypothesis_at z a) outer_is ∙ e
-
--- the first run that is no clash is no clash
-reducible : (sys : System) (t : math.Term) (o : Outcome) → (o ≡ clash → ⊥) → IsFirstOutcome sys t o → DoAllClash sys t → ⊥
-reducible sys t o other h all = other (runs_same h.outcome (all h.position h.number h.part h.rule h.trial))
-
-pub not_all_clash : (sys : System) (t : math.Term) (i : Irreducible) → (i ≡ No) ⊎ (i ≡ TooLarge) → IrreducibleAnswers sys t (Ok i) → DoAllClash sys t → ⊥
-not_all_clash sys t Yes (inl e) h all = cc
-not_all_clash sys t Yes (inr e) h all = cc
-not_all_clash sys t No e h all = reducible sys t (unifier h.0.0) (λ d. cc) h.0.1 all
-not_all_clash sys t TooLarge e h all = reducible sys t too_large (λ d. cc) h all
 
 module _ (sys : System) (o : Overlap) where
   conflict_of : (a b : ℕ) (c d : Condition) → AreConditionsOf o a b c d → (r : Option EvidenceReason) → IsConflictOf sys c d r → IsConflictJudged sys o a b r

@@ -1,7 +1,6 @@
 // Two conditions that ask for two results of one term.
-ghost use Rattle.std.specs.Prelude.{◌≡◌, ◌≤◌, None, Some, MatchOption, length, map};
+ghost use Rattle.std.specs.Prelude.{◌≤◌, length, map};
 ghost use Rattle.rewriting.specs.Terms as math;
-ghost use Rattle.certificates.specs.Judging.{hypothesis_at};
 ghost use Rattle.certificates.specs.Sizes.{DoConditionsFit};
 ghost use Rattle.term_core.specs.View.{view};
 ghost use Rattle.term_core.specs.RuleView.{condition_view};
@@ -10,22 +9,12 @@ ghost use Rattle.refuter.specs.Answers.{RefutesAnswers};
 ghost use Rattle.valid_certificates.specs.PairEvidence.{IsConflictJudged};
 ghost use Rattle.pair_check.specs.Judges.{IsConflictOf};
 
-use cert_model::EvidenceReason;
+use cert_model::{EvidenceReason, condition};
 use critical_pairs::Overlap;
 use refuter::Refusal;
 use std::alloc::Global;
 use tcap_infeasible::{ComparedCaps, compare_caps};
 use term_core::{Cond, System, equal};
-
-/// The condition with a number, from 1.
-pub fn condition(conds: &[Cond], number: u32) -> Option<&Cond>
-    ensures { MatchOption result (hypothesis_at (map condition_view conds.now) number ≡ None) (λ c. hypothesis_at (map condition_view conds.now) number ≡ Some (condition_view c.now)) }
-{
-    if number == 0 {
-        return None;
-    }
-    conds.get(number as usize - 1)
-}
 
 // That two conditions have one left side, and right sides whose caps clash.
 fn judge_conditions(alloc: Global, sys: &System, first: &Cond, second: &Cond) -> Result<(), Refusal>

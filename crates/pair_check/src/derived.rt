@@ -1,7 +1,6 @@
 // Derivations under the conditions of an overlap.
-ghost use Rattle.std.specs.Prelude.{◌↔◌, IfOk, IsTrue, map};
+ghost use Rattle.std.specs.Prelude.{map};
 ghost use Rattle.rewriting.specs.Terms as math;
-ghost use Rattle.unifier_run.specs.Irreducible.{DoAllClash};
 ghost use Rattle.certificates.specs.Sizes.{DoConditionsFit, IsShort};
 ghost use Rattle.certificates.specs.Reasons.{join_left, join_right, unfeasible_first, unfeasible_second};
 ghost use Rattle.term_core.specs.View.{view};
@@ -12,14 +11,13 @@ ghost use Rattle.refuter.specs.Answers.{RefutesAnswers};
 ghost use Rattle.valid_certificates.specs.PairEvidence.{IsJoinJudged, IsUnfeasibleJudged};
 ghost use Rattle.pair_check.specs.Judges.{EndAnswers, AreIrreducibleApart};
 
-use crate::conflict::condition;
-use cert_model::{Derivation, EvidenceReason};
+use cert_model::{Derivation, EvidenceReason, condition};
 use critical_pairs::Overlap;
 use derivation::{ReplayError, replay};
-use irreducible::{Irreducible, is_absolutely_irreducible};
+use irreducible::do_all_clash;
 use refuter::Refusal;
 use std::alloc::Global;
-use term_core::{NoMemory, System, Term, equal};
+use term_core::{System, Term, equal};
 use unification::{Unified, unify_terms};
 
 // The end of the derivation from the left side.
@@ -116,16 +114,6 @@ fn second_end(
         Ok(end) => Ok(end),
         Err(ReplayError::Bad(bad)) => Err(Refusal::Reason(EvidenceReason::UnfeasibleSecond(bad))),
         Err(ReplayError::NoMemory) => Err(Refusal::NoMemory),
-    }
-}
-
-// Whether every run for the term ends in a clash.
-fn do_all_clash(alloc: Global, sys: &System, t: &Term) -> Result<bool, NoMemory>
-    ensures { IfOk result (λ b. IsTrue b ↔ DoAllClash sys.now (view t.now)) }
-{
-    match is_absolutely_irreducible(alloc, sys, t)? {
-        Irreducible::Yes => Ok(true),
-        Irreducible::No | Irreducible::TooLarge => Ok(false),
     }
 }
 

@@ -1,6 +1,5 @@
 -- Conditions by their numbers, and what is judged of one.
-use Rattle.std.proofs.Common.{◌≡◌, ℕ, zero, suc, ◌-◌, ◌≤◌, List, [], ◌∷◌, length, map, get_or, Option, Some, None, option_map, is_some, IfSome, slice_get, ltb, Result, Ok, Err, Bor, refl, ap, sym, subst, arith}
-use Rattle.std.proofs.lemmas.Bool.{ltb-true, ltb-false}
+use Rattle.std.proofs.Common.{◌≡◌, ℕ, zero, suc, List, [], ◌∷◌, Some, None, slice_get, Result, Ok, Err, subst}
 use Rattle.rewriting.specs.Terms.{Fits}
 use Rattle.rewriting.specs.Rules.{Condition, System}
 use Rattle.certificates.specs.Evidence.{Automaton}
@@ -12,22 +11,6 @@ use Rattle.refuter.specs.Answers.{RefutesAnswers}
 use Rattle.refuter.specs.declared.Refusal.{Refusal}
 use Rattle.refuter.specs.declared.Refusal.TheVariants.{Reason, NoMemory}
 use Rattle.cert_model.specs.ReasonView.{evidence_reason_view}
-use Rattle.tree_automata.proofs.Lists.{mapped_at}
-
-absent : {X Y : Type 0} (f : X → Y) (xs : List X) (i : ℕ) → length xs ≤ i → slice_get (map f xs) i ≡ None
-absent f [] i h = refl
-absent f (x ∷ xs) zero h = absurd (omega arith)
-absent f (x ∷ xs) (suc i) h = absent f xs i (omega arith)
-
--- what `get` on a slice gives
-pub got : {X Y : Type 0} (f : X → Y) (xs : List X) (i : ℕ) (o : Option (Bor X)) → is_some o ≡ ltb i (length xs) → IfSome o (λ x. x.now ≡ get_or xs i x.now)
-    → option_map (λ x. f x.now) o ≡ slice_get (map f xs) i
-got f xs i None out e = sym (absent f xs i (ltb-false i (length xs) (sym out)))
-got f xs i (Some x) inside e = sym (mapped_at f xs i x.now (ltb-true i (length xs) (sym inside)) e)
-
-pub before : (cs : List Condition) (k : ℕ) → (k ≡ 0 → ⊥) → slice_get cs (k - 1) ≡ hypothesis_at cs k
-before cs zero h = absurd (h refl)
-before cs (suc k) h = let e : suc k - 1 ≡ k = omega arith in ap (slice_get cs) e
 
 fit_at : (cs : List Condition) (k : ℕ) (c : Condition) → slice_get cs k ≡ Some c → DoConditionsFit cs → Fits c.left × Fits c.right
 fit_at [] k c e fit = absurd (cc)

@@ -1,6 +1,5 @@
-ghost use Rattle.std.specs.Prelude.{◌≡◌, ◌≤◌, length, map, option_map};
+ghost use Rattle.std.specs.Prelude.{map};
 ghost use Rattle.rewriting.specs.Terms as math;
-ghost use Rattle.certificates.specs.Judging.{hypothesis_at};
 ghost use Rattle.certificates.specs.Sizes.{DoConditionsFit};
 ghost use Rattle.automata.specs.Evidence.{IsConditionJudged};
 ghost use Rattle.term_core.specs.View.{view};
@@ -11,7 +10,7 @@ ghost use Rattle.refuter.specs.Answers.{RefutesAnswers};
 use crate::accepts::{accepts_all, is_accepted};
 use crate::closure::{index_under, is_closed};
 use crate::exclusion::judge_exclusion;
-use cert_model::{Automaton, EvidenceReason};
+use cert_model::{Automaton, EvidenceReason, condition};
 use refuter::{Refusal, Refuter};
 use std::alloc::Global;
 use term_core::{Cond, System};
@@ -21,16 +20,6 @@ use term_core::{Cond, System};
 pub struct AutoEvidence<'a> {
     pub cond: u32,
     pub automaton: &'a Automaton,
-}
-
-// The condition with a number, from 1.
-fn condition(conds: &[Cond], number: u32) -> Option<&Cond>
-    ensures { option_map (λ c. condition_view c.now) result ≡ hypothesis_at (map condition_view conds.now) number }
-{
-    if number == 0 {
-        return None;
-    }
-    conds.get(number as usize - 1)
 }
 
 // Judges an automaton for one condition.

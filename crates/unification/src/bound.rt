@@ -10,7 +10,7 @@ ghost use Rattle.unification.specs.Solving.{bindings};
 
 use crate::solving::Bound;
 use std::alloc::Global;
-use term_core::{NoMemory, Subst, Term, try_clone};
+use term_core::{MAX_DEPTH, MAX_NODES, NoMemory, Subst, Term, room_after, try_clone};
 
 /// The term that a variable is bound to.
 pub fn value_of(found: &[Bound], x: u32) -> Option<&Term>
@@ -24,28 +24,8 @@ pub fn value_of(found: &[Bound], x: u32) -> Option<&Term>
     None
 }
 
-// The room that t leaves of a number of nodes, where it has no more nodes and levels than these.
-fn room_after(t: &Term, room: u32, levels: u32) -> Option<u32>
-    ensures nodes { IfSome result (λ left. left + math.size (view t.now) ≡ room) }
-    ensures levels { IfSome result (λ _. math.depth (view t.now) ≤ levels) }
-    ensures none { IfNone result ((room < math.size (view t.now)) ⊎ (levels < math.depth (view t.now))) }
-{
-    if room == 0 || levels == 0 {
-        return None;
-    }
-    match t {
-        Term::Var(_) => Some(room - 1),
-        Term::Fun(_, args) => {
-            let mut left = room - 1;
-            for arg in args {
-                left = room_after(arg, left, levels - 1)?;
-            }
-            Some(left)
-        }
-    }
-}
-
-// The same for the instance of t, which is not built.
+// The room that the instance of t, which is not built, leaves of a number of nodes, where it has no more nodes and levels
+// than these.
 #[tactic(auto, using(crate::proofs::Sizes::size_positive, crate::proofs::Sizes::depth_positive))]
 fn room_under(found: &[Bound], t: &Term, room: u32, levels: u32) -> Option<u32>
     ensures nodes { IfSome result (λ left. left + math.size (apply (value (bindings found.now)) (view t.now)) ≡ room) }
@@ -74,7 +54,7 @@ fn room_under(found: &[Bound], t: &Term, room: u32, levels: u32) -> Option<u32>
 pub fn fits_under(found: &[Bound], t: &Term) -> bool
     ensures { IsTrue result ↔ math.Fits (apply (value (bindings found.now)) (view t.now)) }
 {
-    room_under(found, t, 10000, 400).is_some()
+    room_under(found, t, MAX_NODES, MAX_DEPTH).is_some()
 }
 
 /// The instance of a term, of any size.

@@ -2,7 +2,7 @@ use Rattle.std.proofs.Common.{arith}
 use Rattle.term_core.specs.View.{view}
 use Rattle.certificates.proofs.Growth.{subterm_smaller, replaced_few, replaced_shallow, replaced_fits, size_replace}
 use Rattle.derivation.proofs.places.replaced.Goals as goal
-use Rattle.derivation.proofs.places.replaced.Goals.{then-nodes-gt10000-via-then-nodes-gt10000, then-nodes-gt10000-via-else-nodes-gt10000+then-p-depth-gt400}
+use Rattle.derivation.proofs.places.replaced.Goals.{then-nodes-gt-MAX_NODES-via-then-nodes-gt-MAX_NODES, then-nodes-gt-MAX_NODES-via-else-nodes-gt-MAX_NODES+then-p-depth}
 
 pub overflow_sub-nodes : goal.overflow_sub-nodes
 overflow_sub-nodes c =
@@ -12,8 +12,8 @@ overflow_sub-nodes c =
     let all = c.requires.counted.nodes in
     omega (arith, less, was, all)
 
-pub returns-then-nodes-gt10000-clause-none : goal.returns-then-nodes-gt10000-clause-none
-returns-then-nodes-gt10000-clause-none c =
+pub returns-then-nodes-gt-MAX_NODES-clause-none : goal.returns-then-nodes-gt-MAX_NODES-clause-none
+returns-then-nodes-gt-MAX_NODES-clause-none c =
     λ v put fits.
     let h = c.requires.there in
     let was = h.2 in
@@ -21,9 +21,9 @@ returns-then-nodes-gt10000-clause-none c =
     let new = c.size.ensures in
     let few = replaced_few (view c.args.t.term) c.args.p.now h.0 (view c.args.part) v h.1 put fits in
     let shallow = replaced_shallow (view c.args.t.term) c.args.p.now (view c.args.part) v put fits in
-    elim c.then-nodes-gt10000.branch [
-      | then-nodes-gt10000-via-then-nodes-gt10000 w ↦ (let many = w.if-nodes-gt10000.true in omega (arith, many, was, all, new, few))
-      | then-nodes-gt10000-via-else-nodes-gt10000+then-p-depth-gt400 w ↦ (let deep = w.if-p-depth-gt400.true in let levels = w.depth.ensures in omega (arith, deep, levels, shallow))
+    elim c.then-nodes-gt-MAX_NODES.branch [
+      | then-nodes-gt-MAX_NODES-via-then-nodes-gt-MAX_NODES w ↦ (let many = w.if-nodes-gt-MAX_NODES.true in omega (arith, many, was, all, new, few))
+      | then-nodes-gt-MAX_NODES-via-else-nodes-gt-MAX_NODES+then-p-depth w ↦ (let deep = w.if-p-depth.true in let levels = w.depth.ensures in omega (arith, deep, levels, shallow))
     ]
 
 pub returns-clause-some : goal.returns-clause-some
@@ -33,8 +33,8 @@ returns-clause-some c =
     let all = c.requires.counted.nodes in
     let new = c.size.ensures in
     let put = c.put.ensures in
-    let few = c.if-nodes-gt10000.false in
-    let shallow = c.if-p-depth-gt400.false in
+    let few = c.if-nodes-gt-MAX_NODES.false in
+    let shallow = c.if-p-depth.false in
     let levels = c.depth.ensures in
     let grown = size_replace (view c.args.t.term) c.args.p.now h.0 (view c.args.part) (view c.put.result) h.1 put in (
       put,

@@ -1,7 +1,7 @@
 use Rattle.std.proofs.lemmas.Bool.{false≢true}
 use Rattle.term_core.specs.View.{view}
-use Rattle.pair_check.proofs.Judging.{not_all_clash}
-use Rattle.pair_check.proofs.derived.do_all_clash.Goals as goal
+use Rattle.irreducible.proofs.Clashes.{not_all_clash}
+use Rattle.irreducible.proofs.do_all_clash.Goals as goal
 
 pub returns-in-No : goal.returns-in-No
 returns-in-No c =
