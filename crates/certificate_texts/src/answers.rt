@@ -53,9 +53,7 @@ fn one_line(alloc: Global, text: &[u8]) -> Result<String, AllocError> {
 fn refused(alloc: Global, error: CertError, row: &str, at: usize) -> Result<String, AllocError> {
     let row = marked(alloc, row, at)?;
     match error {
-        CertError::TooMany { what, at } => {
-            format!(in alloc; "too many {what:?} at {at}: {row}")
-        }
+        CertError::TooMany { what, at } => { format!(in alloc; "too many {what:?} at {at}: {row}") }
         other => format!(in alloc; "{other}: {row}"),
     }
 }
@@ -96,7 +94,10 @@ pub fn beginnings(alloc: Global, names: &Names, row: &str) -> Result<String, All
             return format!(in alloc; "not refused there: the first {length} bytes of {row}");
         }
     }
-    format!(in alloc; "each of {} beginnings is refused at its end: {row}", text.bytes.len())
+    format!(in alloc;
+        "each of {} beginnings is refused at its end: {row}",
+        text.bytes.len()
+    )
 }
 
 fn is_refused_at_its_end(alloc: Global, names: &Names, front: &[u8]) -> bool {
