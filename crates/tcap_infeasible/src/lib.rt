@@ -5,8 +5,6 @@ mod capping;
 mod comparing;
 mod evidence;
 mod keys;
-#[cfg(test)]
-mod tests;
 mod thawing;
 
 pub use comparing::{ComparedCaps, compare_caps, compare_rigid_caps};
