@@ -4,7 +4,7 @@ use Rattle.std.proofs.Math.Nat.{mul-le-mul_left, mul-le-mul_right, min-le_left}
 use Rattle.std.proofs.lemmas.Bool.{cases_lt}
 use Rattle.std.proofs.lemmas.List.{get_or-set_same, get_or-set_other, length-set}
 use Rattle.rewriting.specs.Terms.{Term, var, app, Terms, nil, cons}
-use Rattle.interpretations.specs.Linear.{Interpretation, number_of, constant_from}
+use Rattle.interpretations.specs.Linear.{Interpretation, number_of}
 use Rattle.linear_interp.specs.Parts.{part, part_from, AreSmall, HasAdded, GoesAbove}
 
 -- what is still to add

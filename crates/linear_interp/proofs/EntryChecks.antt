@@ -10,14 +10,6 @@ use Rattle.cert_model.specs.CertificateView.{linear_entry_view}
 use Rattle.cert_model.specs.declared.model.LinearEntry.{LinearEntry}
 use Rattle.linear_interp.specs.Entries.{IsEntryAt, AreGoodBelow}
 
--- what holds below k and at k holds below k + 1
-pub more_below : (P : ℕ → Type 0) (k : ℕ) → ((j : ℕ) → j < k → P j) → P k → (j : ℕ) → j < k + 1 → P j
-more_below P k h here j lt = by_case (cases_lt j k)
-  where
-    by_case : (j < k) ⊎ (k ≤ j) → P j
-    by_case (inl less) = h j less
-    by_case (inr more) = let same : k ≡ j = omega (arith, lt, more) in subst P same here
-
 pub map_at : {A B : Type 0} (f : A → B) (xs : List A) (k : ℕ) (x : A) → k < length xs → x ≡ get_or xs k x → slice_get (map f xs) k ≡ Some (f x)
 map_at f xs k x lt is = slice_get-map f xs k ∙ ap (option_map f) (slice_get_read xs (length xs) k x refl lt is)
 

@@ -3,3 +3,4 @@ pub mod Entries
 pub mod Judging
 pub mod EntryChecks
 pub mod Final
+pub mod Positions

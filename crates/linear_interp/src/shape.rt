@@ -2,9 +2,10 @@
 ghost use Rattle.std.specs.Prelude.{◌≡◌, ◌≤◌, ◌<◌, ◌+◌, ◌^◌, ◌↔◌, ℕ, IsTrue, map, length};
 ghost use Rattle.term_core.specs.HeadView.{head_view};
 ghost use Rattle.cert_model.specs.CertificateView.{linear_entry_view};
-ghost use Rattle.linear_interp.specs.Entries.{IsEntryAt, MisshapenAnswers, IsNumberGood, AreGoodBelow, BadAnswers};
+ghost use Rattle.linear_interp.specs.Entries.{IsEntryAt, is_wrong_at, MisshapenAnswers, IsNumberGood, AreGoodBelow, BadAnswers};
 
 use cert_model::LinearEntry;
+use itertools::Itertools;
 use term_core::Head;
 
 fn is_same_head(a: Head, b: Head) -> bool
@@ -36,17 +37,22 @@ fn is_shaped(entry: &LinearEntry, head: Head, arity: u32) -> bool
     is_same_head(entry.head, head) && entry.coeffs.len() == arity as usize + 1
 }
 
+// Whether the entry at a place is wrong, missing or surplus.
+fn is_wrong(heads: &[Head], arities: &[u32], entries: &[LinearEntry], k: usize) -> bool
+    ensures { result ≡ is_wrong_at (map head_view heads.now) arities.now (map linear_entry_view entries.now) k }
+{
+    !is_entry(heads, arities, entries, k)
+}
+
 /// The first place at which the entry is wrong, missing or surplus.
 pub fn first_misshapen(heads: &[Head], arities: &[u32], entries: &[LinearEntry]) -> Option<usize>
     ensures { MisshapenAnswers (map head_view heads.now) arities.now (map linear_entry_view entries.now) result }
 {
-    let count = heads.len().max(entries.len());
-    for k in 0..count {
-        if !is_entry(heads, arities, entries, k) {
-            return Some(k);
-        }
+    let mut places = 0..heads.len().max(entries.len());
+    match places.find_position(|k: &usize| is_wrong(heads, arities, entries, *k)) {
+        Some((k, _)) => Some(k),
+        None => None,
     }
-    None
 }
 
 // Whether number k of a symbol with some count of numbers is good; the symbols below `symbols` are the conditional
