@@ -1,5 +1,5 @@
 -- The left sides of rules with other variables.
-use Rattle.std.proofs.Common.{ℕ, zero, suc, ◌≡◌, ◌+◌, ◌*◌, ◌^◌, ◌<◌, inl, inr, true, List, [], ◌∷◌, ◌++◌, map, length, take, get_or, Some, refl, sym, ap, ap₂, ◌∙◌, subst, arith, slice_get, add-one}
+use Rattle.std.proofs.Common.{ℕ, zero, suc, ◌≡◌, ◌+◌, ◌*◌, ◌^◌, ◌<◌, true, List, [], ◌∷◌, ◌++◌, map, length, take, get_or, Some, refl, sym, ap, ap₂, ◌∙◌, subst, arith, slice_get, add-one}
 use Rattle.rewriting.specs.Terms.{Term, var}
 use Rattle.rewriting.specs.Substitutions.{Substitution, apply}
 use Rattle.rewriting.specs.Unifiers.{even, odd}
@@ -7,8 +7,7 @@ use Rattle.rewriting.specs.Variables.{occurs}
 use Rattle.rewriting.specs.Signatures.{Signature}
 use Rattle.rewriting.specs.Rules as math
 use Rattle.rewriting.specs.Rules.{rule_at}
-use Rattle.rewriting.specs.Systems.{CountsFrom, terms_of_rule, rule_variables, IsRule, AreRules}
-use Rattle.rewriting.specs.Lists.{IsAmong}
+use Rattle.rewriting.specs.Systems.{terms_of_rule, rule_variables, IsRule, AreRules}
 use Rattle.rewriting.proofs.Variables.{variables_have_all}
 use Rattle.rewriting.proofs.Instances.{or_left, apply-agree}
 use Rattle.rewriting.proofs.Lists.{counted_below}

@@ -1,5 +1,6 @@
 pub mod Lefts
 pub mod Judge
 pub mod Parts
-pub mod Exchanged
+pub mod Large
+pub mod Renumbered
 pub mod Clashes

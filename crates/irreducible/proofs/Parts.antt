@@ -1,14 +1,12 @@
 -- Parts of a term of the program, and the answers for it.
-use Rattle.std.proofs.Common.{ℕ, zero, suc, ◌≡◌, ◌+◌, ◌<◌, ◌≤◌, ◌⊎◌, inl, inr, ◌^◌, true, List, [], ◌∷◌, map, length, drop, get_or, Some, Vec, Global, Result, Ok, Err, refl, sym, ap, ◌∙◌, subst, subst₂, arith, add-one}
+use Rattle.std.proofs.Common.{ℕ, zero, suc, ◌≡◌, ◌+◌, ◌<◌, ◌≤◌, ◌⊎◌, inl, inr, List, [], ◌∷◌, map, length, get_or, Some, Vec, Global, Result, Ok, Err, refl, sym, ap, ◌∙◌, subst, subst₂, arith, add-one}
 use Rattle.rewriting.specs.Terms as math
 use Rattle.rewriting.specs.Terms.{Terms, var, app, nil, cons, size}
 use Rattle.rewriting.specs.Positions.{argument}
 use Rattle.rewriting.specs.Substitutions.{apply, apply_all}
 use Rattle.rewriting.specs.Unifiers.{odd}
-use Rattle.rewriting.specs.Variables.{occurs, occurs_in}
 use Rattle.rewriting.specs.Rules.{Rule, System, rule_at}
 use Rattle.rewriting.specs.NormalForms.{IsAbsolutelyIrreducible}
-use Rattle.rewriting.proofs.Instances.{or_cases}
 use Rattle.unifier_run.specs.Run.{Binding, value, Outcome, unifier, clash, too_large, IsOutcome}
 use Rattle.unifier_run.specs.Overlaps.{IsOutcomeOf}
 use Rattle.unifier_run.specs.Irreducible.{DoAllClash, IsFirstOutcome, DoRulesClash, IsFirstRule}
@@ -17,7 +15,6 @@ use Rattle.term_core.specs.View.{view, views}
 use Rattle.term_core.specs.declared.terms.Term.{Term, Var, Fun}
 use Rattle.term_core.specs.declared.terms.NoMemory.{NoMemory}
 use Rattle.term_core.proofs.Views.{view-Fun, view-Var}
-use Rattle.unification.proofs.Terms.{views-drop, views-drop_all}
 use Rattle.irreducible.specs.declared.Irreducible.{Irreducible}
 use Rattle.irreducible.specs.declared.Irreducible.TheVariants.{Yes, No, TooLarge}
 use Rattle.irreducible.specs.Answers.{IrreducibleAnswers}
@@ -168,10 +165,3 @@ judged_whole sys t (Ok Yes) h = (h, none_unifies sys t h)
 judged_whole sys t (Ok No) h = (h, one_unifies sys t h.0 h.1)
 judged_whole sys t (Ok TooLarge) h = h
 judged_whole sys t (Err e) h = tt
-
--- variables of what is left
-pub small_next : (ts : List Term) (i : ℕ) (t : Term) → i < length ts → t ≡ get_or ts i t → ((k : ℕ) → occurs k (view t) ≡ true → k < 2 ^ 31) → ((k : ℕ) → occurs_in k (views (drop (i + 1) ts)) ≡ true → k < 2 ^ 31) → (k : ℕ) → occurs_in k (views (drop i ts)) ≡ true → k < 2 ^ 31
-small_next ts i t h e here rest k o = or_cases (occurs k (view t)) (occurs_in k (views (drop (i + 1) ts))) (subst (λ z. occurs_in k z ≡ true) (views-drop ts i t h e) o) (here k) (rest k)
-
-pub small_none : (ts : List Term) (i : ℕ) → length ts ≤ i → (k : ℕ) → occurs_in k (views (drop i ts)) ≡ true → k < 2 ^ 31
-small_none ts i h k o = (let bad : occurs_in k nil ≡ true = subst (λ z. occurs_in k z ≡ true) (views-drop_all ts i h) o in absurd (cc))

@@ -30,7 +30,3 @@ lefts_under s (r ∷ rs) = apply s r.left ∷ lefts_under s rs
 -- the terms are the left sides of the system's rules, with variables 2k
 abbrev pub AreLefts : System → List math.Term → Type 0
 AreLefts sys ts = ts ≡ lefts_under even sys.rules
-
--- what the second term answers, the first does
-abbrev pub IsJudgedAs : math.Term → math.Term → Type 0
-IsJudgedAs t u = (sys : System) (r : Result Irreducible NoMemory) → JudgeAnswers sys u r → JudgeAnswers sys t r

@@ -1,5 +1,5 @@
 // The runs by which a term is judged.
-ghost use Rattle.std.specs.Prelude.{◌≡◌, ◌≤◌, ◌<◌, ◌+◌, ◌*◌, ◌^◌, ℕ, true, IsTrue, IfOk, map};
+ghost use Rattle.std.specs.Prelude.{◌≡◌, ◌≤◌, ◌<◌, ◌+◌, ◌*◌, ◌^◌, ℕ, true, IfOk, map};
 ghost use Rattle.rewriting.specs.Terms as math;
 ghost use Rattle.rewriting.specs.Substitutions.{apply};
 ghost use Rattle.rewriting.specs.Unifiers.{even, odd};
@@ -14,23 +14,6 @@ use crate::Irreducible;
 use std::alloc::Global;
 use term_core::{NoMemory, Rule, System, Term};
 use unification::{Unified, renamed, unify_terms};
-
-/// Whether each variable k has a number 2k + 1 in 32 bits.
-pub fn has_small_variables(t: &Term) -> bool
-    ensures { IsTrue result → (k : ℕ) → occurs k (view t.now) ≡ true → k < 2 ^ 31 }
-{
-    match t {
-        Term::Var(k) => *k < 1 << 31,
-        Term::Fun(_, args) => {
-            for arg in args {
-                if !has_small_variables(arg) {
-                    return false;
-                }
-            }
-            true
-        }
-    }
-}
 
 /// The left sides with variable 2k for each variable k.
 pub fn rename_lefts(alloc: Global, arities: &[u32], rules: &[Rule]) -> Result<Vec<Term>, NoMemory>

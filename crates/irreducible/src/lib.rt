@@ -1,7 +1,9 @@
-//! Whether a term is absolutely irreducible.
+//! Whether a term is absolutely irreducible: no instance of a part of it that is no variable is an instance of a left
+//! side.
 #![tactic(auto)]
 
-ghost use Rattle.std.specs.Prelude.{◌≡◌, ◌<◌, ◌^◌, ◌↔◌, ℕ, true, IfOk, IsTrue};
+ghost use Rattle.std.specs.Prelude.{◌≡◌, ◌<◌, ◌^◌, ◌↔◌, ℕ, true, IfOk, IsTrue, Ok as Answered};
+ghost use Rattle.rewriting.specs.Terms as math;
 ghost use Rattle.rewriting.specs.Variables.{occurs};
 ghost use Rattle.unifier_run.specs.Irreducible.{DoAllClash};
 ghost use Rattle.term_core.specs.View.{view};
@@ -9,12 +11,11 @@ ghost use Rattle.irreducible.specs.Judging.{JudgeAnswers};
 ghost use Rattle.irreducible.specs.Answers.{IrreducibleAnswers};
 
 mod judging;
-mod lowering;
 
-use crate::judging::{has_small_variables, judge, rename_lefts};
-use crate::lowering::lowered;
+use crate::judging::{judge, rename_lefts};
+use renumbering::Numbering;
 use std::alloc::Global;
-use term_core::{NoMemory, System, Term};
+use term_core::{NoMemory, System, Term, fits};
 use unification::renamed;
 
 /// What the test answers.
@@ -28,7 +29,24 @@ pub enum Irreducible {
     TooLarge,
 }
 
-// The same where every variable has a renamed number in 32 bits.
+// A term that does not fit: the first run on it passes the size.
+fn judge_large(sys: &System, t: &Term) -> Irreducible
+    requires { math.Fits (view t.now) → ⊥ }
+    ensures { JudgeAnswers sys.now (view t.now) (Answered result) }
+{
+    match t {
+        Term::Var(_) => Irreducible::Yes,
+        Term::Fun(_, _) => {
+            if sys.rules().is_empty() {
+                Irreducible::Yes
+            } else {
+                Irreducible::TooLarge
+            }
+        }
+    }
+}
+
+// A term whose variables have renamed numbers in 32 bits.
 fn judge_small(alloc: Global, sys: &System, t: &Term) -> Result<Irreducible, NoMemory>
     requires { (k : ℕ) → occurs k (view t.now) ≡ true → k < 2 ^ 31 }
     ensures { JudgeAnswers sys.now (view t.now) result }
@@ -38,15 +56,24 @@ fn judge_small(alloc: Global, sys: &System, t: &Term) -> Result<Irreducible, NoM
     judge(alloc, sys, &lefts, &apart)
 }
 
-// Judges the term, or one that is judged as it is and has small variables.
+// A term that fits, judged by one with small numbers for its variables.
+fn judge_numbered(alloc: Global, sys: &System, t: &Term) -> Result<Irreducible, NoMemory>
+    requires { math.Fits (view t.now) }
+    ensures { JudgeAnswers sys.now (view t.now) result }
+{
+    let mut numbering = Numbering::new(alloc);
+    let small = numbering.numbered(alloc, t)?;
+    judge_small(alloc, sys, &small)
+}
+
+// Whether it fits or not.
 fn judge_any(alloc: Global, sys: &System, t: &Term) -> Result<Irreducible, NoMemory>
     ensures { JudgeAnswers sys.now (view t.now) result }
 {
-    if has_small_variables(t) {
-        return judge_small(alloc, sys, t);
+    if !fits(t) {
+        return Ok(judge_large(sys, t));
     }
-    let lower = lowered(alloc, t)?;
-    judge_small(alloc, sys, &lower)
+    judge_numbered(alloc, sys, t)
 }
 
 /// Judges the subterms that are no variables in preorder, each with the rules in order; the first
