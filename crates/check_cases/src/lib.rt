@@ -3,8 +3,6 @@
 #![tactic(auto)]
 
 #[cfg(test)]
-mod certificates;
-#[cfg(test)]
 mod derivations;
 #[cfg(test)]
 mod infeasibility;
@@ -16,3 +14,5 @@ mod ortho;
 mod pairs;
 #[cfg(test)]
 mod peaks;
+#[cfg(test)]
+mod whole_certificates;
