@@ -3,8 +3,8 @@
 #![tactic(auto)]
 
 #[cfg(test)]
-mod caps;
-#[cfg(test)]
 mod compared;
+#[cfg(test)]
+mod of_caps;
 #[cfg(test)]
 mod systems;

@@ -1,26 +1,16 @@
 -- The walks over right sides of conditions.
-use Rattle.std.proofs.Common.{◌≡◌, ◌⊎◌, inl, inr, ℕ, ◌+◌, ◌<◌, ◌≤◌, List, Some, None, Option, length, map, get_or, sym, subst, arith, ap, ◌∙◌, option_map, slice_get, Bool, true, false, IsTrue, ◌↔◌, Ok}
+use Rattle.std.proofs.Common.{◌≡◌, ◌⊎◌, inl, inr, ℕ, ◌+◌, ◌<◌, ◌≤◌, List, Some, None, Option, length, map, get_or, sym, subst, arith, ap, ◌∙◌, option_map, slice_get, Bool, true, false, IsTrue, ◌↔◌}
 use Rattle.std.proofs.lemmas.Bool.{false≢true}
 use Rattle.std.proofs.lemmas.List.{length-map}
 use Rattle.std.proofs.lemmas.Option.{slice_get-get_or, slice_get-map}
 use Rattle.rewriting.specs.Rules.{Condition, Rule, System, rule_at}
-use Rattle.rewriting.specs.Terms.{Term}
 use Rattle.rewriting.specs.Classes.{IsAt}
-use Rattle.unifier_run.specs.Run.{Outcome, unifier, clash, too_large}
-use Rattle.unifier_run.specs.Irreducible.{DoAllClash, IsFirstOutcome}
-use Rattle.unifier_run.proofs.Unique.{runs_same}
+use Rattle.unifier_run.specs.Irreducible.{DoAllClash}
 use Rattle.valid_certificates.specs.Confluence.{IsFirstReducible}
 use Rattle.term_core.specs.declared.systems.Cond.{Cond}
 use Rattle.term_core.specs.RuleView.{condition_view}
-use Rattle.irreducible.specs.declared.Irreducible.{Irreducible}
-use Rattle.irreducible.specs.declared.Irreducible.TheVariants.{No, TooLarge}
-use Rattle.irreducible.specs.Answers.{IrreducibleAnswers}
 use Rattle.quasi_check.specs.declared.sides.SidePlace.{SidePlace}
 use Rattle.quasi_check.specs.Sides.{DoSidesClash, IsFirstCondition, ConditionAnswers, SideAnswers}
-
--- a run that ends in something else
-pub does_not_clash : (sys : System) (t : Term) (o : Outcome) → IsFirstOutcome sys t o → (o ≡ clash → ⊥) → DoAllClash sys t → ⊥
-does_not_clash sys t o f other all = other (runs_same f.outcome (all f.position f.number f.part f.rule f.trial))
 
 -- the first condition of a rule whose earlier rules have none
 pub first_of_all : (sys : System) (i : ℕ) (r : Rule) (k : ℕ) → rule_at sys (i + 1) ≡ Some r → ((j : ℕ) (q : Rule) → j ≤ i → rule_at sys j ≡ Some q → DoSidesClash sys q.conditions)
@@ -43,20 +33,6 @@ first_of_all sys i r k is before f =
         let there : rule_at sys (i + 1) ≡ Some q = subst (λ z. rule_at sys z ≡ Some q) e h in
         let same : q ≡ r = cc in
         f.earlier n c less (subst (λ z. IsAt z.conditions n c) same at)
-
--- the answers of the test for one term
-pub not_clashing : (sys : System) (t : Term) → (DoAllClash sys t → ⊥) → (IsTrue false → DoAllClash sys t) × (DoAllClash sys t → IsTrue false)
-not_clashing sys t never = (λ h. absurd (false≢true h), λ all. absurd (never all))
-
-pub no_is_other : (sys : System) (t : Term) (r : Irreducible) → IrreducibleAnswers sys t (Ok r) → r ≡ No → (IsTrue false → DoAllClash sys t) × (DoAllClash sys t → IsTrue false)
-no_is_other sys t r h e =
-    let f = subst (λ z. IrreducibleAnswers sys t (Ok z)) e h in
-    not_clashing sys t (does_not_clash sys t (unifier f.0.0) f.0.1 (λ k. cc))
-
-pub large_is_other : (sys : System) (t : Term) (r : Irreducible) → IrreducibleAnswers sys t (Ok r) → r ≡ TooLarge → (IsTrue false → DoAllClash sys t) × (DoAllClash sys t → IsTrue false)
-large_is_other sys t r h e =
-    let f = subst (λ z. IrreducibleAnswers sys t (Ok z)) e h in
-    not_clashing sys t (does_not_clash sys t too_large f (λ k. cc))
 
 -- the conditions of a list one after another
 pub condition_here : (items : List Cond) (i : ℕ) (c : Cond) → i < length items → c ≡ get_or items i c → IsAt (map condition_view items) i (condition_view c)

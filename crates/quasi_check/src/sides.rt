@@ -1,30 +1,17 @@
 //! Right sides of conditions that are not absolutely irreducible.
-ghost use Rattle.std.specs.Prelude.{◌≡◌, ◌≤◌, ◌↔◌, IfOk, IsTrue, length, map};
-ghost use Rattle.unifier_run.specs.Irreducible.{DoAllClash};
-ghost use Rattle.term_core.specs.View.{view};
+ghost use Rattle.std.specs.Prelude.{◌≤◌, IfOk, length, map};
 ghost use Rattle.term_core.specs.RuleView.{condition_view};
 ghost use Rattle.quasi_check.specs.Sides.{ConditionAnswers, SideAnswers};
 
-use irreducible::{Irreducible, is_absolutely_irreducible};
+use irreducible::do_all_clash;
 use std::alloc::Global;
-use term_core::{Cond, NoMemory, System, Term};
+use term_core::{Cond, NoMemory, System};
 
 /// A condition of a rule; both are numbered from 1.
 #[derive(Clone, Copy)]
 pub(crate) struct SidePlace {
     pub(crate) rule: u32,
     pub(crate) cond: u32,
-}
-
-// Whether every run for the term ends in a clash; one that passes the size does not.
-fn do_all_clash(alloc: Global, sys: &System, t: &Term) -> Result<bool, NoMemory>
-    ensures { IfOk result (λ b. IsTrue b ↔ DoAllClash sys.now (view t.now)) }
-{
-    match is_absolutely_irreducible(alloc, sys, t)? {
-        Irreducible::Yes => Ok(true),
-        Irreducible::No => Ok(false),
-        Irreducible::TooLarge => Ok(false),
-    }
 }
 
 // The first condition, from 1, whose right side is not absolutely irreducible.
