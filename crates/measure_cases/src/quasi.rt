@@ -29,8 +29,8 @@ const G: u32 = 3;
 struct NoRules;
 
 impl Measure for NoRules {
-    ghost use Rattle.measure_cases.specs.NoRules.{IsJudgedWithoutRules};
-    ghost use Rattle.measure_cases.proofs.NoRules.{judged_once, no_rules_bound};
+    ghost use Rattle.measure.proofs.NoRules.{no_rules_bound};
+    ghost use Rattle.measure_cases.specs.NoRules.{IsJudgedWithoutRules, judged_once};
 
     ghost judged = { λ m s j. IsJudgedWithoutRules s j };
 
