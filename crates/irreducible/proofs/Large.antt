@@ -1,5 +1,5 @@
 -- Terms that do not fit, whose first run passes the size, and how many variables a term that fits has.
-use Rattle.std.proofs.Common.{ℕ, zero, suc, ◌≡◌, ◌+◌, ◌<◌, ◌≤◌, ◌^◌, ◌⊎◌, inl, inr, Bool, true, false, List, [], ◌∷◌, length, Some, max, refl, sym, ap, ap₂, ◌∙◌, subst, arith, slice_get, ◌==◌, map, Vec, Global}
+use Rattle.std.proofs.Common.{ℕ, zero, suc, ◌≡◌, ◌+◌, ◌<◌, ◌≤◌, ◌^◌, ◌⊎◌, inl, inr, Bool, true, false, List, [], ◌∷◌, length, max, refl, sym, ap, ap₂, ◌∙◌, subst, arith, slice_get, ◌==◌, map, Vec, Global}
 use Rattle.rewriting.specs.Terms.{Term, Terms, var, app, nil, cons, IsVariable, Fits, size, size_all, depth, depth_all}
 use Rattle.rewriting.specs.Positions.{Position, IsBefore}
 use Rattle.rewriting.specs.Substitutions.{apply, apply_all}
@@ -12,10 +12,10 @@ use Rattle.term_core.specs.declared.systems.Rule as program_rules
 use Rattle.term_core.proofs.Views.{view-Fun}
 use Rattle.renumbering.proofs.Lengths.{variables_length}
 use Rattle.rewriting.specs.Unifiers.{odd}
-use Rattle.rewriting.specs.Rules.{Rule, System, rule_at}
+use Rattle.rewriting.specs.Rules.{Rule, System}
 use Rattle.unifier_run.specs.Run.{clash, too_large, side_too_large, last_equation}
 use Rattle.unifier_run.specs.Overlaps.{IsOutcomeOf}
-use Rattle.unifier_run.specs.Irreducible.{IsTrial, DoAllClash, IsFirstOutcome}
+use Rattle.unifier_run.specs.Irreducible.{IsTrial, IsFirstOutcome}
 use Rattle.unifier_run.proofs.Values.{apply_nothing}
 
 mutual
