@@ -34,7 +34,7 @@ module _ (file cert : List ℕ) where
   refused_file (Some r) = refl
   refused_file None = refl
 
-  refused_cert : (o : Option (marks.Refusal × ℕ))
+  refused_cert : (o : Option (marks.CertificateCause × ℕ))
       → refused_said status.CertRefused cert (option_map (λ r. (r.1, cert_cause_words r.0)) o) ≡ said_of (refused_answer file cert (option_map no_certificate (option_map (λ r. no_certificate_text r.0 r.1) o)))
   refused_cert (Some r) = refl
   refused_cert None = refl

@@ -15,13 +15,13 @@ most_cert_bytes = 16777216
 -- it is too long, or refused for a cause at a place
 pub data CertRefusal : Type 0 where
   long_certificate : CertRefusal
-  no_certificate_text : marks.Refusal → ℕ → CertRefusal
+  no_certificate_text : marks.CertificateCause → ℕ → CertRefusal
 
 abbrev pub IsCertRefused : NameTable → List ℕ → CertRefusal → Type 0
 IsCertRefused names bytes long_certificate = most_cert_bytes < length bytes
 IsCertRefused names bytes (no_certificate_text cause at) = (length bytes ≤ most_cert_bytes) × IsCertificateRefused names bytes cause at
 
-abbrev pub cert_cause_words : marks.Refusal → List ℕ
+abbrev pub cert_cause_words : marks.CertificateCause → List ℕ
 cert_cause_words marks.syntax = codes "syntax"
 cert_cause_words marks.unknown_name = codes "unknown name"
 cert_cause_words marks.wrong_arity = codes "wrong arity"
@@ -34,7 +34,7 @@ cert_refused_line name long_certificate = refused_line name most_cert_bytes (cod
 cert_refused_line name (no_certificate_text cause at) = refused_line name at (cert_cause_words cause)
 
 -- the cause and the place that the reader's error tells; want of memory is no refusal
-abbrev pub cert_error_cause : CertError → Option (marks.Refusal × ℕ)
+abbrev pub cert_error_cause : CertError → Option (marks.CertificateCause × ℕ)
 cert_error_cause (CertSyntax at) = Some (marks.syntax, at)
 cert_error_cause (UnknownName at) = Some (marks.unknown_name, at)
 cert_error_cause (WrongArity at) = Some (marks.wrong_arity, at)

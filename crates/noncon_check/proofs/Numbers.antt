@@ -16,6 +16,7 @@ use Rattle.rewriting.proofs.LeastMatches.{least_needs}
 use Rattle.matching.proofs.Least.{values_have, Inherits}
 use Rattle.renumbering.specs.Spread.{spread, spreading}
 use Rattle.rewriting.specs.Lists.{AreDistinct}
+use Rattle.rewriting.proofs.Lists.{distinct_at}
 use Rattle.renumbering.specs.Rows.{naming}
 use Rattle.renumbering.proofs.Spreads.{spread_past, spread_one_to_one, odd_is_spread}
 use Rattle.valid_certificates.proofs.Ends.{unmoved}
@@ -191,7 +192,7 @@ module _ (row : List ℕ) (distinct : AreDistinct row) (t n : Term) (is : t ≡ 
   match_back sys p i m = subst (λ z. MatchesAt sys z p i) (sym is) (moved_match (naming row) sys n p i m)
 
   first_place : (k : ℕ) → k < length row → place_in row (get_or row k 0) ≡ k
-  first_place k l = let f = stands_first row (get_or row k 0) k l refl in distinct (place_in row (get_or row k 0)) k f.0 l f.1
+  first_place k l = let f = stands_first row (get_or row k 0) k l refl in distinct_at row distinct (place_in row (get_or row k 0)) k f.0 l f.1
 
   -- and the other way round, since a renaming can be undone
   undone : apply (λ x. var (place_in row x)) t ≡ n
