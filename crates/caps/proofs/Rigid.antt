@@ -11,8 +11,8 @@ use Rattle.rewriting.specs.Confluence.{AreApart}
 use Rattle.rewriting.proofs.Unifiers.{both, apply-even, apply-odd}
 use Rattle.unifier_run.specs.Run.{clash}
 use Rattle.unifier_run.proofs.General.{no_unifier}
-use Rattle.caps.specs.Caps.{Cap, any, kept, filled, frozen, IsCapOf}
-use Rattle.caps.specs.Evidence.{IsPairOutcome, IsRigidOutcome}
+use Rattle.caps.specs.Caps.{Cap, any, kept, filled, frozen_from, IsCapOf}
+use Rattle.caps.specs.Evidence.{past_both, IsPairOutcome, IsRigidOutcome}
 use Rattle.caps.specs.Laws.{IsReductOf}
 use Rattle.caps.proofs.Instances.{IsInstance, filling, apply-filled}
 use Rattle.caps.proofs.Steps.{HasNoRedex, freezing, cap_safe, cap_instance, cap_keeps, reaches_keeps}
@@ -42,10 +42,11 @@ rigid_reducts sys t c n w well is below p =
 -- a common reduct, its variables as constants, is an instance of both caps
 common_instance : (sys : System) (leaf : ℕ → Cap) (u v w : Term) → (o : IsPairOutcome sys leaf u v clash) → IsInstance o.first w → IsInstance o.second w → ⊥
 common_instance sys leaf u v w o p q =
-    let f = freezing sys o.first w p in
-    let g = freezing sys o.second w q in
-    no_unifier (cons (apply even (frozen sys o.first)) nil) (cons (apply odd (frozen sys o.second)) nil) o.outcome (both f.by g.by)
-    (ap (λ z. cons z nil) (apply-even f.by g.by (frozen sys o.first) ∙ (f.freezes ∙ (sym g.freezes ∙ sym (apply-odd f.by g.by (frozen sys o.second))))))
+    let base = past_both sys o.first o.second in
+    let f = freezing base o.first w p in
+    let g = freezing base o.second w q in
+    no_unifier (cons (apply even (frozen_from base o.first)) nil) (cons (apply odd (frozen_from base o.second)) nil) o.outcome (both f.by g.by)
+    (ap (λ z. cons z nil) (apply-even f.by g.by (frozen_from base o.first) ∙ (f.freezes ∙ (sym g.freezes ∙ sym (apply-odd f.by g.by (frozen_from base o.second))))))
 
 pub rigid_apart : (sys : System) (u v : Term) → IsWellFormed sys → IsRigidOutcome sys u v clash → AreApart sys u v
 rigid_apart sys u v well o w p q =

@@ -14,18 +14,18 @@ use Rattle.rewriting.proofs.Opened.{Open, OpenAny, opened}
 use Rattle.rewriting.proofs.Levels.{IsRuleOf, Contracts, level, level_of_step}
 use Rattle.unifier_run.specs.Irreducible.{DoRulesClash}
 use Rattle.unifier_run.proofs.General.{no_unifier}
-use Rattle.caps.specs.Caps.{Cap, hole, kept, node, Caps, no_caps, caps, constants, frozen, IsTop, IsCapOf, AreCapsOf}
+use Rattle.caps.specs.Caps.{Cap, hole, kept, node, Caps, no_caps, caps, past, constants, frozen_from, frozen, IsTop, IsCapOf, AreCapsOf}
 use Rattle.caps.proofs.Instances.{IsInstance, AreInstances, filling, Keeps, KeepAll, keeps_any, apply-filled}
 
 -- an instance as a term without variables: what a filling followed by constants makes of the frozen cap
-pub record Freezing (sys : System) (c : Cap) (w : Term) : Type 0 where
+pub record Freezing (base : ℕ) (c : Cap) (w : Term) : Type 0 where
   pub by : Substitution
-  pub freezes : apply by (frozen sys c) ≡ apply (constants sys) w
+  pub freezes : apply by (frozen_from base c) ≡ apply (constants base) w
 
-pub freezing : (sys : System) (c : Cap) (w : Term) → IsInstance c w → Freezing sys c w
-freezing sys c w h =
+pub freezing : (base : ℕ) (c : Cap) (w : Term) → IsInstance c w → Freezing base c w
+freezing base c w h =
     let f = filling 0 c w h in
-    let k = constants sys in
+    let k = constants base in
     record { by = compose f.by k; freezes = apply-filled k k f.by (compose f.by k) (λ x. Unit {0}) (λ x p. refl) (λ x. refl) 0 c w (keeps_any c) f.fills }
 
 -- no instance of a left side is an instance of the cap
@@ -34,8 +34,8 @@ HasNoRedex sys c = (q : Rule) (s : Substitution) → IsRuleOf sys q → IsInstan
 
 no_redex : (sys : System) (c : Cap) → DoRulesClash sys (frozen sys c) → HasNoRedex sys c
 no_redex sys c clashes q s is h =
-    let k = constants sys in
-    let f = freezing sys c (apply s q.left) h in
+    let k = constants (past sys c) in
+    let f = freezing (past sys c) c (apply s q.left) h in
     no_unifier (cons (apply even q.left) nil) (cons (apply odd (frozen sys c)) nil) (clashes is.0 q is.1) (both (compose s k) f.by)
     (ap (λ z. cons z nil) (apply-even (compose s k) f.by q.left ∙ (sym (apply-apply s k q.left) ∙ (sym f.freezes ∙ sym (apply-odd (compose s k) f.by (frozen sys c))))))
 

@@ -5,12 +5,12 @@ use Rattle.rewriting.specs.Substitutions.{Substitution, apply, apply_all}
 use Rattle.rewriting.specs.Unifiers.{even, odd}
 use Rattle.rewriting.specs.Rules.{Condition, System, left_sides, right_sides}
 use Rattle.certificates.specs.Reasons.{EvidenceReason, tcap_unifies, tcap_large}
-use Rattle.unifier_run.specs.Run.{Binding, Outcome, unifier, clash, too_large, IsOutcome}
+use Rattle.unifier_run.specs.Run.{Outcome, unifier, clash, too_large, IsOutcome}
 use Rattle.unifier_run.specs.Irreducible.{DoRulesClash, IsFirstRule}
 use Rattle.unifier_run.proofs.Lists.{count-apply_all}
 use Rattle.unifier_run.proofs.Total.{outcome_exists, outcome_of, first_rule}
-use Rattle.caps.specs.Caps.{Cap, hole, node, Caps, no_caps, caps, holes, any, all_filled, frozen, IsCapOf, AreCapsOf, IsCapLarge, AreCapsLarge}
-use Rattle.caps.specs.Evidence.{IsCapOutcome, JudgedByCaps, IsPairOutcome}
+use Rattle.caps.specs.Caps.{Cap, hole, node, Caps, no_caps, caps, holes, any, all_filled, frozen_from, frozen, IsCapOf, AreCapsOf, IsCapLarge, AreCapsLarge}
+use Rattle.caps.specs.Evidence.{JudgedByCaps, past_both, IsPairOutcome}
 
 -- a symbol over capped arguments
 at_node : (sys : System) (leaf : ℕ → Cap) (f : ℕ) (ts : Terms) (cs : Caps) → AreCapsOf sys leaf ts cs → DoRulesClash sys (frozen sys (node f cs)) ⊎ ((o : Outcome) × (o ≢ clash) × IsFirstRule sys (frozen sys (node f cs)) o)
@@ -66,6 +66,6 @@ pub pair_total : (sys : System) (leaf : ℕ → Cap) (u v : Term) → ((o : Outc
 pair_total sys leaf u v = go (cap_exists sys leaf u) (cap_exists sys leaf v)
   where
     go : ((c : Cap) × IsCapOf sys leaf u c) ⊎ IsCapLarge sys leaf u → ((c : Cap) × IsCapOf sys leaf v c) ⊎ IsCapLarge sys leaf v → ((o : Outcome) × IsPairOutcome sys leaf u v o) ⊎ (IsCapLarge sys leaf u ⊎ IsCapLarge sys leaf v)
-    go (inl (c, is)) (inl (d, at)) = let r = outcome_of (apply even (frozen sys c)) (apply odd (frozen sys d)) in inl (r.0, record { first = c; second = d; is_first = is; is_second = at; outcome = r.1 })
+    go (inl (c, is)) (inl (d, at)) = let base = past_both sys c d in let r = outcome_of (apply even (frozen_from base c)) (apply odd (frozen_from base d)) in inl (r.0, record { first = c; second = d; is_first = is; is_second = at; outcome = r.1 })
     go (inl c) (inr h) = inr (inr h)
     go (inr h) d = inr (inl h)

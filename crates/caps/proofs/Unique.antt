@@ -10,8 +10,8 @@ use Rattle.unifier_run.specs.Run.{Binding, Outcome, unifier, clash, too_large, I
 use Rattle.unifier_run.specs.Overlaps.{IsOutcomeOf}
 use Rattle.unifier_run.specs.Irreducible.{DoRulesClash, IsFirstRule}
 use Rattle.unifier_run.proofs.Unique.{runs_same}
-use Rattle.caps.specs.Caps.{Cap, node, Caps, caps, any, all_filled, frozen, IsTop, IsCapOf, AreCapsOf, IsCapLarge, AreCapsLarge}
-use Rattle.caps.specs.Evidence.{IsCapOutcome, JudgedByCaps, IsPairOutcome}
+use Rattle.caps.specs.Caps.{Cap, node, Caps, caps, any, all_filled, frozen_from, frozen, IsTop, IsCapOf, AreCapsOf, IsCapLarge, AreCapsLarge}
+use Rattle.caps.specs.Evidence.{IsCapOutcome, JudgedByCaps, past_both, IsPairOutcome}
 use Rattle.caps.specs.Laws.{IsOneCap, IsOneOutcome}
 
 -- the first rule whose run does not clash
@@ -120,7 +120,7 @@ one_judgement sys cs o p h k = judgement_same sys cs o p (judgement sys cs o h) 
 
 -- outcomes of two terms
 abbrev pair_run : System → Outcome → Cap → Cap → Type 0
-pair_run sys o c d = IsOutcome (cons (apply even (frozen sys c)) nil) (cons (apply odd (frozen sys d)) nil) o
+pair_run sys o c d = IsOutcome (cons (apply even (frozen_from (past_both sys c d) c)) nil) (cons (apply odd (frozen_from (past_both sys c d) d)) nil) o
 
 pair_same : (sys : System) (leaf : ℕ → Cap) (u v : Term) (o p : Outcome) → IsPairOutcome sys leaf u v o → IsPairOutcome sys leaf u v p → o ≡ p
 pair_same sys leaf u v o p h k =

@@ -1,6 +1,6 @@
 -- Caps: terms with holes that everything which a term reaches is an instance of (after Giesl, Thiemann and
 -- Schneider-Kamp 2005, and Sternagel and Sternagel 2016).
-use Rattle.std.specs.Prelude.{ℕ, ◌≡◌, ◌+◌, ◌⊎◌, List, length}
+use Rattle.std.specs.Prelude.{ℕ, suc, ◌≡◌, ◌+◌, ◌⊎◌, max, List, length}
 use Rattle.rewriting.specs.Terms.{Term, var, app, Terms, nil, cons}
 use Rattle.rewriting.specs.Substitutions.{Substitution}
 use Rattle.rewriting.specs.Rules.{System}
@@ -40,13 +40,32 @@ abbrev mutual
   all_filled s n no_caps = nil
   all_filled s n (caps c cs) = cons (filled s n c) (all_filled s (n + holes c) cs)
 
--- each variable as a constant of its own, which is no symbol of the system
-abbrev pub constants : System → Substitution
-constants sys x = app (length sys.arities + x) nil
+-- the first number that is greater than all symbols of the cap
+abbrev mutual
+  pub past_symbols : Cap → ℕ
+  past_symbols hole = 0
+  past_symbols (kept x) = 0
+  past_symbols (node f cs) = max (suc f) (past_symbols_of cs)
 
--- the cap as a term whose variables are its holes: variables that stay are constants
+  pub past_symbols_of : Caps → ℕ
+  past_symbols_of no_caps = 0
+  past_symbols_of (caps c cs) = max (past_symbols c) (past_symbols_of cs)
+
+-- the first number that is greater than all symbols of the system and of the cap
+abbrev pub past : System → Cap → ℕ
+past sys c = max (length sys.arities) (past_symbols c)
+
+-- each variable as a constant of its own, by the symbols from a number on
+abbrev pub constants : ℕ → Substitution
+constants base x = app (base + x) nil
+
+-- the cap as a term whose variables are its holes: variables that stay are such constants
+abbrev pub frozen_from : ℕ → Cap → Term
+frozen_from base c = filled (constants base) 0 c
+
+-- the same with constants that are symbols neither of the system nor of the cap
 abbrev pub frozen : System → Cap → Term
-frozen sys c = filled (constants sys) 0 c
+frozen sys c = frozen_from (past sys c) c
 
 -- what becomes of a symbol over capped arguments: it stays where each rule's run ends in a clash, and it is a hole where
 -- the first run that does not gives a unifier

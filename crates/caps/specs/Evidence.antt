@@ -1,12 +1,12 @@
 -- What caps show: that conditions are never met, and that two terms have no common reduct.
-use Rattle.std.specs.Prelude.{ℕ, ◌⊎◌, List, Option, None, Some}
+use Rattle.std.specs.Prelude.{ℕ, ◌⊎◌, max, List, Option, None, Some}
 use Rattle.rewriting.specs.Terms.{Term, var, nil, cons}
 use Rattle.rewriting.specs.Substitutions.{apply, apply_all}
 use Rattle.rewriting.specs.Unifiers.{even, odd}
 use Rattle.rewriting.specs.Rules.{Condition, System, left_sides, right_sides}
 use Rattle.unifier_run.specs.Run.{Binding, Outcome, unifier, clash, too_large, IsOutcome}
 use Rattle.certificates.specs.Reasons.{EvidenceReason, tcap_unifies, tcap_large}
-use Rattle.caps.specs.Caps.{Cap, Caps, kept, any, all_filled, frozen, IsCapOf, AreCapsOf, IsCapLarge, AreCapsLarge}
+use Rattle.caps.specs.Caps.{Cap, Caps, kept, any, all_filled, past, frozen_from, IsCapOf, AreCapsOf, IsCapLarge, AreCapsLarge}
 
 -- the outcome of the run for the caps of the conditions' left sides and their right sides, which share no variable
 pub record IsCapOutcome (sys : System) (cs : List Condition) (o : Outcome) : Type 0 where
@@ -21,14 +21,18 @@ JudgedByCaps sys cs (Some tcap_unifies) = (b : List Binding) × IsCapOutcome sys
 JudgedByCaps sys cs (Some tcap_large) = AreCapsLarge sys any (left_sides cs) ⊎ IsCapOutcome sys cs too_large
 JudgedByCaps sys cs (Some _) = ⊥
 
--- the outcome of the run for the caps of two terms: variables that stay are the same constants in both, and no hole of the
--- one is a hole of the other
+-- the first number that is greater than all symbols of the system and of two caps
+abbrev pub past_both : System → Cap → Cap → ℕ
+past_both sys c d = max (past sys c) (past sys d)
+
+-- the outcome of the run for the caps of two terms: variables that stay are the same constants in both, which are symbols
+-- of neither, and no hole of the one is a hole of the other
 pub record IsPairOutcome (sys : System) (leaf : ℕ → Cap) (u v : Term) (o : Outcome) : Type 0 where
   pub first : Cap
   pub second : Cap
   pub is_first : IsCapOf sys leaf u first
   pub is_second : IsCapOf sys leaf v second
-  pub outcome : IsOutcome (cons (apply even (frozen sys first)) nil) (cons (apply odd (frozen sys second)) nil) o
+  pub outcome : IsOutcome (cons (apply even (frozen_from (past_both sys first second) first)) nil) (cons (apply odd (frozen_from (past_both sys first second) second)) nil) o
 
 -- there is no outcome, since a term has no cap, or the run passes the size
 abbrev pub IsPairLarge : System → (ℕ → Cap) → Term → Term → Type 0

@@ -1,23 +1,25 @@
 -- The caps of a symbol's arguments, one after the other.
-use Rattle.std.proofs.Common.{ℕ, zero, suc, ◌≡◌, ◌+◌, ◌^◌, ◌<◌, ◌≤◌, inl, inr, List, [], ◌∷◌, ◌++◌, length, take, get_or, Vec, Global, Result, Ok, Err, refl, sym, ap, ap₂, ◌∙◌, subst, arith, add-one, eq-eqb}
+use Rattle.std.proofs.Common.{ℕ, zero, suc, ◌≡◌, ◌+◌, ◌^◌, ◌<◌, ◌≤◌, inl, inr, true, List, [], ◌∷◌, ◌++◌, length, take, get_or, Vec, Global, Result, Ok, Err, refl, sym, ap, ap₂, ◌∙◌, subst, arith, add-one, eq-eqb}
 use Rattle.rewriting.specs.Terms as math
 use Rattle.rewriting.specs.Terms.{Terms, app, nil, cons, size, size_all, depth, depth_all, Fits}
 use Rattle.rewriting.specs.Substitutions.{Substitution}
+use Rattle.rewriting.specs.Variables.{occurs}
 use Rattle.rewriting.specs.Rules.{System}
 use Rattle.unifier_run.specs.Run.{append}
-use Rattle.caps.specs.Caps.{Cap as MathCap, Caps, node, no_caps, caps, holes, holes_in, filled, all_filled, constants, IsCapOf, AreCapsOf, IsCapLarge, AreCapsLarge}
+use Rattle.caps.specs.Caps.{Cap as MathCap, Caps, node, no_caps, caps, holes, holes_in, filled, all_filled, IsCapOf, AreCapsOf, IsCapLarge, AreCapsLarge}
 use Rattle.term_core.specs.View.{view, views}
-use Rattle.term_core.specs.declared.terms.Term.{Term, Fun}
+use Rattle.term_core.specs.declared.terms.Term.{Term, Var, Fun}
 use Rattle.term_core.specs.declared.terms.NoMemory.{NoMemory}
-use Rattle.term_core.proofs.Views.{view-Fun}
+use Rattle.term_core.proofs.Views.{view-Fun, view-Var}
 use Rattle.term_core.proofs.Instances.{take_all}
 use Rattle.unification.proofs.Terms.{occurs_inside, size_inside}
 use Rattle.tcap_infeasible.specs.declared.Cap.{Cap}
 use Rattle.tcap_infeasible.specs.declared.Cap.TheVariants.{Capped, TooLarge}
 use Rattle.tcap_infeasible.specs.declared.capping.Leaf.{Leaf}
 use Rattle.tcap_infeasible.specs.declared.capping.Leaf.TheVariants.{Hole, Kept}
-use Rattle.tcap_infeasible.specs.Frozen.{leaf_of, HasConstants, IsHeld, TopAnswers, FrozenAnswers}
+use Rattle.tcap_infeasible.specs.Frozen.{leaf_of, standing, HasSymbolsBelow, HaveSymbolsBelow, HasConstant, HasConstants, IsHeld, TopAnswers, FrozenAnswers}
 use Rattle.tcap_infeasible.proofs.Sizes.{AreSmall, caps_small}
+use Rattle.tcap_infeasible.proofs.Bases.{IsBased, node_based}
 
 -- one more at the end
 abbrev pub with_cap : Caps → MathCap → Caps
@@ -63,24 +65,34 @@ large_at sys leaf [] k t h e large = absurd (omega (arith, h))
 large_at sys leaf (x ∷ ts) zero t h e large = inl (subst (λ z. IsCapLarge sys leaf (view z)) e large)
 large_at sys leaf (x ∷ ts) (suc k) t h e large = inr (large_at sys leaf ts k t (omega (arith, h)) e large)
 
+below_at : (b : ℕ) (ts : List Term) (k : ℕ) (t : Term) → k < length ts → t ≡ get_or ts k t → HaveSymbolsBelow b (views ts) → HasSymbolsBelow b (view t)
+below_at b [] k t h e all = absurd (omega (arith, h))
+below_at b (x ∷ ts) zero t h e all = subst (λ z. HasSymbolsBelow b (view z)) (sym e) all.0
+below_at b (x ∷ ts) (suc k) t h e all = below_at b ts k t (omega (arith, h)) e all.1
+
+-- a variable has its constant
+pub leaf_constant : (sys : System) (leaf : Leaf) (t : Term) (x : ℕ) → t ≡ Var x → HasConstants sys leaf (view t) → HasConstant leaf x
+leaf_constant sys Hole t x is c = tt
+leaf_constant sys (Kept base) t x is c = c.room x (subst (λ z. occurs x z ≡ true) (sym (ap view is ∙ view-Var x)) (eq-eqb x x refl))
+
 -- the caps of the first k terms are held from the number `start` on, before the number `next`
 pub record AreCapped (sys : System) (leaf : Leaf) (ts : List Term) (k : ℕ) (us : List Term) (start next : ℕ) : Type 0 where
   pub shapes : Caps
   pub are : AreCapsOf sys (leaf_of leaf) (views (take k ts)) shapes
-  pub shown : views us ≡ all_filled (constants sys) start shapes
+  pub shown : views us ≡ all_filled (standing leaf) start shapes
   pub counted : next ≡ start + holes_in shapes
 
 pub capped_none : (sys : System) (leaf : Leaf) (ts : List Term) (start : ℕ) → AreCapped sys leaf ts 0 [] start start
 capped_none sys leaf ts start = record { shapes = no_caps; are = refl; shown = refl; counted = omega arith }
 
 pub capped_next : (sys : System) (leaf : Leaf) (ts : List Term) (k : ℕ) (us : List Term) (start next more : ℕ) (t u : Term) → k < length ts → t ≡ get_or ts k t → AreCapped sys leaf ts k us start next
-    → FrozenAnswers sys (leaf_of leaf) (view t) next more (Ok (Capped u)) → AreCapped sys leaf ts (k + 1) (us ++ u ∷ []) start more
+    → FrozenAnswers sys leaf (view t) next more (Ok (Capped u)) → AreCapped sys leaf ts (k + 1) (us ++ u ∷ []) start more
 capped_next sys leaf ts k us start next more t u h e before (c, is, shown, counted) =
     record {
       shapes = with_cap before.shapes c;
       are = subst (λ z. AreCapsOf sys (leaf_of leaf) (views z) (with_cap before.shapes c)) (sym (ap (λ z. take z ts) (add-one k) ∙ take_suc ts k t h e))
           (subst (λ z. AreCapsOf sys (leaf_of leaf) z (with_cap before.shapes c)) (sym (views_with (take k ts) t)) (with_are sys (leaf_of leaf) (views (take k ts)) before.shapes (view t) c before.are is));
-      shown = views_with us u ∙ (ap₂ (λ x y. append x (cons y nil)) before.shown (shown ∙ ap (λ z. filled (constants sys) z c) before.counted) ∙ sym (with_filled (constants sys) start before.shapes c));
+      shown = views_with us u ∙ (ap₂ (λ x y. append x (cons y nil)) before.shown (shown ∙ ap (λ z. filled (standing leaf) z c) before.counted) ∙ sym (with_filled (standing leaf) start before.shapes c));
       counted = (let a = with_holes before.shapes c in let b = before.counted in omega (arith, a, b, counted));
     }
 
@@ -111,7 +123,12 @@ module _ (t : Term) (f : ℕ) (v : Vec Term Global) (items : List Term) (k : ℕ
 
   pub arg_constants : (sys : System) (leaf : Leaf) → HasConstants sys leaf (view t) → HasConstants sys leaf (view arg)
   arg_constants sys Hole c = tt
-  arg_constants sys Kept c = λ x o. c x (occurs_inside x t f v items k arg is same h at o)
+  arg_constants sys (Kept base) c =
+      record {
+        past_system = c.past_system;
+        past_term = below_at base items k arg h at (subst (HasSymbolsBelow base) shape c.past_term).1;
+        room = λ x o. c.room x (occurs_inside x t f v items k arg is same h at o);
+      }
 
   pub arg_large : (sys : System) (leaf : Leaf) → IsCapLarge sys (leaf_of leaf) (view arg) → IsCapLarge sys (leaf_of leaf) (view t)
   arg_large sys leaf large = subst (IsCapLarge sys (leaf_of leaf)) (sym shape) (inl (large_at sys (leaf_of leaf) items k arg h at large))
@@ -120,9 +137,10 @@ pub start_low : (sys : System) (leaf : Leaf) (ts : List Term) (k : ℕ) (us : Li
 start_low sys leaf ts k us start next capped low = let c = capped.counted in omega (arith, c, low)
 
 pub whole_cap : (sys : System) (leaf : Leaf) (t : Term) (f : ℕ) (v : Vec Term Global) (items : List Term) (k : ℕ) (us : List Term) (start next more : ℕ) (r : Result Cap NoMemory) → t ≡ Fun f v → items ≡ v.items → length items ≤ k
-    → AreCapped sys leaf items k us start next → Fits (view t) → 2 ^ 31 ≤ start
-    → ((c : MathCap) → IsHeld sys f (app f (views us)) start c → next ≡ start + holes c → TopAnswers sys c start more r) → FrozenAnswers sys (leaf_of leaf) (view t) start more r
-whole_cap sys leaf t f v items k us start next more r is same h capped fit low top = subst (λ z. FrozenAnswers sys (leaf_of leaf) z start more r) (sym shape) (go r (top (node f capped.shapes) held capped.counted))
+    → AreCapped sys leaf items k us start next → Fits (view t) → 2 ^ 31 ≤ start → HasConstants sys leaf (view t)
+    → ((s : Substitution) (c : MathCap) → IsHeld sys f (app f (views us)) start c → app f (views us) ≡ filled s start c → next ≡ start + holes c → TopAnswers sys s c start more r) → FrozenAnswers sys leaf (view t) start more r
+whole_cap sys leaf t f v items k us start next more r is same h capped fit low constant top =
+    subst (λ z. FrozenAnswers sys leaf z start more r) (sym shape) (go r (top (standing leaf) (node f capped.shapes) held (ap (app f) capped.shown) capped.counted))
   where
     shape : view t ≡ app f (views items)
     shape = ap view is ∙ (view-Fun f v ∙ ap (λ z. app f (views z)) (sym same))
@@ -130,8 +148,11 @@ whole_cap sys leaf t f v items k us start next more r is same h capped fit low t
     are : AreCapsOf sys (leaf_of leaf) (views items) capped.shapes
     are = subst (λ z. AreCapsOf sys (leaf_of leaf) (views z) capped.shapes) (take_all items k h) capped.are
 
-    small : AreSmall sys (views items) capped.shapes start
+    small : AreSmall leaf (views items) capped.shapes start
     small = caps_small sys leaf (views items) capped.shapes start are
+
+    based : IsBased sys leaf (node f capped.shapes)
+    based = node_based sys leaf f (views items) capped.shapes (subst (HasConstants sys leaf) shape constant) are
 
     held : IsHeld sys f (app f (views us)) start (node f capped.shapes)
     held =
@@ -141,16 +162,18 @@ whole_cap sys leaf t f v items k us start next more r is same h capped fit low t
         let b = small.levels in
         let p = fit.nodes in
         let q = fit.levels in
-        let few : size_all (views us) ≡ size_all (all_filled (constants sys) start capped.shapes) = ap size_all capped.shown in
-        let flat : depth_all (views us) ≡ depth_all (all_filled (constants sys) start capped.shapes) = ap depth_all capped.shown in
+        let few : size_all (views us) ≡ size_all (all_filled (standing leaf) start capped.shapes) = ap size_all capped.shown in
+        let flat : depth_all (views us) ≡ depth_all (all_filled (standing leaf) start capped.shapes) = ap depth_all capped.shown in
         record {
-          shown = ap (app f) capped.shown;
+          base = based.base;
+          far = based.far;
+          shown = ap (app f) capped.shown ∙ based.same start;
           root = eq-eqb f f refl;
           fits = record { nodes = omega (arith, nodes, a, p, few); levels = omega (arith, levels, b, q, flat) };
           low = low;
         })
 
-    go : (r : Result Cap NoMemory) → TopAnswers sys (node f capped.shapes) start more r → FrozenAnswers sys (leaf_of leaf) (app f (views items)) start more r
+    go : (r : Result Cap NoMemory) → TopAnswers sys (standing leaf) (node f capped.shapes) start more r → FrozenAnswers sys leaf (app f (views items)) start more r
     go (Ok (Capped u)) (d, top, shown, counted) = (d, (capped.shapes, are, top), shown, counted)
     go (Ok TooLarge) first = inr (capped.shapes, are, first)
     go (Err e) a = tt

@@ -1,5 +1,5 @@
--- Where places of a row stand for variables and for symbols past those of a system, caps are those of the terms as they were.
-use Rattle.std.proofs.Common.{ℕ, zero, suc, ◌≡◌, ◌+◌, ◌-◌, ◌<◌, ◌≤◌, inl, inr, Bool, true, false, nat_lt, if◌then◌else◌, List, [], ◌∷◌, length, max, Some, refl, sym, ap, ap₂, ◌∙◌, subst, arith, slice_get, eqb-true, ◌++◌}
+-- Where places of rows stand for variables and for symbols past those of a system, what they stand for.
+use Rattle.std.proofs.Common.{ℕ, zero, suc, ◌≡◌, ◌+◌, ◌-◌, ◌<◌, ◌≤◌, inl, inr, Bool, true, false, nat_lt, if◌then◌else◌, List, [], ◌∷◌, length, get_or, max, Some, refl, sym, ap, ap₂, ◌∙◌, subst, arith, slice_get, eqb-true, ◌++◌}
 use Rattle.std.proofs.lemmas.Bool.{ltb-true, lt-ltb}
 use Rattle.std.proofs.lemmas.Option.{slice_get_within, get_or_from_slice_get}
 use Rattle.rewriting.specs.Terms.{Term, Terms, var, app, nil, cons, size, size_all, depth, depth_all, Fits}
@@ -8,10 +8,11 @@ use Rattle.rewriting.proofs.Instances.{or_cases}
 use Rattle.rewriting.specs.Lists.{AreDistinct, IsFront}
 use Rattle.unifier_run.proofs.Renamed.{renamed, all_renamed}
 use Rattle.tcap_infeasible.specs.Keys.{IsKey, IsKeyed, AreKeyed}
-use Rattle.tcap_infeasible.proofs.Tried.{not_lt}
-use Rattle.renumbering.proofs.Filling.{filling, filling_within, filling_one}
+use Rattle.tcap_infeasible.proofs.Numbers.{not_lt}
+use Rattle.tcap_infeasible.specs.Frozen.{HasSymbolsBelow, HaveSymbolsBelow}
+use Rattle.renumbering.proofs.Filling.{total, filling, filling_within, filling_one}
 
--- the symbol that a symbol past the first n stands for
+-- what a symbol past the first n stands for, by its place in a row
 abbrev pub shifted : ℕ → List ℕ → ℕ → ℕ
 shifted n row f = if nat_lt f n then f else n + filling row (f - n)
 
@@ -39,6 +40,72 @@ shifted_one n row distinct x y e = go (nat_lt x n) refl (nat_lt y n) refl
         let same = filling_one row distinct (x - n) (y - n) (omega (arith, s)) in
         omega (arith, same, l, m))
 
+-- past the system's symbols and what a row stands for
+abbrev pub end_of : ℕ → List ℕ → ℕ
+end_of n foreign = n + suc (total foreign)
+
+below_total : (row : List ℕ) (m : ℕ) → get_or row m 0 ≤ total row
+below_total [] m = omega arith
+below_total (x ∷ row) zero = omega arith
+below_total (x ∷ row) (suc m) = let k = below_total row m in omega (arith, k)
+
+shifted_low : (n : ℕ) (foreign : List ℕ) (f : ℕ) → f < n + length foreign → shifted n foreign f < end_of n foreign
+shifted_low n foreign f h = go (nat_lt f n) refl
+  where
+    go : (b : Bool) → nat_lt f n ≡ b → shifted n foreign f < end_of n foreign
+    go true e = (let l = ltb-true f n e in rw e (omega (arith, l)))
+    go false e =
+        (let l = not_lt f n e in
+        let w = filling_within foreign (f - n) (omega (arith, l, h)) in
+        let t = below_total foreign (f - n) in
+        let low : n + filling foreign (f - n) < end_of n foreign = omega (arith, w, t) in
+        rw e low)
+
+-- the same where behind the places of foreign symbols there are constants, by places of a row of variables
+abbrev pub spaced : ℕ → List ℕ → List ℕ → ℕ → ℕ
+spaced n foreign row f = if nat_lt f (n + length foreign) then shifted n foreign f else end_of n foreign + filling row (f - (n + length foreign))
+
+pub spaced_within : (n : ℕ) (foreign row : List ℕ) (f : ℕ) → f < n + length foreign → spaced n foreign row f ≡ shifted n foreign f
+spaced_within n foreign row f h = let t : nat_lt f (n + length foreign) ≡ true = lt-ltb f (n + length foreign) h in rw t refl
+
+pub spaced_below : (n : ℕ) (foreign row : List ℕ) (f : ℕ) → f < n → spaced n foreign row f ≡ f
+spaced_below n foreign row f h = spaced_within n foreign row f (omega (arith, h)) ∙ shifted_below n foreign f h
+
+pub spaced_low : (n : ℕ) (foreign row : List ℕ) (f : ℕ) → f < n + length foreign → spaced n foreign row f < end_of n foreign
+spaced_low n foreign row f h = let e = spaced_within n foreign row f h in let l = shifted_low n foreign f h in subst (λ z. z < end_of n foreign) (sym e) l
+
+pub spaced_past : (n : ℕ) (foreign row : List ℕ) (m : ℕ) → spaced n foreign row (n + length foreign + m) ≡ end_of n foreign + filling row m
+spaced_past n foreign row m = go (nat_lt (n + length foreign + m) (n + length foreign)) refl
+  where
+    go : (b : Bool) → nat_lt (n + length foreign + m) (n + length foreign) ≡ b → spaced n foreign row (n + length foreign + m) ≡ end_of n foreign + filling row m
+    go true e = (let l = ltb-true (n + length foreign + m) (n + length foreign) e in absurd (omega (arith, l)))
+    go false e = (let d : n + length foreign + m - (n + length foreign) ≡ m = omega arith in rw e (ap (λ z. end_of n foreign + filling row z) d))
+
+pub spaced_one : (n : ℕ) (foreign row : List ℕ) → AreDistinct foreign → AreDistinct row → (x y : ℕ) → spaced n foreign row x ≡ spaced n foreign row y → x ≡ y
+spaced_one n foreign row foreign_distinct distinct x y e = go (nat_lt x (n + length foreign)) refl (nat_lt y (n + length foreign)) refl
+  where
+    go : (a : Bool) → nat_lt x (n + length foreign) ≡ a → (b : Bool) → nat_lt y (n + length foreign) ≡ b → x ≡ y
+    go true p true q = (let s : shifted n foreign x ≡ shifted n foreign y = rw (p, q) at e in shifted_one n foreign foreign_distinct x y s)
+    go true p false q =
+        (let s : shifted n foreign x ≡ end_of n foreign + filling row (y - (n + length foreign)) = rw (p, q) at e in
+        let l = shifted_low n foreign x (ltb-true x (n + length foreign) p) in
+        absurd (omega (arith, s, l)))
+    go false p true q =
+        (let s : end_of n foreign + filling row (x - (n + length foreign)) ≡ shifted n foreign y = rw (p, q) at e in
+        let l = shifted_low n foreign y (ltb-true y (n + length foreign) q) in
+        absurd (omega (arith, s, l)))
+    go false p false q =
+        (let s : end_of n foreign + filling row (x - (n + length foreign)) ≡ end_of n foreign + filling row (y - (n + length foreign)) = rw (p, q) at e in
+        let l = not_lt x (n + length foreign) p in
+        let m = not_lt y (n + length foreign) q in
+        let same = filling_one row distinct (x - (n + length foreign)) (y - (n + length foreign)) (omega (arith, s)) in
+        omega (arith, same, l, m))
+
+-- a place of a symbol is before the constants
+key_low : (n : ℕ) (foreign : List ℕ) (f g : ℕ) → IsKey n foreign f g → g < n + length foreign
+key_low n foreign f g (inl (h, e)) = omega (arith, h, e)
+key_low n foreign f g (inr (h, (m, e, at))) = let l = slice_get_within foreign m (f - n) at in omega (arith, e, l)
+
 -- from the relation to the renaming
 pub key_shifted : (n : ℕ) (row : List ℕ) (f g : ℕ) → IsKey n row f g → shifted n row g ≡ f
 key_shifted n row f g (inl (h, e)) = ap (shifted n row) e ∙ shifted_below n row f h
@@ -46,42 +113,55 @@ key_shifted n row f g (inr (h, (m, e, at))) =
     let value : filling row m ≡ f - n = filling_within row m (slice_get_within row m (f - n) at) ∙ get_or_from_slice_get row m (f - n) 0 at in
     ap (shifted n row) e ∙ (shifted_past n row m ∙ (let back : n + (f - n) ≡ f = omega (arith, h) in ap (λ z. n + z) value ∙ back))
 
-mutual
-  pub keyed_renamed : (n : ℕ) (row : List ℕ) (t u : Term) → IsKeyed n row t u → t ≡ renamed (filling row) (shifted n row) u
-  keyed_renamed n row (var x) u (m, e, at) =
-      (let value : filling row m ≡ x = filling_within row m (slice_get_within row m x at) ∙ get_or_from_slice_get row m x 0 at in ap var (sym value) ∙ ap (renamed (filling row) (shifted n row)) (sym e))
-  keyed_renamed n row (app f ts) u (g, us, e, key, all) =
-      ap₂ app (sym (key_shifted n row f g key)) (all_keyed_renamed n row ts us all) ∙ ap (renamed (filling row) (shifted n row)) (sym e)
-
-  all_keyed_renamed : (n : ℕ) (row : List ℕ) (ts us : Terms) → AreKeyed n row ts us → ts ≡ all_renamed (filling row) (shifted n row) us
-  all_keyed_renamed n row nil us e = ap (all_renamed (filling row) (shifted n row)) (sym e)
-  all_keyed_renamed n row (cons t ts) us (v, vs, e, one, all) =
-      ap₂ cons (keyed_renamed n row t v one) (all_keyed_renamed n row ts vs all) ∙ ap (all_renamed (filling row) (shifted n row)) (sym e)
+pub key_spaced : (n : ℕ) (foreign row : List ℕ) (f g : ℕ) → IsKey n foreign f g → spaced n foreign row g ≡ f
+key_spaced n foreign row f g key = spaced_within n foreign row g (key_low n foreign f g key) ∙ key_shifted n foreign f g key
 
 mutual
-  pub keyed_size : (n : ℕ) (row : List ℕ) (t u : Term) → IsKeyed n row t u → (size u ≡ size t) × (depth u ≡ depth t)
-  keyed_size n row (var x) u (m, e, at) = (ap size e, ap depth e)
-  keyed_size n row (app f ts) u (g, us, e, key, all) = (let k = keyed_sizes n row ts us all in (ap size e ∙ ap suc k.0, ap depth e ∙ ap suc k.1))
+  pub keyed_renamed : (n : ℕ) (foreign row : List ℕ) (t u : Term) → IsKeyed n foreign row t u → t ≡ renamed (filling row) (spaced n foreign row) u
+  keyed_renamed n foreign row (var x) u (m, e, at) =
+      (let value : filling row m ≡ x = filling_within row m (slice_get_within row m x at) ∙ get_or_from_slice_get row m x 0 at in ap var (sym value) ∙ ap (renamed (filling row) (spaced n foreign row)) (sym e))
+  keyed_renamed n foreign row (app f ts) u (g, us, e, key, all) =
+      ap₂ app (sym (key_spaced n foreign row f g key)) (all_keyed_renamed n foreign row ts us all) ∙ ap (renamed (filling row) (spaced n foreign row)) (sym e)
 
-  keyed_sizes : (n : ℕ) (row : List ℕ) (ts us : Terms) → AreKeyed n row ts us → (size_all us ≡ size_all ts) × (depth_all us ≡ depth_all ts)
-  keyed_sizes n row nil us e = (ap size_all e, ap depth_all e)
-  keyed_sizes n row (cons t ts) us (v, vs, e, one, all) =
-      (let k = keyed_size n row t v one in let ks = keyed_sizes n row ts vs all in (ap size_all e ∙ ap₂ (λ a b. a + b) k.0 ks.0, ap depth_all e ∙ ap₂ max k.1 ks.1))
-
-pub keyed_fits : (n : ℕ) (row : List ℕ) (t u : Term) → IsKeyed n row t u → Fits t → Fits u
-keyed_fits n row t u k fit =
-    let s = keyed_size n row t u k in record { nodes = subst (λ z. z ≤ 10000) (sym s.0) fit.nodes; levels = subst (λ z. z ≤ 400) (sym s.1) fit.levels }
+  all_keyed_renamed : (n : ℕ) (foreign row : List ℕ) (ts us : Terms) → AreKeyed n foreign row ts us → ts ≡ all_renamed (filling row) (spaced n foreign row) us
+  all_keyed_renamed n foreign row nil us e = ap (all_renamed (filling row) (spaced n foreign row)) (sym e)
+  all_keyed_renamed n foreign row (cons t ts) us (v, vs, e, one, all) =
+      ap₂ cons (keyed_renamed n foreign row t v one) (all_keyed_renamed n foreign row ts vs all) ∙ ap (all_renamed (filling row) (spaced n foreign row)) (sym e)
 
 mutual
-  pub keyed_below : (n : ℕ) (row : List ℕ) (t u : Term) → IsKeyed n row t u → (k : ℕ) → occurs k u ≡ true → k < length row
-  keyed_below n row (var x) u (m, e, at) k o =
+  pub keyed_size : (n : ℕ) (foreign row : List ℕ) (t u : Term) → IsKeyed n foreign row t u → (size u ≡ size t) × (depth u ≡ depth t)
+  keyed_size n foreign row (var x) u (m, e, at) = (ap size e, ap depth e)
+  keyed_size n foreign row (app f ts) u (g, us, e, key, all) = (let k = keyed_sizes n foreign row ts us all in (ap size e ∙ ap suc k.0, ap depth e ∙ ap suc k.1))
+
+  keyed_sizes : (n : ℕ) (foreign row : List ℕ) (ts us : Terms) → AreKeyed n foreign row ts us → (size_all us ≡ size_all ts) × (depth_all us ≡ depth_all ts)
+  keyed_sizes n foreign row nil us e = (ap size_all e, ap depth_all e)
+  keyed_sizes n foreign row (cons t ts) us (v, vs, e, one, all) =
+      (let k = keyed_size n foreign row t v one in let ks = keyed_sizes n foreign row ts vs all in (ap size_all e ∙ ap₂ (λ a b. a + b) k.0 ks.0, ap depth_all e ∙ ap₂ max k.1 ks.1))
+
+pub keyed_fits : (n : ℕ) (foreign row : List ℕ) (t u : Term) → IsKeyed n foreign row t u → Fits t → Fits u
+keyed_fits n foreign row t u k fit =
+    let s = keyed_size n foreign row t u k in record { nodes = subst (λ z. z ≤ 10000) (sym s.0) fit.nodes; levels = subst (λ z. z ≤ 400) (sym s.1) fit.levels }
+
+mutual
+  pub keyed_below : (n : ℕ) (foreign row : List ℕ) (t u : Term) → IsKeyed n foreign row t u → (k : ℕ) → occurs k u ≡ true → k < length row
+  keyed_below n foreign row (var x) u (m, e, at) k o =
       (let same : k ≡ m = eqb-true k m (subst (λ z. occurs k z ≡ true) e o) in subst (λ z. z < length row) (sym same) (slice_get_within row m x at))
-  keyed_below n row (app f ts) u (g, us, e, key, all) k o = all_keyed_below n row ts us all k (subst (λ z. occurs k z ≡ true) e o)
+  keyed_below n foreign row (app f ts) u (g, us, e, key, all) k o = all_keyed_below n foreign row ts us all k (subst (λ z. occurs k z ≡ true) e o)
 
-  all_keyed_below : (n : ℕ) (row : List ℕ) (ts us : Terms) → AreKeyed n row ts us → (k : ℕ) → occurs_in k us ≡ true → k < length row
-  all_keyed_below n row nil us e k o = (let bad : occurs_in k nil ≡ true = subst (λ z. occurs_in k z ≡ true) e o in absurd (cc))
-  all_keyed_below n row (cons t ts) us (v, vs, e, one, all) k o =
-      or_cases (occurs k v) (occurs_in k vs) (subst (λ z. occurs_in k z ≡ true) e o) (keyed_below n row t v one k) (all_keyed_below n row ts vs all k)
+  all_keyed_below : (n : ℕ) (foreign row : List ℕ) (ts us : Terms) → AreKeyed n foreign row ts us → (k : ℕ) → occurs_in k us ≡ true → k < length row
+  all_keyed_below n foreign row nil us e k o = (let bad : occurs_in k nil ≡ true = subst (λ z. occurs_in k z ≡ true) e o in absurd (cc))
+  all_keyed_below n foreign row (cons t ts) us (v, vs, e, one, all) k o =
+      or_cases (occurs k v) (occurs_in k vs) (subst (λ z. occurs_in k z ≡ true) e o) (keyed_below n foreign row t v one k) (all_keyed_below n foreign row ts vs all k)
+
+mutual
+  pub keyed_symbols : (n : ℕ) (foreign row : List ℕ) (t u : Term) → IsKeyed n foreign row t u → HasSymbolsBelow (n + length foreign) u
+  keyed_symbols n foreign row (var x) u (m, e, at) = subst (HasSymbolsBelow (n + length foreign)) (sym e) tt
+  keyed_symbols n foreign row (app f ts) u (g, us, e, key, all) = subst (HasSymbolsBelow (n + length foreign)) (sym e) (key_low n foreign f g key, all_keyed_symbols n foreign row ts us all)
+
+  all_keyed_symbols : (n : ℕ) (foreign row : List ℕ) (ts us : Terms) → AreKeyed n foreign row ts us → HaveSymbolsBelow (n + length foreign) us
+  all_keyed_symbols n foreign row nil us e = subst (HaveSymbolsBelow (n + length foreign)) (sym e) tt
+  all_keyed_symbols n foreign row (cons t ts) us (v, vs, e, one, all) =
+      subst (HaveSymbolsBelow (n + length foreign)) (sym e) (keyed_symbols n foreign row t v one, all_keyed_symbols n foreign row ts vs all)
 
 -- a longer row
 key_at : (row more : List ℕ) (m x : ℕ) → IsFront row more → slice_get row m ≡ Some x → slice_get more m ≡ Some x
@@ -97,10 +177,12 @@ key_grows n row more f g front (inl h) = inl h
 key_grows n row more f g front (inr (h, (m, e, at))) = inr (h, (m, e, key_at row more m (f - n) front at))
 
 mutual
-  pub keyed_grows : (n : ℕ) (row more : List ℕ) (t u : Term) → IsFront row more → IsKeyed n row t u → IsKeyed n more t u
-  keyed_grows n row more (var x) u front (m, e, at) = (m, e, key_at row more m x front at)
-  keyed_grows n row more (app f ts) u front (g, us, e, key, all) = (g, us, e, key_grows n row more f g front key, all_keyed_grows n row more ts us front all)
+  pub keyed_grows : (n : ℕ) (foreign more_foreign row more : List ℕ) (t u : Term) → IsFront foreign more_foreign → IsFront row more → IsKeyed n foreign row t u → IsKeyed n more_foreign more t u
+  keyed_grows n foreign more_foreign row more (var x) u symbols front (m, e, at) = (m, e, key_at row more m x front at)
+  keyed_grows n foreign more_foreign row more (app f ts) u symbols front (g, us, e, key, all) =
+      (g, us, e, key_grows n foreign more_foreign f g symbols key, all_keyed_grows n foreign more_foreign row more ts us symbols front all)
 
-  pub all_keyed_grows : (n : ℕ) (row more : List ℕ) (ts us : Terms) → IsFront row more → AreKeyed n row ts us → AreKeyed n more ts us
-  all_keyed_grows n row more nil us front e = e
-  all_keyed_grows n row more (cons t ts) us front (v, vs, e, one, all) = (v, vs, e, keyed_grows n row more t v front one, all_keyed_grows n row more ts vs front all)
+  pub all_keyed_grows : (n : ℕ) (foreign more_foreign row more : List ℕ) (ts us : Terms) → IsFront foreign more_foreign → IsFront row more → AreKeyed n foreign row ts us → AreKeyed n more_foreign more ts us
+  all_keyed_grows n foreign more_foreign row more nil us symbols front e = e
+  all_keyed_grows n foreign more_foreign row more (cons t ts) us symbols front (v, vs, e, one, all) =
+      (v, vs, e, keyed_grows n foreign more_foreign row more t v symbols front one, all_keyed_grows n foreign more_foreign row more ts vs symbols front all)

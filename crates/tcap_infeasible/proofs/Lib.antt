@@ -1,3 +1,6 @@
+pub mod Numbers
+pub mod Rebased
+pub mod Bases
 pub mod Tried
 pub mod Roots
 pub mod Sizes

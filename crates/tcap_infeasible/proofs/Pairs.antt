@@ -1,27 +1,31 @@
 -- From the caps of two terms with holes in one row to caps with holes of their own.
-use Rattle.std.proofs.Common.{ℕ, zero, suc, ◌≡◌, ◌+◌, ◌-◌, ◌*◌, ◌^◌, ◌<◌, ◌≤◌, inl, inr, Bool, true, false, nat_lt, if◌then◌else◌, List, [], length, refl, sym, ap, ap₂, ◌∙◌, subst, subst₂, arith, Result, Ok, Err}
+use Rattle.std.proofs.Common.{ℕ, zero, suc, ◌≡◌, ◌+◌, ◌-◌, ◌*◌, ◌^◌, ◌<◌, ◌≤◌, inl, inr, Bool, true, false, nat_lt, if◌then◌else◌, List, [], length, refl, sym, ap, ap₂, ◌∙◌, subst, subst₂, arith, length-append, Result, Ok, Err}
 use Rattle.std.proofs.lemmas.Bool.{ltb-true, lt-ltb}
 use Rattle.rewriting.specs.Terms.{Term, var, app, nil, cons, size, Fits}
 use Rattle.rewriting.specs.Substitutions.{apply, apply_all}
+use Rattle.rewriting.specs.Unifiers.{even, odd}
 use Rattle.rewriting.specs.Rules.{System}
 use Rattle.rewriting.specs.Systems.{IsSystem, IsWellFormed}
 use Rattle.rewriting.specs.Lists.{AreDistinct, IsFront}
-use Rattle.unifier_run.specs.Run.{Outcome, unifier, clash, too_large, IsOutcome}
-use Rattle.unifier_run.proofs.Renamed.{renamed, all_renamed, renamed_outcome, stays, names, runs_to, runs_with_names}
-use Rattle.caps.specs.Caps.{Cap, Caps, hole, kept, any, node, no_caps, caps, holes, holes_in, filled, all_filled, constants, IsCapOf, IsCapLarge}
-use Rattle.caps.specs.Evidence.{IsPairOutcome, IsRigidOutcome}
+use Rattle.unifier_run.specs.Run.{Binding, Outcome, unifier, clash, too_large, IsOutcome}
+use Rattle.unifier_run.proofs.Renamed.{renamed, all_renamed, renamed_outcome, stays, names, runs_with_names}
+use Rattle.caps.specs.Caps.{Cap, Caps, hole, kept, any, node, no_caps, caps, holes, holes_in, filled, all_filled, past, constants, frozen_from, IsCapOf, IsCapLarge}
+use Rattle.caps.specs.Evidence.{past_both, IsPairOutcome}
 use Rattle.caps.proofs.Rigid.{rigid_apart, caps_apart}
 use Rattle.term_core.specs.declared.terms.NoMemory.{NoMemory}
 use Rattle.tcap_infeasible.specs.declared.comparing.ComparedCaps.{ComparedCaps}
 use Rattle.tcap_infeasible.specs.declared.comparing.ComparedCaps.TheVariants.{Clash, Unify, TooLarge}
 use Rattle.tcap_infeasible.specs.Keys.{IsKeyed}
-use Rattle.tcap_infeasible.specs.declared.capping.Leaf.TheVariants.{Kept}
+use Rattle.tcap_infeasible.specs.declared.capping.Leaf.TheVariants.{Hole, Kept}
 use Rattle.tcap_infeasible.specs.Frozen.{HasConstants}
 use Rattle.tcap_infeasible.specs.Compared.{PairAnswers, KeepsInstancesApart, GivesApart, IsFrozenOutcome, FrozenPairAnswers}
-use Rattle.tcap_infeasible.proofs.Tried.{not_lt, rule_of}
+use Rattle.tcap_infeasible.proofs.Numbers.{not_lt}
+use Rattle.tcap_infeasible.proofs.Rebased.{AreAlike, alike_renamed, EndLike, forth, back_like, same_number, raised, raised_one, raised_frozen}
+use Rattle.tcap_infeasible.proofs.Bases.{symbols_below, cap_past, holes_alone}
+use Rattle.tcap_infeasible.proofs.Tried.{rule_of}
 use Rattle.renumbering.proofs.Filling.{filling}
-use Rattle.tcap_infeasible.proofs.Keyed.{shifted, shifted_past, shifted_one, keyed_renamed, keyed_below, keyed_grows}
-use Rattle.tcap_infeasible.proofs.Named.{named, all_named, named_holes, cap_named, large_named}
+use Rattle.tcap_infeasible.proofs.Keyed.{end_of, spaced, spaced_past, keyed_renamed, keyed_below, keyed_symbols, keyed_grows}
+use Rattle.tcap_infeasible.proofs.Named.{named, all_named, named_holes, symbols_one, name_past, cap_named, large_named}
 
 -- the holes of the first, h in number, become even, and those of the second odd
 abbrev pub woven : ℕ → ℕ → ℕ
@@ -72,90 +76,143 @@ woven_one h x y e = go (kind h x) (kind h y)
     go (high a p) (middle b d q) = absurd (omega (arith, p, q, e))
     go (high a p) (high b q) = omega (arith, p, q, e, a, b)
 
--- holes from a base on become what they are to be in the frozen cap
-module _ (sys : System) (row : List ℕ) (rho g : ℕ → ℕ) (base limit : ℕ) (same : (j : ℕ) → j < limit → rho (base + j) ≡ g j) where
+-- holes from a number on become what they are to be in the frozen cap
+module _ (sys : System) (foreign row : List ℕ) (rho g : ℕ → ℕ) (start limit : ℕ) (same : (j : ℕ) → j < limit → rho (start + j) ≡ g j) where
   abbrev symbols : ℕ → ℕ
-  symbols f = shifted (length sys.arities) row f
+  symbols f = spaced (length sys.arities) foreign row f
+
+  abbrev start_base : ℕ
+  start_base = length sys.arities + length foreign
+
+  abbrev end_base : ℕ
+  end_base = end_of (length sys.arities) foreign
 
   mutual
-    pub held_to : (j : ℕ) (c : Cap) → j + holes c ≤ limit → renamed rho symbols (filled (constants sys) (base + j) c) ≡ apply (λ k. var (g k)) (filled (constants sys) j (named (filling row) symbols c))
+    pub held_to : (j : ℕ) (c : Cap) → j + holes c ≤ limit → renamed rho symbols (filled (constants start_base) (start + j) c) ≡ apply (λ k. var (g k)) (filled (constants end_base) j (named (filling row) symbols c))
     held_to j hole h = ap var (same j (omega (arith, h)))
-    held_to j (kept x) h = ap (λ z. app z nil) (shifted_past (length sys.arities) row x)
+    held_to j (kept x) h = ap (λ z. app z nil) (spaced_past (length sys.arities) foreign row x)
     held_to j (node f cs) h = ap (app (symbols f)) (all_held_to j cs h)
 
-    pub all_held_to : (j : ℕ) (cs : Caps) → j + holes_in cs ≤ limit → all_renamed rho symbols (all_filled (constants sys) (base + j) cs) ≡ apply_all (λ k. var (g k)) (all_filled (constants sys) j (all_named (filling row) symbols cs))
+    pub all_held_to : (j : ℕ) (cs : Caps) → j + holes_in cs ≤ limit → all_renamed rho symbols (all_filled (constants start_base) (start + j) cs) ≡ apply_all (λ k. var (g k)) (all_filled (constants end_base) j (all_named (filling row) symbols cs))
     all_held_to j no_caps h = refl
     all_held_to j (caps c cs) h =
-        (let more : base + j + holes c ≡ base + (j + holes c) = omega arith in
+        (let more : start + j + holes c ≡ start + (j + holes c) = omega arith in
         ap₂ cons (held_to j c (omega (arith, h)))
-        (ap (λ z. all_renamed rho symbols (all_filled (constants sys) z cs)) more ∙ (all_held_to (j + holes c) cs (omega (arith, h))
-        ∙ ap (λ z. apply_all (λ k. var (g k)) (all_filled (constants sys) (j + z) (all_named (filling row) symbols cs))) (sym (named_holes (filling row) symbols c)))))
+        (ap (λ z. all_renamed rho symbols (all_filled (constants start_base) z cs)) more ∙ (all_held_to (j + holes c) cs (omega (arith, h))
+        ∙ ap (λ z. apply_all (λ k. var (g k)) (all_filled (constants end_base) (j + z) (all_named (filling row) symbols cs))) (sym (named_holes (filling row) symbols c)))))
 
-module _ (sys : System) (row : List ℕ) (sound : IsSystem sys) (distinct : AreDistinct row) (u v x y : Term) (first_keys : IsKeyed (length sys.arities) row u x) (second_keys : IsKeyed (length sys.arities) row v y) where
+-- the run for two caps with other constants
+frozen_pair : (sys : System) (c d : Cap) (base : ℕ) (o : Outcome) → past_both sys c d ≤ base → EndLike (apply even (frozen_from base c)) (apply odd (frozen_from base d)) o
+    → EndLike (apply even (frozen_from (past_both sys c d) c)) (apply odd (frozen_from (past_both sys c d) d)) o
+frozen_pair sys c d base o far h =
+    let least = past_both sys c d in
+    back_like (λ x. x) (raised least (base - least)) same_number (raised_one least (base - least)) (apply even (frozen_from least c)) (apply odd (frozen_from least d)) (apply even (frozen_from base c)) (apply odd (frozen_from base d))
+    (raised_frozen (λ k. 2 * k) least base c (omega arith) far) (raised_frozen (λ k. 2 * k + 1) least base d (omega arith) far) o h
+
+-- an outcome of the kind for two terms
+abbrev HasPairLike : System → (ℕ → Cap) → Term → Term → Outcome → Type 0
+HasPairLike sys leaf u v o = (p : Outcome) × AreAlike o p × IsPairOutcome sys leaf u v p
+
+pair_clash : (sys : System) (leaf : ℕ → Cap) (u v : Term) → HasPairLike sys leaf u v clash → IsPairOutcome sys leaf u v clash
+pair_clash sys leaf u v (p, e, h) = subst (IsPairOutcome sys leaf u v) e h
+
+pair_unifier : (sys : System) (leaf : ℕ → Cap) (u v : Term) (b : List Binding) → HasPairLike sys leaf u v (unifier b) → (c : List Binding) × IsPairOutcome sys leaf u v (unifier c)
+pair_unifier sys leaf u v b (p, (c, e), h) = (c, subst (IsPairOutcome sys leaf u v) e h)
+
+pair_large : (sys : System) (leaf : ℕ → Cap) (u v : Term) → HasPairLike sys leaf u v too_large → IsPairOutcome sys leaf u v too_large
+pair_large sys leaf u v (p, e, h) = subst (IsPairOutcome sys leaf u v) e h
+
+module _ (sys : System) (foreign row : List ℕ) (sound : IsSystem sys) (foreign_distinct : AreDistinct foreign) (distinct : AreDistinct row) (u v x y : Term) (first_keys : IsKeyed (length sys.arities) foreign row u x) (second_keys : IsKeyed (length sys.arities) foreign row v y) where
   abbrev symbols_of : ℕ → ℕ
-  symbols_of f = shifted (length sys.arities) row f
+  symbols_of f = spaced (length sys.arities) foreign row f
 
-  pair_outcome : (o : Outcome) → (h : IsFrozenOutcome sys kept x y o) → IsRigidOutcome sys u v (renamed_outcome (woven (holes h.first)) symbols_of o)
+  abbrev name_of : Cap → Cap
+  name_of c = named (filling row) symbols_of c
+
+  abbrev places_from : ℕ
+  places_from = length sys.arities + length foreign
+
+  abbrev far : ℕ
+  far = end_of (length sys.arities) foreign
+
+  cap_of : (t z : Term) (c : Cap) → IsKeyed (length sys.arities) foreign row t z → IsCapOf sys kept z c → IsCapOf sys kept t (name_of c)
+  cap_of t z c keys is =
+      subst (λ q. IsCapOf sys kept q (name_of c)) (sym (keyed_renamed (length sys.arities) foreign row t z keys)) (cap_named sys foreign row sound foreign_distinct distinct z c (keyed_symbols (length sys.arities) foreign row t z keys) is)
+
+  name_low : (t z : Term) (c : Cap) → IsKeyed (length sys.arities) foreign row t z → IsCapOf sys kept z c → past sys (name_of c) ≤ far
+  name_low t z c keys is = name_past sys foreign row sound foreign_distinct distinct c (cap_past sys (Kept places_from) places_from z c (keyed_symbols (length sys.arities) foreign row t z keys) is)
+
+  pair_outcome : (o : Outcome) → IsFrozenOutcome sys (Kept places_from) x y o → HasPairLike sys kept u v o
   pair_outcome o h =
       let first_start : 2 ^ 31 ≡ 2 ^ 31 + 0 = omega arith in
       let second_start : 2 ^ 31 + holes h.first ≡ 2 ^ 31 + holes h.first + 0 = omega arith in
-      record {
-        first = named (filling row) symbols_of h.first;
-        second = named (filling row) symbols_of h.second;
-        is_first = subst (λ z. IsCapOf sys kept z (named (filling row) symbols_of h.first)) (sym (keyed_renamed (length sys.arities) row u x first_keys)) (cap_named sys row sound distinct x h.first h.is_first);
-        is_second = subst (λ z. IsCapOf sys kept z (named (filling row) symbols_of h.second)) (sym (keyed_renamed (length sys.arities) row v y second_keys)) (cap_named sys row sound distinct y h.second h.is_second);
-        outcome = subst₂ (λ p q. IsOutcome (cons p nil) (cons q nil) (renamed_outcome (woven (holes h.first)) symbols_of o))
-            (ap (λ z. renamed (woven (holes h.first)) symbols_of (filled (constants sys) z h.first)) first_start
-            ∙ held_to sys row (woven (holes h.first)) (λ k. 2 * k) (2 ^ 31) (holes h.first) (λ j less. woven_first (holes h.first) j less) 0 h.first (omega arith))
-            (ap (λ z. renamed (woven (holes h.first)) symbols_of (filled (constants sys) z h.second)) second_start
-            ∙ held_to sys row (woven (holes h.first)) (λ k. 2 * k + 1) (2 ^ 31 + holes h.first) (holes h.second) (λ j less. woven_second (holes h.first) j) 0 h.second (omega arith))
-            (runs_to (woven (holes h.first)) symbols_of (woven_one (holes h.first)) (shifted_one (length sys.arities) row distinct) h.outcome);
-      }
+      let rho = woven (holes h.first) in
+      let first_low = name_low u x h.first first_keys h.is_first in
+      let second_low = name_low v y h.second second_keys h.is_second in
+      let there = forth rho symbols_of (woven_one (holes h.first)) (symbols_one sys foreign row sound foreign_distinct distinct)
+      (filled (constants places_from) (2 ^ 31) h.first) (filled (constants places_from) (2 ^ 31 + holes h.first) h.second) (apply even (frozen_from far (name_of h.first))) (apply odd (frozen_from far (name_of h.second)))
+      (ap (λ z. renamed rho symbols_of (filled (constants places_from) z h.first)) first_start ∙ held_to sys foreign row rho (λ k. 2 * k) (2 ^ 31) (holes h.first) (λ j less. woven_first (holes h.first) j less) 0 h.first (omega arith))
+      (ap (λ z. renamed rho symbols_of (filled (constants places_from) z h.second)) second_start
+      ∙ held_to sys foreign row rho (λ k. 2 * k + 1) (2 ^ 31 + holes h.first) (holes h.second) (λ j less. woven_second (holes h.first) j) 0 h.second (omega arith))
+      o h.outcome in
+      let like = frozen_pair sys (name_of h.first) (name_of h.second) far o (omega (arith, first_low, second_low)) (renamed_outcome rho symbols_of o, alike_renamed rho symbols_of o, there) in (
+        like.0,
+        like.1,
+        record {
+          first = name_of h.first;
+          second = name_of h.second;
+          is_first = cap_of u x h.first first_keys h.is_first;
+          is_second = cap_of v y h.second second_keys h.is_second;
+          outcome = like.2;
+        },
+      )
 
-  one_large : (t z : Term) → IsKeyed (length sys.arities) row t z → IsCapLarge sys kept z → IsCapLarge sys kept t
-  one_large t z keys large = subst (IsCapLarge sys kept) (sym (keyed_renamed (length sys.arities) row t z keys)) (large_named sys row sound distinct z large)
+  one_large : (t z : Term) → IsKeyed (length sys.arities) foreign row t z → IsCapLarge sys kept z → IsCapLarge sys kept t
+  one_large t z keys large =
+      subst (IsCapLarge sys kept) (sym (keyed_renamed (length sys.arities) foreign row t z keys)) (large_named sys foreign row sound foreign_distinct distinct z (keyed_symbols (length sys.arities) foreign row t z keys) large)
 
-  pub pair_answers : (r : Result ComparedCaps NoMemory) → FrozenPairAnswers sys kept x y r → PairAnswers sys kept u v r
-  pair_answers (Ok Clash) h = pair_outcome clash h
-  pair_answers (Ok Unify) (b, h) = (_, pair_outcome (unifier b) h)
+  pub pair_answers : (r : Result ComparedCaps NoMemory) → FrozenPairAnswers sys (Kept places_from) x y r → PairAnswers sys kept u v r
+  pair_answers (Ok Clash) h = pair_clash sys kept u v (pair_outcome clash h)
+  pair_answers (Ok Unify) (b, h) = pair_unifier sys kept u v b (pair_outcome (unifier b) h)
   pair_answers (Ok TooLarge) (inl (inl h)) = inl (inl (one_large u x first_keys h))
   pair_answers (Ok TooLarge) (inl (inr h)) = inl (inr (one_large v y second_keys h))
-  pair_answers (Ok TooLarge) (inr h) = inr (pair_outcome too_large h)
+  pair_answers (Ok TooLarge) (inr h) = inr (pair_large sys kept u v (pair_outcome too_large h))
   pair_answers (Err e) h = tt
 
 -- the same where all variables of the caps are holes, so that no symbol is renamed
-module _ (sys : System) (rho g : ℕ → ℕ) (base limit : ℕ) (same : (j : ℕ) → j < limit → rho (base + j) ≡ g j) where
+module _ (base : ℕ) (rho g : ℕ → ℕ) (start limit : ℕ) (same : (j : ℕ) → j < limit → rho (start + j) ≡ g j) where
   mutual
-    filled_to : (j : ℕ) (c : Cap) → j + holes c ≤ limit → apply (names rho) (filled (constants sys) (base + j) c) ≡ apply (λ k. var (g k)) (filled (constants sys) j c)
+    filled_to : (j : ℕ) (c : Cap) → j + holes c ≤ limit → apply (names rho) (filled (constants base) (start + j) c) ≡ apply (λ k. var (g k)) (filled (constants base) j c)
     filled_to j hole h = ap var (same j (omega (arith, h)))
     filled_to j (kept x) h = refl
     filled_to j (node f cs) h = ap (app f) (all_filled_to j cs h)
 
-    all_filled_to : (j : ℕ) (cs : Caps) → j + holes_in cs ≤ limit → apply_all (names rho) (all_filled (constants sys) (base + j) cs) ≡ apply_all (λ k. var (g k)) (all_filled (constants sys) j cs)
+    all_filled_to : (j : ℕ) (cs : Caps) → j + holes_in cs ≤ limit → apply_all (names rho) (all_filled (constants base) (start + j) cs) ≡ apply_all (λ k. var (g k)) (all_filled (constants base) j cs)
     all_filled_to j no_caps h = refl
     all_filled_to j (caps c cs) h =
-        (let more : base + j + holes c ≡ base + (j + holes c) = omega arith in
-        ap₂ cons (filled_to j c (omega (arith, h))) (ap (λ z. apply_all (names rho) (all_filled (constants sys) z cs)) more ∙ all_filled_to (j + holes c) cs (omega (arith, h))))
+        (let more : start + j + holes c ≡ start + (j + holes c) = omega arith in
+        ap₂ cons (filled_to j c (omega (arith, h))) (ap (λ z. apply_all (names rho) (all_filled (constants base) z cs)) more ∙ all_filled_to (j + holes c) cs (omega (arith, h))))
 
 module _ (sys : System) (u v : Term) where
-  opened_outcome : (o : Outcome) → (h : IsFrozenOutcome sys any u v o) → IsPairOutcome sys any u v (renamed_outcome (woven (holes h.first)) stays o)
+  opened_outcome : (o : Outcome) → (h : IsFrozenOutcome sys Hole u v o) → IsPairOutcome sys any u v (renamed_outcome (woven (holes h.first)) stays o)
   opened_outcome o h =
       let first_start : 2 ^ 31 ≡ 2 ^ 31 + 0 = omega arith in
       let second_start : 2 ^ 31 + holes h.first ≡ 2 ^ 31 + holes h.first + 0 = omega arith in
+      let base = past_both sys h.first h.second in
       record {
         first = h.first;
         second = h.second;
         is_first = h.is_first;
         is_second = h.is_second;
         outcome = subst₂ (λ p q. IsOutcome (cons p nil) (cons q nil) (renamed_outcome (woven (holes h.first)) stays o))
-            (ap (λ z. apply (names (woven (holes h.first))) (filled (constants sys) z h.first)) first_start
-            ∙ filled_to sys (woven (holes h.first)) (λ k. 2 * k) (2 ^ 31) (holes h.first) (λ j less. woven_first (holes h.first) j less) 0 h.first (omega arith))
-            (ap (λ z. apply (names (woven (holes h.first))) (filled (constants sys) z h.second)) second_start
-            ∙ filled_to sys (woven (holes h.first)) (λ k. 2 * k + 1) (2 ^ 31 + holes h.first) (holes h.second) (λ j less. woven_second (holes h.first) j) 0 h.second (omega arith))
+            (ap (apply (names (woven (holes h.first)))) (holes_alone sys u h.first var (constants base) (2 ^ 31) h.is_first ∙ ap (λ z. filled (constants base) z h.first) first_start)
+            ∙ filled_to base (woven (holes h.first)) (λ k. 2 * k) (2 ^ 31) (holes h.first) (λ j less. woven_first (holes h.first) j less) 0 h.first (omega arith))
+            (ap (apply (names (woven (holes h.first)))) (holes_alone sys v h.second var (constants base) (2 ^ 31 + holes h.first) h.is_second ∙ ap (λ z. filled (constants base) z h.second) second_start)
+            ∙ filled_to base (woven (holes h.first)) (λ k. 2 * k + 1) (2 ^ 31 + holes h.first) (holes h.second) (λ j less. woven_second (holes h.first) j) 0 h.second (omega arith))
             (runs_with_names (woven (holes h.first)) (woven_one (holes h.first)) h.outcome);
       }
 
-  pub opened_answers : (r : Result ComparedCaps NoMemory) → FrozenPairAnswers sys any u v r → PairAnswers sys any u v r
+  pub opened_answers : (r : Result ComparedCaps NoMemory) → FrozenPairAnswers sys Hole u v r → PairAnswers sys any u v r
   opened_answers (Ok Clash) h = opened_outcome clash h
   opened_answers (Ok Unify) (b, h) = (_, opened_outcome (unifier b) h)
   opened_answers (Ok TooLarge) (inl h) = inl h
@@ -168,20 +225,26 @@ module _ (sys : System) (u v : Term) where
   opened_apart (Ok TooLarge) h = tt
   opened_apart (Err e) h = tt
 
--- variables that are places of a short row have constants
-pub constants_small : (sys : System) (n : ℕ) (row : List ℕ) (t u : Term) → n ≡ length sys.arities → IsSystem sys → length row ≤ 2 ^ 31 → IsKeyed n row t u → HasConstants sys Kept u
-constants_small sys n row t u count sound short keys x o =
-    let below = keyed_below n row t u keys x o in let few = sound.few_symbols in omega (arith, below, few, short)
+-- the places of a term leave room for constants behind those of its foreign symbols
+pub places_base : (sys : System) (n base : ℕ) (places foreign row : List ℕ) (t u : Term) → n ≡ length sys.arities → base ≡ length sys.arities + length foreign → IsSystem sys → length places ≤ length foreign → length foreign ≤ 2 ^ 30 → length row ≤ 2 ^ 30 → IsKeyed n places row t u
+    → HasConstants sys (Kept base) u
+places_base sys n base places foreign row t u count is sound within few_foreign few keys =
+    record {
+      past_system = omega (arith, is);
+      past_term = symbols_below (n + length places) base u (omega (arith, count, is, within)) (keyed_symbols n places row t u keys);
+      room = λ x o. (let below = keyed_below n places row t u keys x o in let symbols = sound.few_symbols in omega (arith, is, below, symbols, few_foreign, few));
+    }
 
 pub well_formed : (sys : System) → IsSystem sys → IsWellFormed sys
 well_formed sys sound zero r e = absurd (cc)
 well_formed sys sound (suc i) r e = (rule_of sys.arities sys.rules i r sound.rules e).is_over
 
--- terms that have got places in one row, the first of them before the second
-pub places_answer : (sys : System) (n : ℕ) (row more : List ℕ) (u v x y : Term) (r : Result ComparedCaps NoMemory) → n ≡ length sys.arities → IsSystem sys → AreDistinct more → IsFront row more → IsKeyed n row u x → IsKeyed n more v y → FrozenPairAnswers sys kept x y r
-    → PairAnswers sys kept u v r
-places_answer sys n row more u v x y r count sound distinct front first second h =
-    pair_answers sys more sound distinct u v x y (subst (λ z. IsKeyed z more u x) count (keyed_grows n row more u x front first)) (subst (λ z. IsKeyed z more v y) count second) r h
+-- terms that have got places in the same rows, the first of them before the second
+pub places_answer : (sys : System) (n base : ℕ) (foreign more_foreign row more : List ℕ) (u v x y : Term) (r : Result ComparedCaps NoMemory) → n ≡ length sys.arities → base ≡ length sys.arities + length more_foreign → IsSystem sys → AreDistinct more_foreign → AreDistinct more
+    → IsFront foreign more_foreign → IsFront row more → IsKeyed n foreign row u x → IsKeyed n more_foreign more v y → FrozenPairAnswers sys (Kept base) x y r → PairAnswers sys kept u v r
+places_answer sys n base foreign more_foreign row more u v x y r count is sound foreign_distinct distinct symbols front first second h =
+    pair_answers sys more_foreign more sound foreign_distinct distinct u v x y (subst (λ z. IsKeyed z more_foreign more u x) count (keyed_grows n foreign more_foreign row more u x symbols front first)) (subst (λ z. IsKeyed z more_foreign more v y) count second) r
+    (subst (λ z. FrozenPairAnswers sys (Kept z) x y r) is h)
 
 pub answer_apart : (sys : System) (u v : Term) (r : Result ComparedCaps NoMemory) → IsSystem sys → PairAnswers sys kept u v r → GivesApart sys u v r
 answer_apart sys u v (Ok Clash) sound h = rigid_apart sys u v (well_formed sys sound) h
@@ -194,3 +257,9 @@ none_distinct row e = subst AreDistinct (sym e) tt
 
 pub short_row : (start row : List ℕ) (t : Term) → start ≡ [] → length row ≤ length start + size t → Fits t → length row ≤ 10000
 short_row start row t e grown fit = let none : length start ≡ 0 = ap length e in let few = fit.nodes in omega (arith, grown, none, few)
+
+pub longer : (row more : List ℕ) (t : Term) → length row ≤ 10000 → length more ≤ length row + size t → Fits t → length more ≤ 20000
+longer row more t short grown fit = let few = fit.nodes in omega (arith, short, grown, few)
+
+pub front_short : (row more : List ℕ) → IsFront row more → length row ≤ length more
+front_short row more (rest, e) = let whole : length more ≡ length row + length rest = ap length e ∙ length-append row rest in omega (arith, whole)

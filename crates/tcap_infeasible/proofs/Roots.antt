@@ -7,15 +7,13 @@ use Rattle.rewriting.specs.Rules as math
 use Rattle.rewriting.specs.Rules.{System, rule_at}
 use Rattle.rewriting.specs.Systems.{IsSystem}
 use Rattle.unifier_run.specs.Run.{Outcome, clash, IsOutcome}
-use Rattle.unifier_run.specs.Overlaps.{IsOutcomeOf}
-use Rattle.unifier_run.specs.Irreducible.{IsFirstRule}
-use Rattle.unifier_run.proofs.Renamed.{renamed_outcome, stays}
 use Rattle.caps.specs.Caps.{Cap, frozen}
 use Rattle.term_core.specs.View.{view}
 use Rattle.term_core.specs.RuleView.{rule_view}
 use Rattle.term_core.specs.declared.systems.Rule.{Rule}
 use Rattle.tcap_infeasible.specs.Frozen.{IsHeld}
-use Rattle.tcap_infeasible.proofs.Tried.{split, rule_of, outcome_of, AreBefore, one_more, Tried, Next, tried_next}
+use Rattle.tcap_infeasible.proofs.Rebased.{HasLike, HasFirstLike, clash_like}
+use Rattle.tcap_infeasible.proofs.Tried.{rule_of, outcome_of, AreBefore, one_more, Tried, Next, tried_next}
 
 within : (rs : List math.Rule) (i : ℕ) (r : math.Rule) → slice_get rs i ≡ Some r → i < length rs
 within [] i r e = absurd (cc)
@@ -54,22 +52,26 @@ module _ (sys : System) (f : ℕ) (t : Term) (numbers : List ℕ) (k : ℕ) (sou
       same_rule h = cc
 
   outcome_at : (rules : List Rule) (d : Rule) (o : Outcome) → map rule_view rules ≡ sys.rules → (next : Next sys f t (get_or numbers k 0) (drop (suc k) numbers))
-      → IsOutcome (cons (view (get_or rules (get_or numbers k 0 - 1) d).left) nil) (cons t nil) o → (n : ℕ) (c : Cap) → IsHeld sys f t n c → IsOutcomeOf next.rule.left (frozen sys c) (renamed_outcome (split n) stays o)
+      → IsOutcome (cons (view (get_or rules (get_or numbers k 0 - 1) d).left) nil) (cons t nil) o → (n : ℕ) (c : Cap) → IsHeld sys f t n c → HasLike next.rule.left (frozen sys c) o
   outcome_at rules d o same next run n c held =
       outcome_of sys next.rule f t n c o (rule_of sys.arities sys.rules next.passed next.rule sound.rules next.is_rule) held
       (subst (λ z. IsOutcome (cons z.left nil) (cons t nil) o) (sym (at_place rules d same next)) run)
 
   pub first_at : (rules : List Rule) (d : Rule) (o : Outcome) → map rule_view rules ≡ sys.rules → Tried sys f t numbers k → k < length numbers
-      → IsOutcome (cons (view (get_or rules (get_or numbers k 0 - 1) d).left) nil) (cons t nil) o → (n : ℕ) (c : Cap) → IsHeld sys f t n c → IsFirstRule sys (frozen sys c) (renamed_outcome (split n) stays o)
+      → IsOutcome (cons (view (get_or rules (get_or numbers k 0 - 1) d).left) nil) (cons t nil) o → (n : ℕ) (c : Cap) → IsHeld sys f t n c → HasFirstLike sys (frozen sys c) o
   first_at rules d o same tried h run n c held =
       let next = following tried h in
-      record {
-        number = get_or numbers k 0;
-        rule = next.rule;
-        is_rule = subst (λ z. rule_at sys z ≡ Some next.rule) (sym next.number_is) next.is_rule;
-        outcome = outcome_at rules d o same next run n c held;
-        before = λ i q at less. next.clash n c held i q at (let m = next.number_is in omega (arith, m, less));
-      }
+      let like = outcome_at rules d o same next run n c held in (
+        like.0,
+        like.1,
+        record {
+          number = get_or numbers k 0;
+          rule = next.rule;
+          is_rule = subst (λ z. rule_at sys z ≡ Some next.rule) (sym next.number_is) next.is_rule;
+          outcome = like.2;
+          before = λ i q at less. next.clash n c held i q at (let m = next.number_is in omega (arith, m, less));
+        },
+      )
 
   pub one_tried : (rules : List Rule) (d : Rule) → map rule_view rules ≡ sys.rules → Tried sys f t numbers k → k < length numbers
       → IsOutcome (cons (view (get_or rules (get_or numbers k 0 - 1) d).left) nil) (cons t nil) clash → Tried sys f t numbers (k + 1)
@@ -78,5 +80,5 @@ module _ (sys : System) (f : ℕ) (t : Term) (numbers : List ℕ) (k : ℕ) (sou
       record {
         passed = get_or numbers k 0;
         rest = rw add-one next.rest_is;
-        clash = λ n c held. subst (AreBefore sys (frozen sys c)) (sym next.number_is) (one_more sys (frozen sys c) next.passed next.rule next.is_rule (outcome_at rules d clash same next run n c held) (next.clash n c held));
+        clash = λ n c held. subst (AreBefore sys (frozen sys c)) (sym next.number_is) (one_more sys (frozen sys c) next.passed next.rule next.is_rule (clash_like next.rule.left (frozen sys c) (outcome_at rules d clash same next run n c held)) (next.clash n c held));
       }

@@ -1,10 +1,8 @@
 -- The sides of conditions as lists of terms of the program.
-use Rattle.std.proofs.Common.{ℕ, zero, suc, ◌≡◌, ◌+◌, ◌*◌, ◌^◌, ◌<◌, ◌≤◌, nat_eq, Bool, true, false, if◌then◌else◌, List, [], ◌∷◌, ◌++◌, map, length, take, get_or, refl, sym, ap, ◌∙◌, subst, arith, length-append}
-use Rattle.std.specs.List.{list_any}
+use Rattle.std.proofs.Common.{ℕ, zero, suc, ◌≡◌, ◌+◌, ◌*◌, ◌^◌, ◌<◌, ◌≤◌, List, [], ◌∷◌, ◌++◌, map, length, take, get_or, refl, sym, ap, ◌∙◌, subst, arith}
 use Rattle.std.proofs.lemmas.List.{length-map}
-use Rattle.rewriting.specs.Terms as math
-use Rattle.rewriting.specs.Terms.{Terms, var, app, nil, cons, size, size_all, Fits}
-use Rattle.rewriting.specs.Variables.{with_new, with_variables, with_variables_of}
+use Rattle.rewriting.specs.Terms.{cons, size, size_all, Fits}
+use Rattle.rewriting.specs.Variables.{with_variables}
 use Rattle.rewriting.specs.Rules.{System, left_sides, right_sides}
 use Rattle.certificates.specs.Sizes.{DoConditionsFit}
 use Rattle.rewriting.specs.Lists.{AreDistinct, IsFront}

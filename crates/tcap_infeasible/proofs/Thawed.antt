@@ -20,17 +20,17 @@ use Rattle.tcap_infeasible.specs.declared.Cap.{Cap}
 use Rattle.tcap_infeasible.specs.declared.Cap.TheVariants.{Capped, TooLarge}
 use Rattle.tcap_infeasible.specs.declared.capping.Leaf.TheVariants.{Hole, Kept}
 use Rattle.tcap_infeasible.specs.Answers.{CapAnswers}
-use Rattle.tcap_infeasible.specs.Frozen.{FrozenAnswers}
+use Rattle.tcap_infeasible.specs.Frozen.{HasSymbolsBelow, FrozenAnswers}
 use Rattle.tcap_infeasible.specs.Keys.{HavePlacesFor}
 use Rattle.tcap_infeasible.specs.Reducts.{KeepsReducts, KeepsOwnReducts}
 use Rattle.tcap_infeasible.specs.Thawing.{LiesOn, LieOn, thawed, all_thawed}
 use Rattle.tcap_infeasible.proofs.Args.{views_with}
 use Rattle.tcap_infeasible.proofs.Sizes.{cap_small}
 use Rattle.renumbering.proofs.Filling.{filling}
-use Rattle.tcap_infeasible.proofs.Keyed.{shifted, keyed_renamed, keyed_size}
+use Rattle.tcap_infeasible.proofs.Keyed.{spaced, keyed_renamed, keyed_size, keyed_symbols}
 use Rattle.tcap_infeasible.proofs.Named.{named, cap_named, large_named}
 use Rattle.tcap_infeasible.proofs.Pairs.{well_formed}
-use Rattle.tcap_infeasible.proofs.Lying.{any_thaws, kept_thaws}
+use Rattle.tcap_infeasible.proofs.Lying.{Thaws, any_thaws, kept_thaws}
 
 -- what is left lies on the arguments that are left, and behind the thawed ones it gives the whole
 pub record AreThawed (fresh : ℕ) (ts us : List Term) (k : ℕ) (out : List Term) : Type 0 where
@@ -99,18 +99,18 @@ args_lie fresh t u f g v w is at h = subst₂ (LiesOn fresh) (ap view is ∙ vie
 start : 2 ^ 31 ≡ 2 ^ 31 + 0
 start = omega arith
 
-pub cap_thaws : (sys : System) (fresh : ℕ) (t u : math.Term) (n m : ℕ) (w : Term) → n ≡ 2 ^ 31 → fresh + size t ≤ 2 ^ 32 → FrozenAnswers sys any t n m (Ok (Capped w)) → u ≡ view w → LiesOn fresh t u
+pub cap_thaws : (sys : System) (fresh : ℕ) (t u : math.Term) (n m : ℕ) (w : Term) → n ≡ 2 ^ 31 → fresh + size t ≤ 2 ^ 32 → FrozenAnswers sys Hole t n m (Ok (Capped w)) → u ≡ view w → LiesOn fresh t u
 cap_thaws sys fresh t u n m w e room (c, is, shown, counted) same =
     let few = (cap_small sys Hole t c 0 is).few in
     let thaws = any_thaws sys fresh (size t) room t c 0 is (omega (arith, few)) in
-    subst (LiesOn fresh t) (sym (same ∙ (shown ∙ ap (λ z. filled (constants sys) z c) (e ∙ start)))) thaws.lies
+    subst (LiesOn fresh t) (sym (same ∙ (shown ∙ ap (λ z. filled var z c) (e ∙ start)))) thaws.lies
 
-pub cap_answers : (sys : System) (fresh : ℕ) (t : math.Term) (n m : ℕ) (w v : Term) → n ≡ 2 ^ 31 → fresh + size t ≤ 2 ^ 32 → FrozenAnswers sys any t n m (Ok (Capped w)) → view v ≡ thawed fresh t (view w) → CapAnswers sys any var t fresh (Ok (Capped v))
+pub cap_answers : (sys : System) (fresh : ℕ) (t : math.Term) (n m : ℕ) (w v : Term) → n ≡ 2 ^ 31 → fresh + size t ≤ 2 ^ 32 → FrozenAnswers sys Hole t n m (Ok (Capped w)) → view v ≡ thawed fresh t (view w) → CapAnswers sys any var t fresh (Ok (Capped v))
 cap_answers sys fresh t n m w v e room (c, is, shown, counted) value =
     let few = (cap_small sys Hole t c 0 is).few in
     let thaws = any_thaws sys fresh (size t) room t c 0 is (omega (arith, few)) in
     let zero_more : fresh + 0 ≡ fresh = omega arith in
-    (c, is, value ∙ (ap (thawed fresh t) (shown ∙ ap (λ z. filled (constants sys) z c) (e ∙ start)) ∙ (thaws.value ∙ ap (λ z. filled var z c) zero_more)))
+    (c, is, value ∙ (ap (thawed fresh t) (shown ∙ ap (λ z. filled var z c) (e ∙ start)) ∙ (thaws.value ∙ ap (λ z. filled var z c) zero_more)))
 
 pub keeps_reducts : (sys : System) (t : math.Term) (fresh : ℕ) (r : Result Cap NoMemory) → CapAnswers sys any var t fresh r → KeepsReducts sys t r
 keeps_reducts sys t fresh (Ok (Capped u)) (c, is, shown) = λ s w reaches. (let m = reducts_match sys t c fresh s w is reaches in (m.0, ap (λ z. apply m.0 z) shown ∙ m.1))
@@ -123,28 +123,37 @@ keeps_own_reducts sys t fresh (Ok TooLarge) sound below h = tt
 keeps_own_reducts sys t fresh (Err e) sound below h = tt
 
 -- the whole rigid cap, thawed
-module _ (sys : System) (fresh : ℕ) (t p : math.Term) (sound : IsSystem sys) (places : HavePlacesFor sys t p) (room : fresh + size t ≤ 2 ^ 32) where
+module _ (sys : System) (base fresh : ℕ) (t p : math.Term) (sound : IsSystem sys) (places : HavePlacesFor sys base t p) (room : fresh + size t ≤ 2 ^ 32) where
   few_places : size p ≡ size t
-  few_places = (keyed_size (length sys.arities) places.row t p places.keyed).0
+  few_places = (keyed_size (length sys.arities) places.foreign places.row t p places.keyed).0
 
-  pub rigid_thaws : (n m : ℕ) (u : math.Term) (w : Term) → n ≡ 2 ^ 31 → FrozenAnswers sys kept p n m (Ok (Capped w)) → u ≡ view w → LiesOn fresh t u
-  rigid_thaws n m u w e (c, is, shown, counted) same =
-      let few = (cap_small sys Kept p c 0 is).few in
+  abbrev name : MathCap → MathCap
+  name c = named (filling places.row) (λ f. spaced (length sys.arities) places.foreign places.row f) c
+
+  -- the frozen cap at the base
+  at_base : (n : ℕ) (c : MathCap) → n ≡ 2 ^ 31 → filled (constants base) n c ≡ filled (constants (length sys.arities + length places.foreign)) (2 ^ 31 + 0) c
+  at_base n c e = ap₂ (λ b z. filled (constants b) z c) places.base_is (e ∙ start)
+
+  cap_lies : (c : MathCap) → IsCapOf sys kept p c → Thaws fresh t (filled (constants (length sys.arities + length places.foreign)) (2 ^ 31 + 0) c) (filled var (fresh + 0) (name c))
+  cap_lies c is =
+      let few = (cap_small sys (Kept base) p c 0 is).few in
       let sized = few_places in
-      let thaws = kept_thaws sys fresh (size t) room places.row t p c 0 places.keyed is (omega (arith, few, sized)) in
-      subst (LiesOn fresh t) (sym (same ∙ (shown ∙ ap (λ z. filled (constants sys) z c) (e ∙ start)))) thaws.lies
+      kept_thaws sys fresh (size t) room places.foreign places.row t p c 0 places.keyed is (omega (arith, few, sized))
 
-  pub rigid_answers : (n m : ℕ) (w v : Term) → n ≡ 2 ^ 31 → FrozenAnswers sys kept p n m (Ok (Capped w)) → view v ≡ thawed fresh t (view w) → CapAnswers sys kept var t fresh (Ok (Capped v))
+  low : HasSymbolsBelow (length sys.arities + length places.foreign) p
+  low = keyed_symbols (length sys.arities) places.foreign places.row t p places.keyed
+
+  pub rigid_thaws : (n m : ℕ) (u : math.Term) (w : Term) → n ≡ 2 ^ 31 → FrozenAnswers sys (Kept base) p n m (Ok (Capped w)) → u ≡ view w → LiesOn fresh t u
+  rigid_thaws n m u w e (c, is, shown, counted) same = subst (LiesOn fresh t) (sym (same ∙ (shown ∙ at_base n c e))) (cap_lies c is).lies
+
+  pub rigid_answers : (n m : ℕ) (w v : Term) → n ≡ 2 ^ 31 → FrozenAnswers sys (Kept base) p n m (Ok (Capped w)) → view v ≡ thawed fresh t (view w) → CapAnswers sys kept var t fresh (Ok (Capped v))
   rigid_answers n m w v e (c, is, shown, counted) value =
-      let few = (cap_small sys Kept p c 0 is).few in
-      let sized = few_places in
-      let thaws = kept_thaws sys fresh (size t) room places.row t p c 0 places.keyed is (omega (arith, few, sized)) in
-      let zero_more : fresh + 0 ≡ fresh = omega arith in
-      let name : MathCap = named (filling places.row) (λ f. shifted (length sys.arities) places.row f) c in (
-        name,
-        subst (λ z. IsCapOf sys kept z name) (sym (keyed_renamed (length sys.arities) places.row t p places.keyed)) (cap_named sys places.row sound places.distinct p c is),
-        value ∙ (ap (thawed fresh t) (shown ∙ ap (λ z. filled (constants sys) z c) (e ∙ start)) ∙ (thaws.value ∙ ap (λ z. filled var z name) zero_more)),
+      let zero_more : fresh + 0 ≡ fresh = omega arith in (
+        name c,
+        subst (λ z. IsCapOf sys kept z (name c)) (sym (keyed_renamed (length sys.arities) places.foreign places.row t p places.keyed)) (cap_named sys places.foreign places.row sound places.foreign_distinct places.distinct p c low is),
+        value ∙ (ap (thawed fresh t) (shown ∙ at_base n c e) ∙ ((cap_lies c is).value ∙ ap (λ z. filled var z (name c)) zero_more)),
       )
 
   pub rigid_large : IsCapLarge sys kept p → IsCapLarge sys kept t
-  rigid_large h = subst (IsCapLarge sys kept) (sym (keyed_renamed (length sys.arities) places.row t p places.keyed)) (large_named sys places.row sound places.distinct p h)
+  rigid_large h =
+      subst (IsCapLarge sys kept) (sym (keyed_renamed (length sys.arities) places.foreign places.row t p places.keyed)) (large_named sys places.foreign places.row sound places.foreign_distinct places.distinct p low h)

@@ -7,8 +7,7 @@ use Rattle.rewriting.specs.Unifiers.{even, odd}
 use Rattle.rewriting.specs.Variables.{occurs}
 use Rattle.rewriting.specs.Signatures.{Signature}
 use Rattle.rewriting.specs.Rules.{Rule, System, rule_at}
-use Rattle.rewriting.specs.Systems.{CountsFrom, terms_of_rule, rule_variables, IsRule, AreRules, IsSystem}
-use Rattle.rewriting.specs.Lists.{IsAmong}
+use Rattle.rewriting.specs.Systems.{terms_of_rule, rule_variables, IsRule, AreRules, IsSystem}
 use Rattle.rewriting.proofs.Variables.{variables_have_all}
 use Rattle.rewriting.proofs.Instances.{or_left, apply-agree}
 use Rattle.rewriting.proofs.Lists.{counted_below}
@@ -17,8 +16,10 @@ use Rattle.unifier_run.specs.Overlaps.{IsOutcomeOf}
 use Rattle.unifier_run.specs.Irreducible.{DoRulesClash}
 use Rattle.unifier_run.proofs.Renamed.{renamed_outcome, stays, names, runs_with_names}
 use Rattle.rule_index.specs.Roots.{has_root, numbers_with_root, rules_with_root}
-use Rattle.caps.specs.Caps.{Cap, Caps, hole, kept, node, no_caps, caps, holes, filled, all_filled, constants, frozen}
+use Rattle.caps.specs.Caps.{Cap, Caps, hole, kept, node, no_caps, caps, holes, filled, all_filled, constants, frozen_from, frozen}
 use Rattle.tcap_infeasible.specs.Frozen.{IsHeld}
+use Rattle.tcap_infeasible.proofs.Numbers.{not_lt}
+use Rattle.tcap_infeasible.proofs.Rebased.{HasLike, alike_renamed, clash_like, lowered}
 
 -- numbers below n become even, those from n on odd
 abbrev pub split : ℕ → ℕ → ℕ
@@ -33,22 +34,6 @@ split_from n k = go (nat_lt (n + k) n) refl
     go : (b : Bool) → nat_lt (n + k) n ≡ b → split n (n + k) ≡ 2 * k + 1
     go true e = absurd (let l = ltb-true (n + k) n e in omega (arith, l))
     go false e = (let d : n + k - n ≡ k = omega arith in rw e (ap (λ z. 2 * z + 1) d))
-
-pub not_lt : (a b : ℕ) → nat_lt a b ≡ false → b ≤ a
-not_lt a b e = go (lem b a)
-  where
-    lem : (x y : ℕ) → (x ≤ y) ⊎ (y < x)
-    lem zero y = inl (omega arith)
-    lem (suc x) zero = inr (omega arith)
-    lem (suc x) (suc y) = up (lem x y)
-      where
-        up : (x ≤ y) ⊎ (y < x) → (suc x ≤ suc y) ⊎ (suc y < suc x)
-        up (inl h) = inl (omega (arith, h))
-        up (inr h) = inr (omega (arith, h))
-
-    go : (b ≤ a) ⊎ (a < b) → b ≤ a
-    go (inl h) = h
-    go (inr h) = absurd (false≢true (sym e ∙ lt-ltb a b h))
 
 pub split_one : (n x y : ℕ) → split n x ≡ split n y → x ≡ y
 split_one n x y e = go (nat_lt x n) refl (nat_lt y n) refl
@@ -75,24 +60,25 @@ left_split : (arities : Signature) (r : Rule) (n : ℕ) → IsRule arities r →
 left_split arities r n h low = apply-agree (names (split n)) even r.left (λ k o. ap var (split_below n k (let s = left_small arities r h k o in omega (arith, s, low))))
 
 mutual
-  pub held_split : (sys : System) (n j : ℕ) (c : Cap) → apply (names (split n)) (filled (constants sys) (n + j) c) ≡ apply odd (filled (constants sys) j c)
-  held_split sys n j hole = ap var (split_from n j)
-  held_split sys n j (kept x) = refl
-  held_split sys n j (node f cs) = ap (app f) (all_held_split sys n j cs)
+  pub held_split : (base n j : ℕ) (c : Cap) → apply (names (split n)) (filled (constants base) (n + j) c) ≡ apply odd (filled (constants base) j c)
+  held_split base n j hole = ap var (split_from n j)
+  held_split base n j (kept x) = refl
+  held_split base n j (node f cs) = ap (app f) (all_held_split base n j cs)
 
-  pub all_held_split : (sys : System) (n j : ℕ) (cs : Caps) → apply_all (names (split n)) (all_filled (constants sys) (n + j) cs) ≡ apply_all odd (all_filled (constants sys) j cs)
-  all_held_split sys n j no_caps = refl
-  all_held_split sys n j (caps c cs) =
+  pub all_held_split : (base n j : ℕ) (cs : Caps) → apply_all (names (split n)) (all_filled (constants base) (n + j) cs) ≡ apply_all odd (all_filled (constants base) j cs)
+  all_held_split base n j no_caps = refl
+  all_held_split base n j (caps c cs) =
       (let e : n + j + holes c ≡ n + (j + holes c) = omega arith in
-      ap₂ cons (held_split sys n j c) (ap (λ z. apply_all (names (split n)) (all_filled (constants sys) z cs)) e ∙ all_held_split sys n (j + holes c) cs))
+      ap₂ cons (held_split base n j c) (ap (λ z. apply_all (names (split n)) (all_filled (constants base) z cs)) e ∙ all_held_split base n (j + holes c) cs))
 
--- the outcome of a run on a held cap is one on the frozen cap
-pub outcome_of : (sys : System) (r : Rule) (f : ℕ) (t : Term) (n : ℕ) (c : Cap) (o : Outcome) → IsRule sys.arities r → IsHeld sys f t n c → IsOutcome (cons r.left nil) (cons t nil) o → IsOutcomeOf r.left (frozen sys c) (renamed_outcome (split n) stays o)
+-- the outcome of a run on a held cap is of the kind of that on the frozen cap
+pub outcome_of : (sys : System) (r : Rule) (f : ℕ) (t : Term) (n : ℕ) (c : Cap) (o : Outcome) → IsRule sys.arities r → IsHeld sys f t n c → IsOutcome (cons r.left nil) (cons t nil) o → HasLike r.left (frozen sys c) o
 outcome_of sys r f t n c o is held run =
     let zero_more : n ≡ n + 0 = omega arith in
-    let shown : apply (names (split n)) t ≡ apply odd (frozen sys c) = ap (apply (names (split n))) (held.shown ∙ ap (λ z. filled (constants sys) z c) zero_more) ∙ held_split sys n 0 c in
-    subst₂ (λ x y. IsOutcome (cons x nil) (cons y nil) (renamed_outcome (split n) stays o)) (left_split sys.arities r n is held.low) shown
-    (runs_with_names (split n) (split_one n) run)
+    let shown : apply (names (split n)) t ≡ apply odd (frozen_from held.base c) = ap (apply (names (split n))) (held.shown ∙ ap (λ z. filled (constants held.base) z c) zero_more) ∙ held_split held.base n 0 c in
+    let on_base : IsOutcomeOf r.left (frozen_from held.base c) (renamed_outcome (split n) stays o) =
+    subst₂ (λ x y. IsOutcome (cons x nil) (cons y nil) (renamed_outcome (split n) stays o)) (left_split sys.arities r n is held.low) shown (runs_with_names (split n) (split_one n) run) in
+    lowered sys r.left is.is_over.over.0 c held.base held.far o (renamed_outcome (split n) stays o, alike_renamed (split n) stays o, on_base)
 
 mutual
   same-nothing : (t : Term) → apply (value []) t ≡ t
@@ -111,7 +97,7 @@ other_run f (app g ts) (app h us) v a b p q =
     (roots_differ (p, q) (inl (λ e. false≢true (sym a ∙ eq-eqb f g (eqb-true f h b ∙ sym e))))))
 
 other_clash : (sys : System) (r : Rule) (f : ℕ) (t : Term) (n : ℕ) (c : Cap) → IsRule sys.arities r → IsHeld sys f t n c → has_root f r.left ≡ false → IsOutcomeOf r.left (frozen sys c) clash
-other_clash sys r f t n c is held root = outcome_of sys r f t n c clash is held (other_run f r.left t is.is_over.left root held.root is.fits.0 held.fits)
+other_clash sys r f t n c is held root = clash_like r.left (frozen sys c) (outcome_of sys r f t n c clash is held (other_run f r.left t is.is_over.left root held.root is.fits.0 held.fits))
 
 -- the first n rules clash
 abbrev pub AreBefore : System → Term → ℕ → Type 0

@@ -7,9 +7,11 @@ use Rattle.rewriting.specs.Rules.{System}
 use Rattle.rewriting.specs.Reduction.{Reaches}
 use Rattle.rewriting.specs.Confluence.{AreApart}
 use Rattle.unifier_run.specs.Run.{Binding, Outcome, unifier, clash, too_large, IsOutcome}
-use Rattle.caps.specs.Caps.{Cap as MathCap, holes, filled, constants, IsCapOf, IsCapLarge}
+use Rattle.caps.specs.Caps.{Cap as MathCap, holes, filled, IsCapOf, IsCapLarge}
 use Rattle.caps.specs.Evidence.{IsPairOutcome, IsPairLarge}
 use Rattle.term_core.specs.declared.terms.NoMemory.{NoMemory}
+use Rattle.tcap_infeasible.specs.declared.capping.Leaf.{Leaf}
+use Rattle.tcap_infeasible.specs.Frozen.{leaf_of, standing}
 use Rattle.tcap_infeasible.specs.declared.comparing.ComparedCaps.{ComparedCaps}
 use Rattle.tcap_infeasible.specs.declared.comparing.ComparedCaps.TheVariants.{Clash, Unify, TooLarge}
 
@@ -35,15 +37,15 @@ GivesApart sys u v (Ok TooLarge) = Unit {0}
 GivesApart sys u v (Err e) = Unit {0}
 
 -- the outcome for caps whose holes are numbered in one row, from 2^31 on
-pub record IsFrozenOutcome (sys : System) (leaf : ℕ → MathCap) (u v : math.Term) (o : Outcome) : Type 0 where
+pub record IsFrozenOutcome (sys : System) (leaf : Leaf) (u v : math.Term) (o : Outcome) : Type 0 where
   pub first : MathCap
   pub second : MathCap
-  pub is_first : IsCapOf sys leaf u first
-  pub is_second : IsCapOf sys leaf v second
-  pub outcome : IsOutcome (cons (filled (constants sys) (2 ^ 31) first) nil) (cons (filled (constants sys) (2 ^ 31 + holes first) second) nil) o
+  pub is_first : IsCapOf sys (leaf_of leaf) u first
+  pub is_second : IsCapOf sys (leaf_of leaf) v second
+  pub outcome : IsOutcome (cons (filled (standing leaf) (2 ^ 31) first) nil) (cons (filled (standing leaf) (2 ^ 31 + holes first) second) nil) o
 
-abbrev pub FrozenPairAnswers : System → (ℕ → MathCap) → math.Term → math.Term → Result ComparedCaps NoMemory → Type 0
+abbrev pub FrozenPairAnswers : System → Leaf → math.Term → math.Term → Result ComparedCaps NoMemory → Type 0
 FrozenPairAnswers sys leaf u v (Ok Clash) = IsFrozenOutcome sys leaf u v clash
 FrozenPairAnswers sys leaf u v (Ok Unify) = (b : List Binding) × IsFrozenOutcome sys leaf u v (unifier b)
-FrozenPairAnswers sys leaf u v (Ok TooLarge) = (IsCapLarge sys leaf u ⊎ IsCapLarge sys leaf v) ⊎ IsFrozenOutcome sys leaf u v too_large
+FrozenPairAnswers sys leaf u v (Ok TooLarge) = (IsCapLarge sys (leaf_of leaf) u ⊎ IsCapLarge sys (leaf_of leaf) v) ⊎ IsFrozenOutcome sys leaf u v too_large
 FrozenPairAnswers sys leaf u v (Err e) = Unit {0}

@@ -1,20 +1,20 @@
 -- Both sides of conditions with their variables in numbers of their own: what comparing them answers.
 use Rattle.std.specs.Prelude.{ℕ, ◌≡◌, ◌≤◌, ◌<◌, ◌^◌, true, List, length, Option, Some, None, Result, Ok, Err}
 use Rattle.std.specs.Global.{Vec}
-use Rattle.rewriting.specs.Terms.{Terms}
+use Rattle.rewriting.specs.Terms.{var, Terms}
 use Rattle.rewriting.specs.Substitutions.{apply_all}
 use Rattle.rewriting.specs.Variables.{occurs_in}
 use Rattle.rewriting.specs.Rules.{Condition, System, left_sides}
 use Rattle.rewriting.specs.Lists.{AreDistinct}
 use Rattle.renumbering.specs.Rows.{naming}
-use Rattle.caps.specs.Caps.{Caps, any, all_filled, constants, AreCapsOf, AreCapsLarge}
+use Rattle.caps.specs.Caps.{Caps, any, all_filled, AreCapsOf, AreCapsLarge}
 use Rattle.term_core.specs.View.{views}
 use Rattle.term_core.specs.declared.terms.Term.{Term}
 use Rattle.term_core.specs.declared.terms.NoMemory.{NoMemory}
 
 -- the caps of the left sides, with holes from 2^31 on; or a run inside passes the size
 abbrev pub LeftsAnswer : System → List Condition → Result (Option (Vec Term)) NoMemory → Type 0
-LeftsAnswer sys cs (Ok (Some us)) = (lefts : Caps) × AreCapsOf sys any (left_sides cs) lefts × (views us.items ≡ all_filled (constants sys) (2 ^ 31) lefts)
+LeftsAnswer sys cs (Ok (Some us)) = (lefts : Caps) × AreCapsOf sys any (left_sides cs) lefts × (views us.items ≡ all_filled var (2 ^ 31) lefts)
 LeftsAnswer sys cs (Ok None) = AreCapsLarge sys any (left_sides cs)
 LeftsAnswer sys cs (Err e) = Unit {0}
 

@@ -1,4 +1,4 @@
--- Terms whose variables are places of a row, and whose symbols past the first n are n and more by a place of it.
+-- Terms whose variables are places of a row, and whose symbols past the first n are n and more by a place of another.
 use Rattle.std.specs.Prelude.{ℕ, ◌≡◌, ◌+◌, ◌-◌, ◌<◌, ◌≤◌, ◌^◌, ◌⊎◌, List, length, Some, slice_get}
 use Rattle.rewriting.specs.Terms.{Term, var, app, Terms, nil, cons}
 use Rattle.rewriting.specs.Rules.{System}
@@ -8,19 +8,23 @@ use Rattle.rewriting.specs.Lists.{AreDistinct}
 abbrev pub IsKey : ℕ → List ℕ → ℕ → ℕ → Type 0
 IsKey n row f g = ((f < n) × (g ≡ f)) ⊎ ((n ≤ f) × ((m : ℕ) × (g ≡ n + m) × (slice_get row m ≡ Some (f - n))))
 
--- u is t with places of the row
+-- u is t with places of a row for its foreign symbols, and of one for its variables
 abbrev mutual
-  pub IsKeyed : ℕ → List ℕ → Term → Term → Type 0
-  IsKeyed n row (var x) u = (m : ℕ) × (u ≡ var m) × (slice_get row m ≡ Some x)
-  IsKeyed n row (app f ts) u = (g : ℕ) × (us : Terms) × (u ≡ app g us) × IsKey n row f g × AreKeyed n row ts us
+  pub IsKeyed : ℕ → List ℕ → List ℕ → Term → Term → Type 0
+  IsKeyed n foreign row (var x) u = (m : ℕ) × (u ≡ var m) × (slice_get row m ≡ Some x)
+  IsKeyed n foreign row (app f ts) u = (g : ℕ) × (us : Terms) × (u ≡ app g us) × IsKey n foreign f g × AreKeyed n foreign row ts us
 
-  pub AreKeyed : ℕ → List ℕ → Terms → Terms → Type 0
-  AreKeyed n row nil us = us ≡ nil
-  AreKeyed n row (cons t ts) us = (v : Term) × (vs : Terms) × (us ≡ cons v vs) × IsKeyed n row t v × AreKeyed n row ts vs
+  pub AreKeyed : ℕ → List ℕ → List ℕ → Terms → Terms → Type 0
+  AreKeyed n foreign row nil us = us ≡ nil
+  AreKeyed n foreign row (cons t ts) us = (v : Term) × (vs : Terms) × (us ≡ cons v vs) × IsKeyed n foreign row t v × AreKeyed n foreign row ts vs
 
--- u is t with places of a short row, for the symbols of a system
-pub record HavePlacesFor (sys : System) (t u : Term) : Type 0 where
+-- u is t with places of short rows, for the symbols of a system; from the base on there are none
+pub record HavePlacesFor (sys : System) (base : ℕ) (t u : Term) : Type 0 where
+  pub foreign : List ℕ
   pub row : List ℕ
+  pub foreign_distinct : AreDistinct foreign
   pub distinct : AreDistinct row
-  pub short : length row ≤ 2 ^ 31
-  pub keyed : IsKeyed (length sys.arities) row t u
+  pub few_foreign : length foreign ≤ 2 ^ 30
+  pub few : length row ≤ 2 ^ 30
+  pub base_is : base ≡ length sys.arities + length foreign
+  pub keyed : IsKeyed (length sys.arities) foreign row t u

@@ -1,10 +1,11 @@
 // Caps with holes that are no variables of rules, so that left sides need no renaming.
 ghost use Rattle.std.specs.Prelude.{◌≡◌, ◌≤◌, ◌<◌, ◌+◌, ◌^◌, ℕ};
 ghost use Rattle.rewriting.specs.Terms as math;
-ghost use Rattle.caps.specs.Caps.{Cap as MathCap, holes, filled, constants, frozen};
+ghost use Rattle.rewriting.specs.Substitutions.{Substitution};
+ghost use Rattle.caps.specs.Caps.{Cap as MathCap, holes, filled, frozen};
 ghost use Rattle.rule_index.specs.Index.{IsIndexOf};
 ghost use Rattle.term_core.specs.View.{view, views};
-ghost use Rattle.tcap_infeasible.specs.Frozen.{leaf_of, HasConstants, IsHeld, RootAnswers, TopAnswers, FrozenAnswers};
+ghost use Rattle.tcap_infeasible.specs.Frozen.{leaf_of, standing, HasConstant, HasConstants, IsHeld, RootAnswers, TopAnswers, FrozenAnswers};
 
 use crate::Cap;
 use rule_index::RuleIndex;
@@ -15,11 +16,12 @@ use unification::{Unified, unify_terms};
 /// The number of the first hole: the variables of rules are below.
 pub const FIRST_HOLE: u32 = 1 << 31;
 
-/// What becomes of a variable: a hole, or it stays.
+/// What becomes of a variable.
 #[derive(Clone, Copy)]
 pub enum Leaf {
     Hole,
-    Kept,
+    /// It stays, as one of the constants from this symbol on.
+    Kept(u32),
 }
 
 // What becomes of a symbol over capped arguments: it stays, or it is a hole, or a run passes the size.
@@ -64,7 +66,7 @@ fn topped(
 ) -> Result<Cap, NoMemory>
     requires index { IsIndexOf sys.now index.now }
     requires room { first + 1 < 2 ^ 32 }
-    ensures { (c : MathCap) → IsHeld sys.now f (math.app f (views args.items)) first c → next.old ≡ first + holes c → TopAnswers sys.now c first next.new result }
+    ensures { (s : Substitution) (c : MathCap) → IsHeld sys.now f (math.app f (views args.items)) first c → math.app f (views args.items) ≡ filled s first c → next.old ≡ first + holes c → TopAnswers sys.now s c first next.new result }
 {
     let whole = Term::Fun(f, args);
     match judge_root(alloc, sys, index, f, &whole)? {
@@ -78,10 +80,10 @@ fn topped(
 }
 
 // The cap of a variable.
-fn frozen_leaf(alloc: Global, sys: &System, x: u32, leaf: Leaf, next: &mut u32) -> Term
-    requires constants { HasConstants sys.now leaf (math.var x) }
+fn frozen_leaf(alloc: Global, x: u32, leaf: Leaf, next: &mut u32) -> Term
+    requires constant { HasConstant leaf x }
     requires room { next.old + 1 < 2 ^ 32 }
-    ensures cap { view result ≡ filled (constants sys.now) next.old (leaf_of leaf x) }
+    ensures cap { view result ≡ filled (standing leaf) next.old (leaf_of leaf x) }
     ensures counted { next.new ≡ next.old + holes (leaf_of leaf x) }
 {
     match leaf {
@@ -90,12 +92,12 @@ fn frozen_leaf(alloc: Global, sys: &System, x: u32, leaf: Leaf, next: &mut u32) 
             *next = hole + 1;
             Term::Var(hole)
         }
-        Leaf::Kept => Term::Fun(sys.arities().len() as u32 + x, Vec::new(alloc)),
+        Leaf::Kept(base) => Term::Fun(base + x, Vec::new(alloc)),
     }
 }
 
-/// The cap of a term, in which holes are variables from `next` on, and variables that stay are constants past the
-/// system's symbols; `next` is then the number after its last hole.
+/// The cap of a term, in which holes are variables from `next` on, and variables that stay are constants; `next` is then
+/// the number after its last hole.
 pub fn frozen_cap(
     alloc: Global,
     sys: &System,
@@ -109,10 +111,10 @@ pub fn frozen_cap(
     requires low { 2 ^ 31 ≤ next.old }
     requires room { next.old + math.size (view t.now) < 2 ^ 32 }
     requires constants { HasConstants sys.now leaf (view t.now) }
-    ensures { FrozenAnswers sys.now (leaf_of leaf) (view t.now) next.old next.new result }
+    ensures { FrozenAnswers sys.now leaf (view t.now) next.old next.new result }
 {
     match t {
-        Term::Var(x) => Ok(Cap::Capped(frozen_leaf(alloc, sys, *x, leaf, next))),
+        Term::Var(x) => Ok(Cap::Capped(frozen_leaf(alloc, *x, leaf, next))),
         Term::Fun(f, args) => {
             let first = *next;
             let mut capped = Vec::with_capacity(alloc, args.len())?;

@@ -5,7 +5,7 @@ ghost use Rattle.rewriting.specs.Systems.{IsSystem};
 ghost use Rattle.rule_index.specs.Index.{IsIndexOf};
 ghost use Rattle.caps.specs.Caps.{any, kept};
 ghost use Rattle.term_core.specs.View.{view};
-ghost use Rattle.tcap_infeasible.specs.Frozen.{leaf_of, HasConstants};
+ghost use Rattle.tcap_infeasible.specs.Frozen.{HasConstants};
 ghost use Rattle.tcap_infeasible.specs.Compared.{PairAnswers, KeepsInstancesApart, GivesApart, FrozenPairAnswers};
 
 use crate::Cap;
@@ -27,7 +27,7 @@ pub enum ComparedCaps {
     TooLarge,
 }
 
-// The same for terms whose variables that stay have constants in 32 bits.
+// The same for terms whose variables that stay have constants.
 fn compare_frozen(
     alloc: Global,
     sys: &System,
@@ -41,7 +41,7 @@ fn compare_frozen(
     requires second { math.Fits (view v.now) }
     requires first_constants { HasConstants sys.now leaf (view u.now) }
     requires second_constants { HasConstants sys.now leaf (view v.now) }
-    ensures { FrozenPairAnswers sys.now (leaf_of leaf) (view u.now) (view v.now) result }
+    ensures { FrozenPairAnswers sys.now leaf (view u.now) (view v.now) result }
 {
     let mut next = FIRST_HOLE;
     let Cap::Capped(first) = frozen_cap(alloc, sys, index, u, leaf, &mut next)? else {
@@ -97,9 +97,11 @@ pub fn compare_rigid_caps(
     ensures apart { GivesApart sys.now (view u.now) (view v.now) result }
 {
     let symbols = symbol_count(sys);
-    let mut numbering = Numbering::new(alloc);
-    let first = keyed(alloc, symbols, &mut numbering, u)?;
-    let second = keyed(alloc, symbols, &mut numbering, v)?;
+    let mut foreign = Numbering::new(alloc);
+    let mut variables = Numbering::new(alloc);
+    let first = keyed(alloc, symbols, &mut foreign, &mut variables, u)?;
+    let second = keyed(alloc, symbols, &mut foreign, &mut variables, v)?;
+    let base = symbols + foreign.len() as u32;
     let index = RuleIndex::new(alloc, sys)?;
-    compare_frozen(alloc, sys, &index, &first, &second, Leaf::Kept)
+    compare_frozen(alloc, sys, &index, &first, &second, Leaf::Kept(base))
 }

@@ -1,4 +1,5 @@
-// Terms with small numbers for their variables, which so have constants in 32 bits.
+// Terms with small numbers for their variables and for the symbols that a system lacks, so that constants in 32 bits are none
+// of these symbols.
 ghost use Rattle.std.specs.Prelude.{◌≡◌, ◌≤◌, ◌<◌, ◌+◌, ◌^◌, IfOk, OnOk, length};
 ghost use Rattle.rewriting.specs.Terms as math;
 ghost use Rattle.rewriting.specs.Lists.{IsFront, AreDistinct};
@@ -9,43 +10,46 @@ use renumbering::Numbering;
 use std::alloc::Global;
 use term_core::{NoMemory, Term};
 
-// The symbol itself among the first ones, else what it is past them by its number in the row.
-fn keyed_symbol(symbols: u32, numbering: &mut Numbering, f: u32) -> Result<u32, NoMemory>
+// The symbol itself among the first ones, else past them by its number in the row of the others.
+fn keyed_symbol(symbols: u32, foreign: &mut Numbering, f: u32) -> Result<u32, NoMemory>
     requires symbols { symbols < 2 ^ 31 }
-    requires room { length numbering.old < 2 ^ 31 }
-    ensures front { OnOk result (IsFront numbering.old numbering.new) }
-    ensures distinct { OnOk result (AreDistinct numbering.old → AreDistinct numbering.new) }
-    ensures grown { OnOk result (length numbering.new ≤ length numbering.old + 1) }
-    ensures key { IfOk result (IsKey symbols numbering.new f) }
+    requires room { length foreign.old < 2 ^ 31 }
+    ensures front { OnOk result (IsFront foreign.old foreign.new) }
+    ensures distinct { OnOk result (AreDistinct foreign.old → AreDistinct foreign.new) }
+    ensures grown { OnOk result (length foreign.new ≤ length foreign.old + 1) }
+    ensures key { IfOk result (IsKey symbols foreign.new f) }
 {
     if f < symbols {
         return Ok(f);
     }
-    Ok(symbols + numbering.number(f - symbols)?)
+    Ok(symbols + foreign.number(f - symbols)?)
 }
 
-/// The term with small numbers for its variables. What a symbol is past the first ones is numbered in the same row, so
-/// the constant for a variable equals such a symbol exactly where it did before.
+/// The term with small numbers for its variables, and for its foreign symbols those from `symbols` on.
 pub fn keyed(
     alloc: Global,
     symbols: u32,
-    numbering: &mut Numbering,
+    foreign: &mut Numbering,
+    variables: &mut Numbering,
     t: &Term,
 ) -> Result<Term, NoMemory>
     requires symbols { symbols < 2 ^ 31 }
-    requires room { length numbering.old + math.size (view t.now) ≤ 2 ^ 31 }
-    ensures front { OnOk result (IsFront numbering.old numbering.new) }
-    ensures distinct { OnOk result (AreDistinct numbering.old → AreDistinct numbering.new) }
-    ensures grown { OnOk result (length numbering.new ≤ length numbering.old + math.size (view t.now)) }
-    ensures keys { IfOk result (λ u. IsKeyed symbols numbering.new (view t.now) (view u)) }
+    requires room { length foreign.old + math.size (view t.now) ≤ 2 ^ 31 }
+    ensures foreign_front { OnOk result (IsFront foreign.old foreign.new) }
+    ensures front { OnOk result (IsFront variables.old variables.new) }
+    ensures foreign_distinct { OnOk result (AreDistinct foreign.old → AreDistinct foreign.new) }
+    ensures distinct { OnOk result (AreDistinct variables.old → AreDistinct variables.new) }
+    ensures foreign_grown { OnOk result (length foreign.new ≤ length foreign.old + math.size (view t.now)) }
+    ensures grown { OnOk result (length variables.new ≤ length variables.old + math.size (view t.now)) }
+    ensures keys { IfOk result (λ u. IsKeyed symbols foreign.new variables.new (view t.now) (view u)) }
 {
     match t {
-        Term::Var(x) => Ok(Term::Var(numbering.number(*x)?)),
+        Term::Var(x) => Ok(Term::Var(variables.number(*x)?)),
         Term::Fun(f, args) => {
-            let symbol = keyed_symbol(symbols, numbering, *f)?;
+            let symbol = keyed_symbol(symbols, foreign, *f)?;
             let mut places = Vec::with_capacity(alloc, args.len())?;
             for arg in args {
-                places.push(keyed(alloc, symbols, numbering, arg)?)?;
+                places.push(keyed(alloc, symbols, foreign, variables, arg)?)?;
             }
             Ok(Term::Fun(symbol, places))
         }

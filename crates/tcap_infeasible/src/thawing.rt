@@ -55,23 +55,24 @@ pub fn tcap(alloc: Global, sys: &System, t: &Term, fresh: u32) -> Result<Cap, No
     }
 }
 
-// The rigid cap of the term with places of a row, which has constants in 32 bits.
+// The rigid cap of the term with places of rows, which has constants from the base on.
 fn thawed_rigid(
     alloc: Global,
     sys: &System,
     t: &Term,
     places: &Term,
+    base: u32,
     fresh: u32,
 ) -> Result<Cap, NoMemory>
     requires fit { math.Fits (view t.now) }
     requires room { fresh + math.size (view t.now) ≤ 2 ^ 32 }
     requires sound { IsSystem sys.now }
-    requires places { HavePlacesFor sys.now (view t.now) (view places.now) }
+    requires places { HavePlacesFor sys.now base (view t.now) (view places.now) }
     ensures { CapAnswers sys.now kept var (view t.now) fresh result }
 {
     let index = RuleIndex::new(alloc, sys)?;
     let mut next = FIRST_HOLE;
-    match frozen_cap(alloc, sys, &index, places, Leaf::Kept, &mut next)? {
+    match frozen_cap(alloc, sys, &index, places, Leaf::Kept(base), &mut next)? {
         Cap::Capped(u) => Ok(Cap::Capped(thawed(alloc, t, &u, fresh)?)),
         Cap::TooLarge => Ok(Cap::TooLarge),
     }
@@ -85,7 +86,10 @@ pub fn rigid_cap(alloc: Global, sys: &System, t: &Term, fresh: u32) -> Result<Ca
     ensures answer { CapAnswers sys.now kept var (view t.now) fresh result }
     ensures reducts { KeepsOwnReducts sys.now (view t.now) fresh result }
 {
-    let mut numbering = Numbering::new(alloc);
-    let places = keyed(alloc, symbol_count(sys), &mut numbering, t)?;
-    thawed_rigid(alloc, sys, t, &places, fresh)
+    let symbols = symbol_count(sys);
+    let mut foreign = Numbering::new(alloc);
+    let mut variables = Numbering::new(alloc);
+    let places = keyed(alloc, symbols, &mut foreign, &mut variables, t)?;
+    let base = symbols + foreign.len() as u32;
+    thawed_rigid(alloc, sys, t, &places, base, fresh)
 }

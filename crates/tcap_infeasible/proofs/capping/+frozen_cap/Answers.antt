@@ -2,9 +2,12 @@ use Rattle.std.proofs.Common.{◌<◌, ◌+◌, sym, subst, Ok}
 use Rattle.rewriting.specs.Terms.{size}
 use Rattle.term_core.specs.View.{view}
 use Rattle.unification.proofs.Terms.{size_inside}
-use Rattle.tcap_infeasible.specs.Frozen.{leaf_of, FrozenAnswers}
-use Rattle.tcap_infeasible.proofs.Args.{AreCapped, capped_next, start_low, arg_room, arg_fits, arg_constants, arg_large, whole_cap}
+use Rattle.tcap_infeasible.specs.Frozen.{FrozenAnswers}
+use Rattle.tcap_infeasible.proofs.Args.{AreCapped, capped_next, start_low, arg_room, arg_fits, arg_constants, arg_large, leaf_constant, whole_cap}
 use Rattle.tcap_infeasible.proofs.capping.+frozen_cap.Goals as goal
+
+pub frozen_leaf-requires-clause-constant : goal.frozen_leaf-requires-clause-constant
+frozen_leaf-requires-clause-constant t c = leaf_constant c.args.sys.now c.args.leaf c.args.t.now c.in-Var.x c.in-Var.is c.requires.constants
 
 pub frozen_cap-requires : goal.frozen_cap-requires
 frozen_cap-requires t c =
@@ -31,15 +34,15 @@ frozen_cap-requires t c =
 pub returns-in-TooLarge : goal.returns-in-TooLarge
 returns-in-TooLarge t c =
     arg_large c.args.t.now c.in-Fun.f c.in-Fun.args c.deref-arg-items.result.now c.loop-arg.arg-index c.arg-item.result c.in-Fun.is c.deref-arg-items.ensures.value c.loop-arg-test.true c.arg-item.is c.args.sys.now c.args.leaf
-    (subst (λ z. FrozenAnswers c.args.sys.now (leaf_of c.args.leaf) (view c.arg-item.result) c.loop-arg.next c.frozen_cap.new.next (Ok z)) c.in-TooLarge.is c.in_ok-u-in-Fun.ensures)
+    (subst (λ z. FrozenAnswers c.args.sys.now c.args.leaf (view c.arg-item.result) c.loop-arg.next c.frozen_cap.new.next (Ok z)) c.in-TooLarge.is c.in_ok-u-in-Fun.ensures)
 
 pub loop-arg-preserved : goal.loop-arg-preserved
 loop-arg-preserved t c =
     subst (λ z. AreCapped c.args.sys.now c.args.leaf c.deref-arg-items.result.now (c.loop-arg.arg-index + 1) z c.args.next.now c.frozen_cap.new.next) (sym c.in_ok-push-in-Capped.ensures.items)
     (capped_next c.args.sys.now c.args.leaf c.deref-arg-items.result.now c.loop-arg.arg-index c.loop-arg.capped.items c.args.next.now c.loop-arg.next c.frozen_cap.new.next c.arg-item.result c.in-Capped.u c.loop-arg-test.true c.arg-item.is c.loop-arg.invariant
-    (subst (λ z. FrozenAnswers c.args.sys.now (leaf_of c.args.leaf) (view c.arg-item.result) c.loop-arg.next c.frozen_cap.new.next (Ok z)) c.in-Capped.is c.in_ok-u-in-Fun.ensures))
+    (subst (λ z. FrozenAnswers c.args.sys.now c.args.leaf (view c.arg-item.result) c.loop-arg.next c.frozen_cap.new.next (Ok z)) c.in-Capped.is c.in_ok-u-in-Fun.ensures))
 
 pub returns-after-loop-arg : goal.returns-after-loop-arg
 returns-after-loop-arg t c =
     whole_cap c.args.sys.now c.args.leaf c.args.t.now c.in-Fun.f c.in-Fun.args c.deref-arg-items.result.now c.loop-arg.arg-index c.loop-arg.capped.items c.args.next.now c.loop-arg.next c.topped.new.next c.topped.result c.in-Fun.is c.deref-arg-items.ensures.value c.loop-arg-test.false
-    c.loop-arg.invariant c.requires.fit c.requires.low c.topped.ensures
+    c.loop-arg.invariant c.requires.fit c.requires.low c.requires.constants c.topped.ensures

@@ -1,5 +1,4 @@
 use Rattle.std.proofs.Common.{◌+◌, ◌^◌, sym, subst, Ok}
-use Rattle.caps.specs.Caps.{any}
 use Rattle.term_core.specs.View.{view}
 use Rattle.tcap_infeasible.specs.declared.capping.Leaf.TheVariants.{Hole}
 use Rattle.tcap_infeasible.specs.Frozen.{FrozenAnswers}
@@ -17,14 +16,14 @@ frozen_cap-requires-clause-room c =
 pub returns-in-TooLarge : goal.returns-in-TooLarge
 returns-in-TooLarge c =
     left_large c.args.sys.now c.args.conds.now c.loop-cond.cond-index c.cond-item.result c.loop-cond-test.true c.cond-item.is
-    (subst (λ z. FrozenAnswers c.args.sys.now any (view c.cond-item.result.left) c.loop-cond.next c.frozen_cap.new.next (Ok z)) c.in-TooLarge.is c.in_ok-u.ensures)
+    (subst (λ z. FrozenAnswers c.args.sys.now Hole (view c.cond-item.result.left) c.loop-cond.next c.frozen_cap.new.next (Ok z)) c.in-TooLarge.is c.in_ok-u.ensures)
 
 pub loop-cond-preserved : goal.loop-cond-preserved
 loop-cond-preserved c =
     subst (λ z. AreCapped c.args.sys.now Hole (lefts c.args.conds.now) (c.loop-cond.cond-index + 1) z (2 ^ 31) c.frozen_cap.new.next) (sym c.in_ok-push-in-Capped.ensures.items)
     (capped_next c.args.sys.now Hole (lefts c.args.conds.now) c.loop-cond.cond-index c.loop-cond.lefts.items (2 ^ 31) c.loop-cond.next c.frozen_cap.new.next c.cond-item.result.left c.in-Capped.u (place c.args.conds.now c.loop-cond.cond-index c.loop-cond-test.true)
     (left_at c.args.conds.now c.loop-cond.cond-index c.cond-item.result c.loop-cond-test.true c.cond-item.is) c.loop-cond.invariant
-    (subst (λ z. FrozenAnswers c.args.sys.now any (view c.cond-item.result.left) c.loop-cond.next c.frozen_cap.new.next (Ok z)) c.in-Capped.is c.in_ok-u.ensures))
+    (subst (λ z. FrozenAnswers c.args.sys.now Hole (view c.cond-item.result.left) c.loop-cond.next c.frozen_cap.new.next (Ok z)) c.in-Capped.is c.in_ok-u.ensures))
 
 pub returns : goal.returns
 returns c =

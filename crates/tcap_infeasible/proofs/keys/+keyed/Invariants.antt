@@ -7,4 +7,4 @@ abbrev pub decreases-keyed : goal.decreases-keyed
 decreases-keyed l = size (view l.t.now)
 
 abbrev pub invariant-loop-arg : goal.invariant-loop-arg
-invariant-loop-arg l = HavePlaces l.symbols l.initial.numbering l.numbering l.arg-items l.arg-index l.places.items
+invariant-loop-arg l = HavePlaces l.symbols l.initial.foreign l.foreign l.initial.variables l.variables l.arg-items l.arg-index l.places.items
