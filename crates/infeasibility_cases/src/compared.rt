@@ -78,6 +78,33 @@ fn two_terms_are_compared(rt: HostRuntime) -> Result<(), Fail> {
     Ok(())
 }
 
+// A symbol that the system lacks is never the constant for a variable, whatever its number.
+#[test]
+fn variables_are_no_foreign_symbols(rt: HostRuntime) -> Result<(), Fail> {
+    let alloc = rt.alloc();
+    let system = growing(alloc)?;
+    for (x, f) in [(0, 4), (7, 11), (0, 5), (4294967291, 4294967295)] {
+        let variable = unary(alloc, 2, Term::Var(x))?;
+        let foreign = unary(alloc, 2, constant(alloc, f))?;
+        assert_eq!(rt;
+            compared(alloc, &system, &variable, &foreign)?,
+            ComparedCaps::Clash
+        );
+        assert_eq!(rt;
+            compared(alloc, &system, &foreign, &foreign)?,
+            ComparedCaps::Unify
+        );
+    }
+    // nor are two of them one
+    let one = unary(alloc, 2, constant(alloc, 4))?;
+    let other = unary(alloc, 2, constant(alloc, 5))?;
+    assert_eq!(rt;
+        compared(alloc, &system, &one, &other)?,
+        ComparedCaps::Clash
+    );
+    Ok(())
+}
+
 #[test]
 fn conditions_are_judged_and_runs_may_pass_the_size(rt: HostRuntime) -> Result<(), Fail> {
     let alloc = rt.alloc();

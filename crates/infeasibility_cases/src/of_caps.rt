@@ -3,7 +3,7 @@ ghost use Rattle.std.specs.Prelude.{◌≡◌, ◌<◌, ℕ, true, IsTrue};
 ghost use Rattle.rewriting.specs.Variables.{occurs};
 ghost use Rattle.term_core.specs.View.{view};
 
-use crate::systems::{binary, chosen, comparing, constant, unary};
+use crate::systems::{binary, chosen, comparing, constant, hundred, squaring, unary};
 use std::alloc::Global;
 use std::test::Fail;
 use tcap_infeasible::{Cap, rigid_cap, tcap};
@@ -70,5 +70,17 @@ fn variables_and_what_rules_may_contract_are_holes(rt: HostRuntime) -> Result<()
     assert!(rt; equal(&open(alloc, &system, &variables, 4)?, &Term::Var(4)));
     let stuck = binary(alloc, 0, constant(alloc, 3), Term::Var(0))?;
     assert!(rt; equal(&open(alloc, &system, &stuck, 0)?, &stuck));
+    Ok(())
+}
+
+// f(x, g(d, .., d)) is no instance of f(x, g(x, .., x)) where d is a symbol that the system lacks, whatever its number.
+#[test]
+fn variables_that_stay_are_no_foreign_symbols(rt: HostRuntime) -> Result<(), Fail> {
+    let alloc = rt.alloc();
+    let system = squaring(alloc)?;
+    let stays = binary(alloc, 0, Term::Var(0), hundred(alloc, 1, Some(3))?)?;
+    assert!(rt; equal(&rigid(alloc, &system, &stays, 1)?, &stays));
+    let instance = binary(alloc, 0, constant(alloc, 3), hundred(alloc, 1, Some(3))?)?;
+    assert!(rt; equal(&rigid(alloc, &system, &instance, 1)?, &Term::Var(1)));
     Ok(())
 }

@@ -13,7 +13,7 @@ use Rattle.unifier_run.proofs.Renamed.{renamed, all_renamed}
 use Rattle.caps.specs.Caps.{Cap, Caps, hole, kept, node, no_caps, caps, holes, holes_in, filled, all_filled, past_symbols, past_symbols_of, past, constants, frozen_from, frozen, IsTop, IsCapOf, AreCapsOf, IsCapLarge, AreCapsLarge}
 use Rattle.tcap_infeasible.specs.declared.capping.Leaf.TheVariants.{Kept}
 use Rattle.tcap_infeasible.specs.Frozen.{HasSymbolsBelow, HaveSymbolsBelow}
-use Rattle.tcap_infeasible.proofs.Rebased.{HasLike, HasFirstLike, alike_same, clash_like, first_unifier, first_large, forth_like, same_number, symbols_stay, names_after, lowered, lifted}
+use Rattle.tcap_infeasible.proofs.Rebased.{HasLike, HasFirstLike, alike_same, clash_like, first_unifier, first_large, forth_like, symbols_stay, names_after, lowered, lifted}
 use Rattle.tcap_infeasible.proofs.Bases.{caps_past}
 use Rattle.tcap_infeasible.proofs.Tried.{rule_of}
 use Rattle.renumbering.proofs.Filling.{filling}
@@ -92,7 +92,7 @@ module _ (sys : System) (foreign row : List ℕ) (sound : IsSystem sys) (foreign
   outcome_named r (suc i) c o low at run =
       let over = (rule_of sys.arities sys.rules i r sound.rules at).is_over.over.0 in
       lowered sys r.left over (name c) far_base (name_past c low) o
-      (forth_like (λ x. x) symbols same_number symbols_one (apply even r.left) (apply odd (frozen_from place_base c)) (apply even r.left) (apply odd (frozen_from far_base (name c)))
+      (forth_like (λ x. x) symbols (λ x y e. e) symbols_one (apply even r.left) (apply odd (frozen_from place_base c)) (apply even r.left) (apply odd (frozen_from far_base (name c)))
       (symbols_stay symbols sys.arities (spaced_below (length sys.arities) foreign row) r.left over) (names_after symbols (λ k. 2 * k + 1) (frozen_from place_base c) ∙ ap (apply odd) (held_named 0 c)) o
       (lifted sys r.left over c place_base (omega (arith, low)) o (o, alike_same o, run)))
 

@@ -20,7 +20,7 @@ use Rattle.tcap_infeasible.specs.declared.capping.Leaf.TheVariants.{Hole, Kept}
 use Rattle.tcap_infeasible.specs.Frozen.{HasConstants}
 use Rattle.tcap_infeasible.specs.Compared.{PairAnswers, KeepsInstancesApart, GivesApart, IsFrozenOutcome, FrozenPairAnswers}
 use Rattle.tcap_infeasible.proofs.Numbers.{not_lt}
-use Rattle.tcap_infeasible.proofs.Rebased.{AreAlike, alike_renamed, EndLike, forth, back_like, same_number, raised, raised_one, raised_frozen}
+use Rattle.tcap_infeasible.proofs.Rebased.{AreAlike, alike_renamed, EndLike, forth, back_like, raised, raised_one, raised_frozen}
 use Rattle.tcap_infeasible.proofs.Bases.{symbols_below, cap_past, holes_alone}
 use Rattle.tcap_infeasible.proofs.Tried.{rule_of}
 use Rattle.renumbering.proofs.Filling.{filling}
@@ -106,7 +106,7 @@ frozen_pair : (sys : System) (c d : Cap) (base : ℕ) (o : Outcome) → past_bot
     → EndLike (apply even (frozen_from (past_both sys c d) c)) (apply odd (frozen_from (past_both sys c d) d)) o
 frozen_pair sys c d base o far h =
     let least = past_both sys c d in
-    back_like (λ x. x) (raised least (base - least)) same_number (raised_one least (base - least)) (apply even (frozen_from least c)) (apply odd (frozen_from least d)) (apply even (frozen_from base c)) (apply odd (frozen_from base d))
+    back_like (λ x. x) (raised least (base - least)) (λ x y e. e) (raised_one least (base - least)) (apply even (frozen_from least c)) (apply odd (frozen_from least d)) (apply even (frozen_from base c)) (apply odd (frozen_from base d))
     (raised_frozen (λ k. 2 * k) least base c (omega arith) far) (raised_frozen (λ k. 2 * k + 1) least base d (omega arith) far) o h
 
 -- an outcome of the kind for two terms

@@ -78,9 +78,6 @@ module _ (rho sigma : ℕ → ℕ) (one : (x y : ℕ) → rho x ≡ rho y → x 
       let kind : AreAlike there.0 p = subst (AreAlike there.0) same (alike_renamed rho sigma there.0) in
       (there.0, alike_through o p there.0 alike (alike_swapped there.0 p kind), there.1)
 
-pub same_number : (x y : ℕ) → x ≡ y → x ≡ y
-same_number x y e = e
-
 -- symbols of a signature that stay, and new names for variables
 module _ (sigma : ℕ → ℕ) where
   mutual
@@ -149,7 +146,7 @@ module _ (sys : System) (l : Term) (over : IsOver sys.arities l) (c : Cap) (base
   cap_raised = raised_frozen (λ k. 2 * k + 1) (past sys c) base c (omega arith) far
 
   pub lowered : (o : Outcome) → HasLike l (frozen_from base c) o → HasLike l (frozen sys c) o
-  lowered o h = back_like (λ x. x) (raised (past sys c) (base - past sys c)) same_number (raised_one (past sys c) (base - past sys c)) (apply even l) (apply odd (frozen sys c)) (apply even l) (apply odd (frozen_from base c)) left_stays cap_raised o h
+  lowered o h = back_like (λ x. x) (raised (past sys c) (base - past sys c)) (λ x y e. e) (raised_one (past sys c) (base - past sys c)) (apply even l) (apply odd (frozen sys c)) (apply even l) (apply odd (frozen_from base c)) left_stays cap_raised o h
 
   pub lifted : (o : Outcome) → HasLike l (frozen sys c) o → HasLike l (frozen_from base c) o
-  lifted o h = forth_like (λ x. x) (raised (past sys c) (base - past sys c)) same_number (raised_one (past sys c) (base - past sys c)) (apply even l) (apply odd (frozen sys c)) (apply even l) (apply odd (frozen_from base c)) left_stays cap_raised o h
+  lifted o h = forth_like (λ x. x) (raised (past sys c) (base - past sys c)) (λ x y e. e) (raised_one (past sys c) (base - past sys c)) (apply even l) (apply odd (frozen sys c)) (apply even l) (apply odd (frozen_from base c)) left_stays cap_raised o h

@@ -18,7 +18,7 @@ abbrev mutual
   AreKeyed n foreign row nil us = us ≡ nil
   AreKeyed n foreign row (cons t ts) us = (v : Term) × (vs : Terms) × (us ≡ cons v vs) × IsKeyed n foreign row t v × AreKeyed n foreign row ts vs
 
--- u is t with places of short rows, for the symbols of a system; from the base on there are none
+-- u is t with places of short rows, for the symbols of a system; constants from the base on are none of its symbols
 pub record HavePlacesFor (sys : System) (base : ℕ) (t u : Term) : Type 0 where
   pub foreign : List ℕ
   pub row : List ℕ
