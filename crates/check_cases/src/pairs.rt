@@ -10,6 +10,7 @@ use cert_model::{
     StepReason,
 };
 use critical_pairs::overlaps;
+use infeasible::JudgeByKind;
 use pair_check::{CertKind, CheckError, Refusal, check_pairs, judge_evidence};
 use std::alloc::Global;
 use std::test::Fail;
@@ -209,7 +210,7 @@ fn judged(alloc: Global, sys: &System, kind: CertKind, evidence: &PairEvidence) 
         return ("no list", "");
     };
     match found.as_slice() {
-        [overlap, ..] => told(&judge_evidence(alloc, sys, kind, overlap, evidence)),
+        [overlap, ..] => told(&judge_evidence::<JudgeByKind>(alloc, sys, kind, overlap, evidence)),
         [] => ("no overlap", ""),
     }
 }
@@ -411,7 +412,7 @@ fn checked(alloc: Global, sys: &System, pairs: &[PairEntry]) -> Told {
     if !are_plain(pairs) {
         return ("not plain", "");
     }
-    match check_pairs(alloc, sys, CertKind::Ortho, pairs) {
+    match check_pairs::<JudgeByKind>(alloc, sys, CertKind::Ortho, pairs) {
         Ok(()) => VALID,
         Err(CheckError::Rejected(rejected)) => told_rejection(&rejected),
         Err(CheckError::NoMemory) => ("no memory", ""),

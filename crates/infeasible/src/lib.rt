@@ -16,6 +16,7 @@ use std::alloc::Global;
 use tcap_infeasible::TcapEvidence;
 use term_core::{Cond, System};
 use tree_automata::AutoEvidence;
+use validity::InfeasibilityJudge;
 
 // What a refuter answers; where that is Ok, the conditions are never met.
 fn refuted<R: Refuter>(
@@ -54,5 +55,20 @@ pub fn check_infeasible(
             };
             refuted(alloc, sys, conds, &evidence)
         }
+    }
+}
+
+/// Judges evidence by its kind, as [`check_infeasible`] does.
+#[derive(Clone, Copy, Debug)]
+pub struct JudgeByKind;
+
+impl InfeasibilityJudge for JudgeByKind {
+    fn judge(
+        alloc: Global,
+        sys: &System,
+        conds: &[Cond],
+        evidence: &InfEvidence,
+    ) -> Result<(), Refusal> {
+        check_infeasible(alloc, sys, conds, evidence)
     }
 }

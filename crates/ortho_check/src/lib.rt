@@ -12,6 +12,7 @@ ghost use Rattle.ortho_check.specs.Answers.{ClassAnswers, ClassesAnswer};
 
 use cert_model::{Class, PairEntry, Rejected};
 use ctrs_classes::why_not;
+use infeasible::JudgeByKind;
 use level_theorem::levels_commute;
 use pair_check::check_pairs;
 use std::alloc::Global;
@@ -45,7 +46,7 @@ fn judge_ortho(alloc: Global, sys: &System, pairs: &[PairEntry]) -> Result<(), C
     ensures { OrthoAnswers sys.now (map pair_entry_view pairs.now) result }
 {
     check_classes(sys)?;
-    check_pairs(alloc, sys, CertKind::Ortho, pairs)
+    check_pairs::<JudgeByKind>(alloc, sys, CertKind::Ortho, pairs)
 }
 
 /// Whether entries for the overlaps show that the levels of the system commute, and so that it is confluent: it is

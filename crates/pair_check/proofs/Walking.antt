@@ -1,5 +1,5 @@
 -- One overlap after the other.
-use Rattle.std.proofs.Common.{ℕ, zero, suc, ◌≡◌, ◌+◌, ◌<◌, ◌≤◌, inl, inr, List, [], ◌∷◌, map, drop, length, slice_get, get_or, Option, None, Some, Result, Ok, Err, refl, sym, ap, ap₂, ◌∙◌, subst, subst₂, arith}
+use Rattle.std.proofs.Common.{ℕ, zero, suc, ◌≡◌, ◌<◌, ◌≤◌, inl, inr, List, [], ◌∷◌, map, drop, length, slice_get, get_or, Option, None, Some, Result, Ok, Err, refl, sym, ap, subst, subst₂, arith}
 use Rattle.rewriting.specs.Rules.{System}
 use Rattle.rewriting.specs.Lists.{IsAmong}
 use Rattle.unifier_run.specs.Overlaps.{Overlap, triple, AreOverlaps}

@@ -14,7 +14,7 @@ use critical_pairs::{Overlap, OverlapError, overlaps};
 use refuter::Refusal;
 use std::alloc::Global;
 use term_core::System;
-use validity::{CertKind, CheckError};
+use validity::{CertKind, CheckError, InfeasibilityJudge};
 
 // An overlap that has no entry where one should stand.
 fn missing(alloc: Global, overlap: &Overlap) -> CheckError
@@ -58,7 +58,7 @@ fn is_for(entry: &PairEntry, overlap: &Overlap) -> bool
 }
 
 // Judges the entry with a number, from 0, for an overlap.
-fn judge_entry(
+fn judge_entry<J: InfeasibilityJudge>(
     alloc: Global,
     sys: &System,
     kind: CertKind,
@@ -77,7 +77,7 @@ fn judge_entry(
     if !is_for(entry, overlap) {
         return Err(missing(alloc, overlap));
     }
-    match judge_evidence(alloc, sys, kind, overlap, &entry.evidence) {
+    match judge_evidence::<J>(alloc, sys, kind, overlap, &entry.evidence) {
         Ok(()) => Ok(()),
         Err(Refusal::Reason(reason)) => Err(CheckError::Rejected(Rejected::EvidenceFails {
             entry: at as u32 + 1,
@@ -88,7 +88,7 @@ fn judge_entry(
 }
 
 // Judges the entries for all overlaps; there may be no other.
-fn settle(
+fn settle<J: InfeasibilityJudge>(
     alloc: Global,
     sys: &System,
     kind: CertKind,
@@ -101,7 +101,7 @@ fn settle(
     ensures { SettledAnswers (kind_view kind) sys.now 1 (map overlap_view overlaps.now) (map pair_entry_view pairs.now) result }
 {
     for (i, overlap) in overlaps.iter().enumerate() {
-        judge_entry(alloc, sys, kind, overlap, pairs, i)?;
+        judge_entry::<J>(alloc, sys, kind, overlap, pairs, i)?;
     }
     if pairs.len() > overlaps.len() {
         return Err(CheckError::Rejected(Rejected::PairExtra {
@@ -112,13 +112,13 @@ fn settle(
 }
 
 /// Judges the entries of a certificate of a kind: there is one for each overlap of the system, in order, with valid
-/// evidence, and no other. Entries are numbered from 1.
+/// evidence, and no other. Entries are numbered from 1. `J` judges the evidence that conditions are never met.
 ///
 /// # Errors
 ///
 /// The first reason, in that order, why not: the overlaps have no list, the next overlap has no entry where one should
 /// stand, its evidence is not valid, or an entry stands behind the last overlap.
-pub fn check_pairs(
+pub fn check_pairs<J: InfeasibilityJudge>(
     alloc: Global,
     sys: &System,
     kind: CertKind,
@@ -128,7 +128,7 @@ pub fn check_pairs(
     ensures { SettleAnswers (kind_view kind) sys.now (map pair_entry_view pairs.now) result }
 {
     match overlaps(alloc, sys) {
-        Ok(found) => settle(alloc, sys, kind, &found, pairs),
+        Ok(found) => settle::<J>(alloc, sys, kind, &found, pairs),
         Err(e) => Err(refused(alloc, &e)),
     }
 }

@@ -12,11 +12,10 @@ use crate::conflict::judge_conflict;
 use crate::derived::{judge_join, judge_unfeasible};
 use cert_model::{EvidenceReason, PairEvidence};
 use critical_pairs::Overlap;
-use infeasible::check_infeasible;
 use refuter::Refusal;
 use std::alloc::Global;
 use term_core::{System, equal};
-use validity::{CertKind, allowed};
+use validity::{CertKind, InfeasibilityJudge, allowed};
 
 // That both sides are equal, at the root.
 fn judge_trivial(overlap: &Overlap) -> Result<(), Refusal>
@@ -32,7 +31,7 @@ fn judge_trivial(overlap: &Overlap) -> Result<(), Refusal>
 }
 
 // The same whatever the kind of the certificate.
-fn judge(
+fn judge<J: InfeasibilityJudge>(
     alloc: Global,
     sys: &System,
     overlap: &Overlap,
@@ -44,7 +43,7 @@ fn judge(
 {
     match evidence {
         PairEvidence::Trivial => judge_trivial(overlap),
-        PairEvidence::Infeasible(inner) => check_infeasible(alloc, sys, &overlap.conds, inner),
+        PairEvidence::Infeasible(inner) => J::judge(alloc, sys, &overlap.conds, inner),
         PairEvidence::Conflict { inner, outer } => {
             judge_conflict(alloc, sys, overlap, *inner, *outer)
         }
@@ -58,8 +57,8 @@ fn judge(
 }
 
 /// Judges the evidence for an overlap of the system, or tells the first reason why it is not valid. What certificates of
-/// the kind may not give is not looked at.
-pub fn judge_evidence(
+/// the kind may not give is not looked at; evidence that the conditions are never met is left to `J`.
+pub fn judge_evidence<J: InfeasibilityJudge>(
     alloc: Global,
     sys: &System,
     kind: CertKind,
@@ -75,5 +74,5 @@ pub fn judge_evidence(
     }
     // That terms and conditions are small is known of the rules of a system.
     let _rules = sys.rules();
-    judge(alloc, sys, overlap, evidence)
+    judge::<J>(alloc, sys, overlap, evidence)
 }

@@ -9,6 +9,7 @@ use crate::sides::first_reducible;
 use cert_model::{Class, PairEntry, Rejected};
 use ctrs_classes::why_not;
 use descent_theorem::bounded_descents_are_confluent;
+use infeasible::JudgeByKind;
 use measure::{Measure, MeasureError};
 use pair_check::check_pairs;
 use std::alloc::Global;
@@ -59,7 +60,7 @@ fn judge_quasi<M: Measure>(
 {
     check_rules(alloc, sys)?;
     check_measure(alloc, sys, measure)?;
-    check_pairs(alloc, sys, CertKind::Quasi, pairs)
+    check_pairs::<JudgeByKind>(alloc, sys, CertKind::Quasi, pairs)
 }
 
 /// Judges a certificate that a system is confluent, by a measure and the evidence for each overlap (after Avenhaus and

@@ -7,9 +7,9 @@ use Rattle.pair_check.proofs.Walking.{all_settled, refused_so}
 use Rattle.pair_check.proofs.entries.check_pairs.Goals as goal
 
 pub returns-in-Ok : goal.returns-in-Ok
-returns-in-Ok c =
+returns-in-Ok g c =
     all_settled (kind_view c.args.kind) c.args.sys.now (map overlap_view c.in-Ok.found.items) (map pair_entry_view c.args.pairs.now) c.in-Ok.ensures c.settle.result
     (subst (λ os. SettledAnswers (kind_view c.args.kind) c.args.sys.now 1 (map overlap_view os) (map pair_entry_view c.args.pairs.now) c.settle.result) c.deref.ensures.value c.settle.ensures)
 
 pub returns-in-Err : goal.returns-in-Err
-returns-in-Err c = refused_so (kind_view c.args.kind) c.args.sys.now (map pair_entry_view c.args.pairs.now) c.in-Err.e c.refused.result c.in-Err.ensures c.refused.ensures
+returns-in-Err g c = refused_so (kind_view c.args.kind) c.args.sys.now (map pair_entry_view c.args.pairs.now) c.in-Err.e c.refused.result c.in-Err.ensures c.refused.ensures

@@ -1,4 +1,4 @@
-use Rattle.std.proofs.Common.{◌≡◌, ◌+◌, ◌≤◌, ◌<◌, suc, map, length, ap, sym, subst, arith, Ok, Err}
+use Rattle.std.proofs.Common.{◌≡◌, ◌+◌, suc, map, length, ap, sym, subst, arith, Ok, Err}
 use Rattle.std.proofs.lemmas.List.{length-map}
 use Rattle.certificates.specs.Reasons.{pair_extra}
 use Rattle.term_core.proofs.Rules.{handed_on}
@@ -12,7 +12,7 @@ use Rattle.pair_check.proofs.Walking.{item_at, listed_at, entry_fails_so, entry_
 use Rattle.pair_check.proofs.entries.settle.Goals as goal
 
 pub judge_entry-requires-clause-overlap : goal.judge_entry-requires-clause-overlap
-judge_entry-requires-clause-overlap c =
+judge_entry-requires-clause-overlap g c =
     let os = map overlap_view c.args.overlaps.now in
     let es = map pair_entry_view c.args.pairs.now in
     let o = overlap_view c.index-overlaps-i.result in
@@ -20,7 +20,7 @@ judge_entry-requires-clause-overlap c =
     c.requires.overlaps o (listed_at os c.loop-i.i o at)
 
 pub returns-in_err-judge_entry : goal.returns-in_err-judge_entry
-returns-in_err-judge_entry c =
+returns-in_err-judge_entry g c =
     let os = map overlap_view c.args.overlaps.now in
     let es = map pair_entry_view c.args.pairs.now in
     let o = overlap_view c.index-overlaps-i.result in
@@ -30,7 +30,7 @@ returns-in_err-judge_entry c =
     (c.loop-i.invariant.rest (Err c.in_err-judge_entry.field-0.0) (entry_fails_so (kind_view c.args.kind) c.args.sys.now os es c.loop-i.i o at (c.loop-i.i + 1) one c.in_err-judge_entry.field-0.0 c.in_err-judge_entry.ensures))
 
 pub loop-i-preserved : goal.loop-i-preserved
-loop-i-preserved c =
+loop-i-preserved g c =
     let os = map overlap_view c.args.overlaps.now in
     let es = map pair_entry_view c.args.pairs.now in
     let o = overlap_view c.index-overlaps-i.result in
@@ -43,7 +43,7 @@ loop-i-preserved c =
     }
 
 pub returns-then-pairs-overlaps : goal.returns-then-pairs-overlaps
-returns-then-pairs-overlaps c =
+returns-then-pairs-overlaps g c =
     let long = length-map c.args.overlaps.now overlap_view in
     let many = length-map c.args.pairs.now pair_entry_view in
     let past = c.loop-i-test.false in
@@ -54,7 +54,7 @@ returns-then-pairs-overlaps c =
     (one_left (kind_view c.args.kind) c.args.sys.now (map overlap_view c.args.overlaps.now) (map pair_entry_view c.args.pairs.now) c.loop-i.i (pair_extra (length c.args.overlaps.now + 1)) (omega (arith, past, long)) (omega (arith, within, more, many)) (ap pair_extra same))
 
 pub returns : goal.returns
-returns c =
+returns g c =
     let long = length-map c.args.overlaps.now overlap_view in
     let many = length-map c.args.pairs.now pair_entry_view in
     let past = c.loop-i-test.false in

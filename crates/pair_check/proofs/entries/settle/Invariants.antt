@@ -7,7 +7,7 @@ use Rattle.pair_check.specs.Walk.{SettledAnswers}
 use Rattle.pair_check.proofs.entries.settle.Given as goal
 
 abbrev pub invariant-loop-i : goal.invariant-loop-i
-invariant-loop-i l = record {
+invariant-loop-i g l = record {
   within : l.i ≤ length l.overlaps;
   rest : (a : Result (Unit {0}) CheckError)
       → SettledAnswers (kind_view l.kind) l.sys (suc l.i) (drop l.i (map overlap_view l.overlaps)) (drop l.i (map pair_entry_view l.pairs)) a

@@ -3,4 +3,4 @@ use Rattle.pair_check.proofs.Ready.{ready}
 use Rattle.pair_check.proofs.evidence.judge_evidence.Goals as goal
 
 pub judge-requires-clause-ready : goal.judge-requires-clause-ready
-judge-requires-clause-ready c = ready c.args.sys.now (overlap_view c.args.overlap.now) c.rules-rules.ensures.sound c.requires.overlap
+judge-requires-clause-ready g c = ready c.args.sys.now (overlap_view c.args.overlap.now) c.rules-rules.ensures.sound c.requires.overlap
