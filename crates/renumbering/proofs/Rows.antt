@@ -1,9 +1,12 @@
 -- Rows of variables that grow.
-use Rattle.std.proofs.Common.{ℕ, Bool, true, false, if◌then◌else◌, nat_eq, List, [], ◌∷◌, ◌++◌, refl}
-use Rattle.std.specs.List.{list_any}
+use Rattle.std.proofs.Common.{ℕ, ◌<◌, ◌≤◌, ◌^◌, ◌⊎◌, inl, inr, Bool, true, false, if◌then◌else◌, nat_eq, List, [], ◌∷◌, ◌++◌, length, refl, sym, subst}
+use Rattle.std.specs.List.{IsDistinct, list_any}
+use Rattle.std.proofs.lemmas.Map.Steps.{length-le_from_distinct_below}
 use Rattle.rewriting.specs.Variables.{with_new}
-use Rattle.rewriting.specs.Lists.{IsFront}
-use Rattle.rewriting.proofs.Lists.{front_refl}
+use Rattle.rewriting.specs.Lists.{IsFront, IsAmong}
+use Rattle.rewriting.proofs.Lists.{front_refl, among_either}
+use Rattle.rewriting.proofs.Variables.{among_of_any, new_distinct}
+use Rattle.renumbering.specs.Rows.{IsRow}
 
 pub front_new : (xs : List ℕ) (x : ℕ) → IsFront xs (with_new xs x)
 front_new xs x = go (list_any (nat_eq x) xs)
@@ -11,3 +14,20 @@ front_new xs x = go (list_any (nat_eq x) xs)
     go : (b : Bool) → IsFront xs (if b then xs else (xs ++ x ∷ []))
     go true = front_refl xs
     go false = (x ∷ [], refl)
+
+-- a row with one more variable is a row
+pub row_new : (xs : List ℕ) (y : ℕ) → y < 2 ^ 32 → IsRow xs → IsRow (with_new xs y)
+row_new xs y low row = record { distinct = new_distinct xs y row.distinct; small = go (list_any (nat_eq y) xs) }
+  where
+    last : (x : ℕ) → IsAmong x xs ⊎ IsAmong x (y ∷ []) → x < 2 ^ 32
+    last x (inl a) = row.small x a
+    last x (inr (inl e)) = subst (λ z. z < 2 ^ 32) (sym e) low
+    last x (inr (inr a)) = absurd a
+
+    go : (b : Bool) (x : ℕ) → IsAmong x (if b then xs else (xs ++ y ∷ [])) → x < 2 ^ 32
+    go true x a = row.small x a
+    go false x a = last x (among_either x xs (y ∷ []) a)
+
+-- so its places have 32 bits
+pub row_length : (xs : List ℕ) → IsRow xs → IsDistinct nat_eq xs → length xs ≤ 2 ^ 32
+row_length xs row unique = length-le_from_distinct_below xs (2 ^ 32) unique (λ q h. row.small q (among_of_any q xs h))

@@ -1,8 +1,14 @@
 -- Rows of variables, and terms with places of a row for their variables.
-use Rattle.std.specs.Prelude.{ℕ, ◌≡◌, ◌<◌, true, List, length, get_or}
+use Rattle.std.specs.Prelude.{ℕ, ◌≡◌, ◌<◌, ◌^◌, true, List, length, get_or}
 use Rattle.rewriting.specs.Terms.{Term, var}
 use Rattle.rewriting.specs.Variables.{occurs}
 use Rattle.rewriting.specs.Substitutions.{Substitution, apply}
+use Rattle.rewriting.specs.Lists.{IsAmong, AreDistinct}
+
+-- no variable is twice in the row, and each has 32 bits; so each place in the row has 32 bits too
+pub record IsRow (xs : List ℕ) : Type 0 where
+  pub distinct : AreDistinct xs
+  pub small : (x : ℕ) → IsAmong x xs → x < 2 ^ 32
 
 -- the number m of a row stands for its variable; the numbers past the row for 0
 abbrev pub naming : List ℕ → Substitution

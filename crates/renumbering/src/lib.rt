@@ -10,7 +10,7 @@ ghost use Rattle.rewriting.specs.Unifiers.{odd};
 ghost use Rattle.term_core.specs.View.{view};
 ghost use Rattle.renumbering.specs.Spread.{spreading};
 ghost use Rattle.rewriting.specs.Lists.{IsFront, AreDistinct};
-ghost use Rattle.renumbering.specs.Rows.{naming, IsNumbered};
+ghost use Rattle.renumbering.specs.Rows.{IsRow, naming, IsNumbered};
 
 use indexmap::IndexSet;
 use std::alloc::Global;
@@ -29,11 +29,11 @@ impl Model for Numbering {
     ghost Value = { List ℕ };
 
     ghost use Rattle.renumbering.specs.NumberingView.{row_of};
-    ghost use Rattle.rewriting.specs.Lists.{AreDistinct};
+    ghost use Rattle.renumbering.specs.Rows.{IsRow};
 
     ghost view = { row_of };
 
-    ghost invariant = { λ n. AreDistinct n.row.keys };
+    ghost invariant = { λ n. IsRow n.row.keys };
 }
 
 impl Numbering {
@@ -87,23 +87,23 @@ impl Numbering {
 
 // The place of a variable in the row, where it is put last if the row lacks it.
 fn number(row: &mut IndexSet<u32>, x: u32) -> Result<u32, NoMemory>
+    requires { IsRow row.old.keys }
     ensures row { OnOk result (row.new.keys ≡ with_new row.old.keys x) }
     ensures front { IsFront row.old.keys row.new.keys }
-    ensures distinct { AreDistinct row.old.keys → AreDistinct row.new.keys }
+    ensures kept { IsRow row.new.keys }
     ensures place { IfOk result (λ m. slice_get row.new.keys m ≡ Some x) }
 {
     let (place, _) = row.insert_full(x)?;
-    match u32::try_from(place) {
-        Ok(m) => Ok(m),
-        Err(_) => Err(NoMemory),
-    }
+    // No variable is there twice, so there are no more places than variables.
+    Ok(place as u32)
 }
 
 // The term with places of the row in place of its variables, which are put last where the row lacks them.
 fn numbered_by(row: &mut IndexSet<u32>, alloc: Global, t: &Term) -> Result<Term, NoMemory>
+    requires { IsRow row.old.keys }
     ensures row { OnOk result (row.new.keys ≡ with_variables row.old.keys (view t.now)) }
     ensures front { IsFront row.old.keys row.new.keys }
-    ensures distinct { AreDistinct row.old.keys → AreDistinct row.new.keys }
+    ensures kept { IsRow row.new.keys }
     ensures numbered { IfOk result (λ u. IsNumbered row.new.keys (view t.now) (view u)) }
 {
     match t {

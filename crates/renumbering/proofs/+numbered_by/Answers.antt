@@ -11,7 +11,7 @@ arguments-preserved t c =
     record {
       row = row_more c.arguments.row.keys c.numbered_by.new.row.keys _ args c.arguments.arg-index c.arg-item.result c.arguments-test.true c.arg-item.is here.row c.arguments.invariant.row;
       front = front_trans c.args.row.now.keys c.arguments.row.keys c.numbered_by.new.row.keys c.arguments.invariant.front here.front;
-      distinct = λ d. here.distinct (c.arguments.invariant.distinct d);
+      kept = here.kept;
       numbered = more;
     }
 
