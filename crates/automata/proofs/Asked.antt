@@ -1,6 +1,6 @@
 -- Where runs lead, and the transitions that a term or a right side asks for: they are between the states that are counted, and
 -- bring the term to its state.
-use Rattle.std.proofs.Common.{ℕ, zero, suc, ◌≡◌, ◌+◌, ◌<◌, ◌≤◌, Bool, true, false, nat_eq, if◌then◌else◌, List, [], ◌∷◌, Option, None, Some, All, Contains, length, slice_get, refl, sym, ap, ◌∙◌, arith}
+use Rattle.std.proofs.Common.{ℕ, zero, suc, ◌≡◌, ◌+◌, ◌<◌, ◌≤◌, Bool, true, false, nat_eq, if◌then◌else◌, List, [], ◌∷◌, Option, Some, All, Contains, length, slice_get, refl, sym, ap, ◌∙◌, arith}
 use Rattle.std.proofs.lemmas.List.Elements.{All-nil, All-cons, All-head, All-tail, All-append, All-same, Contains-push, Contains-append_left, Contains-append_right}
 use Rattle.rewriting.specs.Terms.{Term, var, app, Terms, nil, cons, count}
 use Rattle.rewriting.specs.Signatures.{Signature, IsOver, AreOver}

@@ -12,11 +12,6 @@ dec_and (yes a) (yes b) = yes (a, b)
 dec_and (yes a) (no k) = no (λ p. k p.1)
 dec_and (no k) d = no (λ p. k p.0)
 
-pub dec_then : {A B : Type 0} → Dec A → Dec B → Dec (A → B)
-dec_then (no k) d = yes (λ a. absurd (k a))
-dec_then (yes a) (yes b) = yes (λ x. b)
-dec_then (yes a) (no k) = no (λ f. k (f a))
-
 -- equal numbers, lists of them, and options
 pub same_numbers : (xs ys : List ℕ) → Dec (xs ≡ ys)
 same_numbers [] [] = yes refl

@@ -1,5 +1,5 @@
 -- A closed automaton keeps what terms reach; so conditions whose right side it excludes are never met.
-use Rattle.std.proofs.Common.{ℕ, zero, suc, ◌≡◌, inl, inr, List, [], ◌∷◌, Option, None, Some, replicate, slice_get, refl, sym, ap, ◌∙◌, subst}
+use Rattle.std.proofs.Common.{ℕ, zero, suc, ◌≡◌, inl, inr, List, [], ◌∷◌, Option, None, Some, replicate, slice_get, refl, sym, subst}
 use Rattle.rewriting.specs.Terms.{Term, var, app, Terms, nil, cons, count}
 use Rattle.rewriting.specs.Substitutions.{Substitution, apply, values_of}
 use Rattle.rewriting.specs.Signatures.{IsOver, AreOver, AreValuesOver}
@@ -13,7 +13,7 @@ use Rattle.rewriting.proofs.Levels.{Contracts, level, level_of_step}
 use Rattle.certificates.specs.Evidence.{Automaton}
 use Rattle.certificates.specs.Judging.{hypothesis_at}
 use Rattle.certificates.specs.Reasons.{EvidenceReason}
-use Rattle.automata.specs.Runs.{Has, Reach, ReachAll, at, Runs, RunsFrom0}
+use Rattle.automata.specs.Runs.{Reach, ReachAll, at, Runs, RunsFrom0}
 use Rattle.automata.specs.Closed.{state_of, Includes, IsKept, HasOver, IsClosed, AcceptsAll, Excludes}
 use Rattle.automata.specs.Evidence.{IsAccepted, IsExclusionJudged, IsConditionJudged, not_any, misses, closure_fails, right_side, JudgedByAutomaton}
 use Rattle.automata.proofs.Splits.{split, joined, reach-mono, choice_of, state_has}

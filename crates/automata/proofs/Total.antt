@@ -1,6 +1,6 @@
 -- An automaton has a judgement: runs are decided by search among the transitions, choices are finitely many, and of the rules,
 -- choices and states at which a right side is not kept there is a first.
-use Rattle.std.proofs.Common.{ℕ, zero, suc, ◌≡◌, ◌<◌, ◌^◌, ◌⊎◌, inl, inr, List, [], ◌∷◌, ◌++◌, Option, None, Some, All, Contains, length, replicate, slice_get, refl, sym, subst, ◌∙◌, arith}
+use Rattle.std.proofs.Common.{ℕ, ◌≡◌, ◌<◌, ◌^◌, ◌⊎◌, inl, inr, List, [], ◌∷◌, Option, None, Some, All, Contains, length, replicate, slice_get, refl, sym, subst}
 use Rattle.std.proofs.lemmas.Option.{slice_get_within}
 use Rattle.std.proofs.lemmas.List.Elements.{All-nil, All-cons, All-head, All-tail}
 use native.Mathlib.Decide.{ℕ_discrete, dec_lt, map_dec}
@@ -15,7 +15,7 @@ use Rattle.automata.specs.Runs.{Symbols, HasArity, IsHead, Has, Reach, ReachAll,
 use Rattle.automata.specs.Closed.{IsChoice, state_of, Includes, IsKept, IsRuleKept, HasOver, IsClosed, IsEarlierChoice, IsFirstOpen, IsWide, AreNarrow, IsFirstWide, AcceptsAll, Excludes}
 use Rattle.automata.specs.Evidence.{IsAccepted, IsClosureJudged, IsExclusionJudged, IsConditionJudged, not_any, misses, closure_fails, right_side, JudgedByAutomaton}
 use Rattle.automata.proofs.Asked.{end_below}
-use Rattle.automata.proofs.Finite.{dec_and, dec_then, same_numbers, same_option, Member, some_member, Parts, some_parts, AllLists, FirstList, search_lists}
+use Rattle.automata.proofs.Finite.{dec_and, same_numbers, same_option, Member, some_member, some_parts, AllLists, FirstList, search_lists}
 
 -- states
 all_below : (n : ℕ) (qs : List ℕ) → Dec (All (λ q. q < n) qs)

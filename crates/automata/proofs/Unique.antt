@@ -1,8 +1,9 @@
 -- An automaton has one judgement: its reasons exclude each other, and there is one first reason of a kind.
-use Rattle.std.proofs.Common.{ℕ, ◌≡◌, inl, inr, List, [], ◌∷◌, Option, None, Some, refl, sym, ◌∙◌, subst}
+use Rattle.std.proofs.Common.{ℕ, ◌≡◌, inl, inr, List, Option, None, Some, refl, sym, ◌∙◌, subst}
 use Rattle.rewriting.specs.Terms.{Term}
 use Rattle.rewriting.specs.Positions.{IsBefore}
 use Rattle.rewriting.specs.Rules.{Condition, System}
+use Rattle.rewriting.proofs.Before.{Ordered, comes_first, is_same, comes_last, order_positions}
 use Rattle.rewriting.proofs.Conditions.{Order, is_smaller, is_equal, is_greater, order}
 use Rattle.certificates.specs.Evidence.{Automaton}
 use Rattle.certificates.specs.Judging.{hypothesis_at}
@@ -11,43 +12,24 @@ use Rattle.automata.specs.Runs.{Symbols}
 use Rattle.automata.specs.Closed.{IsClosed, IsEarlierChoice, IsFirstOpen, IsWide, AreNarrow, IsFirstWide, Excludes}
 use Rattle.automata.specs.Evidence.{IsClosureJudged, IsExclusionJudged, IsConditionJudged, not_any, misses, closure_fails, right_side, JudgedByAutomaton}
 
--- of two choices one is before the other, or they are equal
-data ChoiceOrder (cs ds : List ℕ) : Type 0 where
-  is_before : IsBefore cs ds → ChoiceOrder cs ds
-  is_equal_choice : cs ≡ ds → ChoiceOrder cs ds
-  is_behind : IsBefore ds cs → ChoiceOrder cs ds
-
-by_heads : (c d : ℕ) (cs ds : List ℕ) → Order c d → ChoiceOrder cs ds → ChoiceOrder (c ∷ cs) (d ∷ ds)
-by_heads c d cs ds (is_smaller h) r = is_before (inl h)
-by_heads c d cs ds (is_greater h) r = is_behind (inl h)
-by_heads c d cs ds (is_equal e) (is_before h) = is_before (inr (e, h))
-by_heads c d cs ds (is_equal e) (is_behind h) = is_behind (inr (sym e, h))
-by_heads c d cs ds (is_equal e) (is_equal_choice h) = is_equal_choice (cc)
-
-choice_order : (cs ds : List ℕ) → ChoiceOrder cs ds
-choice_order [] [] = is_equal_choice refl
-choice_order [] (d ∷ ds) = is_before tt
-choice_order (c ∷ cs) [] = is_behind tt
-choice_order (c ∷ cs) (d ∷ ds) = by_heads c d cs ds (order c d) (choice_order cs ds)
-
--- and so of two rules, each with a choice and a state
+-- two rules, each with a choice and a state, in order
 data CaseOrder (i j : ℕ) (cs ds : List ℕ) (p q : ℕ) : Type 0 where
   is_earlier : IsEarlierChoice (i, (cs, p)) (j, (ds, q)) → CaseOrder i j cs ds p q
   is_same_case : i ≡ j → cs ≡ ds → p ≡ q → CaseOrder i j cs ds p q
   is_later : IsEarlierChoice (j, (ds, q)) (i, (cs, p)) → CaseOrder i j cs ds p q
 
-by_rules : (i j : ℕ) (cs ds : List ℕ) (p q : ℕ) → Order i j → ChoiceOrder cs ds → Order p q → CaseOrder i j cs ds p q
+by_rules : (i j : ℕ) (cs ds : List ℕ) (p q : ℕ) → Order i j → Ordered IsBefore cs ds → Order p q → CaseOrder i j cs ds p q
 by_rules i j cs ds p q (is_smaller h) r s = is_earlier (inl h)
 by_rules i j cs ds p q (is_greater h) r s = is_later (inl h)
-by_rules i j cs ds p q (is_equal e) (is_before h) s = is_earlier (inr (e, inl h))
-by_rules i j cs ds p q (is_equal e) (is_behind h) s = is_later (inr (sym e, inl h))
-by_rules i j cs ds p q (is_equal e) (is_equal_choice f) (is_smaller h) = is_earlier (inr (e, inr (f, h)))
-by_rules i j cs ds p q (is_equal e) (is_equal_choice f) (is_greater h) = is_later (inr (sym e, inr (sym f, h)))
-by_rules i j cs ds p q (is_equal e) (is_equal_choice f) (is_equal h) = is_same_case e f h
+by_rules i j cs ds p q (is_equal e) (comes_first h) s = is_earlier (inr (e, inl h))
+by_rules i j cs ds p q (is_equal e) (comes_last h) s = is_later (inr (sym e, inl h))
+by_rules i j cs ds p q (is_equal e) (is_same f) (is_smaller h) = is_earlier (inr (e, inr (f, h)))
+by_rules i j cs ds p q (is_equal e) (is_same f) (is_greater h) = is_later (inr (sym e, inr (sym f, h)))
+by_rules i j cs ds p q (is_equal e) (is_same f) (is_equal h) = is_same_case e f h
 
 -- the first right side that is not kept, and the first wide left side
 open_same : (sys : System) (a : Automaton) (i j : ℕ) (cs ds : List ℕ) (p q : ℕ) → IsFirstOpen sys a i cs p → IsFirstOpen sys a j ds q → Some (auto_not_closed i cs p) ≡ Some (auto_not_closed j ds q)
-open_same sys a i j cs ds p q h k = go (by_rules i j cs ds p q (order i j) (choice_order cs ds) (order p q))
+open_same sys a i j cs ds p q h k = go (by_rules i j cs ds p q (order i j) (order_positions cs ds) (order p q))
   where
     go : CaseOrder i j cs ds p q → Some (auto_not_closed i cs p) ≡ Some (auto_not_closed j ds q)
     go (is_earlier e) = absurd (h.fails (k.earlier i h.rule cs p h.is_rule h.choice h.reached e))

@@ -1,14 +1,13 @@
 -- Batches of choices by which a term may arrive: what is left out has no arrival.
-use Rattle.std.proofs.Common.{◌≡◌, ◌↔◌, ◌⊎◌, inl, inr, ⊎_elim, ℕ, zero, suc, ◌+◌, ◌-◌, ◌*◌, ◌/◌, ◌%◌, ◌^◌, ◌<◌, ◌≤◌, List, [], ◌∷◌, ◌++◌, length, get_or, true, false, ltb, Some, slice_get, Vec, Global, refl, ap, sym, subst, ◌∙◌, arith, length-append}
+use Rattle.std.proofs.Common.{◌≡◌, ◌↔◌, ◌⊎◌, inl, inr, ⊎_elim, ℕ, zero, suc, ◌+◌, ◌-◌, ◌*◌, ◌/◌, ◌%◌, ◌^◌, ◌<◌, ◌≤◌, List, [], ◌∷◌, ◌++◌, length, get_or, true, false, ltb, Some, slice_get, Vec, Global, refl, ap, sym, subst, ◌∙◌, arith}
 use Rattle.std.specs.List.{AllZip}
-use Rattle.std.proofs.Math.Nat.{mod-lt, mod-eq_of_lt, one-le-pow, pow-zero, pow-suc, div-mul-le_self}
+use Rattle.std.proofs.Math.Nat.{mod-lt, mod-eq_of_lt, one-le-pow, pow-zero, div-mul-le_self}
 use Rattle.std.proofs.lemmas.Bool.{cases_lt, ltb-true, ltb-false}
-use Rattle.std.proofs.lemmas.List.{get_or_append_left, get_or-append-add}
 use Rattle.std.proofs.lemmas.Nat.{le-div}
 use Rattle.std.proofs.lemmas.Option.{get_or_from_slice_get, slice_get_within}
 use Rattle.rewriting.specs.Terms as math
 use Rattle.rewriting.specs.Variables.{variable_occurrences}
-use Rattle.automata.specs.Runs.{Moves, Reach, ReachAll, ReachBy, ReachAllBy}
+use Rattle.automata.specs.Runs.{Reach}
 use Rattle.term_core.specs.View.{view, views}
 use Rattle.term_core.specs.declared.terms.Term.{Term, Var, Fun}
 use Rattle.term_core.proofs.Views.{view-Var, view-Fun}
@@ -17,9 +16,9 @@ use Rattle.number_sets.specs.Relation.{row_of, Relates}
 use Rattle.number_sets.specs.declared.rows.NumberRelation.{NumberRelation}
 use Rattle.automaton_runs.specs.Counted.{Indexed, Finds}
 use Rattle.automaton_runs.specs.Choices.{choice_at}
-use Rattle.automaton_runs.specs.Linear.{linear, linear_all}
+use Rattle.automaton_runs.specs.Linear.{linear}
 use Rattle.automaton_runs.specs.Possible.{IsSpan, AreDigits, AreAllDigits, MayHave, MayReach, ArePossible}
-use Rattle.automaton_runs.specs.Reached.{AreRelated, IsReachedFrom}
+use Rattle.automaton_runs.specs.Reached.{IsReachedFrom}
 use Rattle.automaton_runs.proofs.NumberedLeaves.{AreGiven, linear_reach}
 use Rattle.automaton_runs.proofs.Evaluated.{reach_related}
 use Rattle.automaton_runs.proofs.Choices.{length_choice, choice_item, power_positive}

@@ -66,10 +66,6 @@ known_tied x y e =
     ap (λ (o : Ordering). ordering_then o (ordering_then (slice_cmp nat_cmp x.args.now y.args.now) (nat_cmp x.target y.target))) one ∙ ap (λ (o : Ordering). ordering_then o (nat_cmp x.target y.target)) two
     ∙ three
 
--- what a set has once a transition is put into it
-Grown : List Transition → Transition → List Transition → Transition → Type 0
-Grown old new more u = IsAmong u more ↔ (IsAmong u old ⊎ (u ≡ new))
-
 inserted : (k x : Known) (xs rest : List Known) (u : Transition) → IsAmong u (map known_view rest) ↔ (IsAmong u (map known_view xs) ⊎ (u ≡ known_view k)) → (o : Ordering) → compare_known k x ≡ o
     → IsAmong u (map known_view (match_ordering o (k ∷ x ∷ xs) (x ∷ xs) (x ∷ rest))) ↔ (IsAmong u (map known_view (x ∷ xs)) ⊎ (u ≡ known_view k))
 inserted k x xs rest u ih Less e = (λ h. ⊎_elim (λ f. inr f) (λ g. inl g) h, λ h. ⊎_elim (λ g. inr g) (λ f. inl f) h)

@@ -7,7 +7,7 @@ use Rattle.rewriting.specs.Rules.{Condition, System, left_sides, right_sides}
 use Rattle.certificates.specs.Reasons.{EvidenceReason, tcap_unifies, tcap_large}
 use Rattle.unifier_run.specs.Run.{Outcome, unifier, clash, too_large, IsOutcome}
 use Rattle.unifier_run.specs.Irreducible.{DoRulesClash, IsFirstRule}
-use Rattle.unifier_run.proofs.Lists.{count-apply_all}
+use Rattle.rewriting.proofs.Over.{count-apply}
 use Rattle.unifier_run.proofs.Total.{outcome_exists, outcome_of, first_rule}
 use Rattle.caps.specs.Caps.{Cap, hole, node, Caps, no_caps, caps, holes, any, all_filled, frozen_from, frozen, IsCapOf, AreCapsOf, IsCapLarge, AreCapsLarge}
 use Rattle.caps.specs.Evidence.{JudgedByCaps, past_both, IsPairOutcome}
@@ -58,7 +58,7 @@ caps_total sys cs = go (caps_exist sys any (left_sides cs))
     judged lefts are (too_large, r) = (Some tcap_large, inr (record { lefts = lefts; are = are; outcome = r }))
 
     go : ((lefts : Caps) × AreCapsOf sys any (left_sides cs) lefts) ⊎ AreCapsLarge sys any (left_sides cs) → (o : Option EvidenceReason) × JudgedByCaps sys cs o
-    go (inl (lefts, are)) = judged lefts are (outcome_exists _ _ (count-apply_all even (all_filled var 0 lefts) ∙ (count_caps sys any var (left_sides cs) lefts 0 are ∙ (count_sides cs ∙ sym (count-apply_all odd (right_sides cs))))))
+    go (inl (lefts, are)) = judged lefts are (outcome_exists _ _ (count-apply even (all_filled var 0 lefts) ∙ (count_caps sys any var (left_sides cs) lefts 0 are ∙ (count_sides cs ∙ sym (count-apply odd (right_sides cs))))))
     go (inr h) = (Some tcap_large, inl h)
 
 -- two terms have an outcome, or one of them has no cap; `leaf` is `any` for caps, and `kept` for rigid ones

@@ -1,32 +1,20 @@
 -- Contracting a redex, and steps by hypotheses, from their parts.
-use Rattle.std.proofs.Common.{◌≡◌, ℕ, List, [], Some, None, refl, sym, subst, inl, inr}
+use Rattle.std.proofs.Common.{◌≡◌, ℕ, List, [], Some, None, sym, subst, inl, inr}
 use Rattle.rewriting.specs.Terms as math
 use Rattle.rewriting.specs.Positions.{Position, subterm, replace}
 use Rattle.rewriting.specs.Substitutions.{Bindings}
 use Rattle.rewriting.specs.Rules.{Condition}
 use Rattle.rewriting.proofs.Positions.{replaceable}
-use Rattle.certificates.specs.Judging.{HypothesisStep, HypothesisFails, no_hypothesis, left_differs, large_result, hypothesis_at}
+use Rattle.certificates.specs.Judging.{HypothesisFails, no_hypothesis, left_differs, large_result, hypothesis_at}
 use Rattle.certificates.specs.Reasons.{StepReason, no_such_hypothesis, no_redex, too_large}
 use Rattle.certificates.proofs.Growth.{part_fits}
-use Rattle.derivation.specs.Judged.{HasNoInstance, IsInstance, IsContracted, HasNoContractum}
+use Rattle.derivation.specs.Judged.{HasNoInstance, HasNoContractum}
 
 -- where the right side has no instance there is no contractum
 pub none_from_instance : (right : math.Term) (values : Bindings) (t : math.Term) (p : Position) (path : List ℕ) (reason : StepReason) → (path ≡ []) × HasNoInstance values right reason
     → (path ≡ []) × HasNoContractum right values t p reason
 none_from_instance right values t p path reason (e, inl h) = (e, inl h)
 none_from_instance right values t p path reason (e, inr (r, covered, large)) = (e, inr (r, covered, λ u put fits. large (part_fits t p _ u put fits)))
-
-pub contracted_by : (right : math.Term) (values : Bindings) (t : math.Term) (p : Position) (part u : math.Term) → IsInstance values right part → replace t p part ≡ Some u → IsContracted right values t p u
-contracted_by right values t p part u i put = record { covered = i.covered; result = subst (λ z. replace t p z ≡ Some u) i.is put }
-
-pub large_contractum : (right : math.Term) (values : Bindings) (t : math.Term) (p : Position) (part : math.Term) → IsInstance values right part
-    → ((v : math.Term) → replace t p part ≡ Some v → math.Fits v → ⊥) → HasNoContractum right values t p too_large
-large_contractum right values t p part i large = inr (refl, i.covered, λ u put fits. large u (subst (λ z. replace t p z ≡ Some u) (sym i.is) put) fits)
-
-pub hypothesis_step : (hyps : List Condition) (t : math.Term) (k : ℕ) (p : Position) (h : Condition) (part u : math.Term) → Some h ≡ hypothesis_at hyps k → subterm t p ≡ Some h.left
-    → part ≡ h.right → replace t p part ≡ Some u → math.Fits u → HypothesisStep hyps t k p u
-hypothesis_step hyps t k p h part u is stands same put fits =
-    record { hypothesis = h; is_hypothesis = sym is; stands = stands; result = subst (λ z. replace t p z ≡ Some u) same put; fits = fits }
 
 pub hypothesis_absent : (hyps : List Condition) (t : math.Term) (k : ℕ) (p : Position) → None ≡ hypothesis_at hyps k → HypothesisFails hyps t k p no_such_hypothesis
 hypothesis_absent hyps t k p e = no_hypothesis (sym e)

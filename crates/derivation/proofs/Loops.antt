@@ -4,7 +4,7 @@ use Rattle.rewriting.specs.Terms as math
 use Rattle.rewriting.specs.Substitutions.{Bindings, apply, values_of}
 use Rattle.rewriting.specs.Rules.{Condition, System}
 use Rattle.rewriting.specs.Matching.{IsLeastMatch, HasNoMatch}
-use Rattle.certificates.specs.Derivations.{Derivation, no_steps, first_step, Step, Derivations, no_derivations, first_derivation}
+use Rattle.certificates.specs.Derivations.{Derivation, first_step, Step, Derivations, first_derivation}
 use Rattle.certificates.specs.Judging.{ConditionMet, ConditionFails, left_unbound, left_large, derivation_fails, right_differs, Derives, StepsTo, AreMet, FailsFrom, StepFails, FailFrom}
 use Rattle.certificates.specs.Reasons.{StepReason, condition_fails}
 use Rattle.derivation.specs.Judged.{IsInstance, HasNoInstance}
@@ -26,9 +26,6 @@ module _ (sys : System) (hyps : List Condition) where
       → StepFails sys hyps t s path reason → FailsFrom sys hyps 1 start whole (n ∷ path) reason
   run_fails n t s rest start whole path reason r h = r.fails (n ∷ path) reason (inl (path, refl, h))
 
-  pub run_ends : (n : ℕ) (t : math.Term) (start : math.Term) (whole : Derivation) → Running n t no_steps start whole → Derives sys hyps start whole t
-  run_ends n t start whole r = r.ends t refl
-
   abbrev pub Fulfils : Derivation → Bindings → Condition → Bindings → Type 0
   Fulfils d b c after = ConditionMet (λ t u. Derives sys hyps t d u) b c after
 
@@ -40,9 +37,6 @@ module _ (sys : System) (hyps : List Condition) where
     pub met : (e : Bindings) → AreMet sys hyps b cs ds e → AreMet sys hyps start all whole e
     pub fails : (path : List ℕ) (reason : StepReason) → FailFrom sys hyps n b cs ds path reason → FailFrom sys hyps 1 start all whole path reason
 
-  pub meeting_begins : (b : Bindings) (cs : List Condition) (ds : Derivations) → Meeting 1 b cs ds b cs ds
-  meeting_begins b cs ds = record { met = λ e h. h; fails = λ path reason h. h }
-
   pub meeting_goes_on : (n : ℕ) (b : Bindings) (c : Condition) (cs : List Condition) (d : Derivation) (ds : Derivations) (start : Bindings) (all : List Condition) (whole : Derivations) (after : Bindings)
       → Meeting n b (c ∷ cs) (first_derivation d ds) start all whole → Fulfils d b c after → Meeting (suc n) after cs ds start all whole
   meeting_goes_on n b c cs d ds start all whole after m h = record { met = λ e k. m.met e (after, h, k); fails = λ path reason k. m.fails path reason (inr (after, h, k)) }
@@ -50,9 +44,6 @@ module _ (sys : System) (hyps : List Condition) where
   pub meeting_fails : (n : ℕ) (b : Bindings) (c : Condition) (cs : List Condition) (d : Derivation) (ds : Derivations) (start : Bindings) (all : List Condition) (whole : Derivations)
       (path : List ℕ) (reason : StepReason) → Meeting n b (c ∷ cs) (first_derivation d ds) start all whole → Misses d b c path reason → FailFrom sys hyps 1 start all whole (n ∷ path) reason
   meeting_fails n b c cs d ds start all whole path reason m h = m.fails (n ∷ path) reason (inl (path, refl, h))
-
-  pub meeting_ends : (n : ℕ) (b start : Bindings) (all : List Condition) (whole : Derivations) → Meeting n b [] no_derivations start all whole → AreMet sys hyps start all whole b
-  meeting_ends n b start all whole m = m.met b refl
 
   module _ (d : Derivation) (b : Bindings) (c : Condition) where
     pub no_start : (path : List ℕ) (reason : StepReason) → (path ≡ []) × HasNoInstance b c.left reason → Misses d b c path reason

@@ -1,12 +1,12 @@
 -- Parts of lists by number, seen through what they stand for.
-use Rattle.std.proofs.Common.{◌≡◌, ℕ, zero, suc, ◌-◌, ◌<◌, ◌≤◌, List, [], ◌∷◌, map, length, get_or, slice_get, Option, Some, None, is_some, IfSome, option_map, Bor, refl, sym, ap, subst, arith}
+use Rattle.std.proofs.Common.{◌≡◌, ℕ, zero, suc, ◌-◌, ◌<◌, ◌≤◌, List, [], ◌∷◌, map, length, get_or, slice_get, Option, Some, None, is_some, IfSome, option_map, Bor, refl, sym, ap, arith}
 use Rattle.std.proofs.Math.Dec.{ltb}
 use Rattle.std.proofs.lemmas.Bool.{ltb-true, ltb-false}
-use Rattle.rewriting.specs.Rules.{Condition, Rule, System, rule_at, sides}
-use Rattle.rewriting.specs.Systems.{IsRule, AreRules, IsSystem, Each}
+use Rattle.rewriting.specs.Rules.{Rule, System, rule_at, sides}
+use Rattle.rewriting.specs.Systems.{IsRule, IsSystem, Each}
 use Rattle.rewriting.specs.Terms.{Fits, cons}
-use Rattle.certificates.specs.Judging.{hypothesis_at}
-use Rattle.certificates.specs.Sizes.{DoConditionsFit}
+use Rattle.rewriting.proofs.Systems.{is_rule_at}
+use Rattle.certificates.proofs.Sizes.{conditions_fit}
 use Rattle.term_core.specs.declared.systems.Rule as program
 use Rattle.term_core.specs.RuleView.{rule_view}
 use Rattle.derivation.specs.Judged.{IsJudgable}
@@ -27,31 +27,15 @@ module _ {A B : Type 0} (f : A → B) where
   got xs i None out e = sym (absent xs i (ltb-false i (length xs) (sym out)))
   got xs i (Some x) in_range e = sym (present xs i x.now (ltb-true i (length xs) (sym in_range)) e)
 
--- the right side of a hypothesis fits
-pub right_fits : (cs : List Condition) (k : ℕ) (c : Condition) → hypothesis_at cs k ≡ Some c → DoConditionsFit cs → Fits c.right
-right_fits cs zero c e fit = cc
-right_fits [] (suc k) c e fit = cc
-right_fits (d ∷ ds) (suc zero) c e (left, right, rest) = (let same : d ≡ c = cc in subst (λ (h : Condition). Fits h.right) same right)
-right_fits (d ∷ ds) (suc (suc k)) c e (left, right, rest) = right_fits ds (suc k) c e rest
-
 pub rule_before : (sys : System) (k : ℕ) → (k ≡ 0 → ⊥) → slice_get sys.rules (k - 1) ≡ rule_at sys k
 rule_before sys zero h = absurd (h refl)
 rule_before sys (suc k) h = (let e : suc k - 1 ≡ k = omega arith in ap (slice_get sys.rules) e)
-
-conditions_fit : (cs : List Condition) → Each Fits (sides cs) → DoConditionsFit cs
-conditions_fit [] h = tt
-conditions_fit (c ∷ cs) (l, (r, rest)) = (l, r, conditions_fit cs rest)
 
 judgable_rule : (arities : List ℕ) (r : Rule) → IsRule arities r → IsJudgable r
 judgable_rule arities r good = parts good.fits
   where
     parts : Each Fits (cons r.left (cons r.right (sides r.conditions))) → IsJudgable r
     parts (left, (right, rest)) = record { right = right; conditions = conditions_fit r.conditions rest; few = good.few_conditions }
-
-pub is_rule_at : (arities : List ℕ) (rs : List Rule) (i : ℕ) (r : Rule) → AreRules arities rs → slice_get rs i ≡ Some r → IsRule arities r
-is_rule_at arities [] i r all e = cc
-is_rule_at arities (q ∷ rs) zero r all e = (let same : q ≡ r = cc in subst (IsRule arities) same all.0)
-is_rule_at arities (q ∷ rs) (suc i) r all e = is_rule_at arities rs i r all.1 e
 
 -- the rules that a system has may be judged
 pub judgable : (sys : System) (i : ℕ) (o : Option (Bor program.Rule)) → IsSystem sys → option_map (λ r. rule_view r.now) o ≡ slice_get sys.rules i → IfSome o (λ r. IsJudgable (rule_view r.now))

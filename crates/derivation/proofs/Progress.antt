@@ -7,7 +7,7 @@ use Rattle.certificates.specs.Derivations as plain
 use Rattle.certificates.specs.Derivations.{derivation_of, derivations_of, first_step, first_derivation}
 use Rattle.certificates.specs.Judging.{StepsTo, StepFails, FailsFrom, FailFrom}
 use Rattle.certificates.specs.Reasons.{StepReason}
-use Rattle.certificates.specs.Sizes.{AreStepsShort, IsStepShort, AreShort, IsShort, DoConditionsFit}
+use Rattle.certificates.specs.Sizes.{AreStepsShort, AreShort, DoConditionsFit}
 use Rattle.term_core.specs.RuleView.{condition_view}
 use Rattle.term_core.specs.declared.systems.Cond.{Cond}
 use Rattle.cert_model.specs.DerivationView.{derivation_view, step_view}
@@ -17,14 +17,8 @@ use Rattle.derivation.proofs.Shown.{map-drop}
 use Rattle.derivation.proofs.Loops.{Running, run_goes_on, run_fails, Meeting, meeting_goes_on, meeting_fails, Fulfils, Misses}
 
 module _ (xs : List Step) (i : ℕ) (x : Step) (low : i < length xs) (is : x ≡ get_or xs i x) where
-  rest : plain.Derivation
-  rest = derivation_of (map step_view (drop (i + 1) xs))
-
   pub steps_open : derivation_of (map step_view (drop i xs)) ≡ first_step (step_view x) (derivation_of (map step_view (drop (i + 1) xs)))
   steps_open = ap derivation_of (map-drop step_view xs i x low is)
-
-  pub short_first : AreStepsShort (derivation_of (map step_view (drop i xs))) → IsStepShort (step_view x)
-  short_first h = (subst AreStepsShort steps_open h).0
 
   pub short_rest : AreStepsShort (derivation_of (map step_view (drop i xs))) → AreStepsShort (derivation_of (map step_view (drop (i + 1) xs)))
   short_rest h = (subst AreStepsShort steps_open h).1
@@ -51,14 +45,8 @@ module _ (cs : List Cond) (ds : List Derivation) (k : ℕ) (c : Cond) (d : Deriv
   derivations_open : derivations_of (map derivation_view (drop k ds)) ≡ first_derivation (derivation_view d) (derivations_of (map derivation_view (drop (k + 1) ds)))
   derivations_open = ap derivations_of (map-drop derivation_view ds k d low d_is)
 
-  pub fits_first : DoConditionsFit (map condition_view (drop k cs)) → math.Fits (condition_view c).left
-  fits_first h = (subst DoConditionsFit conditions_open h).0
-
   pub fits_rest : DoConditionsFit (map condition_view (drop k cs)) → DoConditionsFit (map condition_view (drop (k + 1) cs))
   fits_rest h = (subst DoConditionsFit conditions_open h).2
-
-  pub short_derivation : AreShort (derivations_of (map derivation_view (drop k ds))) → IsShort (derivation_view d)
-  short_derivation h = (let s = subst AreShort derivations_open h in record { few_steps = s.0; inner = s.1 })
 
   pub short_derivations : AreShort (derivations_of (map derivation_view (drop k ds))) → AreShort (derivations_of (map derivation_view (drop (k + 1) ds)))
   short_derivations h = (subst AreShort derivations_open h).2

@@ -3,10 +3,10 @@ use Rattle.std.proofs.Common.{◌≡◌, ℕ, zero, suc, List, [], ◌∷◌, ma
 use Rattle.std.proofs.lemmas.List.{length-map}
 use Rattle.term_core.specs.RuleView.{condition_view}
 use Rattle.term_core.specs.declared.systems.Cond.{Cond}
-use Rattle.certificates.specs.Derivations as math
-use Rattle.certificates.specs.Derivations.{by_rule, by_hypothesis, derivation_of, derivations_of}
+use Rattle.certificates.specs.Derivations.{by_rule, derivation_of, derivations_of}
 use Rattle.certificates.specs.Judging.{derivation_count}
 use Rattle.certificates.specs.Sizes.{step_count}
+use Rattle.certificates.proofs.Sizes.{steps_counted, derivations_counted}
 use Rattle.cert_model.specs.DerivationView.{derivation_view, step_view}
 use Rattle.cert_model.specs.declared.derivations.Step as program
 use Rattle.cert_model.specs.declared.derivations.Derivation.{Derivation, out-Derivation}
@@ -15,28 +15,14 @@ use Rattle.cert_model.specs.declared.derivations.Derivation as whole
 view-Rule : (i : ℕ) (p : Vec ℕ Global) (ds : Vec Derivation Global) → step_view (program.Rule i p ds) ≡ by_rule i p.items (derivations_of (map derivation_view ds.items))
 view-Rule i p ds = search (rules, program.the_lemmas)
 
-view-Hyp : (k : ℕ) (p : Vec ℕ Global) → step_view (program.Hyp k p) ≡ by_hypothesis k p.items
-view-Hyp k p = search (rules, program.the_lemmas)
-
 pub view-Derivation : (d : Derivation) → derivation_view d ≡ derivation_of (map step_view (out-Derivation d).steps.items)
 view-Derivation d = search (rules, whole.the_lemmas)
 
 pub shown_rule : (s : program.Step) (i : ℕ) (p : Vec ℕ Global) (ds : Vec Derivation Global) → s ≡ program.Rule i p ds → step_view s ≡ by_rule i p.items (derivations_of (map derivation_view ds.items))
 shown_rule s i p ds is = ap step_view is ∙ view-Rule i p ds
 
-pub shown_hypothesis : (s : program.Step) (k : ℕ) (p : Vec ℕ Global) → s ≡ program.Hyp k p → step_view s ≡ by_hypothesis k p.items
-shown_hypothesis s k p is = ap step_view is ∙ view-Hyp k p
-
-pub count_of : (ds : List math.Derivation) → derivation_count (derivations_of ds) ≡ length ds
-count_of [] = refl
-count_of (d ∷ ds) = ap suc (count_of ds)
-
-pub steps_of : (ss : List math.Step) → step_count (derivation_of ss) ≡ length ss
-steps_of [] = refl
-steps_of (s ∷ ss) = ap suc (steps_of ss)
-
 pub counted_derivations : (ds : Vec Derivation Global) → derivation_count (derivations_of (map derivation_view ds.items)) ≡ vec_len ds
-counted_derivations ds = count_of (map derivation_view ds.items) ∙ length-map ds.items derivation_view ∙ sym ds.ok.0
+counted_derivations ds = derivations_counted (map derivation_view ds.items) ∙ length-map ds.items derivation_view ∙ sym ds.ok.0
 
 pub counted_conditions : (cs : Vec Cond Global) → length (map condition_view cs.items) ≡ vec_len cs
 counted_conditions cs = length-map cs.items condition_view ∙ sym cs.ok.0
@@ -61,7 +47,7 @@ map-drop-all f (x ∷ xs) zero h = absurd (omega arith)
 map-drop-all f (x ∷ xs) (suc i) h = map-drop-all f xs i (omega arith)
 
 pub step_count_of : (xs : List program.Step) → step_count (derivation_of (map step_view xs)) ≡ length xs
-step_count_of xs = steps_of (map step_view xs) ∙ length-map xs step_view
+step_count_of xs = steps_counted (map step_view xs) ∙ length-map xs step_view
 
 -- the item at an index
 pub picked : {A : Type 0} (xs : List A) (i : ℕ) → i < length xs → (x : A) × (x ≡ get_or xs i x)

@@ -2,11 +2,12 @@
 use Rattle.std.proofs.Common.{◌≡◌, ℕ, zero, suc, ◌^◌, ◌<◌, ◌≤◌, ◌⊎◌, inl, inr, refl, ap, subst, List, [], ◌∷◌, length, slice_get, Option, Some, None, option_map, Bool, true, false, nat_eq, eqb-true, if◌then◌else◌, arith}
 use native.Mathlib.Decide.{ℕ_discrete}
 use Rattle.std.proofs.lemmas.Bool.{cases_lt}
-use Rattle.rewriting.specs.Terms.{Fits, size, depth}
+use Rattle.rewriting.specs.Terms.{Fits}
 use Rattle.rewriting.specs.Unraveling.{unraveled, heads, Head, file, auxiliary}
 use Rattle.rewriting.specs.Descents.{IsActive}
 use Rattle.rewriting.proofs.Common.{Term, var, app, Terms, nil, cons, Rule, System}
 use Rattle.rewriting.proofs.Decided.{IsDecided, or_greater, at_most, as_other, both, either, asked, has_part}
+use Rattle.rewriting.proofs.Equality.{fits_decided}
 use Rattle.rewriting.proofs.Search.{FirstBelow, search_below, FirstAt, search_at, decided}
 use Rattle.certificates.specs.Certificates.{LinearEntry}
 use Rattle.interpretations.specs.Size.{DoSidesFit}
@@ -16,7 +17,7 @@ use Rattle.interpretations.proofs.Values.{above, above_all}
 
 -- whether sides fit
 fit : (t : Term) → IsDecided (Fits t)
-fit t = both (λ n l. record { nodes = n; levels = l }) (λ f. f.nodes) (λ f. f.levels) (at_most (size t) 10000) (at_most (depth t) 400)
+fit t = decided (fits_decided t)
 
 pub sides_fit : (rs : List Rule) → IsDecided (DoSidesFit rs)
 sides_fit [] = inl tt

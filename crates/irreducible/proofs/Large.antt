@@ -10,7 +10,7 @@ use Rattle.term_core.specs.declared.terms.Term as program
 use Rattle.term_core.specs.declared.terms.Term.{Fun}
 use Rattle.term_core.specs.declared.systems.Rule as program_rules
 use Rattle.term_core.proofs.Views.{view-Fun}
-use Rattle.renumbering.proofs.Lengths.{variables_length}
+use Rattle.rewriting.proofs.Lengths.{variables_length}
 use Rattle.rewriting.specs.Unifiers.{odd}
 use Rattle.rewriting.specs.Rules.{Rule, System}
 use Rattle.unifier_run.specs.Run.{clash, too_large, side_too_large, last_equation}

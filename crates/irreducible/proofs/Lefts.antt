@@ -6,7 +6,6 @@ use Rattle.rewriting.specs.Unifiers.{even, odd}
 use Rattle.rewriting.specs.Variables.{occurs}
 use Rattle.rewriting.specs.Signatures.{Signature}
 use Rattle.rewriting.specs.Rules as math
-use Rattle.rewriting.specs.Rules.{rule_at}
 use Rattle.rewriting.specs.Systems.{terms_of_rule, rule_variables, IsRule, AreRules}
 use Rattle.rewriting.proofs.Variables.{variables_have_all}
 use Rattle.rewriting.proofs.Instances.{or_left, apply-agree}

@@ -1,7 +1,7 @@
 -- Parts of a term of the program, and the answers for it.
 use Rattle.std.proofs.Common.{ℕ, zero, suc, ◌≡◌, ◌+◌, ◌<◌, ◌≤◌, ◌⊎◌, inl, inr, List, [], ◌∷◌, map, length, get_or, Some, Vec, Global, Result, Ok, Err, refl, sym, ap, ◌∙◌, subst, subst₂, arith, add-one}
 use Rattle.rewriting.specs.Terms as math
-use Rattle.rewriting.specs.Terms.{Terms, var, app, nil, cons, size}
+use Rattle.rewriting.specs.Terms.{Terms, var, app, nil, cons}
 use Rattle.rewriting.specs.Positions.{argument}
 use Rattle.rewriting.specs.Substitutions.{apply, apply_all}
 use Rattle.rewriting.specs.Unifiers.{odd}
@@ -122,10 +122,6 @@ Tried sys part n = (s : math.Term) → part ≡ apply odd s → (i : ℕ) (r : R
 
 no_rule : (sys : System) (r : Rule) → rule_at sys 0 ≡ Some r → ⊥
 no_rule sys r e = cc
-
-pub tried_none : (sys : System) (part : math.Term) → Tried sys part 0
-tried_none sys part s e zero r h l = absurd (no_rule sys r h)
-tried_none sys part s e (suc i) r h l = absurd (omega (arith, l))
 
 pub tried_next : (sys : System) (lefts : List Term) (part : math.Term) (n : ℕ) (left : Term) → AreLefts sys (map view lefts) → left ≡ get_or lefts n left → Tried sys part n → IsOutcome (cons (view left) nil) (cons part nil) clash → Tried sys part (n + 1)
 tried_next sys lefts part n left are at h run s e i r q l = go (split_le i n (subst (λ z. i ≤ z) (add-one n) l))

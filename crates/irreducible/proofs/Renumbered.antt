@@ -1,11 +1,9 @@
 -- Where variables of a term have other numbers, one to one, the runs by which it is judged have the same outcomes, renamed.
-use Rattle.std.proofs.Common.{ℕ, zero, suc, ◌≡◌, ◌+◌, ◌*◌, ◌/◌, ◌%◌, ◌<◌, Bool, true, false, nat_eq, if◌then◌else◌, List, [], ◌∷◌, length, ◌≢◌, Some, Result, Ok, Err, refl, sym, ap, ap₂, ◌∙◌, subst, subst₂, arith, eqb-true, eq-eqb}
-use Rattle.std.proofs.lemmas.Bool.{false≢true}
+use Rattle.std.proofs.Common.{ℕ, zero, suc, ◌≡◌, ◌<◌, true, List, [], ◌∷◌, length, Some, Result, Ok, Err, refl, sym, ap, ◌∙◌, subst, subst₂}
 use Rattle.rewriting.specs.Terms.{Term, Terms, var, app, nil, cons, IsVariable}
 use Rattle.rewriting.specs.Positions.{Position, subterm, argument}
 use Rattle.rewriting.specs.Substitutions.{apply, apply_all}
 use Rattle.rewriting.specs.Variables.{occurs}
-use Rattle.rewriting.specs.Unifiers.{even, odd}
 use Rattle.rewriting.specs.Rules.{Rule, System}
 use Rattle.rewriting.proofs.Positions.{within}
 use Rattle.rewriting.proofs.Places.{subterm-apply}
@@ -14,6 +12,7 @@ use Rattle.unifier_run.specs.Run.{Outcome, unifier, clash, too_large, Runs}
 use Rattle.unifier_run.specs.Overlaps.{IsOutcomeOf}
 use Rattle.unifier_run.specs.Irreducible.{IsTrial, DoAllClash, IsFirstOutcome}
 use Rattle.unifier_run.proofs.Renamed.{names, stays, renamed_outcome as outcome_under, runs_with_names}
+use Rattle.unifier_run.proofs.Woven.{woven, woven_evens, woven_odds, woven_one_to_one}
 use Rattle.rewriting.specs.Lists.{AreDistinct}
 use Rattle.renumbering.specs.Rows.{naming}
 use Rattle.renumbering.proofs.Filling.{filling, filling_within, filling_one}
@@ -26,64 +25,12 @@ module _ (phi : ℕ → ℕ) (one : (x y : ℕ) → phi x ≡ phi y → x ≡ y)
   abbrev pub moved : Term → Term
   moved t = apply (names phi) t
 
-  -- even variables stay, odd ones get their new numbers
-  abbrev woven : ℕ → ℕ
-  woven n = if nat_eq (n % 2) 0 then n else 2 * phi (n / 2) + 1
-
-  woven_even : (k : ℕ) → woven (2 * k) ≡ 2 * k
-  woven_even k = let e : 2 * k % 2 ≡ 0 = omega arith in let t : nat_eq (2 * k % 2) 0 ≡ true = eq-eqb (2 * k % 2) 0 e in rw t refl
-
-  odd_test : (k : ℕ) → nat_eq ((2 * k + 1) % 2) 0 ≡ false
-  odd_test k = go (nat_eq ((2 * k + 1) % 2) 0) refl
-    where
-      go : (c : Bool) → nat_eq ((2 * k + 1) % 2) 0 ≡ c → nat_eq ((2 * k + 1) % 2) 0 ≡ false
-      go true e = absurd (let h = eqb-true ((2 * k + 1) % 2) 0 e in let one : (2 * k + 1) % 2 ≡ 1 = omega arith in omega (arith, h, one))
-      go false e = e
-
-  woven_odd : (k : ℕ) → woven (2 * k + 1) ≡ 2 * phi k + 1
-  woven_odd k = let half : (2 * k + 1) / 2 ≡ k = omega arith in rw (odd_test k, half) refl
-
-  is_odd : (n : ℕ) → nat_eq (n % 2) 0 ≡ false → n ≡ 2 * (n / 2) + 1
-  is_odd n e = let some : n % 2 ≢ 0 = λ z. false≢true (sym e ∙ eq-eqb (n % 2) 0 z) in omega (arith, some)
-
-  one_to_one : (x y : ℕ) → woven x ≡ woven y → x ≡ y
-  one_to_one x y e = go (nat_eq (x % 2) 0) refl (nat_eq (y % 2) 0) refl
-    where
-      go : (a : Bool) → nat_eq (x % 2) 0 ≡ a → (b : Bool) → nat_eq (y % 2) 0 ≡ b → x ≡ y
-      go true p true q = (let s : x ≡ y = rw (p, q) at e in s)
-      go true p false q = absurd (let s : x ≡ 2 * phi (y / 2) + 1 = rw (p, q) at e in let h = eqb-true (x % 2) 0 p in omega (arith, s, h))
-      go false p true q = absurd (let s : 2 * phi (x / 2) + 1 ≡ y = rw (p, q) at e in let h = eqb-true (y % 2) 0 q in omega (arith, s, h))
-      go false p false q =
-          (let s : 2 * phi (x / 2) + 1 ≡ 2 * phi (y / 2) + 1 = rw (p, q) at e in
-          let same = one (x / 2) (y / 2) (omega (arith, s)) in
-          let first = is_odd x p in
-          let second = is_odd y q in
-          first ∙ (ap (λ z. 2 * z + 1) same ∙ sym second))
-
-  mutual
-    even_stays : (t : Term) → apply (names woven) (apply even t) ≡ apply even t
-    even_stays (var x) = ap var (woven_even x)
-    even_stays (app f ts) = ap (app f) (evens_stay ts)
-
-    evens_stay : (ts : Terms) → apply_all (names woven) (apply_all even ts) ≡ apply_all even ts
-    evens_stay nil = refl
-    evens_stay (cons t ts) = ap₂ cons (even_stays t) (evens_stay ts)
-
-  mutual
-    odd_moves : (t : Term) → apply (names woven) (apply odd t) ≡ apply odd (moved t)
-    odd_moves (var x) = ap var (woven_odd x)
-    odd_moves (app f ts) = ap (app f) (odds_move ts)
-
-    odds_move : (ts : Terms) → apply_all (names woven) (apply_all odd ts) ≡ apply_all odd (apply_all (names phi) ts)
-    odds_move nil = refl
-    odds_move (cons t ts) = ap₂ cons (odd_moves t) (odds_move ts)
-
   abbrev renamed_outcome : Outcome → Outcome
-  renamed_outcome o = outcome_under woven stays o
+  renamed_outcome o = outcome_under (woven phi) stays o
 
   -- the outcome for a part is that for the part with its new numbers
   outcome_there : (l u : Term) (o : Outcome) → IsOutcomeOf l u o → IsOutcomeOf l (moved u) (renamed_outcome o)
-  outcome_there l u o h = subst₂ (λ p q. Runs [] (cons p nil) (cons q nil) (renamed_outcome o)) (even_stays l) (odd_moves u) (runs_with_names woven one_to_one h)
+  outcome_there l u o h = subst₂ (λ p q. Runs [] (cons p nil) (cons q nil) (renamed_outcome o)) (woven_evens phi l) (woven_odds phi u) (runs_with_names (woven phi) (woven_one_to_one phi one) h)
 
   argument_from : (ts : Terms) (k : ℕ) (s : Term) → argument (apply_all (names phi) ts) k ≡ Some s → (t : Term) × (argument ts k ≡ Some t) × (s ≡ moved t)
   argument_from nil k s e = absurd (cc)

@@ -1,9 +1,9 @@
 -- Adding the parts of a term, argument by argument.
-use Rattle.std.proofs.Common.{◌≡◌, ◌≢◌, ℕ, zero, suc, ◌+◌, ◌*◌, ◌^◌, ◌<◌, ◌≤◌, ◌⊎◌, inl, inr, min, Bool, true, false, refl, sym, ap, ◌∙◌, subst, List, [], ◌∷◌, length, get_or, slice_set, arith, nat_eq, if◌then◌else◌, eq-eqb, eqb-true}
+use Rattle.std.proofs.Common.{◌≡◌, ◌≢◌, ℕ, zero, suc, ◌+◌, ◌*◌, ◌^◌, ◌<◌, ◌≤◌, ◌⊎◌, inl, inr, min, Bool, true, false, refl, sym, ap, ◌∙◌, subst, List, [], ◌∷◌, length, get_or, slice_set, arith, nat_eq, eq-eqb, eqb-true}
 use Rattle.std.proofs.Math.Nat.{mul-le-mul_left, mul-le-mul_right, min-le_left}
 use Rattle.std.proofs.lemmas.Bool.{cases_lt}
-use Rattle.std.proofs.lemmas.List.{get_or-set_same, get_or-set_other, length-set}
-use Rattle.rewriting.specs.Terms.{Term, var, app, Terms, nil, cons}
+use Rattle.std.proofs.lemmas.List.{get_or-set_same, get_or-set_other}
+use Rattle.rewriting.specs.Terms.{Term, app, Terms, cons}
 use Rattle.interpretations.specs.Linear.{Interpretation, number_of}
 use Rattle.linear_interp.specs.Parts.{part, part_from, AreSmall, HasAdded, GoesAbove}
 
@@ -16,10 +16,6 @@ pub record SoFar (es : Interpretation) (n : ℕ) (f k : ℕ) (rest : Terms) (t :
 part_cons : (es : Interpretation) (i f k : ℕ) (t : Term) (ts : Terms) → part_from es i f k (cons t ts) ≡ number_of es f k * part es i t + part_from es i f (suc k) ts
 part_cons es zero f k t ts = refl
 part_cons es (suc x) f k t ts = refl
-
-part_nil : (es : Interpretation) (i f k : ℕ) → part_from es i f k nil ≡ 0
-part_nil es zero f k = refl
-part_nil es (suc x) f k = refl
 
 -- a factor above the limit by which a sum within it grew adds nothing
 below_cap : (m c q : ℕ) → min m c * suc q < c → min m c * suc q ≡ m * suc q
@@ -74,10 +70,6 @@ fails es n f k w s ss t old mid so e a =
     let capped = capped_less n w (part es a.place s) in
     record { place = a.place; within = lt; above = split_above (get_or mid a.place 0) (get_or old a.place 0) _ n w (part es a.place s) _ (part_from es a.place f (suc k) ss) (part es a.place t) (2 ^ 100) above capped (split ∙ ap (λ z. z * part es a.place s + part_from es a.place f (suc k) ss) (sym e)) before }
 
-pub finish : (es : Interpretation) (n f k : ℕ) (t : Term) (old new : List ℕ) → SoFar es n f k nil t old new → HasAdded es n t old new
-finish es n f k t old new so =
-    record { as_many = so.as_many; sums = λ i lt. (let before = so.sums i lt in let none = part_nil es i f k in let zero_left = ap (λ z. n * z) none in omega (arith, before, zero_left)); small = so.small }
-
 -- the parts of a symbol's term begin with its constant
 pub begin : (es : Interpretation) (n f w : ℕ) (ts : Terms) (old new : List ℕ) → AreSmall old → 0 < length old → w ≡ number_of es f 0 → new ≡ slice_set old 0 (get_or old 0 0 + n * w) → get_or old 0 0 + n * w ≤ 2 ^ 100
     → SoFar es n f 1 ts (app f ts) old new
@@ -92,44 +84,6 @@ begin es n f w ts (a ∷ old) new small lt e is le =
     within : (i : ℕ) → get_or ((a + n * w) ∷ old) i 0 ≤ 2 ^ 100
     within zero = le
     within (suc i) = small (suc i)
-
--- a variable has its coefficient alone
-part_variable : (es : Interpretation) (x : ℕ) → part es (suc x) (var x) ≡ 1
-part_variable es x = rw (eq-eqb x x refl) refl
-
-part_other : (es : Interpretation) (x y : ℕ) → (y ≡ x → ⊥) → part es (suc y) (var x) ≡ 0
-part_other es x y k = go (nat_eq y x) refl
-  where
-    go : (b : Bool) → nat_eq y x ≡ b → ◌≡◌ {A = ℕ} (if b then 1 else 0) 0
-    go true e = absurd (k (eqb-true y x e))
-    go false e = refl
-
-pub variable : (es : Interpretation) (n x : ℕ) (old new : List ℕ) → AreSmall old → suc x < length old → new ≡ slice_set old (suc x) (get_or old (suc x) 0 + n) → get_or old (suc x) 0 + n ≤ 2 ^ 100 → HasAdded es n (var x) old new
-variable es n x old new small lt is le =
-    record {
-      as_many = ap length is ∙ length-set old (suc x) _;
-      sums = λ i there. subst (λ xs. get_or xs i 0 ≡ get_or old i 0 + n * part es i (var x)) (sym is) (go i (nat_eq i (suc x)) refl);
-      small = λ i. subst (λ xs. get_or xs i 0 ≤ 2 ^ 100) (sym is) (within i (nat_eq i (suc x)) refl);
-    }
-  where
-    go : (i : ℕ) (b : Bool) → nat_eq i (suc x) ≡ b → get_or (slice_set old (suc x) (get_or old (suc x) 0 + n)) i 0 ≡ get_or old i 0 + n * part es i (var x)
-    go i true e =
-        let same : i ≡ suc x = eqb-true i (suc x) e in
-        let one = ap (λ z. n * z) (part_variable es x) in
-        subst (λ j. get_or (slice_set old (suc x) (get_or old (suc x) 0 + n)) j 0 ≡ get_or old j 0 + n * part es j (var x)) (sym same) (get_or-set_same old (suc x) _ 0 lt ∙ (let z : get_or old (suc x) 0 + n ≡ get_or old (suc x) 0 + n * part es (suc x) (var x) = omega (arith, one) in z))
-    go i false e =
-        let differ : i ≢ suc x = (λ z. let t = eq-eqb i (suc x) z in cc) in
-        let none : n * part es i (var x) ≡ 0 = nothing i differ in
-        get_or-set_other old (suc x) i _ 0 differ ∙ (let z : get_or old i 0 ≡ get_or old i 0 + n * part es i (var x) = omega (arith, none) in z)
-      where
-        nothing : (i : ℕ) → i ≢ suc x → n * part es i (var x) ≡ 0
-        nothing zero k = omega arith
-        nothing (suc y) k = let z = ap (λ z. n * z) (part_other es x y (λ same. k (ap suc same))) in omega (arith, z)
-
-    within : (i : ℕ) (b : Bool) → nat_eq i (suc x) ≡ b → get_or (slice_set old (suc x) (get_or old (suc x) 0 + n)) i 0 ≤ 2 ^ 100
-    within i true e =
-        let same : i ≡ suc x = eqb-true i (suc x) e in subst (λ j. get_or (slice_set old (suc x) (get_or old (suc x) 0 + n)) j 0 ≤ 2 ^ 100) (sym same) (let z = get_or-set_same old (suc x) (get_or old (suc x) 0 + n) 0 lt in omega (arith, z, le))
-    within i false e = let differ : i ≢ suc x = (λ z. let t = eq-eqb i (suc x) z in cc) in let z = get_or-set_other old (suc x) i (get_or old (suc x) 0 + n) 0 differ in let m = small i in omega (arith, z, m)
 
 pub raised_small : (old new : List ℕ) (i v : ℕ) → AreSmall old → i < length old → new ≡ slice_set old i v → v ≤ 2 ^ 100 → AreSmall new
 raised_small old new i v small lt is le j = subst (λ xs. get_or xs j 0 ≤ 2 ^ 100) (sym is) (go (nat_eq j i) refl)

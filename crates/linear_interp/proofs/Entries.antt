@@ -1,9 +1,9 @@
 -- The numbers of a symbol, in the entries of a program.
-use Rattle.std.proofs.Common.{◌≡◌, ℕ, suc, ◌+◌, ◌<◌, ◌≤◌, refl, sym, ap, ◌∙◌, subst, List, [], ◌∷◌, map, length, get_or, drop, zero, slice_get, option_map, unwrap_or, Vec, Global, arith}
+use Rattle.std.proofs.Common.{◌≡◌, ℕ, suc, ◌+◌, ◌<◌, ◌≤◌, refl, sym, ap, ◌∙◌, subst, List, [], ◌∷◌, map, length, get_or, zero, slice_get, option_map, unwrap_or, Vec, Global, arith}
 use Rattle.std.proofs.lemmas.List.{length-map}
 use Rattle.std.proofs.lemmas.Option.{slice_get-map, slice_get_read, unwrap_or-slice_get}
 use Rattle.rewriting.specs.Terms as math
-use Rattle.rewriting.specs.Terms.{app, count, terms_of, nil, cons}
+use Rattle.rewriting.specs.Terms.{app, count}
 use Rattle.term_core.specs.View.{view, views}
 use Rattle.term_core.specs.declared.terms.Term.{Term, Fun}
 use Rattle.term_core.proofs.Views.{view-Fun}
@@ -87,9 +87,3 @@ pub size_at : (args : List Term) (k : ℕ) (t : Term) → k < length args → t 
 size_at [] k t lt is = absurd (omega (arith, lt))
 size_at (a ∷ args) zero t lt is = let same = ap (λ z. math.size (view z)) is in omega (arith, same)
 size_at (a ∷ args) (suc k) t lt is = let rest = size_at args k t (omega (arith, lt)) is in omega (arith, rest)
-
-pub drop_all : (args : List Term) (k : ℕ) → length args ≤ k → views (drop k args) ≡ nil
-drop_all [] zero h = refl
-drop_all [] (suc k) h = refl
-drop_all (a ∷ args) zero h = absurd (omega (arith, h))
-drop_all (a ∷ args) (suc k) h = drop_all args k (omega (arith, h))

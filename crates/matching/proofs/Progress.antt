@@ -1,11 +1,10 @@
 -- Lists of patterns, matched one after another.
 use Rattle.std.proofs.Common.{◌≡◌, suc, List, [], ◌∷◌, length, refl, ap}
 use Rattle.rewriting.specs.Terms as math
-use Rattle.rewriting.specs.Terms.{var, app, nil, cons}
+use Rattle.rewriting.specs.Terms.{cons}
 use Rattle.rewriting.specs.Substitutions.{Bindings}
-use Rattle.rewriting.specs.Matching.{Extends, SolvesAll, IsLeastMatch, HasNoMatch}
+use Rattle.rewriting.specs.Matching.{Extends, SolvesAll, IsLeastMatch}
 use Rattle.rewriting.proofs.LeastMatches.{Solves-extends}
-use Rattle.matching.specs.Lists.{AreLeastMatches, HaveNoMatches}
 use Rattle.term_core.specs.View.{views}
 use Rattle.term_core.specs.declared.terms.Term.{Term}
 
@@ -15,21 +14,12 @@ pub record Progress (b c : Bindings) (ps ss rest others : math.Terms) : Type 0 w
   pub whole : (d : Bindings) → Extends c d → SolvesAll d rest others → SolvesAll d ps ss
   pub least : (d : Bindings) → Extends b d → SolvesAll d ps ss → Extends c d × SolvesAll d rest others
 
-pub begin : (b : Bindings) (ps ss : math.Terms) → Progress b b ps ss ps ss
-begin b ps ss = record { extends = λ x t h. h; whole = λ d e h. h; least = λ d e h. (e, h) }
-
 pub advance : (b c e : Bindings) (ps ss rest others : math.Terms) (p s : math.Term) → Progress b c ps ss (cons p rest) (cons s others) → IsLeastMatch c e p s → Progress b e ps ss rest others
 advance b c e ps ss rest others p s h m = record {
   extends = λ x t k. m.extends x t (h.extends x t k);
   whole = λ d f k. h.whole d (λ x t g. f x t (m.extends x t g)) (Solves-extends e d p s f m.solves, k);
   least = λ d f k. (let l = h.least d f k in (m.least d l.0 l.1.0, l.1.1));
 }
-
-pub finish : (b c : Bindings) (ps ss : math.Terms) → Progress b c ps ss nil nil → AreLeastMatches b c ps ss
-finish b c ps ss h = record { extends = h.extends; solves = h.whole c (λ x t k. k) tt; least = λ d f k. (h.least d f k).0 }
-
-pub fail : (b c : Bindings) (ps ss rest others : math.Terms) (p s : math.Term) → Progress b c ps ss (cons p rest) (cons s others) → HasNoMatch c p s → HaveNoMatches b ps ss
-fail b c ps ss rest others p s h no_match d f k = let l = h.least d f k in no_match d l.0 l.1.0
 
 pub lengths_differ : (d : Bindings) (ps ss : List Term) → SolvesAll d (views ps) (views ss) → length ps ≡ length ss
 lengths_differ d [] [] h = refl

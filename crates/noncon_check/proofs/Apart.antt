@@ -1,65 +1,48 @@
 -- From the redexes of both ends to the answer.
-use Rattle.std.proofs.Common.{◌≡◌, ◌≢◌, ◌⊎◌, inl, inr, ℕ, zero, suc, ◌+◌, ◌<◌, ◌≤◌, Bool, true, false, if◌then◌else◌, List, [], ◌∷◌, ◌++◌, map, length, drop, get_or, slice_get, Option, None, Some, Result, Ok, Err, OnOk, refl, sym, ap, ap₂, ◌∙◌, subst, arith}
+use Rattle.std.proofs.Common.{◌≡◌, ◌≢◌, ◌⊎◌, inl, inr, ℕ, zero, suc, ◌+◌, ◌<◌, ◌≤◌, if◌then◌else◌, List, [], ◌∷◌, ◌++◌, map, length, drop, get_or, slice_get, Option, None, Some, Result, Ok, Err, OnOk, refl, sym, ap, ap₂, ◌∙◌, subst, arith}
 use Rattle.std.proofs.lemmas.Option.{slice_get_within, get_or_from_slice_get}
-use Rattle.std.proofs.lemmas.List.{drop_more, length-append}
-use Rattle.std.specs.List.{list_any}
-use Rattle.std.specs.Prelude.{nat_eq}
+use Rattle.std.proofs.lemmas.List.{drop_more}
 use Rattle.rewriting.specs.Signatures.{IsOver}
 use Rattle.rewriting.specs.Systems.{IsSystem, IsWellFormed, AreRules}
-use Rattle.rewriting.specs.Terms.{size, size_all}
-use Rattle.rewriting.proofs.Common.{Term, Terms, var, app, nil, cons, Position, System, apply, with_new, with_variables, with_variables_of}
+use Rattle.rewriting.specs.Terms.{size}
+use Rattle.rewriting.proofs.Common.{Term, Position, System, apply, with_variables}
 use Rattle.rewriting.proofs.Laws.{well_formed}
 use Rattle.certificates.specs.Certificates.{Redex, Peak, by_normal_forms}
 use Rattle.certificates.specs.Evidence.{InfeasibilityEvidence}
 use Rattle.certificates.specs.Judging.{Derives}
 use Rattle.certificates.specs.Reasons.{EvidenceReason, Rejection, redex_extra}
 use Rattle.cert_model.specs.ReasonView.{rejected_view}
-use Rattle.rewriting.specs.Lists.{AreDistinct}
+use Rattle.rewriting.specs.Lists.{IsAmong, AreDistinct}
 use Rattle.renumbering.specs.Rows.{naming}
 use Rattle.term_core.specs.RuleView.{rule_view, AreCounted}
 use Rattle.term_core.specs.SystemView.{AreSound}
 use Rattle.term_core.specs.declared.systems.Rule as program
 use Rattle.validity.specs.declared.CheckError.{CheckError}
 use Rattle.validity.specs.declared.CheckError.TheVariants.{Rejected, NoMemory}
-use Rattle.valid_certificates.specs.Peaks.{RedexPlace, IsRedex, IsEarlierRedex, IsListed, AreRedexes, chosen, IsRedexJudged, AreRefuted, AreNotRefuted, IsMissed, AreNotShownApart, LeadsTo, IsPeakRejected, first_fails, second_fails, not_apart}
+use Rattle.valid_certificates.specs.Peaks.{RedexPlace, IsRedex, IsEarlierRedex, AreRedexes, chosen, IsRedexJudged, AreRefuted, AreNotRefuted, IsMissed, AreNotShownApart, LeadsTo, IsPeakRejected, first_fails, second_fails, not_apart}
 use Rattle.valid_certificates.specs.Laws.{ReachesApart, ValidPeaksReachApart}
 use Rattle.validity.specs.Answers.{PeakAnswers}
 use Rattle.noncon_check.specs.Judged.{IsJudgedAt}
 use Rattle.noncon_check.specs.Redexes.{redexes, AreRedexesOf}
 use Rattle.noncon_check.specs.Walks.{Judgement, IsEntry, IsAbsent, Pass, Fail, PlacesAnswer}
 use Rattle.noncon_check.specs.Ends.{FirstAnswers, SecondAnswers, ApartAnswers, AreJudgedFrom, EndAnswers}
-use Rattle.noncon_check.proofs.Listed.{listed_left, listed_right, listed_either, sorted_append}
+use Rattle.rewriting.proofs.Lengths.{variables_length}
+use Rattle.rewriting.proofs.Lists.{among_left, among_right, among_either, sorted_append}
 use Rattle.noncon_check.proofs.Numbers.{AreBelow, redex_judged, same_redexes}
 use Rattle.noncon_check.proofs.Places.{redexes_are}
-use Rattle.noncon_check.proofs.Renaming.{size-renamed}
+use Rattle.unifier_run.proofs.Renamed.{size-names}
 use Rattle.noncon_check.proofs.Walks.{pass_append, pass_fail, fail_append, pass_to, fail_to, answers_to}
 
 -- a row is no longer than its term
-length-with_new : (xs : List ℕ) (y : ℕ) → length (with_new xs y) ≤ length xs + 1
-length-with_new xs y = go (list_any (nat_eq y) xs)
-  where
-    go : (b : Bool) → length (if b then xs else (xs ++ y ∷ [])) ≤ length xs + 1
-    go true = omega arith
-    go false = let h = length-append xs (y ∷ []) in omega (arith, h)
-
-mutual
-  length-with_variables : (xs : List ℕ) (t : Term) → length (with_variables xs t) ≤ length xs + size t
-  length-with_variables xs (var y) = length-with_new xs y
-  length-with_variables xs (app f ts) = let h = length-with_variables_of xs ts in omega (arith, h)
-
-  length-with_variables_of : (xs : List ℕ) (ts : Terms) → length (with_variables_of xs ts) ≤ length xs + size_all ts
-  length-with_variables_of xs nil = omega arith
-  length-with_variables_of xs (cons t ts) = let h = length-with_variables xs t in let k = length-with_variables_of (with_variables xs t) ts in omega (arith, h, k)
-
 pub few_names : (t : Term) (before row : List ℕ) (n : ℕ) → before ≡ [] → row ≡ with_variables before t → size t ≤ 10000 → n ≡ length row → n ≤ 10000
 few_names t before row n none is fits e =
-    let bound = length-with_variables before t in
+    let bound = variables_length before t in
     let zero_long : length before ≡ 0 = ap length none in
     let long = e ∙ ap length is in
     omega (arith, bound, zero_long, long, fits)
 
 pub numbered_size : (t n : Term) (row : List ℕ) → t ≡ apply (naming row) n → size t ≤ 10000 → size n ≤ 10000
-numbered_size t n row is fits = let same = ap size is ∙ size-renamed (λ m. get_or row m 0) n in omega (arith, same, fits)
+numbered_size t n row is fits = let same = ap size is ∙ size-names (λ m. get_or row m 0) n in omega (arith, same, fits)
 
 -- the redexes of an end, judged by those of the numbered end
 module _ (sys : System) (good : IsSystem sys) (row : List ℕ) (own : ℕ) (long : own ≡ length row) (distinct : AreDistinct row) (t n : Term) (is : t ≡ apply (naming row) n) (below : AreBelow (length row) n) where
@@ -108,30 +91,30 @@ module _ (sys : System) (u v : Term) where
 
   -- both lists of redexes make the list of both ends
   pub both : (rs ss : List RedexPlace) → AreRedexesOf sys 1 u rs → AreRedexesOf sys 2 v ss → AreRedexes sys u v (rs ++ ss)
-  both rs ss a b = record { each = each; whole = whole; sorted = sorted_append rs ss a.sorted b.sorted earlier }
+  both rs ss a b = record { each = each; whole = whole; sorted = sorted_append IsEarlierRedex rs ss a.sorted b.sorted earlier }
     where
-      each : (r : RedexPlace) → IsListed r (rs ++ ss) → IsRedex sys u v r
-      each r l = go (listed_either r rs ss l)
+      each : (r : RedexPlace) → IsAmong r (rs ++ ss) → IsRedex sys u v r
+      each r l = go (among_either r rs ss l)
         where
-          go : IsListed r rs ⊎ IsListed r ss → IsRedex sys u v r
+          go : IsAmong r rs ⊎ IsAmong r ss → IsRedex sys u v r
           go (inl k) = inl (a.each r k)
           go (inr k) = inr (b.each r k)
 
-      whole : (r : RedexPlace) → IsRedex sys u v r → IsListed r (rs ++ ss)
+      whole : (r : RedexPlace) → IsRedex sys u v r → IsAmong r (rs ++ ss)
       whole r (inl (w, m)) =
-          listed_left r rs ss
-          (subst (λ (k : ℕ). IsListed (record { which = k; position = r.position; rule = r.rule }) rs) (sym w) (a.whole r.position r.rule m))
+          among_left r rs ss
+          (subst (λ (k : ℕ). IsAmong (record { which = k; position = r.position; rule = r.rule }) rs) (sym w) (a.whole r.position r.rule m))
       whole r (inr (w, m)) =
-          listed_right r rs ss
-          (subst (λ (k : ℕ). IsListed (record { which = k; position = r.position; rule = r.rule }) ss) (sym w) (b.whole r.position r.rule m))
+          among_right r rs ss
+          (subst (λ (k : ℕ). IsAmong (record { which = k; position = r.position; rule = r.rule }) ss) (sym w) (b.whole r.position r.rule m))
 
-      earlier : (x y : RedexPlace) → IsListed x rs → IsListed y ss → IsEarlierRedex x y
+      earlier : (x y : RedexPlace) → IsAmong x rs → IsAmong y ss → IsEarlierRedex x y
       earlier x y l k = let one = (a.each x l).0 in let two = (b.each y k).0 in inl (omega (arith, one, two))
 
-  first_own : (rs : List RedexPlace) → AreRedexesOf sys 1 u rs → (r : RedexPlace) → IsListed r rs → (e : InfeasibilityEvidence) (o : Option EvidenceReason) → IsRedexJudged sys u r e o → J r e o
+  first_own : (rs : List RedexPlace) → AreRedexesOf sys 1 u rs → (r : RedexPlace) → IsAmong r rs → (e : InfeasibilityEvidence) (o : Option EvidenceReason) → IsRedexJudged sys u r e o → J r e o
   first_own rs a r l e o h = subst (λ k. IsRedexJudged sys (chosen u v k) r e o) (sym (a.each r l).0) h
 
-  second_own : (ss : List RedexPlace) → AreRedexesOf sys 2 v ss → (r : RedexPlace) → IsListed r ss → (e : InfeasibilityEvidence) (o : Option EvidenceReason) → IsRedexJudged sys v r e o → J r e o
+  second_own : (ss : List RedexPlace) → AreRedexesOf sys 2 v ss → (r : RedexPlace) → IsAmong r ss → (e : InfeasibilityEvidence) (o : Option EvidenceReason) → IsRedexJudged sys v r e o → J r e o
   second_own ss b r l e o h = subst (λ k. IsRedexJudged sys (chosen u v k) r e o) (sym (b.each r l).0) h
 
   refuted_step : (es : List Redex) (at : ℕ) (r : RedexPlace) (rs : List RedexPlace) → IsEntry J [] es at r None → AreRefuted sys u v rs (drop (suc at) es) → AreRefuted sys u v (r ∷ rs) (drop at es)

@@ -1,53 +1,43 @@
 -- Values for the variables without one, and the instances of conditions.
-use Rattle.std.proofs.Common.{ℕ, zero, suc, ◌≡◌, ◌⊎◌, inl, inr, ◌↔◌, ◌+◌, ◌<◌, ◌≤◌, ◌^◌, Bool, true, false, cond, Option, None, Some, unwrap_or, option_map, List, [], ◌∷◌, ◌++◌, map, length, drop, get_or, nat_cmp, refl, sym, ap, ap₂, ◌∙◌, subst, arith, Equal, append_assoc, Result, Ok, Err, OnOk}
+use Rattle.std.proofs.Common.{ℕ, zero, suc, ◌≡◌, ◌⊎◌, inl, inr, ◌↔◌, ◌+◌, ◌<◌, ◌≤◌, ◌^◌, Bool, true, false, cond, Option, None, Some, unwrap_or, option_map, List, [], ◌∷◌, ◌++◌, map, length, drop, get_or, nat_cmp, refl, sym, ap, ap₂, ◌∙◌, subst, arith, Result, Ok, Err, OnOk}
 use Rattle.std.specs.Ordering.{eq_by_cmp}
 use Rattle.std.proofs.lemmas.Bool.{cases_lt}
-use Rattle.std.proofs.lemmas.List.{drop_more, map-append, length-map}
-use Rattle.std.specs.Cmp.{nat_cmp_total, nat_cmp_is, Equal-is}
-use Rattle.std.specs.FinMap.{get, insert, get-insert, nat_cmp-IsAntisymmetric}
-use Rattle.rewriting.specs.Systems.{CountsFrom, Each, terms_of_rule, rule_variables}
+use Rattle.std.proofs.lemmas.List.{drop_more, length-map}
+use Rattle.std.specs.Cmp.{nat_cmp_total}
+use Rattle.std.specs.FinMap.{get, insert, get-insert}
+use Rattle.rewriting.specs.Systems.{Each, terms_of_rule, rule_variables}
 use Rattle.rewriting.specs.Terms.{Fits}
-use Rattle.rewriting.specs.Overlaps.{condition_under, conditions_under}
+use Rattle.rewriting.specs.Overlaps.{conditions_under}
 use Rattle.rewriting.proofs.Common.{Term, var, Substitution, Bindings, values_of, occurs, occurs_in, Condition, System, sides, Signature}
 use Rattle.rewriting.proofs.Instances.{apply-agree, or_left, or_right}
-use Rattle.rewriting.specs.Lists.{IsAmong}
 use Rattle.rewriting.proofs.Variables.{variables_have_all}
 use Rattle.rewriting.proofs.Lists.{counted_below}
 use Rattle.rewriting.proofs.Conditions.{length-conditions_under}
 use Rattle.certificates.specs.Sizes.{DoConditionsFit}
 use Rattle.term_core.specs.RuleView.{condition_view, rule_view}
 use Rattle.term_core.specs.SystemView.{IsSound}
-use Rattle.term_core.specs.View.{view}
 use Rattle.term_core.specs.declared.systems.Cond as program_cond
 use Rattle.term_core.specs.declared.systems.Rule as program
 use Rattle.certificates.specs.Evidence.{InfeasibilityEvidence}
 use Rattle.cert_model.specs.ReasonView.{evidence_reason_view}
+use Rattle.rewriting.proofs.Finite.{key_is, same_key}
 use Rattle.refuter.specs.Answers.{RefutesAnswers}
 use Rattle.refuter.specs.declared.Refusal.{Refusal}
 use Rattle.refuter.specs.declared.Refusal.TheVariants.{Reason, NoMemory}
 use Rattle.valid_certificates.specs.Evidence.{IsInfeasibilityJudged}
-use Rattle.noncon_check.specs.Judged.{value_or_new, with_new, AreJudged}
-
-same_key : (x y : ℕ) → x ≡ y → eq_by_cmp nat_cmp x y ≡ true
-same_key x y e = (Equal-is (nat_cmp x y)).1 (sym (nat_cmp_is x y Equal e))
-
-key_is : (x y : ℕ) → eq_by_cmp nat_cmp x y ≡ true → x ≡ y
-key_is x y e = nat_cmp-IsAntisymmetric x y ((Equal-is (nat_cmp x y)).0 e)
+use Rattle.noncon_check.specs.Judged.{value_or_new, match_or_new, AreJudged}
 
 other_key : (x y : ℕ) → (x ≡ y → ⊥) → eq_by_cmp nat_cmp x y ≡ false
 other_key x y h = go (eq_by_cmp nat_cmp x y) refl
   where
     go : (b : Bool) → eq_by_cmp nat_cmp x y ≡ b → eq_by_cmp nat_cmp x y ≡ false
-    go true e = absurd (h (key_is x y e))
+    go true e = absurd (h (key_is x y true e refl))
     go false e = e
 
 -- the variables below k have values, the others are as before
 pub record IsCompleted (n : ℕ) (before after : Bindings) (k : ℕ) : Type 0 where
   pub done : (x : ℕ) → x < k → get after x ≡ Some (value_or_new n x (get before x))
   pub behind : (x : ℕ) → k ≤ x → get after x ≡ get before x
-
-pub completed_none : (n : ℕ) (a : Bindings) → IsCompleted n a a 0
-completed_none n a = record { done = λ x l. absurd (omega (arith, l)); behind = λ x l. refl }
 
 module _ (n : ℕ) (a b : Bindings) (k : ℕ) (h : IsCompleted n a b k) where
   -- one more
@@ -63,9 +53,6 @@ module _ (n : ℕ) (a b : Bindings) (k : ℕ) (h : IsCompleted n a b k) where
           go : (x < k) ⊎ (k ≤ x) → get c x ≡ Some (value_or_new n x (get a x))
           go (inl less) = others x (λ e. omega (arith, less, e)) ∙ h.done x less
           go (inr more) = let same : k ≡ x = omega (arith, l, more) in subst (λ y. get c y ≡ Some (value_or_new n y (get a y))) same at_k
-
-pub kept_here : {X : Type 0} (f : X → Term) (o : Option X) (x : X) (b : Bindings) (n k : ℕ) → option_map f o ≡ get b k → o ≡ Some x → get b k ≡ Some (value_or_new n k (get b k))
-kept_here f o x b n k e is = let there : get b k ≡ Some (f x) = sym e ∙ ap (option_map f) is in there ∙ ap (λ q. Some (value_or_new n k q)) (sym there)
 
 pub new_here : {T E X : Type 0} (r : Result T E) (f : X → Term) (o : Option X) (b c : Bindings) (n k : ℕ) (u : Term) → u ≡ var (n + k) → option_map f o ≡ get b k → o ≡ None → OnOk r (c ≡ insert b k u)
     → OnOk r (get c k ≡ Some (value_or_new n k (get b k)))
@@ -108,9 +95,6 @@ module _ (arities : Signature) (r : program.Rule) (sound : IsSound arities r) wh
   pub rule_fits : DoConditionsFit (map condition_view r.conds.items)
   rule_fits = conditions_fit (map condition_view r.conds.items) sound.rule.fits.1.1
 
-  pub few_vars : (n : ℕ) → n ≤ 10000 → n + r.vars ≤ 2 ^ 32
-  few_vars n l = let few = sound.rule.few_variables in let is = sound.counted in omega (arith, few, is, l)
-
   pub side_below : (x : ℕ) → occurs_in x (sides (map condition_view r.conds.items)) ≡ true → x < r.vars
   side_below x o =
       let in_rule = or_right (occurs x (rule_view r).left) _ (or_right (occurs x (rule_view r).right) _ o) in
@@ -126,9 +110,9 @@ module _ (arities : Signature) (r : program.Rule) (sound : IsSound arities r) wh
 
   -- completed values are those of the match, and new variables
   pub completed_conditions : (n : ℕ) (before after : Bindings) → ((k : ℕ) → k < r.vars → get after k ≡ Some (value_or_new n k (get before k)))
-      → conditions_under (values_of after) (map condition_view r.conds.items) ≡ conditions_under (with_new n before) (map condition_view r.conds.items)
+      → conditions_under (values_of after) (map condition_view r.conds.items) ≡ conditions_under (match_or_new n before) (map condition_view r.conds.items)
   completed_conditions n before after h =
-      conditions_agree (values_of after) (with_new n before) (map condition_view r.conds.items) (λ x o. ap (λ q. unwrap_or q (var x)) (h x (side_below x o)))
+      conditions_agree (values_of after) (match_or_new n before) (map condition_view r.conds.items) (λ x o. ap (λ q. unwrap_or q (var x)) (h x (side_below x o)))
 
 -- one condition more, of which the instance is d
 module _ (s : Substitution) (conds : List program_cond.Cond) (i : ℕ) (c : program_cond.Cond) (low : i < length conds) (here : c ≡ get_or conds i c) where
@@ -137,30 +121,6 @@ module _ (s : Substitution) (conds : List program_cond.Cond) (i : ℕ) (c : prog
 
   split : map condition_view (drop i conds) ≡ condition_view c ∷ map condition_view (drop (i + 1) conds)
   split = ap (map condition_view) (drop_first conds i c low here)
-
-  rest_split : rest i ≡ condition_under s (condition_view c) ∷ rest (i + 1)
-  rest_split = ap (conditions_under s) split
-
-  pub side_fits : DoConditionsFit (map condition_view (drop i conds)) → Fits (view c.left) × Fits (view c.right) × DoConditionsFit (map condition_view (drop (i + 1) conds))
-  side_fits h = subst DoConditionsFit split h
-
-  pub out_more : (out : List program_cond.Cond) (d : program_cond.Cond) (whole : List Condition) → map condition_view out ++ rest i ≡ whole → condition_view d ≡ condition_under s (condition_view c)
-      → map condition_view (out ++ d ∷ []) ++ rest (i + 1) ≡ whole
-  out_more out d whole e is =
-      ap (λ z. z ++ rest (i + 1)) (map-append condition_view out (d ∷ [])) ∙ append_assoc (map condition_view out) (condition_view d ∷ []) (rest (i + 1))
-      ∙ ap (λ z. map condition_view out ++ z) (ap (λ z. z ∷ rest (i + 1)) is ∙ sym rest_split) ∙ e
-
-  rest_fit : Fits (condition_under s (condition_view c)).left × Fits (condition_under s (condition_view c)).right × DoConditionsFit (rest (i + 1)) → DoConditionsFit (rest (i + 1))
-  rest_fit (l, r, h) = h
-
-  pub fit_more : (whole : Type 0) → DoConditionsFit (rest i) ↔ whole → Fits (condition_under s (condition_view c)).left → Fits (condition_under s (condition_view c)).right → DoConditionsFit (rest (i + 1)) ↔ whole
-  fit_more whole (to, from) l r = (λ h. to (subst DoConditionsFit (sym rest_split) (l, r, h)), λ w. rest_fit (subst DoConditionsFit rest_split (from w)))
-
-  pub too_large : (whole : Type 0) → DoConditionsFit (rest i) ↔ whole → (Fits (condition_under s (condition_view c)).left → Fits (condition_under s (condition_view c)).right → ⊥) → whole → ⊥
-  too_large whole (to, from) large w = go (subst DoConditionsFit rest_split (from w))
-    where
-      go : Fits (condition_under s (condition_view c)).left × Fits (condition_under s (condition_view c)).right × DoConditionsFit (rest (i + 1)) → ⊥
-      go (l, r, k) = large l r
 
 -- what is answered for conditions that fit
 pub judged_fitting : (sys : System) (ds : List program_cond.Cond) (cs : List Condition) (e : InfeasibilityEvidence) (a : Result (Unit {0}) Refusal) → map condition_view ds ≡ cs → DoConditionsFit cs

@@ -1,9 +1,7 @@
 pub mod Deciding
 pub mod Hits
-pub mod Listed
 pub mod Completing
 pub mod Walks
-pub mod Bound
 pub mod Rules
 pub mod Parts
 pub mod Places

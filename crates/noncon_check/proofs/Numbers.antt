@@ -21,7 +21,7 @@ use Rattle.renumbering.specs.Rows.{naming}
 use Rattle.renumbering.proofs.Spreads.{spread_past, spread_one_to_one, odd_is_spread}
 use Rattle.valid_certificates.proofs.Ends.{unmoved}
 use Rattle.valid_certificates.specs.Peaks.{RedexPlace, MatchesAt, value_or_own, at_redex, IsRedexJudged}
-use Rattle.noncon_check.specs.Judged.{value_or_new, with_new, AreJudged, IsJudgedAt}
+use Rattle.noncon_check.specs.Judged.{value_or_new, match_or_new, AreJudged, IsJudgedAt}
 use Rattle.noncon_check.specs.Redexes.{AreRedexesOf}
 use Rattle.noncon_check.proofs.Renaming.{are_judged_to}
 
@@ -164,7 +164,7 @@ module _ (row : List ℕ) (distinct : AreDistinct row) (t n : Term) (is : t ≡ 
   value_spread m k (Some u) e h = odd_is_spread row (apply (naming row) u) u refl (h u e)
 
   values_spread : (sys : System) (i : ℕ) (p : Position) (r : Rule) (m : Bindings) → RuleMatches sys n i p r m → (k : ℕ)
-      → at_redex (moved (naming row) m) k ≡ apply (spreading row) (with_new (length row) m k)
+      → at_redex (moved (naming row) m) k ≡ apply (spreading row) (match_or_new (length row) m k)
   values_spread sys i p r m h k =
       ap (value_or_own k) (get-moved (naming row) m k)
       ∙ value_spread m k (get m k) refl
@@ -183,8 +183,8 @@ module _ (row : List ℕ) (distinct : AreDistinct row) (t n : Term) (is : t ≡ 
       let m = moved (naming row) h.match in
       let cs = conditions_under (at_redex m) h.rule.conditions in
       let there : RuleMatches sys t r.rule r.position h.rule m = subst (λ z. RuleMatches sys z r.rule r.position h.rule m) (sym is) (moved_matches (naming row) sys n r.rule r.position h.rule h.match h.matches) in
-      let judged = are_judged_to (spread row) (spread_one_to_one row distinct) sys (conditions_under (with_new (length row) h.match) h.rule.conditions) e o h.judged in
-      let same : conditions_under (spreading row) (conditions_under (with_new (length row) h.match) h.rule.conditions) ≡ cs = sym (spread_conditions (at_redex m) (with_new (length row) h.match) (values_spread sys r.rule r.position h.rule h.match h.matches) h.rule.conditions) in
+      let judged = are_judged_to (spread row) (spread_one_to_one row distinct) sys (conditions_under (match_or_new (length row) h.match) h.rule.conditions) e o h.judged in
+      let same : conditions_under (spreading row) (conditions_under (match_or_new (length row) h.match) h.rule.conditions) ≡ cs = sym (spread_conditions (at_redex m) (match_or_new (length row) h.match) (values_spread sys r.rule r.position h.rule h.match h.matches) h.rule.conditions) in
       (cs, record { rule = h.rule; match = m; matches = there; are = refl }, subst (λ z. AreJudged sys z e o) same judged)
 
   -- matches of the numbered term are those of the term

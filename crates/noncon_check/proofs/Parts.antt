@@ -3,7 +3,7 @@ use Rattle.std.proofs.Common.{ℕ, suc, ◌≡◌, ◌<◌, ◌≤◌, ◌+◌, 
 use Rattle.std.proofs.Math.Seq.{take-append_seam}
 use Rattle.std.proofs.lemmas.List.{length-append, map-append, get_or_default}
 use Rattle.rewriting.specs.Terms as math
-use Rattle.rewriting.specs.Terms.{size, size_all, var, app, cons, nil}
+use Rattle.rewriting.specs.Terms.{size, size_all, var, app}
 use Rattle.rewriting.specs.Positions.{Position, argument}
 use Rattle.rewriting.specs.Rules.{System, rule_at}
 use Rattle.rule_index.specs.Roots.{rules_with_root}
@@ -11,8 +11,8 @@ use Rattle.certificates.specs.Certificates.{Redex}
 use Rattle.certificates.specs.Evidence.{InfeasibilityEvidence}
 use Rattle.certificates.specs.Reasons.{EvidenceReason}
 use Rattle.term_core.specs.View.{view, views}
-use Rattle.term_core.specs.declared.terms.Term.{Term, Var, Fun}
-use Rattle.term_core.proofs.Views.{view-Var, view-Fun, views-drop, argument_within}
+use Rattle.term_core.specs.declared.terms.Term.{Term, Fun}
+use Rattle.term_core.proofs.Views.{view-Fun, views-drop, argument_within}
 use Rattle.validity.specs.declared.CheckError.{CheckError}
 use Rattle.valid_certificates.specs.Peaks.{RedexPlace}
 use Rattle.noncon_check.specs.Judged.{IsJudgedAt}
@@ -91,9 +91,6 @@ popped path mid after rest x len pushed same long taken =
 module _ (sys : System) (w own : ℕ) (p : Position) (es : List Redex) (t : Term) where
   abbrev J : math.Term → Judgement
   J s = IsJudgedAt sys own s
-
-  pub variable_answers : (x at : ℕ) → t ≡ Var x → PlacesAnswer (J (view t)) p es at (redexes sys w (view t)) (Ok at)
-  variable_answers x at is = subst (λ z. PlacesAnswer (J z) p es at (redexes sys w z) (Ok at)) (sym (ap view is ∙ view-Var x)) refl
 
   module _ (f : ℕ) (v : Vec Term Global) (items : List Term) (is : t ≡ Fun f v) (value : items ≡ v.items) where
     whole : view t ≡ app f (views items)

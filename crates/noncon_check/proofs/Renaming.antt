@@ -1,12 +1,13 @@
 -- Conditions whose variables are renamed one to one have the same judgement.
-use Rattle.std.proofs.Common.{ℕ, zero, suc, ◌≡◌, inl, inr, ◌+◌, ◌*◌, ◌/◌, ◌%◌, ◌≤◌, max, Bool, true, false, nat_eq, if◌then◌else◌, List, [], ◌∷◌, Option, None, Some, refl, sym, ap, ap₂, ◌∙◌, subst, subst₂, arith, eqb-true, eq-eqb}
-use Rattle.rewriting.specs.Terms.{Term, Terms, var, app, nil, cons, size, size_all, depth, depth_all, Fits}
+use Rattle.std.proofs.Common.{ℕ, ◌≡◌, inl, inr, List, [], ◌∷◌, Option, None, Some, refl, sym, ap, ◌∙◌, subst, subst₂}
+use Rattle.rewriting.specs.Terms.{Term, Terms, var, app, nil, cons}
 use Rattle.rewriting.specs.Substitutions.{apply, apply_all}
-use Rattle.rewriting.specs.Unifiers.{even, odd}
+use Rattle.rewriting.specs.Unifiers.{odd}
 use Rattle.rewriting.specs.Rules.{Condition, System, left_sides, right_sides}
 use Rattle.rewriting.specs.Overlaps.{conditions_under}
 use Rattle.unifier_run.specs.Run.{Outcome, unifier, clash, too_large, IsOutcome}
-use Rattle.unifier_run.proofs.Renamed.{names, stays, renamed_outcome, runs_with_names}
+use Rattle.unifier_run.proofs.Renamed.{names, stays, renamed_outcome, runs_with_names, fits_with_names, fits_without_names}
+use Rattle.unifier_run.proofs.Woven.{woven, all_woven_evens, all_woven_odds, woven_one_to_one}
 use Rattle.caps.specs.Caps.{Cap, Caps, any, all_filled, IsCapOf, AreCapsOf, IsCapLarge, AreCapsLarge}
 use Rattle.caps.specs.Evidence.{IsCapOutcome, JudgedByCaps}
 use Rattle.automata.proofs.Renamed.{by_automaton_to}
@@ -26,37 +27,13 @@ module _ (rho : ℕ → ℕ) where
   abbrev pub conditions_renamed : List Condition → List Condition
   conditions_renamed cs = conditions_under (names rho) cs
 
-  mutual
-    pub size-renamed : (t : Term) → size (renamed t) ≡ size t
-    size-renamed (var x) = refl
-    size-renamed (app f ts) = ap suc (size_all-renamed ts)
-
-    size_all-renamed : (ts : Terms) → size_all (all_renamed ts) ≡ size_all ts
-    size_all-renamed nil = refl
-    size_all-renamed (cons t ts) = ap₂ (λ a b. a + b) (size-renamed t) (size_all-renamed ts)
-
-  mutual
-    depth-renamed : (t : Term) → depth (renamed t) ≡ depth t
-    depth-renamed (var x) = refl
-    depth-renamed (app f ts) = ap suc (depth_all-renamed ts)
-
-    depth_all-renamed : (ts : Terms) → depth_all (all_renamed ts) ≡ depth_all ts
-    depth_all-renamed nil = refl
-    depth_all-renamed (cons t ts) = ap₂ max (depth-renamed t) (depth_all-renamed ts)
-
-  fits_to : (t : Term) → Fits t → Fits (renamed t)
-  fits_to t f = record { nodes = subst (λ n. n ≤ 10000) (sym (size-renamed t)) f.nodes; levels = subst (λ n. n ≤ 400) (sym (depth-renamed t)) f.levels }
-
-  fits_from : (t : Term) → Fits (renamed t) → Fits t
-  fits_from t f = record { nodes = subst (λ n. n ≤ 10000) (size-renamed t) f.nodes; levels = subst (λ n. n ≤ 400) (depth-renamed t) f.levels }
-
   fit_to : (cs : List Condition) → DoConditionsFit cs → DoConditionsFit (conditions_renamed cs)
   fit_to [] h = tt
-  fit_to (c ∷ cs) (l, r, h) = (fits_to c.left l, fits_to c.right r, fit_to cs h)
+  fit_to (c ∷ cs) (l, r, h) = (fits_with_names rho c.left l, fits_with_names rho c.right r, fit_to cs h)
 
   fit_from : (cs : List Condition) → DoConditionsFit (conditions_renamed cs) → DoConditionsFit cs
   fit_from [] h = tt
-  fit_from (c ∷ cs) (l, r, h) = (fits_from c.left l, fits_from c.right r, fit_from cs h)
+  fit_from (c ∷ cs) (l, r, h) = (fits_without_names rho c.left l, fits_without_names rho c.right r, fit_from cs h)
 
   -- holes do not tell the variables that they stand for
   module _ (sys : System) where
@@ -88,74 +65,15 @@ module _ (rho : ℕ → ℕ) where
   rights-renamed [] = refl
   rights-renamed (c ∷ cs) = ap (cons (renamed c.right)) (rights-renamed cs)
 
-  -- even variables stay, odd ones are renamed
-  abbrev woven : ℕ → ℕ
-  woven n = if nat_eq (n % 2) 0 then n else 2 * rho (n / 2) + 1
-
-  woven_even : (k : ℕ) → woven (2 * k) ≡ 2 * k
-  woven_even k = let e : 2 * k % 2 ≡ 0 = omega arith in let t : nat_eq (2 * k % 2) 0 ≡ true = eq-eqb (2 * k % 2) 0 e in rw t refl
-
-  odd_test : (k : ℕ) → nat_eq ((2 * k + 1) % 2) 0 ≡ false
-  odd_test k = go (nat_eq ((2 * k + 1) % 2) 0) refl
-    where
-      go : (c : Bool) → nat_eq ((2 * k + 1) % 2) 0 ≡ c → nat_eq ((2 * k + 1) % 2) 0 ≡ false
-      go true e = absurd (let h = eqb-true ((2 * k + 1) % 2) 0 e in let one : (2 * k + 1) % 2 ≡ 1 = omega arith in omega (arith, h, one))
-      go false e = e
-
-  woven_odd : (k : ℕ) → woven (2 * k + 1) ≡ 2 * rho k + 1
-  woven_odd k = let half : (2 * k + 1) / 2 ≡ k = omega arith in rw (odd_test k, half) refl
-
-  mutual
-    woven_evens : (t : Term) → apply (names woven) (apply even t) ≡ apply even t
-    woven_evens (var x) = ap var (woven_even x)
-    woven_evens (app f ts) = ap (app f) (all_woven_evens ts)
-
-    all_woven_evens : (ts : Terms) → apply_all (names woven) (apply_all even ts) ≡ apply_all even ts
-    all_woven_evens nil = refl
-    all_woven_evens (cons t ts) = ap₂ cons (woven_evens t) (all_woven_evens ts)
-
-  mutual
-    woven_odds : (t : Term) → apply (names woven) (apply odd t) ≡ apply odd (renamed t)
-    woven_odds (var x) = ap var (woven_odd x)
-    woven_odds (app f ts) = ap (app f) (all_woven_odds ts)
-
-    all_woven_odds : (ts : Terms) → apply_all (names woven) (apply_all odd ts) ≡ apply_all odd (all_renamed ts)
-    all_woven_odds nil = refl
-    all_woven_odds (cons t ts) = ap₂ cons (woven_odds t) (all_woven_odds ts)
-
   module _ (one_to_one : (x y : ℕ) → rho x ≡ rho y → x ≡ y) where
-    woven_one_to_one : (x y : ℕ) → woven x ≡ woven y → x ≡ y
-    woven_one_to_one x y e = go (nat_eq (x % 2) 0) refl (nat_eq (y % 2) 0) refl e
-      where
-        half : (n : ℕ) → nat_eq (n % 2) 0 ≡ false → n ≡ 2 * (n / 2) + 1
-        half n h = other (nat_eq (n % 2) 1) refl
-          where
-            other : (b : Bool) → nat_eq (n % 2) 1 ≡ b → n ≡ 2 * (n / 2) + 1
-            other true k = let one = eqb-true (n % 2) 1 k in omega (arith, one)
-            other false k = absurd (let zero : nat_eq (n % 2) 0 ≡ true = eq-eqb (n % 2) 0 (zero_or_one n k) in cc)
-              where
-                zero_or_one : (n : ℕ) → nat_eq (n % 2) 1 ≡ false → n % 2 ≡ 0
-                zero_or_one n k = not_one (n % 2) (omega arith) k
-                  where
-                    not_one : (r : ℕ) → r ≤ 1 → nat_eq r 1 ≡ false → r ≡ 0
-                    not_one zero le k = refl
-                    not_one (suc zero) le k = cc
-                    not_one (suc (suc r)) le k = omega (arith, le)
-
-        go : (a : Bool) → nat_eq (x % 2) 0 ≡ a → (b : Bool) → nat_eq (y % 2) 0 ≡ b → (if a then x else 2 * rho (x / 2) + 1) ≡ (if b then y else 2 * rho (y / 2) + 1) → x ≡ y
-        go true p true q e = e
-        go true p false q e = absurd (let even = eqb-true (x % 2) 0 p in omega (arith, even, e))
-        go false p true q e = absurd (let even = eqb-true (y % 2) 0 q in omega (arith, even, e))
-        go false p false q e = let same : rho (x / 2) ≡ rho (y / 2) = omega (arith, e) in let halves = one_to_one (x / 2) (y / 2) same in let l = half x p in let r = half y q in omega (arith, halves, l, r)
-
-    outcome_to : (sys : System) (cs : List Condition) (o : Outcome) → IsCapOutcome sys cs o → IsCapOutcome sys (conditions_renamed cs) (renamed_outcome woven stays o)
+    outcome_to : (sys : System) (cs : List Condition) (o : Outcome) → IsCapOutcome sys cs o → IsCapOutcome sys (conditions_renamed cs) (renamed_outcome (woven rho) stays o)
     outcome_to sys cs o h =
         record {
           lefts = h.lefts;
           are = subst (λ ts. AreCapsOf sys any ts h.lefts) (sym (lefts-renamed cs)) (caps_kept sys (left_sides cs) h.lefts h.are);
           outcome =
-              subst₂ (λ p q. IsOutcome p q (renamed_outcome woven stays o)) (all_woven_evens (all_filled var 0 h.lefts)) (all_woven_odds (right_sides cs) ∙ ap (apply_all odd) (sym (rights-renamed cs)))
-              (runs_with_names woven woven_one_to_one h.outcome);
+              subst₂ (λ p q. IsOutcome p q (renamed_outcome (woven rho) stays o)) (all_woven_evens rho (all_filled var 0 h.lefts)) (all_woven_odds rho (right_sides cs) ∙ ap (apply_all odd) (sym (rights-renamed cs)))
+              (runs_with_names (woven rho) (woven_one_to_one rho one_to_one) h.outcome);
         }
 
     by_caps_to : (sys : System) (cs : List Condition) (o : Option EvidenceReason) → JudgedByCaps sys cs o → JudgedByCaps sys (conditions_renamed cs) o

@@ -1,10 +1,11 @@
 -- Rules of a system, and entries of a certificate, by their numbers.
-use Rattle.std.proofs.Common.{◌≡◌, ℕ, zero, suc, ◌-◌, ◌<◌, ◌≤◌, List, [], ◌∷◌, length, get_or, map, Option, None, Some, IsSome, is_some, slice_get, refl, sym, ap, ◌∙◌, subst, arith, option_map, ◌⊎◌, inl, inr, Bool, true, false, if◌then◌else◌, nat_cmp, Result}
+use Rattle.std.proofs.Common.{◌≡◌, ℕ, zero, suc, ◌-◌, ◌<◌, ◌≤◌, List, [], ◌∷◌, length, get_or, map, Option, None, Some, IsSome, is_some, slice_get, refl, sym, ap, ◌∙◌, subst, arith, option_map, ◌⊎◌, inl, inr, Bool, true, false, if◌then◌else◌, Result}
 use Rattle.std.proofs.lemmas.Option.{slice_get-get_or, slice_get-map, slice_get_past, slice_get_within}
 use Rattle.std.proofs.lemmas.Bool.{cases_lt, false≢true}
 use Rattle.std.proofs.lemmas.List.{length-map}
-use Rattle.std.specs.FinMap.{empty, get-empty}
-use Rattle.rewriting.specs.Matching.{Solves, IsLeastMatch, HasNoMatch}
+use Rattle.std.specs.FinMap.{empty}
+use Rattle.rewriting.specs.Lists.{IsAmong}
+use Rattle.rewriting.specs.Matching.{IsLeastMatch, HasNoMatch}
 use Rattle.rewriting.proofs.Common.{Term, Bindings, values_of, Rule, System, rule_at, Signature}
 use Rattle.rewriting.proofs.Matching.{solved_instance}
 use Rattle.certificates.specs.Certificates as math
@@ -13,6 +14,7 @@ use Rattle.term_core.specs.SystemView.{IsSound, AreSound}
 use Rattle.term_core.specs.declared.systems.Rule as program
 use Rattle.cert_model.specs.CertificateView.{redex_view}
 use Rattle.cert_model.specs.declared.model.Redex as program_redex
+use Rattle.rewriting.proofs.Matched.{instance_matched}
 use Rattle.rule_index.specs.Roots.{rules_with_root}
 use Rattle.rule_index.proofs.Walks.{listed_rule}
 use Rattle.rewriting.specs.Positions.{Position}
@@ -20,12 +22,11 @@ use Rattle.rewriting.specs.Overlaps.{conditions_under}
 use Rattle.certificates.specs.Evidence.{InfeasibilityEvidence}
 use Rattle.certificates.specs.Reasons.{EvidenceReason}
 use Rattle.validity.specs.declared.CheckError.{CheckError}
-use Rattle.valid_certificates.specs.Peaks.{RedexPlace, IsListed}
-use Rattle.noncon_check.specs.Judged.{with_new, AreJudged, IsJudgedAt}
+use Rattle.valid_certificates.specs.Peaks.{RedexPlace}
+use Rattle.noncon_check.specs.Judged.{match_or_new, AreJudged, IsJudgedAt}
 use Rattle.noncon_check.specs.Walks.{Judgement, Pass, PlacesAnswer}
 use Rattle.noncon_check.proofs.Walks.{answers_to}
 use Rattle.noncon_check.specs.Redexes.{hits, is_hit, at_root}
-use Rattle.noncon_check.proofs.Bound.{bound, bound_solves}
 use Rattle.noncon_check.proofs.Deciding.{match_decided, match_found}
 
 sound_at : (arities : Signature) (rs : List program.Rule) (i : ℕ) (d : program.Rule) → AreSound arities rs → i < length rs → IsSound arities (get_or rs i d)
@@ -79,23 +80,23 @@ module _ (sys : System) (t : Term) (n : ℕ) (r : Rule) (is : rule_at sys n ≡ 
       go : (b : Bool) → is_hit (rule_at sys n) t ≡ b → (if b then n ∷ [] else []) ≡ []
       go false e = refl
       go true e =
-          let matches = match_found r.left t (sym (ap (λ o. is_hit o t) is) ∙ e) in
-          absurd (none (bound matches.0 r.left) (λ x u h. absurd (let n : None ≡ Some u = sym (get-empty nat_cmp x) ∙ h in cc)) (subst (Solves (bound matches.0 r.left) r.left) matches.1 (bound_solves matches.0 r.left)))
+          let least = instance_matched r.left t (match_found r.left t (sym (ap (λ o. is_hit o t) is) ∙ e)) in
+          absurd (none least.0 least.1.extends least.1.solves)
 
   -- nothing is asked where the rule does not match
   pub unmatched_pass : (J : Judgement) (p : Position) (es : List math.Redex) (w at : ℕ) → HasNoMatch empty r.left t → Pass J p es at (map (at_root w) (hits sys t (n ∷ []))) at
   unmatched_pass J p es w at none = subst (λ is. Pass J p es at (map (at_root w) is) at) (sym (hit_no none)) refl
 
-  judged_here : (own w : ℕ) (m : Bindings) → IsLeastMatch empty m r.left t → (q : RedexPlace) → IsListed q (at_root w n ∷ []) → (e : InfeasibilityEvidence) (o : Option EvidenceReason)
-      → AreJudged sys (conditions_under (with_new own m) r.conditions) e o → IsJudgedAt sys own t q e o
+  judged_here : (own w : ℕ) (m : Bindings) → IsLeastMatch empty m r.left t → (q : RedexPlace) → IsAmong q (at_root w n ∷ []) → (e : InfeasibilityEvidence) (o : Option EvidenceReason)
+      → AreJudged sys (conditions_under (match_or_new own m) r.conditions) e o → IsJudgedAt sys own t q e o
   judged_here own w m h q (inl s) e o j =
       subst (λ z. IsJudgedAt sys own t z e o) (sym s) (record { rule = r; match = m; matches = record { is_rule = is; redex = t; stands = refl; matches = h }; judged = j })
   judged_here own w m h q (inr l) e o j = absurd l
 
   -- where it matches, the next entry is judged
   pub matched_answers : (p : Position) (es : List math.Redex) (own w at : ℕ) (m : Bindings) (a : Result ℕ CheckError) → IsLeastMatch empty m r.left t
-      → PlacesAnswer (λ q e o. AreJudged sys (conditions_under (with_new own m) r.conditions) e o) p es at (at_root w n ∷ []) a
+      → PlacesAnswer (λ q e o. AreJudged sys (conditions_under (match_or_new own m) r.conditions) e o) p es at (at_root w n ∷ []) a
       → PlacesAnswer (IsJudgedAt sys own t) p es at (map (at_root w) (hits sys t (n ∷ []))) a
   matched_answers p es own w at m a h k =
       subst (λ is. PlacesAnswer (IsJudgedAt sys own t) p es at (map (at_root w) is) a) (sym (hit_yes m h))
-      (answers_to (λ q e o. AreJudged sys (conditions_under (with_new own m) r.conditions) e o) (IsJudgedAt sys own t) p es at (at_root w n ∷ []) a (judged_here own w m h) k)
+      (answers_to (λ q e o. AreJudged sys (conditions_under (match_or_new own m) r.conditions) e o) (IsJudgedAt sys own t) p es at (at_root w n ∷ []) a (judged_here own w m h) k)

@@ -1,5 +1,6 @@
 -- Entries for a list of redexes, part by part.
 use Rattle.std.proofs.Common.{ℕ, suc, ◌≡◌, inl, inr, List, [], ◌∷◌, ◌++◌, map, Option, None, Some, Result, Ok, Err, refl, sym, ap, ◌∙◌, subst, append_assoc}
+use Rattle.rewriting.specs.Lists.{IsAmong}
 use Rattle.rewriting.specs.Positions.{Position}
 use Rattle.certificates.specs.Certificates.{Redex}
 use Rattle.certificates.specs.Evidence.{InfeasibilityEvidence}
@@ -7,7 +8,7 @@ use Rattle.certificates.specs.Reasons.{EvidenceReason, Rejection}
 use Rattle.cert_model.specs.ReasonView.{rejected_view}
 use Rattle.validity.specs.declared.CheckError.{CheckError}
 use Rattle.validity.specs.declared.CheckError.TheVariants.{Rejected, NoMemory}
-use Rattle.valid_certificates.specs.Peaks.{RedexPlace, IsMissed, IsListed}
+use Rattle.valid_certificates.specs.Peaks.{RedexPlace, IsMissed}
 use Rattle.noncon_check.specs.Redexes.{below, behind}
 use Rattle.noncon_check.specs.Walks.{Judgement, IsEntry, IsAbsent, Pass, Fail, PlacesAnswer}
 
@@ -41,17 +42,17 @@ module _ (J K : Judgement) (p : Position) (es : List Redex) where
   entry_to : (at : ℕ) (r : RedexPlace) (o : Option EvidenceReason) → ((e : InfeasibilityEvidence) → J r e o → K r e o) → IsEntry J p es at r o → IsEntry K p es at r o
   entry_to at r o f h = record { entry = h.entry; stands = h.stands; place = h.place; judged = f h.entry.evidence h.judged }
 
-  pub pass_to : (at : ℕ) (rs : List RedexPlace) (after : ℕ) → ((r : RedexPlace) → IsListed r rs → (e : InfeasibilityEvidence) (o : Option EvidenceReason) → J r e o → K r e o) → Pass J p es at rs after → Pass K p es at rs after
+  pub pass_to : (at : ℕ) (rs : List RedexPlace) (after : ℕ) → ((r : RedexPlace) → IsAmong r rs → (e : InfeasibilityEvidence) (o : Option EvidenceReason) → J r e o → K r e o) → Pass J p es at rs after → Pass K p es at rs after
   pass_to at [] after f h = h
   pass_to at (r ∷ rs) after f (e, h) = (entry_to at r None (λ x j. f r (inl refl) x None j) e, pass_to (suc at) rs after (λ q l. f q (inr l)) h)
 
-  pub fail_to : (at : ℕ) (rs : List RedexPlace) (reason : Rejection) → ((r : RedexPlace) → IsListed r rs → (e : InfeasibilityEvidence) (o : Option EvidenceReason) → J r e o → K r e o) → Fail J p es at rs reason → Fail K p es at rs reason
+  pub fail_to : (at : ℕ) (rs : List RedexPlace) (reason : Rejection) → ((r : RedexPlace) → IsAmong r rs → (e : InfeasibilityEvidence) (o : Option EvidenceReason) → J r e o → K r e o) → Fail J p es at rs reason → Fail K p es at rs reason
   fail_to at [] reason f h = absurd h
   fail_to at (r ∷ rs) reason f (inl h) = inl h
   fail_to at (r ∷ rs) reason f (inr (inl (why, e, is))) = inr (inl (why, entry_to at r (Some why) (λ x j. f r (inl refl) x (Some why) j) e, is))
   fail_to at (r ∷ rs) reason f (inr (inr (e, h))) = inr (inr (entry_to at r None (λ x j. f r (inl refl) x None j) e, fail_to (suc at) rs reason (λ q l. f q (inr l)) h))
 
-  pub answers_to : (at : ℕ) (rs : List RedexPlace) (a : Result ℕ CheckError) → ((r : RedexPlace) → IsListed r rs → (e : InfeasibilityEvidence) (o : Option EvidenceReason) → J r e o → K r e o) → PlacesAnswer J p es at rs a → PlacesAnswer K p es at rs a
+  pub answers_to : (at : ℕ) (rs : List RedexPlace) (a : Result ℕ CheckError) → ((r : RedexPlace) → IsAmong r rs → (e : InfeasibilityEvidence) (o : Option EvidenceReason) → J r e o → K r e o) → PlacesAnswer J p es at rs a → PlacesAnswer K p es at rs a
   answers_to at rs (Ok after) f h = pass_to at rs after f h
   answers_to at rs (Err (Rejected reason)) f h = fail_to at rs (rejected_view reason) f h
   answers_to at rs (Err NoMemory) f h = tt

@@ -22,8 +22,8 @@ abbrev pub value_or_new : ℕ → ℕ → Option Term → Term
 value_or_new n k o = unwrap_or o (var (n + k))
 
 -- the values of a match, and new variables
-abbrev pub with_new : ℕ → Bindings → Substitution
-with_new n match k = value_or_new n k (get match k)
+abbrev pub match_or_new : ℕ → Bindings → Substitution
+match_or_new n match k = value_or_new n k (get match k)
 
 -- the evidence is judged; conditions of which a side does not fit count as ones with a large cap
 abbrev pub AreJudged : System → List Condition → InfeasibilityEvidence → Option EvidenceReason → Type 0
@@ -34,7 +34,7 @@ pub record IsJudgedAt (sys : System) (n : ℕ) (t : Term) (r : RedexPlace) (evid
   pub rule : Rule
   pub match : Bindings
   pub matches : RuleMatches sys t r.rule r.position rule match
-  pub judged : AreJudged sys (conditions_under (with_new n match) rule.conditions) evidence o
+  pub judged : AreJudged sys (conditions_under (match_or_new n match) rule.conditions) evidence o
 
 -- the instance of a condition, and of each of some conditions, where both sides fit
 abbrev pub InstanceAnswers : Condition → Result Cond TermError → Type 0

@@ -7,7 +7,6 @@ use Rattle.term_core.specs.RuleView.{rule_view}
 use Rattle.term_core.specs.SystemView.{AreSound}
 use Rattle.term_core.specs.declared.systems.Rule.{Rule}
 use Rattle.certificates.specs.Certificates.{Apartness, by_normal_forms, by_rigid_caps}
-use Rattle.cert_model.specs.CertificateView.{redex_view}
 use Rattle.cert_model.specs.declared.model.Redex.{Redex}
 
 -- the rules are the system's, the index is its, the entries are few, and the end has few variables

@@ -1,10 +1,11 @@
 -- The redexes of a term, in order.
 use Rattle.std.specs.Prelude.{ℕ, suc, ◌≡◌, Bool, false, if◌then◌else◌, List, [], ◌∷◌, ◌++◌, map, Option, None, Some}
+use Rattle.rewriting.specs.Lists.{IsAmong, IsSorted}
 use Rattle.rewriting.specs.Terms.{Term, Terms, var, app, nil, cons}
 use Rattle.rewriting.specs.Positions.{Position}
 use Rattle.rewriting.specs.Rules.{Rule, System, rule_at}
 use Rattle.rule_index.specs.Roots.{rules_with_root}
-use Rattle.valid_certificates.specs.Peaks.{RedexPlace, MatchesAt, IsListed, IsSorted}
+use Rattle.valid_certificates.specs.Peaks.{RedexPlace, MatchesAt, IsEarlierRedex}
 use Rattle.noncon_check.specs.Deciding.{is_match}
 
 -- whether there is a rule, and its left side matches the term
@@ -41,6 +42,6 @@ abbrev mutual
 
 -- the list has exactly the places where rules match in a term with this number, in order
 pub record AreRedexesOf (sys : System) (which : ℕ) (t : Term) (rs : List RedexPlace) : Type 0 where
-  pub each : (r : RedexPlace) → IsListed r rs → (r.which ≡ which) × MatchesAt sys t r.position r.rule
-  pub whole : (p : Position) (i : ℕ) → MatchesAt sys t p i → IsListed (record { which = which; position = p; rule = i }) rs
-  pub sorted : IsSorted rs
+  pub each : (r : RedexPlace) → IsAmong r rs → (r.which ≡ which) × MatchesAt sys t r.position r.rule
+  pub whole : (p : Position) (i : ℕ) → MatchesAt sys t p i → IsAmong (record { which = which; position = p; rule = i }) rs
+  pub sorted : IsSorted IsEarlierRedex rs

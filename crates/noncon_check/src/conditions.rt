@@ -9,7 +9,7 @@ ghost use Rattle.term_core.specs.RuleView.{condition_view};
 ghost use Rattle.term_core.specs.SystemView.{IsSound};
 ghost use Rattle.cert_model.specs.EvidenceView.{inf_evidence_view};
 ghost use Rattle.refuter.specs.Answers.{RefutesAnswers};
-ghost use Rattle.noncon_check.specs.Judged.{value_or_new, with_new, AreJudged, InstanceAnswers, InstancesAnswer};
+ghost use Rattle.noncon_check.specs.Judged.{value_or_new, match_or_new, AreJudged, InstanceAnswers, InstancesAnswer};
 
 use cert_model::{EvidenceReason, InfEvidence};
 use infeasible::{Refusal, check_infeasible};
@@ -72,7 +72,7 @@ pub(crate) fn judge_conditions(
 ) -> Result<(), Refusal>
     requires sound { IsSound sys.now.arities rule.now }
     requires own { own ≤ 10000 }
-    ensures { RefutesAnswers (AreJudged sys.now (conditions_under (with_new own values) (map condition_view rule.now.conds.items)) (inf_evidence_view evidence.now)) result }
+    ensures { RefutesAnswers (AreJudged sys.now (conditions_under (match_or_new own values) (map condition_view rule.now.conds.items)) (inf_evidence_view evidence.now)) result }
 {
     complete(&mut values, own, rule.vars)?;
     match instances(alloc, &values, &rule.conds) {

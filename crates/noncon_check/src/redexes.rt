@@ -9,7 +9,7 @@ ghost use Rattle.term_core.specs.SystemView.{IsSound};
 ghost use Rattle.cert_model.specs.CertificateView.{redex_view};
 ghost use Rattle.valid_certificates.specs.Peaks.{entry_place};
 ghost use Rattle.noncon_check.specs.Redexes.{hits, at_root, behind, redexes};
-ghost use Rattle.noncon_check.specs.Judged.{with_new, AreJudged, IsJudgedAt};
+ghost use Rattle.noncon_check.specs.Judged.{match_or_new, AreJudged, IsJudgedAt};
 ghost use Rattle.noncon_check.specs.Walks.{IsAbsent, PlacesAnswer, MissedAnswers};
 ghost use Rattle.noncon_check.specs.Judges.{IsReady};
 
@@ -84,7 +84,7 @@ impl<'a> Judge<'a> {
     ) -> Result<usize, CheckError>
         requires ready { IsReady self.now.sys.now self.now.rules.now self.now.index.now self.now.entries.now self.now.own }
         requires sound { IsSound self.now.sys.now.arities rule.now }
-        ensures { PlacesAnswer (λ r evidence o. AreJudged self.now.sys.now (conditions_under (with_new self.now.own values) (map condition_view rule.now.conds.items)) evidence o) path.now (map redex_view self.now.entries.now) at (at_root self.now.which number ∷ []) result }
+        ensures { PlacesAnswer (λ r evidence o. AreJudged self.now.sys.now (conditions_under (match_or_new self.now.own values) (map condition_view rule.now.conds.items)) evidence o) path.now (map redex_view self.now.entries.now) at (at_root self.now.which number ∷ []) result }
     {
         let Some(entry) = self.entry_for(at, path, number) else {
             return Err(missed(alloc, self.which, path, number));

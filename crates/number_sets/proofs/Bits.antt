@@ -51,9 +51,6 @@ in_members s q = in_words s.words.items q
 more : (words : List ℕ) (n : ℕ) → members_below words (n + 1) ≡ members_below words n ++ filter (is_set words) (n ∷ [])
 more words n = let one : n + 1 ≡ suc n = omega arith in ap (members_below words) one ∙ filter-append (is_set words) (below n) (n ∷ [])
 
-pub more_set : (words : List ℕ) (n : ℕ) → is_set words n ≡ true → members_below words (n + 1) ≡ members_below words n ++ n ∷ []
-more_set words n s = more words n ∙ ap (λ (b : Bool). members_below words n ++ (if b then (n ∷ []) else [])) s
-
 pub more_unset : (words : List ℕ) (n : ℕ) → is_set words n ≡ false → members_below words (n + 1) ≡ members_below words n
 more_unset words n s = more words n ∙ ap (λ (b : Bool). members_below words n ++ (if b then (n ∷ []) else [])) s ∙ append-nil (members_below words n)
 

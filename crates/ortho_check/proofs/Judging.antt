@@ -36,10 +36,6 @@ module _ (sys : System) where
       λ es. subst (IsOrthoRejected sys es) (sym is) (not_right_stable blame linear known oriented by)
   last_class linear known oriented (Err NoMemory) h = absurd h
 
-  pub not_in_classes : (es : List PairEntry) (e : CheckError) → ClassesAnswer sys (Err e) → OrthoAnswers sys es (Err e)
-  not_in_classes es (Rejected reason) h = h es
-  not_in_classes es NoMemory h = absurd h
-
   pub in_classes : (es : List PairEntry) (a : Result (Unit {0}) CheckError) → IsInOrthoClasses sys → SettleAnswers ortho sys es a → OrthoAnswers sys es a
   in_classes es (Ok _) classes h = record { classes = classes; pairs = h }
   in_classes es (Err (Rejected reason)) classes h = ortho_pairs_fail (rejected_view reason) classes h

@@ -7,6 +7,7 @@ use Rattle.rewriting.specs.Overlaps.{IsCriticalPair, condition_under, conditions
 use Rattle.rewriting.proofs.Common.{Term, Position, Substitution, apply, compose, values_of, even, odd, Condition, Rule, System, Steps, Reaches}
 use Rattle.rewriting.proofs.Closures.{Star-mono}
 use Rattle.rewriting.proofs.Instances.{apply-apply}
+use Rattle.rewriting.proofs.Conditions.{length-conditions_under}
 use Rattle.unifier_run.specs.Run.{value, clash}
 use Rattle.unifier_run.specs.Overlaps.{Overlap}
 use Rattle.caps.specs.Caps.{any}
@@ -31,10 +32,6 @@ reached sys n = Star-mono (λ x y h. (n, h))
 never_meet : (sys : System) (u v : Term) → IsPairOutcome sys any u v clash → NeverMeet sys u v
 never_meet sys u v clashes m n c d z over_c over_d p q = caps_apart sys u v (values_of c) (values_of d) z clashes (reached sys m _ _ p) (reached sys n _ _ q)
 
-length_under : (s : Substitution) (cs : List Condition) → length (conditions_under s cs) ≡ length cs
-length_under s [] = refl
-length_under s (c ∷ cs) = ap suc (length_under s cs)
-
 -- a condition among instances is the instance of one
 instance_at : (s : Substitution) (cs : List Condition) (k : ℕ) (c : Condition) → IsAt (conditions_under s cs) k c → (a : Condition) × IsAt cs k a × (c ≡ condition_under s a)
 instance_at s [] k c e = absurd (cc)
@@ -48,7 +45,7 @@ numbered s cs (suc k) c e = let x = instance_at s cs k c e in (k, x.0, x.1, x.2)
 
 module _ (sys : System) (m : Substitution) (p : Position) (inner outer : Rule) (part : Term) (o : Overlap) (is : IsCriticalPair m p inner outer part o.pair) (counted : o.inner_conditions ≡ length inner.conditions) where
   inner_length : o.inner_conditions ≡ length (conditions_under (compose even m) inner.conditions)
-  inner_length = counted ∙ sym (length_under (compose even m) inner.conditions)
+  inner_length = counted ∙ sym (length-conditions_under (compose even m) inner.conditions)
 
   -- the first conditions of the pair are those of the inner rule, the others those of the outer one
   of_inner : inner_conditions_of o ≡ conditions_under (compose even m) inner.conditions

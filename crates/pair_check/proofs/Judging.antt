@@ -1,5 +1,5 @@
 -- From what the parts answer to the judgement of an overlap's evidence.
-use Rattle.std.proofs.Common.{ℕ, zero, suc, ◌≡◌, ◌-◌, List, [], ◌∷◌, map, take, drop, length, slice_get, Option, None, Some, Result, Ok, Err, sym, ap, ◌∙◌, subst, arith}
+use Rattle.std.proofs.Common.{ℕ, zero, suc, ◌≡◌, ◌-◌, List, [], ◌∷◌, map, take, drop, length, Option, None, Some, Result, Ok, Err, sym, ap, ◌∙◌, subst, arith}
 use Rattle.std.proofs.lemmas.List.{take-map, drop-map, take_all, length-drop}
 use Rattle.rewriting.specs.Terms as math
 use Rattle.rewriting.specs.Terms.{Fits}
@@ -9,6 +9,7 @@ use Rattle.certificates.specs.Derivations.{Derivation}
 use Rattle.certificates.specs.Judging.{Derives, hypothesis_at}
 use Rattle.certificates.specs.Reasons.{EvidenceReason, conflict_left, conflict_unifies, conflict_large, unfeasible_first, unfeasible_second, first_reducible, second_reducible, unfeasible_unifies, unfeasible_large}
 use Rattle.certificates.specs.Sizes.{DoConditionsFit}
+use Rattle.certificates.proofs.Sizes.{hypothesis_fits}
 use Rattle.term_core.specs.RuleView.{condition_view}
 use Rattle.term_core.specs.declared.systems.Cond as program
 use Rattle.cert_model.specs.ReasonView.{evidence_reason_view}
@@ -25,16 +26,6 @@ pub judged_too : (P Q : Option EvidenceReason → Type 0) → ((o : Option Evide
 judged_too P Q f (Ok _) h = f None h
 judged_too P Q f (Err (Reason reason)) h = f (Some (evidence_reason_view reason)) h
 judged_too P Q f (Err NoMemory) h = tt
-
--- the condition with a number fits where all do
-right_fits : (cs : List Condition) (k : ℕ) (c : Condition) → DoConditionsFit cs → slice_get cs k ≡ Some c → Fits c.left × Fits c.right
-right_fits [] k c h e = absurd (cc)
-right_fits (d ∷ cs) zero c (l, r, rest) e = (let same : d ≡ c = cc in subst (λ z. Fits z.left × Fits z.right) same (l, r))
-right_fits (d ∷ cs) (suc k) c (l, r, rest) e = right_fits cs k c rest e
-
-pub numbered_fits : (cs : List Condition) (k : ℕ) (c : Condition) → DoConditionsFit cs → hypothesis_at cs k ≡ Some c → Fits c.left × Fits c.right
-numbered_fits cs zero c h e = absurd (cc)
-numbered_fits cs (suc k) c h e = right_fits cs k c h e
 
 take_fit : (n : ℕ) (cs : List Condition) → DoConditionsFit cs → DoConditionsFit (take n cs)
 take_fit zero [] h = tt
@@ -57,10 +48,10 @@ module _ (o : overlap.Overlap) where
   outer_is = drop-map condition_view o.inner_conds o.conds.items
 
   pub inner_fits : DoConditionsFit (map condition_view o.conds.items) → (a : ℕ) (c : Condition) → hypothesis_at (map condition_view (take o.inner_conds o.conds.items)) a ≡ Some c → Fits c.right
-  inner_fits h a c e = (numbered_fits (map condition_view (take o.inner_conds o.conds.items)) a c (subst DoConditionsFit inner_is (take_fit o.inner_conds (map condition_view o.conds.items) h)) e).1
+  inner_fits h a c e = (hypothesis_fits (map condition_view (take o.inner_conds o.conds.items)) a c e (subst DoConditionsFit inner_is (take_fit o.inner_conds (map condition_view o.conds.items) h))).1
 
   pub outer_fits : DoConditionsFit (map condition_view o.conds.items) → (a : ℕ) (c : Condition) → hypothesis_at (map condition_view (drop o.inner_conds o.conds.items)) a ≡ Some c → Fits c.right
-  outer_fits h a c e = (numbered_fits (map condition_view (drop o.inner_conds o.conds.items)) a c (subst DoConditionsFit outer_is (drop_fit o.inner_conds (map condition_view o.conds.items) h)) e).1
+  outer_fits h a c e = (hypothesis_fits (map condition_view (drop o.inner_conds o.conds.items)) a c e (subst DoConditionsFit outer_is (drop_fit o.inner_conds (map condition_view o.conds.items) h))).1
 
   -- as slices of the program
   pub inner_slice : (ds : List program.Cond) → ds ≡ o.conds.items → take o.inner_conds ds ≡ take o.inner_conds o.conds.items

@@ -11,12 +11,9 @@ use Rattle.rewriting.proofs.Conditions.{length-conditions_under}
 use Rattle.unifier_run.specs.Run.{value}
 use Rattle.unifier_run.specs.Overlaps.{Overlap, IsOverlapOf}
 use Rattle.certificates.specs.Sizes.{DoConditionsFit}
-use Rattle.derivation.proofs.Numbers.{is_rule_at}
+use Rattle.rewriting.proofs.Systems.{is_rule_at}
+use Rattle.certificates.proofs.Sizes.{conditions_fit}
 use Rattle.pair_check.specs.Judges.{IsReady}
-
-conditions_fit : (cs : List Condition) → Each Fits (sides cs) → DoConditionsFit cs
-conditions_fit [] h = tt
-conditions_fit (c ∷ cs) (l, (r, rest)) = (l, r, conditions_fit cs rest)
 
 few_conditions : (sys : System) (i : ℕ) (r : Rule) → IsSystem sys → rule_at sys i ≡ Some r → length r.conditions ≤ 100
 few_conditions sys zero r sound e = absurd (cc)

@@ -2,4 +2,3 @@ pub mod Rows
 pub mod Spreads
 pub mod Numbered
 pub mod Filling
-pub mod Lengths

@@ -1,19 +1,12 @@
 -- Rows of variables that grow.
-use Rattle.std.proofs.Common.{ℕ, ◌<◌, ◌≤◌, ◌^◌, ◌⊎◌, inl, inr, Bool, true, false, if◌then◌else◌, nat_eq, List, [], ◌∷◌, ◌++◌, length, refl, sym, subst}
+use Rattle.std.proofs.Common.{ℕ, ◌<◌, ◌≤◌, ◌^◌, ◌⊎◌, inl, inr, Bool, true, false, if◌then◌else◌, nat_eq, List, [], ◌∷◌, ◌++◌, length, sym, subst}
 use Rattle.std.specs.List.{IsDistinct, list_any}
 use Rattle.std.proofs.lemmas.Map.Steps.{length-le_from_distinct_below}
 use Rattle.rewriting.specs.Variables.{with_new}
-use Rattle.rewriting.specs.Lists.{IsFront, IsAmong}
-use Rattle.rewriting.proofs.Lists.{front_refl, among_either}
+use Rattle.rewriting.specs.Lists.{IsAmong}
+use Rattle.rewriting.proofs.Lists.{among_either}
 use Rattle.rewriting.proofs.Variables.{among_of_any, new_distinct}
 use Rattle.renumbering.specs.Rows.{IsRow}
-
-pub front_new : (xs : List ℕ) (x : ℕ) → IsFront xs (with_new xs x)
-front_new xs x = go (list_any (nat_eq x) xs)
-  where
-    go : (b : Bool) → IsFront xs (if b then xs else (xs ++ x ∷ []))
-    go true = front_refl xs
-    go false = (x ∷ [], refl)
 
 -- a row with one more variable is a row
 pub row_new : (xs : List ℕ) (y : ℕ) → y < 2 ^ 32 → IsRow xs → IsRow (with_new xs y)

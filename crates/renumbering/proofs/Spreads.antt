@@ -7,9 +7,9 @@ use Rattle.rewriting.specs.Substitutions.{apply, compose}
 use Rattle.rewriting.specs.Unifiers.{odd}
 use Rattle.rewriting.proofs.Instances.{apply-apply, apply-agree}
 use Rattle.renumbering.specs.Spread.{spread, spreading}
-use Rattle.rewriting.specs.Lists.{IsFront, AreDistinct}
+use Rattle.rewriting.specs.Lists.{AreDistinct}
 use Rattle.renumbering.specs.Rows.{naming}
-use Rattle.rewriting.proofs.Lists.{distinct_at, front_at, front_length}
+use Rattle.rewriting.proofs.Lists.{distinct_at}
 
 pub spread_within : (xs : List ℕ) (m : ℕ) → m < length xs → spread xs m ≡ 2 * get_or xs m 0 + 1
 spread_within xs m h = ap (λ (b : Bool). if b then 2 * get_or xs m 0 + 1 else 2 * (m - length xs)) (lt-ltb m (length xs) h)
@@ -29,20 +29,6 @@ spread_one_to_one xs d i j e = go (cases_lt i (length xs)) (cases_lt j (length x
     go (inl a) (inr b) = absurd (even_not_odd (get_or xs i 0) (j - length xs) (sym (spread_within xs i a) ∙ e ∙ spread_past xs j b))
     go (inr a) (inl b) = absurd (even_not_odd (get_or xs j 0) (i - length xs) (sym (spread_within xs j b) ∙ sym e ∙ spread_past xs i a))
     go (inr a) (inr b) = let both = sym (spread_past xs i a) ∙ e ∙ spread_past xs j b in omega arith
-
--- a number of the front stands for the same in the longer row
-pub spread_grows : (xs ys : List ℕ) (m : ℕ) → IsFront xs ys → m < length xs → spread ys m ≡ spread xs m
-spread_grows xs ys m f h =
-    let more = front_length xs ys f in
-    let inside : m < length ys = omega arith in
-    spread_within ys m inside ∙ ap (λ (x : ℕ). 2 * x + 1) (front_at xs ys 0 m f h) ∙ sym (spread_within xs m h)
-
--- so terms whose variables are numbers of the front stand for the same
-pub spreading_grows : (xs ys : List ℕ) (u : Term) → IsFront xs ys → ((m : ℕ) → occurs m u ≡ true → m < length xs) → apply (spreading ys) u ≡ apply (spreading xs) u
-spreading_grows xs ys u f below = apply-agree (spreading ys) (spreading xs) u (λ m o. ap var (spread_grows xs ys m f (below m o)))
-
-pub naming_grows : (xs ys : List ℕ) (u : Term) → IsFront xs ys → ((m : ℕ) → occurs m u ≡ true → m < length xs) → apply (naming ys) u ≡ apply (naming xs) u
-naming_grows xs ys u f below = apply-agree (naming ys) (naming xs) u (λ m o. ap var (front_at xs ys 0 m f (below m o)))
 
 -- the odd numbers of the variables of t are what the numbers of u stand for
 pub odd_is_spread : (xs : List ℕ) (t u : Term) → t ≡ apply (naming xs) u → ((m : ℕ) → occurs m u ≡ true → m < length xs) → apply odd t ≡ apply (spreading xs) u

@@ -1,6 +1,6 @@
 -- Least matches: whether there is one is decided, and its values are those that were there and those of the pattern's variables.
 use Rattle.std.proofs.Common.{◌≡◌, ℕ, ◌⊎◌, inl, inr, Bool, true, false, ◌||◌, cond, Option, Some, None, is_some, nat_cmp, refl, sym, ap, ◌∙◌, ◌↔◌, eq-eqb, Equal}
-use Rattle.std.proofs.lemmas.Bool.{or_left, false≢true}
+use Rattle.std.proofs.lemmas.Bool.{or_left}
 use Rattle.std.specs.Ordering.{eq_by_cmp}
 use Rattle.std.specs.Cmp.{nat_cmp_total, nat_cmp_is, Equal-is}
 use Rattle.std.specs.FinMap.{get, insert, get-insert, retain_keys, get-retain_keys, nat_cmp-IsAntisymmetric}
@@ -73,10 +73,6 @@ mutual
 
 was_there : (b : Bindings) (x : ℕ) (t : Term) → get b x ≡ Some t → is_some (get b x) ≡ true
 was_there b x t e = ap is_some e
-
-some_there : (o : Option Term) → is_some o ≡ true → (t : Term) × (o ≡ Some t)
-some_there None e = absurd (false≢true e)
-some_there (Some t) e = (t, refl)
 
 chosen : (q : Bool) (o : Option Term) (t : Term) → cond q o None ≡ Some t → q ≡ true
 chosen true o t e = refl

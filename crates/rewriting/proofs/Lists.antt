@@ -56,7 +56,7 @@ distinct_middle x [] ys d a = a
 distinct_middle x (z ∷ xs) ys d (inl e) = d.0 (subst (λ q. IsAmong q (xs ++ x ∷ ys)) e (among_middle x xs ys))
 distinct_middle x (z ∷ xs) ys d (inr a) = distinct_middle x xs ys d.1 a
 
-among_at : (xs : List ℕ) (i d x : ℕ) → i < length xs → x ≡ get_or xs i d → IsAmong x xs
+pub among_at : {X : Type 0} (xs : List X) (i : ℕ) (d x : X) → i < length xs → x ≡ get_or xs i d → IsAmong x xs
 among_at [] i d x l e = absurd (omega (arith, l))
 among_at (y ∷ xs) zero d x l e = inl e
 among_at (y ∷ xs) (suc i) d x l e = inr (among_at xs i d x (omega (arith, l)) e)

@@ -1,9 +1,8 @@
 -- Buckets that numbers are put into.
-use Rattle.std.proofs.Common.{◌≡◌, ℕ, zero, suc, ◌+◌, ◌<◌, Bool, true, false, if◌then◌else◌, nat_eq, eqb-true, List, [], ◌∷◌, ◌++◌, map, length, get_or, set, refl, sym, ap, subst, ◌∙◌, append_assoc, add-one, Vec, Global}
+use Rattle.std.proofs.Common.{◌≡◌, ℕ, ◌+◌, ◌<◌, Bool, true, false, if◌then◌else◌, nat_eq, eqb-true, List, [], ◌∷◌, ◌++◌, map, length, get_or, set, refl, sym, ap, subst, ◌∙◌, Vec, Global}
 use Rattle.std.proofs.lemmas.Bool.{eqb-false}
 use Rattle.std.proofs.lemmas.List.{get_or-set_same, get_or-set_other, map-set, get_or-map, length-map}
-use Rattle.rewriting.specs.Rules.{Rule}
-use Rattle.rule_index.specs.Roots.{has_root, numbers_with_root}
+use Rattle.rule_index.specs.Roots.{has_root}
 use Rattle.rule_index.specs.Index.{listed, IsRootBelow}
 use Rattle.rewriting.specs.Terms as math
 use Rattle.term_core.specs.View.{view, views}
@@ -13,12 +12,6 @@ use Rattle.term_core.proofs.Views.{view-Fun}
 -- the lists in the buckets
 abbrev pub lists : List (Vec ℕ Global) → List (List ℕ)
 lists vs = map (λ v. v.items) vs
-
-pub empty_more : (vs : List (Vec ℕ Global)) (v : Vec ℕ Global) → v.items ≡ [] → ((f : ℕ) → listed (lists vs) f ≡ []) → (f : ℕ) → listed (lists (vs ++ v ∷ [])) f ≡ []
-empty_more [] v e h zero = e
-empty_more [] v e h (suc f) = refl
-empty_more (w ∷ vs) v e h zero = h zero
-empty_more (w ∷ vs) v e h (suc f) = empty_more vs v e (λ g. h (suc g)) f
 
 put : (ls : List (List ℕ)) (g f n : ℕ) → g < length ls → listed (set ls g (listed ls g ++ n ∷ [])) f ≡ (if nat_eq f g then (listed ls f ++ n ∷ []) else listed ls f)
 put ls g f n h = go (nat_eq f g) refl
@@ -44,12 +37,3 @@ number_added left g w vs b v n is below new f =
   where
     map-set-at : (us : List (Vec ℕ Global)) (i : ℕ) (u : Vec ℕ Global) → listed (lists (set us i u)) f ≡ listed (set (lists us) i u.items) f
     map-set-at us i u = ap (λ (l : List (List ℕ)). listed l f) (map-set (λ (x : Vec ℕ Global). x.items) us i u)
-
--- so the number of the first of some rules may stand in its bucket or be counted among the rest
-pub number_moved : (f n : ℕ) (r : Rule) (rs : List Rule) (old new : List ℕ) → new ≡ (if has_root f r.left then (old ++ n ∷ []) else old)
-    → new ++ numbers_with_root f (n + 1) rs ≡ old ++ numbers_with_root f n (r ∷ rs)
-number_moved f n r rs old new e = ap (λ (l : List ℕ). l ++ numbers_with_root f (n + 1) rs) e ∙ rw add-one (go (has_root f r.left))
-  where
-    go : (b : Bool) → (if b then (old ++ n ∷ []) else old) ++ numbers_with_root f (suc n) rs ≡ old ++ (if b then n ∷ numbers_with_root f (suc n) rs else numbers_with_root f (suc n) rs)
-    go true = append_assoc old (n ∷ []) (numbers_with_root f (suc n) rs)
-    go false = refl

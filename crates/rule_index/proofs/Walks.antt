@@ -1,23 +1,12 @@
 -- The numbers of the rules with one root, walked in order.
-use Rattle.std.proofs.Common.{◌≡◌, ℕ, zero, suc, ◌+◌, ◌<◌, ◌≤◌, ◌≢◌, ◌⊎◌, inl, inr, Bool, true, false, if◌then◌else◌, eqb-true, eq-eqb, List, [], ◌∷◌, length, get_or, slice_get, Some, refl, sym, ap, subst, ◌∙◌, arith}
-use Rattle.std.proofs.lemmas.Bool.{cases_lt, eqb-false}
-use Rattle.std.proofs.lemmas.Option.{slice_get_within}
-use Rattle.rewriting.specs.Terms.{Term, Terms, var, app, IsVariable}
+use Rattle.std.proofs.Common.{◌≡◌, ℕ, zero, suc, ◌+◌, ◌<◌, ◌≤◌, ◌≢◌, ◌⊎◌, Bool, true, false, if◌then◌else◌, eq-eqb, List, [], ◌∷◌, length, get_or, slice_get, Some, refl, ap, subst, ◌∙◌, arith}
+use Rattle.rewriting.specs.Terms.{Term, Terms, app}
 use Rattle.rewriting.specs.Rules.{Rule, System, rule_at}
 use Rattle.rule_index.specs.Roots.{has_root, numbers_with_root, rules_with_root}
 
 -- a term with a root is that symbol over arguments, and the other way round
 pub root_of : (f : ℕ) (ts : Terms) (t : Term) → t ≡ app f ts → has_root f t ≡ true
 root_of f ts t e = ap (has_root f) e ∙ eq-eqb f f refl
-
-pub arguments_of_root : (f : ℕ) (t : Term) → has_root f t ≡ true → (ts : Terms) × (t ≡ app f ts)
-arguments_of_root f (var x) h = absurd (cc)
-arguments_of_root f (app g ts) h = (ts, ap (λ (k : ℕ). app k ts) (sym (eqb-true f g h)))
-
--- a term without it that is no variable is another symbol over arguments
-pub other_root : (f : ℕ) (t : Term) → has_root f t ≡ false → (IsVariable t → ⊥) → (g : ℕ) × (ts : Terms) × (t ≡ app g ts) × (f ≢ g)
-other_root f (var x) h n = absurd (n tt)
-other_root f (app g ts) h n = (g, ts, refl, eqb-false f g h)
 
 -- a number stands at a place of a list
 abbrev pub Stands : ℕ → List ℕ → Type 0
@@ -101,52 +90,3 @@ module _ (sys : System) (f : ℕ) where
     where
       go : IsOf f 1 sys.rules (get_or (rules_with_root sys f) k 0) → (r : Rule) × (rule_at sys (get_or (rules_with_root sys f) k 0) ≡ Some r) × (has_root f r.left ≡ true)
       go (j, r, e, o, s) = let next : suc j ≡ get_or (rules_with_root sys f) k 0 = omega arith in (r, subst (λ (i : ℕ). rule_at sys i ≡ Some r) next e, o)
-
-  -- so it counts from 1 and not beyond the rules
-  pub listed_within : (k : ℕ) → k < length (rules_with_root sys f) → (1 ≤ get_or (rules_with_root sys f) k 0) × (get_or (rules_with_root sys f) k 0 ≤ length sys.rules)
-  listed_within k h = go (of_rule f 1 sys.rules k h)
-    where
-      go : IsOf f 1 sys.rules (get_or (rules_with_root sys f) k 0) → (1 ≤ get_or (rules_with_root sys f) k 0) × (get_or (rules_with_root sys f) k 0 ≤ length sys.rules)
-      go (j, r, e, o, s) = let low = slice_get_within sys.rules j r e in (omega arith, omega arith)
-
-  -- a rule with the root and a number below the one at place n stands before that place
-  pub stands_before : (n i : ℕ) (r : Rule) → n < length (rules_with_root sys f) → rule_at sys i ≡ Some r → has_root f r.left ≡ true → i < get_or (rules_with_root sys f) n 0
-      → (k : ℕ) × (k < n) × (get_or (rules_with_root sys f) k 0 ≡ i)
-  stands_before n i r inside e h l = go (is_listed i r e h)
-    where
-      go : Stands i (rules_with_root sys f) → (k : ℕ) × (k < n) × (get_or (rules_with_root sys f) k 0 ≡ i)
-      go (k, w, s) = by (cases_lt k n)
-        where
-          by : (k < n) ⊎ (n ≤ k) → (k : ℕ) × (k < n) × (get_or (rules_with_root sys f) k 0 ≡ i)
-          by (inl q) = (k, q, s)
-          by (inr q) = absurd (apart (cases_lt n k))
-            where
-              apart : (n < k) ⊎ (k ≤ n) → ⊥
-              apart (inl p) = let up = ascending n k p w in omega arith
-              apart (inr p) = let same : n ≡ k = omega arith in let here = ap (λ (m : ℕ). get_or (rules_with_root sys f) m 0) same in omega arith
-
-  module _ (P : ℕ → Rule → Type 0) (others : (i : ℕ) (r : Rule) → rule_at sys i ≡ Some r → has_root f r.left ≡ false → P i r) where
-    -- what holds of each rule with another root, and of the rules at the first n places, holds of each rule before the one at place n
-    pub each_before : (n : ℕ) → n < length (rules_with_root sys f)
-        → ((k : ℕ) (r : Rule) → k < n → rule_at sys (get_or (rules_with_root sys f) k 0) ≡ Some r → P (get_or (rules_with_root sys f) k 0) r)
-        → (i : ℕ) (r : Rule) → rule_at sys i ≡ Some r → i < get_or (rules_with_root sys f) n 0 → P i r
-    each_before n inside tried i r e l = go (has_root f r.left) refl
-      where
-        here : (k : ℕ) × (k < n) × (get_or (rules_with_root sys f) k 0 ≡ i) → P i r
-        here (k, w, s) = subst (λ (m : ℕ). P m r) s (tried k r w (subst (λ (m : ℕ). rule_at sys m ≡ Some r) (sym s) e))
-
-        go : (b : Bool) → has_root f r.left ≡ b → P i r
-        go true h = here (stands_before n i r inside e h l)
-        go false h = others i r e h
-
-    -- and where it holds of the rules at all places, it holds of every rule
-    pub each_listed : ((k : ℕ) (r : Rule) → k < length (rules_with_root sys f) → rule_at sys (get_or (rules_with_root sys f) k 0) ≡ Some r → P (get_or (rules_with_root sys f) k 0) r)
-        → (i : ℕ) (r : Rule) → rule_at sys i ≡ Some r → P i r
-    each_listed tried i r e = go (has_root f r.left) refl
-      where
-        here : Stands i (rules_with_root sys f) → P i r
-        here (k, w, s) = subst (λ (m : ℕ). P m r) s (tried k r w (subst (λ (m : ℕ). rule_at sys m ≡ Some r) (sym s) e))
-
-        go : (b : Bool) → has_root f r.left ≡ b → P i r
-        go true h = here (is_listed i r e h)
-        go false h = others i r e h

@@ -12,7 +12,7 @@ use Rattle.term_core.proofs.Views.{view-Fun, view-Var}
 use Rattle.term_core.proofs.Instances.{take_all}
 use Rattle.tcap_infeasible.specs.Keys.{IsKey, IsKeyed, AreKeyed}
 use Rattle.tcap_infeasible.proofs.Args.{views_with, take_suc, size_take}
-use Rattle.renumbering.proofs.Lengths.{variables_length}
+use Rattle.rewriting.proofs.Lengths.{variables_length}
 use Rattle.tcap_infeasible.proofs.Keyed.{key_grows, all_keyed_grows}
 
 -- a row grows by at most one variable

@@ -7,7 +7,7 @@ use Rattle.rewriting.specs.Rules.{System, left_sides, right_sides}
 use Rattle.certificates.specs.Sizes.{DoConditionsFit}
 use Rattle.rewriting.specs.Lists.{AreDistinct, IsFront}
 use Rattle.renumbering.specs.Rows.{IsNumbered}
-use Rattle.renumbering.proofs.Lengths.{variables_length}
+use Rattle.rewriting.proofs.Lengths.{variables_length}
 use Rattle.renumbering.proofs.Numbered.{AreNumbered, numbered_none, numbered_more}
 use Rattle.caps.specs.Caps.{any, AreCapsOf, AreCapsLarge, IsCapLarge}
 use Rattle.term_core.specs.View.{view, views}

@@ -18,20 +18,15 @@ use Rattle.automaton_runs.specs.Counting.{chosen, symbol_key}
 use Rattle.automaton_runs.specs.Indexed.{pointed}
 use Rattle.automaton_runs.specs.Choices.{Batch}
 use Rattle.automaton_runs.specs.Reached.{AreWhere, Reaches}
-use Rattle.rewriting.proofs.Lists.{among_map, among_of_map}
+use Rattle.rewriting.proofs.Lists.{among_map, among_of_map, among_at}
 use Rattle.automaton_runs.proofs.Members.{contains_in, in_contains}
 use Rattle.automaton_runs.proofs.Counted.{symbol_from, symbol_to}
 use Rattle.automaton_runs.proofs.Twins.{all_of}
 use Rattle.tree_automata.specs.Accepts.{IsOneAccepting, IsMarked}
 use Rattle.tree_automata.proofs.Lists.{in_front}
 
--- the element at a place
-pub at_in : {X : Type 0} (xs : List X) (i : ℕ) (x : X) → i < length xs → x ≡ get_or xs i x → IsAmong x xs
-at_in [] i x h e = absurd (omega arith)
-at_in (y ∷ ys) zero x h e = inl e
-at_in (y ∷ ys) (suc i) x h e = inr (at_in ys i x (omega arith) e)
-
-pub itself : (xs : List ℕ) (i d : ℕ) → i < length xs → get_or xs i d ≡ get_or xs i (get_or xs i d)
+-- an element at a place, whatever the default
+itself : (xs : List ℕ) (i d : ℕ) → i < length xs → get_or xs i d ≡ get_or xs i (get_or xs i d)
 itself [] i d h = absurd (omega arith)
 itself (y ∷ ys) zero d h = refl
 itself (y ∷ ys) (suc i) d h = go ys i (omega arith)
@@ -44,7 +39,7 @@ itself (y ∷ ys) (suc i) d h = go ys i (omega arith)
 -- one of the listed states is related to some number
 module _ (a : Automaton) (r : NumberRelation) (listed : List ℕ) (same : listed ≡ a.accepting) (i : ℕ) where
   pub accepting_here : i < length listed → get_or listed i 0 < a.states → ((k : ℕ) × Relates r (get_or listed i 0) k) → IsOneAccepting a r
-  accepting_here inside low (k, there) = (get_or listed i 0, k, there, (in_contains _ a.accepting (subst (IsAmong (get_or listed i 0)) same (at_in listed i _ inside (itself listed i 0 inside))), low))
+  accepting_here inside low (k, there) = (get_or listed i 0, k, there, (in_contains _ a.accepting (subst (IsAmong (get_or listed i 0)) same (among_at listed i 0 (get_or listed i 0) inside refl)), low))
 
   pub none_more : i < length listed → ((q k : ℕ) → IsAmong q (take i listed) → q < a.states → Relates r q k → ⊥) → (get_or listed i 0 < a.states → ((k : ℕ) × Relates r (get_or listed i 0) k) → ⊥)
       → (q k : ℕ) → IsAmong q (take (i + 1) listed) → q < a.states → Relates r q k → ⊥
@@ -60,7 +55,7 @@ module _ (a : Indexed) (f n : ℕ) (refs : List (Bor cert.Transition)) (is : poi
   pub zero_here : (x : Bor cert.Transition) → i < length refs → x ≡ get_or refs i x → x.now.args.items ≡ replicate n 0 → x.now.target ≡ 0 → Finds a (Some f) (replicate n 0) 0
   zero_here x inside here zeros target =
       let t = transition_view x.now in
-      let there : IsAmong t (pointed refs) = among_map (λ (r : Bor cert.Transition). transition_view r.now) x refs (at_in refs i x inside here) in
+      let there : IsAmong t (pointed refs) = among_map (λ (r : Bor cert.Transition). transition_view r.now) x refs (among_at refs i x x inside here) in
       let has = symbol_from a f t (subst (λ (l : List Transition). IsAmong t l) is there) in
       subst (λ (q : ℕ). Finds a (Some f) (replicate n 0) q) target (subst (λ (qs : List ℕ). Finds a (Some f) qs x.now.target) zeros has)
 

@@ -3,6 +3,7 @@ use Rattle.std.proofs.Common.{◌≡◌, ◌↔◌, ℕ, ◌+◌, ◌-◌, ◌*�
 use Rattle.std.proofs.lemmas.Bool.{cases_lt, cases_order}
 use Rattle.rewriting.specs.Terms.{Term}
 use Rattle.rewriting.specs.Positions.{IsBefore}
+use Rattle.rewriting.proofs.Before.{before_not_same, before_not_both}
 use Rattle.rewriting.specs.Variables.{variable_occurrences}
 use Rattle.automata.specs.Runs.{ReachBy, IsAccepting}
 use Rattle.automata.specs.Closed.{IsChoice, Excludes}
@@ -19,17 +20,8 @@ use Rattle.automaton_runs.proofs.MayArrive.{batch_is}
 use Rattle.tree_automata.specs.Accepts.{IsOneAccepting}
 use Rattle.tree_automata.specs.Batches.{choice_for, HoldsBelow, HoldsThroughout, IsFirstFailure}
 
-before_asym : (p q : List ℕ) → IsBefore p q → IsBefore q p → ⊥
-before_asym [] [] h k = h
-before_asym [] (l ∷ q) h k = k
-before_asym (j ∷ p) [] h k = h
-before_asym (j ∷ p) (l ∷ q) (inl a) (inl b) = omega arith
-before_asym (j ∷ p) (l ∷ q) (inl a) (inr (e, b)) = omega arith
-before_asym (j ∷ p) (l ∷ q) (inr (e, a)) (inl b) = omega arith
-before_asym (j ∷ p) (l ∷ q) (inr (e, a)) (inr (f, b)) = before_asym p q a b
-
 before_itself : (p q : List ℕ) → p ≡ q → IsBefore p q → ⊥
-before_itself p q e h = let same : IsBefore p p = subst (λ l. IsBefore p l) (sym e) h in before_asym p p same same
+before_itself p q e h = before_not_same p (subst (λ l. IsBefore p l) (sym e) h)
 
 -- a batch of the choices of n states for m occurrences
 pub is_batch : (b : Batch) (n m : ℕ) → b.states ≡ n → b.length ≡ m → b ≡ record { states = n; length = m; number = b.number }
@@ -104,7 +96,7 @@ module _ (a : Indexed) (t : Term) where
                 (within last i p (omega arith, omega arith) (subst (λ (n : ℕ). ReachBy (Finds a) t (choice_for a t n) p) (sym same) reach) (inl (omega arith))))
                 (cases_lt j (4096 * number))
             by last j p inside reach (inl less) (inr (inr more)) =
-                absurd (before_asym (choice_for a t j) (choice_for a t (4096 * number + k)) less (choices_before a.automaton.states (length (variable_occurrences t)) (4096 * number + k) j more inside))
+                absurd (before_not_both (choice_for a t j) (choice_for a t (4096 * number + k)) less (choices_before a.automaton.states (length (variable_occurrences t)) (4096 * number + k) j more inside))
             by last j p inside reach (inr (same, less)) (inr (inr more)) =
                 absurd (before_itself (choice_for a t (4096 * number + k)) (choice_for a t j) (sym same) (choices_before a.automaton.states (length (variable_occurrences t)) (4096 * number + k) j more inside))
 

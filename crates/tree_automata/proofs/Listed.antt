@@ -12,13 +12,12 @@ use Rattle.automaton_runs.specs.Counted.{Indexed, Finds}
 use Rattle.rewriting.specs.Lists.{IsAmong}
 use Rattle.automaton_runs.specs.Counting.{chosen, target_key}
 use Rattle.automaton_runs.specs.Indexed.{pointed}
-use Rattle.rewriting.proofs.Lists.{among_map, among_of_map}
+use Rattle.rewriting.proofs.Lists.{among_map, among_of_map, among_at}
 use Rattle.automaton_runs.proofs.Twins.{all_of}
 use Rattle.tree_automata.specs.Open.{HaveTwins}
 use Rattle.tree_automata.proofs.Lists.{in_front}
 use Rattle.automaton_runs.proofs.Looked.{looked_from}
 use Rattle.tree_automata.proofs.Open.{twins_include}
-use Rattle.tree_automata.proofs.Accepted.{at_in}
 
 -- as many choices as there are variable occurrences ask for
 pub wide_by : (a : Automaton) (t : Term) (n : ℕ) (names : List ℕ) → n ≡ length names → names ≡ variable_occurrences t → 1000000 < a.states ^ n → IsWide a t
@@ -31,7 +30,7 @@ module _ (a : Indexed) (q p : ℕ) (refs : List (Bor cert.Transition)) (is : poi
   pub twin_missing : (x : Bor cert.Transition) → i < length refs → x ≡ get_or refs i x → (Finds a x.now.symbol x.now.args.items q → ⊥) → Includes (Finds a) q p → ⊥
   twin_missing x inside here never twins =
       let t = transition_view x.now in
-      let there : IsAmong t (pointed refs) = among_map (λ (r : Bor cert.Transition). transition_view r.now) x refs (at_in refs i x inside here) in
+      let there : IsAmong t (pointed refs) = among_map (λ (r : Bor cert.Transition). transition_view r.now) x refs (among_at refs i x x inside here) in
       let f = looked_from a target_key p t (subst (λ (l : List Transition). IsAmong t l) is there) in
       let target : x.now.target ≡ p = cc in
       never (twins x.now.symbol x.now.args.items (subst (λ (s : ℕ). Finds a x.now.symbol x.now.args.items s) target f.0))

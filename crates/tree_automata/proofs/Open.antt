@@ -6,6 +6,7 @@ use Rattle.std.proofs.lemmas.Option.{slice_get_within}
 use Rattle.std.proofs.lemmas.List.Elements.{All-head}
 use Rattle.rewriting.specs.Terms as math
 use Rattle.rewriting.specs.Rules.{Rule, System, rule_at}
+use Rattle.rewriting.proofs.Systems.{is_rule_at}
 use Rattle.certificates.specs.Evidence.{Transition, Automaton}
 use Rattle.automata.specs.Runs.{ReachBy}
 use Rattle.automata.specs.Closed.{IsChoice, Includes, IsRuleKept, HasOver, IsClosed, IsFirstOpen, IsWide, IsFirstWide}
@@ -14,7 +15,7 @@ use Rattle.rewriting.specs.Lists.{IsAmong}
 use Rattle.automaton_runs.specs.Counting.{chosen, target_key}
 use Rattle.tree_automata.specs.Open.{IsRuleClosed, IsOpenAt, HaveTwins}
 use Rattle.std.proofs.lemmas.List.{length-map}
-use Rattle.rewriting.specs.Systems.{AreRules, IsRule, IsSystem}
+use Rattle.rewriting.specs.Systems.{IsSystem}
 use Rattle.term_core.specs.RuleView.{rule_view}
 use Rattle.term_core.specs.declared.systems.Rule as data_rule
 use Rattle.tree_automata.proofs.Lists.{mapped_at}
@@ -84,10 +85,5 @@ module _ (sys : System) (rules : List data_rule.Rule) (i : ℕ) (rule : data_rul
 pub rules_past : (sys : System) (rules : List data_rule.Rule) (i : ℕ) → map rule_view rules ≡ sys.rules → length rules ≤ i → length sys.rules ≤ i
 rules_past sys rules i same h = let long = ap length same in omega (arith, length-map rules rule_view)
 
-a_rule : (arities : List ℕ) (rs : List Rule) (i : ℕ) (r : Rule) → AreRules arities rs → slice_get rs i ≡ Some r → IsRule arities r
-a_rule arities [] i r h e = absurd (cc)
-a_rule arities (q ∷ rs) zero r h e = let same : q ≡ r = cc in subst (IsRule arities) same h.0
-a_rule arities (q ∷ rs) (suc i) r h e = a_rule arities rs i r h.1 e
-
 pub left_fits : (sys : System) (i : ℕ) (r : Rule) → IsSystem sys → slice_get sys.rules i ≡ Some r → math.Fits r.left
-left_fits sys i r h e = (a_rule sys.arities sys.rules i r h.rules e).fits.0
+left_fits sys i r h e = (is_rule_at sys.arities sys.rules i r h.rules e).fits.0

@@ -49,17 +49,6 @@ fits_changed f (a ∷ b) (g ∷ es) (suc i) e h lt k =
     let q : bindings es ≡ changed f i b = cc in
     fits_changed f b es i e q (omega arith) k.1
 
-pub changed_all : (f : Binding → Binding) (b : List Binding) (es : List Bound) (i : ℕ) → bindings es ≡ changed f i b → length es ≤ i → bindings es ≡ map f b
-changed_all f [] [] i h lt = refl
-changed_all f (a ∷ b) [] zero h lt = absurd (cc)
-changed_all f (a ∷ b) [] (suc i) h lt = absurd (cc)
-changed_all f b (g ∷ es) zero h lt = absurd (omega arith)
-changed_all f [] (g ∷ es) (suc i) h lt = absurd (cc)
-changed_all f (a ∷ b) (g ∷ es) (suc i) h lt =
-    let p : binding_view g ≡ f a = cc in
-    let q : bindings es ≡ changed f i b = cc in
-    ap₂ (λ x y. x ∷ y) p (changed_all f b es i q (omega arith))
-
 -- what is written over a whole list, as a list behind the borrow
 pub written : (n : ℕ) (xs ys : List Bound) → length xs ≡ n → length ys ≡ n → take n (xs ++ drop (length xs) ys) ≡ xs
 written zero [] ys h k = refl

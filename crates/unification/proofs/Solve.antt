@@ -2,15 +2,15 @@
 use Rattle.std.proofs.Common.{ℕ, ◌≡◌, ◌≢◌, ◌<◌, ◌⊎◌, inl, inr, refl, sym, ap, ◌∙◌, subst, List, [], ◌∷◌, length, arith, Result, Ok, Err}
 use Rattle.rewriting.specs.Terms.{Term, Terms, var, app, nil, cons, count}
 use Rattle.rewriting.specs.Substitutions.{apply, apply_all}
+use Rattle.rewriting.proofs.Over.{count-apply}
 use Rattle.unifier_run.specs.Run.{Binding, value, extended, Binds, DoFit, Outcome, clash, too_large, goes_on, Takes, side_too_large, equal_sides, occurs_inside, binding, binding_too_large, roots_differ, append, Runs, last_equation, next_equation}
-use Rattle.unifier_run.proofs.Lists.{count-apply_all}
 use Rattle.unifier_run.proofs.Agree.{Runs-agree}
 use Rattle.unifier_run.proofs.General.{settled_fixed, takes_settled}
 use Rattle.unifier_run.proofs.Equal.{open_equation}
 use Rattle.term_core.specs.declared.terms.NoMemory.{NoMemory}
 use Rattle.unification.specs.declared.solving.Progress.{Progress}
 use Rattle.unification.specs.declared.solving.Progress.TheVariants.{Solved, Clash, TooLarge}
-use Rattle.unification.specs.Solving.{IsGood, AreSolved, SolveAnswers, BindAnswers}
+use Rattle.unification.specs.Solving.{IsGood, SolveAnswers, BindAnswers}
 
 abbrev pub One : List Binding → List Binding → Term → Term → Result Progress NoMemory → Type 0
 One b c t u r = SolveAnswers b c (cons t nil) (cons u nil) r
@@ -26,7 +26,7 @@ ends_large b c t u n = λ vs ws. last_equation (side_too_large n)
 -- other roots, or other numbers of arguments
 pub ends_roots : (b c : List Binding) (f g : ℕ) (xs ys : Terms) → DoFit (apply (value b) (app f xs)) (apply (value b) (app g ys)) → (f ≢ g) ⊎ (count xs ≢ count ys) → One b c (app f xs) (app g ys) (Ok Clash)
 ends_roots b c f g xs ys fit (inl n) = λ vs ws. last_equation (roots_differ fit (inl n))
-ends_roots b c f g xs ys fit (inr n) = λ vs ws. last_equation (roots_differ fit (inr (λ e. n (sym (count-apply_all (value b) xs) ∙ (e ∙ count-apply_all (value b) ys)))))
+ends_roots b c f g xs ys fit (inr n) = λ vs ws. last_equation (roots_differ fit (inr (λ e. n (sym (count-apply (value b) xs) ∙ (e ∙ count-apply (value b) ys)))))
 
 -- the arguments
 pub opened : (b c : List Binding) (f : ℕ) (xs ys : Terms) (r : Result Progress NoMemory) → IsGood b → DoFit (apply (value b) (app f xs)) (apply (value b) (app f ys)) → count xs ≡ count ys → SolveAnswers b c xs ys r → One b c (app f xs) (app f ys) r
@@ -89,21 +89,6 @@ pub record Remain (b c : List Binding) (ts us rs qs : Terms) : Type 0 where
   pub runs : (vs ws : Terms) (o : Outcome) → Runs c (append rs vs) (append qs ws) o → Runs b (append ts vs) (append us ws) o
   pub grown : (c ≡ b) ⊎ (length b < length c)
   pub good : IsGood c
-
-pub remain_all : (b : List Binding) (ts us : Terms) → IsGood b → Remain b b ts us ts us
-remain_all b ts us g = record { runs = λ vs ws o r. r; grown = inl refl; good = g }
-
-grown_on : (b c d : List Binding) → (c ≡ b) ⊎ (length b < length c) → (d ≡ c) ⊎ (length c < length d) → (d ≡ b) ⊎ (length b < length d)
-grown_on b c d (inl e) (inl h) = inl (h ∙ e)
-grown_on b c d (inl e) (inr h) = inr (subst (λ z. length z < length d) e h)
-grown_on b c d (inr e) (inl h) = inr (subst (λ z. length b < length z) (sym h) e)
-grown_on b c d (inr e) (inr h) = inr (omega (arith, e, h))
-
-pub remain_next : (b c d : List Binding) (ts us rs qs : Terms) (r q : Term) → Remain b c ts us (cons r rs) (cons q qs) → AreSolved c d (cons r nil) (cons q nil) → Remain b d ts us rs qs
-remain_next b c d ts us rs qs r q h k = record { runs = λ vs ws o p. h.runs vs ws o (k.runs (append rs vs) (append qs ws) o p); grown = grown_on b c d h.grown k.grown; good = k.good }
-
-pub remain_none : (b c : List Binding) (ts us : Terms) → Remain b c ts us nil nil → AreSolved b c ts us
-remain_none b c ts us h = record { runs = h.runs; grown = h.grown; good = h.good }
 
 pub remain_end : (b c d : List Binding) (ts us rs qs : Terms) (r q : Term) (p : Progress) → Remain b c ts us (cons r rs) (cons q qs) → (p ≡ Solved → ⊥) → SolveAnswers c d (cons r nil) (cons q nil) (Ok p) → SolveAnswers b d ts us (Ok p)
 remain_end b c d ts us rs qs r q Solved h n k = absurd (n refl)

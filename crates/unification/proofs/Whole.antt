@@ -7,7 +7,7 @@ use Rattle.rewriting.proofs.Instances.{apply_all-agree}
 use Rattle.unifier_run.specs.Run.{Binding, value, Outcome, unifier, clash, too_large, IsOutcome, append, Runs, no_equation}
 use Rattle.unifier_run.specs.Laws.{as_map}
 use Rattle.unifier_run.proofs.Lists.{append-nil}
-use Rattle.unifier_run.proofs.General.{most_general, no_unifier, settled_empty}
+use Rattle.unifier_run.proofs.General.{most_general, no_unifier}
 use Rattle.unifier_run.proofs.Maps.{values_of-as_map}
 use Rattle.term_core.specs.declared.terms.NoMemory.{NoMemory}
 use Rattle.unification.specs.declared.Unified.{Unified}
@@ -15,10 +15,7 @@ use Rattle.unification.specs.declared.Unified.TheVariants.{Mgu, Clash as NoUnifi
 use Rattle.unification.specs.declared.solving.Progress.{Progress}
 use Rattle.unification.specs.declared.solving.Progress.TheVariants.{Solved, Clash, TooLarge}
 use Rattle.unification.specs.Answers.{HasNoUnifier, UnifyAnswers}
-use Rattle.unification.specs.Solving.{IsGood, AreSolved, DoesEnd, SolveAnswers, OutcomeAnswers}
-
-pub good_start : IsGood []
-good_start = record { settled = settled_empty; fit = tt }
+use Rattle.unification.specs.Solving.{AreSolved, DoesEnd, SolveAnswers, OutcomeAnswers}
 
 alone : (b : List Binding) (ts us : Terms) (o : Outcome) → Runs b (append ts nil) (append us nil) o → Runs b ts us o
 alone b ts us o r = subst₂ (λ x y. Runs b x y o) (append-nil ts) (append-nil us) r

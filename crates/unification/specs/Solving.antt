@@ -1,7 +1,7 @@
 -- What the parts of the run answer, each over the bindings before and after it.
 use Rattle.std.specs.Prelude.{ℕ, ◌≡◌, ◌<◌, ◌⊎◌, Bool, true, false, List, map, length, Result, Ok, Err}
 use Rattle.rewriting.specs.Terms as math
-use Rattle.rewriting.specs.Terms.{Terms, var, Fits}
+use Rattle.rewriting.specs.Terms.{Terms, var}
 use Rattle.rewriting.specs.Substitutions.{apply}
 use Rattle.rewriting.specs.Variables.{occurs}
 use Rattle.unifier_run.specs.Run.{Binding, value, extended, under, DoAllFit, Outcome, clash, too_large, append, Runs}

@@ -4,21 +4,12 @@ use Rattle.rewriting.specs.Terms.{Term, app, Terms, nil, cons, count, Fits, size
 use Rattle.rewriting.specs.Systems.{Each}
 use Rattle.rewriting.specs.Substitutions.{apply, apply_all}
 use Rattle.rewriting.proofs.Equality.{same}
+use Rattle.rewriting.proofs.Over.{count-apply}
 use Rattle.unifier_run.specs.Run.{Binding, value, DoFit, Outcome, equal_sides, arguments, append, Runs, last_equation, next_equation}
 use Rattle.unifier_run.proofs.Unique.{takes_same, same_on, run_along, ended_or_on}
-use Rattle.unifier_run.proofs.Lists.{apply_all-append, count-apply_all}
+use Rattle.unifier_run.proofs.Lists.{apply_all-append}
 use Rattle.unifier_run.proofs.Agree.{Runs-agree}
 use Rattle.unifier_run.proofs.General.{IsSettled, settled_fixed_all, inj_arguments}
-
--- equations whose sides are equal under the bindings, and fit, are dropped
-pub drop_equal : (b : List Binding) (ts us vs ws : Terms) (o : Outcome) → apply_all (value b) ts ≡ apply_all (value b) us → Each Fits (apply_all (value b) ts) → Runs b vs ws o → Runs b (append ts vs) (append us ws) o
-drop_equal b nil nil vs ws o e f r = r
-drop_equal b nil (cons u us) vs ws o e f r = absurd (cc)
-drop_equal b (cons t ts) nil vs ws o e f r = absurd (cc)
-drop_equal b (cons t ts) (cons u us) vs ws o e f r =
-    let h : apply (value b) t ≡ apply (value b) u = cc in
-    let k : apply_all (value b) ts ≡ apply_all (value b) us = cc in
-    next_equation (equal_sides (f.0, subst Fits h f.0) h) (drop_equal b ts us vs ws o k f.1 r)
 
 -- the arguments of a term that fits, fit
 pub arguments_fit : (ts : Terms) → size_all ts ≤ 10000 → depth_all ts ≤ 400 → Each Fits ts
@@ -53,5 +44,5 @@ open_equation b f xs ys vs ws o s fit c r = go (same (apply (value b) (app f xs)
         let inside : apply_all (value b) xs ≡ apply_all (value b) ys = inj_arguments f f _ _ e in
         next_equation (equal_sides fit e) (undrop_equal b xs ys vs ws o inside (arguments_fit _ (omega (arith, fit.0.nodes)) (omega (arith, fit.0.levels))) r)
     go (no k) =
-        next_equation (arguments fit k (apply_all (value b) xs) (apply_all (value b) ys) (refl, count-apply_all _ xs ∙ (c ∙ sym (count-apply_all _ ys)), refl, refl))
+        next_equation (arguments fit k (apply_all (value b) xs) (apply_all (value b) ys) (refl, count-apply _ xs ∙ (c ∙ sym (count-apply _ ys)), refl, refl))
         (Runs-agree r _ _ (in_front b xs vs s) (in_front b ys ws s))

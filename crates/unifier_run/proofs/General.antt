@@ -5,9 +5,10 @@ use Rattle.rewriting.specs.Substitutions.{Substitution, apply, apply_all}
 use Rattle.rewriting.specs.Variables.{occurs, occurs_in}
 use Rattle.rewriting.specs.Unifiers.{IsMostGeneralOfAll}
 use Rattle.rewriting.proofs.Instances.{apply-apply, apply-agree, or_cases}
+use Rattle.rewriting.proofs.Over.{count-apply}
 use Rattle.unifier_run.specs.Run.{Binding, value, only, extended, Binds, DoRootsDiffer, HaveArguments, unifier, clash, ends, goes_on, Takes, equal_sides, occurs_inside, binding, roots_differ, arguments, append, Runs, no_equation, last_equation, next_equation}
 use Rattle.unifier_run.proofs.Values.{value-extended, apply-extended}
-use Rattle.unifier_run.proofs.Lists.{apply_all-append, count-apply_all, part}
+use Rattle.unifier_run.proofs.Lists.{apply_all-append, part}
 
 -- s is m followed by s
 abbrev pub Absorbs : Substitution → Substitution → Type 0
@@ -60,7 +61,7 @@ roots_apart : (s : Substitution) (l r : Term) → DoRootsDiffer l r → apply s 
 roots_apart s (var y) r h e = absurd h
 roots_apart s (app f ts) (var y) h e = absurd h
 roots_apart s (app f ts) (app g us) (inl n) e = n (inj_symbol f g _ _ e)
-roots_apart s (app f ts) (app g us) (inr n) e = n (sym (count-apply_all s ts) ∙ (ap count (inj_arguments f g _ _ e) ∙ count-apply_all s us))
+roots_apart s (app f ts) (app g us) (inr n) e = n (sym (count-apply s ts) ∙ (ap count (inj_arguments f g _ _ e) ∙ count-apply s us))
 
 -- a variable inside another term: the instance of the term is larger
 mutual
@@ -202,7 +203,7 @@ pub record Solves (b : List Binding) (ts us : Terms) (m : List Binding) : Type 0
 
 solves_next : (b c : List Binding) (t u : Term) (ts us xs ys : Terms) (m : List Binding) → IsSettled b → Takes b (apply (value b) t) (apply (value b) u) (goes_on c xs ys) → Solves c (append xs ts) (append ys us) m → Solves b (cons t ts) (cons u us) m
 solves_next b c t u ts us xs ys m s k h =
-    let lengths : count (apply_all (value m) xs) ≡ count (apply_all (value m) ys) = count-apply_all _ xs ∙ (takes_lengths b c _ _ xs ys k ∙ sym (count-apply_all _ ys)) in
+    let lengths : count (apply_all (value m) xs) ≡ count (apply_all (value m) ys) = count-apply _ xs ∙ (takes_lengths b c _ _ xs ys k ∙ sym (count-apply _ ys)) in
     let both = part (apply_all (value m) xs) (apply_all (value m) ys) (apply_all (value m) ts) (apply_all (value m) us) lengths (sym (apply_all-append (value m) xs ts) ∙ (h.unifies ∙ apply_all-append (value m) ys us)) in
     let back = takes_back b c _ _ xs ys (value m) k (settled_fixed b s t) (settled_fixed b s u) h.absorbs both.first in
     record {

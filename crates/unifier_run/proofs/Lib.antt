@@ -9,4 +9,5 @@ pub mod Maps
 pub mod Triples
 pub mod Spots
 pub mod Renamed
+pub mod Woven
 pub mod Total

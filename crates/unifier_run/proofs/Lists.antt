@@ -1,5 +1,5 @@
 -- Lists of terms, one behind the other.
-use Rattle.std.proofs.Common.{◌≡◌, suc, ◌+◌, refl, ap, ap₂, arith}
+use Rattle.std.proofs.Common.{◌≡◌, ◌+◌, refl, ap, ap₂, arith}
 use Rattle.rewriting.specs.Terms.{Terms, nil, cons, count}
 use Rattle.rewriting.specs.Substitutions.{Substitution, apply, apply_all}
 use Rattle.unifier_run.specs.Run.{append}
@@ -12,17 +12,9 @@ pub append-nil : (ts : Terms) → append ts nil ≡ ts
 append-nil nil = refl
 append-nil (cons t ts) = ap (cons t) (append-nil ts)
 
-pub append-append : (ts us vs : Terms) → append (append ts us) vs ≡ append ts (append us vs)
-append-append nil us vs = refl
-append-append (cons t ts) us vs = ap (cons t) (append-append ts us vs)
-
 pub count-append : (ts us : Terms) → count (append ts us) ≡ count ts + count us
 count-append nil us = omega arith
 count-append (cons t ts) us = let e = count-append ts us in omega (arith, e)
-
-pub count-apply_all : (s : Substitution) (ts : Terms) → count (apply_all s ts) ≡ count ts
-count-apply_all s nil = refl
-count-apply_all s (cons t ts) = ap suc (count-apply_all s ts)
 
 -- two lists that are equal, taken apart behind lists of one length
 pub record Parted (ts bs us vs : Terms) : Type 0 where

@@ -1,19 +1,13 @@
 -- Bindings as a finite map.
-use Rattle.std.proofs.Common.{ℕ, ◌≡◌, Bool, true, false, cond, nat_eq, if◌then◌else◌, List, [], ◌∷◌, map, Option, Some, unwrap_or, nat_cmp, refl, sym, ap, ◌∙◌, eqb-true, eq-eqb}
+use Rattle.std.proofs.Common.{ℕ, ◌≡◌, Bool, true, false, cond, nat_eq, if◌then◌else◌, List, [], ◌∷◌, map, Option, Some, unwrap_or, nat_cmp, refl, ap, ◌∙◌, eqb-true, eq-eqb}
 use Rattle.std.specs.Ordering.{eq_by_cmp}
-use Rattle.std.specs.Cmp.{nat_cmp_total, nat_cmp_is, Equal-is}
-use Rattle.std.proofs.Common.{Equal}
-use Rattle.std.specs.FinMap.{find, get-from_entries, nat_cmp-IsAntisymmetric}
+use Rattle.std.specs.Cmp.{nat_cmp_total}
+use Rattle.std.specs.FinMap.{find, get-from_entries}
 use Rattle.rewriting.specs.Terms.{Term, var}
 use Rattle.rewriting.specs.Substitutions.{values_of}
+use Rattle.rewriting.proofs.Finite.{key_is, same_key}
 use Rattle.unifier_run.specs.Run.{Binding, value}
 use Rattle.unifier_run.specs.Laws.{as_map}
-
-key_is : (x y : ℕ) (b : Bool) → eq_by_cmp nat_cmp x y ≡ b → b ≡ true → x ≡ y
-key_is x y b e t = nat_cmp-IsAntisymmetric x y ((Equal-is (nat_cmp x y)).0 (e ∙ t))
-
-same_key : (x y : ℕ) → x ≡ y → eq_by_cmp nat_cmp x y ≡ true
-same_key x y e = (Equal-is (nat_cmp x y)).1 (sym (nat_cmp_is x y Equal e))
 
 same_test : (x y : ℕ) (b c : Bool) → eq_by_cmp nat_cmp x y ≡ b → nat_eq x y ≡ c → b ≡ c
 same_test x y true true e h = refl

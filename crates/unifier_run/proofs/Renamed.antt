@@ -32,6 +32,31 @@ module _ (rho sigma : ℕ → ℕ) where
   renamed_outcome clash = clash
   renamed_outcome too_large = too_large
 
+  -- what is renamed has the size and depth that it had
+  mutual
+    pub size-renamed : (t : Term) → size (renamed t) ≡ size t
+    size-renamed (var x) = refl
+    size-renamed (app f ts) = ap suc (size_all-renamed ts)
+
+    size_all-renamed : (ts : Terms) → size_all (all_renamed ts) ≡ size_all ts
+    size_all-renamed nil = refl
+    size_all-renamed (cons t ts) = ap₂ (λ a b. a + b) (size-renamed t) (size_all-renamed ts)
+
+  mutual
+    depth-renamed : (t : Term) → depth (renamed t) ≡ depth t
+    depth-renamed (var x) = refl
+    depth-renamed (app f ts) = ap suc (depth_all-renamed ts)
+
+    depth_all-renamed : (ts : Terms) → depth_all (all_renamed ts) ≡ depth_all ts
+    depth_all-renamed nil = refl
+    depth_all-renamed (cons t ts) = ap₂ max (depth-renamed t) (depth_all-renamed ts)
+
+  pub fits_to : (t : Term) → Fits t → Fits (renamed t)
+  fits_to t f = record { nodes = subst (λ n. n ≤ 10000) (sym (size-renamed t)) f.nodes; levels = subst (λ n. n ≤ 400) (sym (depth-renamed t)) f.levels }
+
+  pub fits_from : (t : Term) → Fits (renamed t) → Fits t
+  fits_from t f = record { nodes = subst (λ n. n ≤ 10000) (size-renamed t) f.nodes; levels = subst (λ n. n ≤ 400) (depth-renamed t) f.levels }
+
 module _ (rho sigma : ℕ → ℕ) (one_to_one : (x y : ℕ) → rho x ≡ rho y → x ≡ y) (symbols_one_to_one : (f g : ℕ) → sigma f ≡ sigma g → f ≡ g) where
   abbrev pub new : Term → Term
   new t = renamed rho sigma t
@@ -87,37 +112,13 @@ module _ (rho sigma : ℕ → ℕ) (one_to_one : (x y : ℕ) → rho x ≡ rho y
   extended-renamed (e ∷ b) c x v =
       ap₂ (λ t r. (record { variable = rho e.variable; term = t }) ∷ r) (apply-renamed (only x v) (only (rho x) (new v)) (only-renamed x v) e.term) (extended-renamed b c x v)
 
-  mutual
-    size-renamed : (t : Term) → size (new t) ≡ size t
-    size-renamed (var x) = refl
-    size-renamed (app f ts) = ap suc (size_all-renamed ts)
-
-    size_all-renamed : (ts : Terms) → size_all (all_new ts) ≡ size_all ts
-    size_all-renamed nil = refl
-    size_all-renamed (cons t ts) = ap₂ (λ a b. a + b) (size-renamed t) (size_all-renamed ts)
-
-  mutual
-    depth-renamed : (t : Term) → depth (new t) ≡ depth t
-    depth-renamed (var x) = refl
-    depth-renamed (app f ts) = ap suc (depth_all-renamed ts)
-
-    depth_all-renamed : (ts : Terms) → depth_all (all_new ts) ≡ depth_all ts
-    depth_all-renamed nil = refl
-    depth_all-renamed (cons t ts) = ap₂ max (depth-renamed t) (depth_all-renamed ts)
-
-  fits_to : (t : Term) → Fits t → Fits (new t)
-  fits_to t f = record { nodes = subst (λ n. n ≤ 10000) (sym (size-renamed t)) f.nodes; levels = subst (λ n. n ≤ 400) (sym (depth-renamed t)) f.levels }
-
-  fits_from : (t : Term) → Fits (new t) → Fits t
-  fits_from t f = record { nodes = subst (λ n. n ≤ 10000) (size-renamed t) f.nodes; levels = subst (λ n. n ≤ 400) (depth-renamed t) f.levels }
-
   all_fit_to : (b : List Binding) → DoAllFit b → DoAllFit (new_bindings b)
   all_fit_to [] h = tt
-  all_fit_to (e ∷ b) (h, hs) = (fits_to e.term h, all_fit_to b hs)
+  all_fit_to (e ∷ b) (h, hs) = (fits_to rho sigma e.term h, all_fit_to b hs)
 
   all_fit_from : (b : List Binding) → DoAllFit (new_bindings b) → DoAllFit b
   all_fit_from [] h = tt
-  all_fit_from (e ∷ b) (h, hs) = (fits_from e.term h, all_fit_from b hs)
+  all_fit_from (e ∷ b) (h, hs) = (fits_from rho sigma e.term h, all_fit_from b hs)
 
   mutual
     same_from : (t u : Term) → new t ≡ new u → t ≡ u
@@ -168,13 +169,13 @@ module _ (rho sigma : ℕ → ℕ) (one_to_one : (x y : ℕ) → rho x ≡ rho y
   arguments_to (app f ts) (app g us) xs ys (e, c, p, q) = (ap sigma e, count-renamed ts ∙ c ∙ sym (count-renamed us), ap all_new p, ap all_new q)
 
   fit_to : (l r : Term) → DoFit l r → DoFit (new l) (new r)
-  fit_to l r (a, b) = (fits_to l a, fits_to r b)
+  fit_to l r (a, b) = (fits_to rho sigma l a, fits_to rho sigma r b)
 
   extended_to : (b : List Binding) (x : ℕ) (v : Term) → extended (new_bindings b) (rho x) (new v) ≡ new_bindings (extended b x v)
   extended_to b x v = extended-renamed b ((record { variable = x; term = v }) ∷ []) x v
 
   takes_to : (b : List Binding) (l r : Term) (turn : Turn) → Takes b l r turn → Takes (new_bindings b) (new l) (new r) (new_turn turn)
-  takes_to b l r _ (side_too_large h) = side_too_large (λ f. h (fits_from l f.0, fits_from r f.1))
+  takes_to b l r _ (side_too_large h) = side_too_large (λ f. h (fits_from rho sigma l f.0, fits_from rho sigma r f.1))
   takes_to b l r _ (equal_sides f e) = equal_sides (fit_to l r f) (ap new e)
   takes_to b l r _ (occurs_inside f d x v h o) = occurs_inside (fit_to l r f) (λ e. d (same_from l r e)) (rho x) (new v) (binds_to l r x v h) (occurs-renamed x v ∙ o)
   takes_to b l r _ (binding f d x v h o c e all) =
@@ -212,6 +213,16 @@ mutual
   pub all_renamed-names : (rho : ℕ → ℕ) (ts : Terms) → all_renamed rho stays ts ≡ apply_all (names rho) ts
   all_renamed-names rho nil = refl
   all_renamed-names rho (cons t ts) = ap₂ cons (renamed-names rho t) (all_renamed-names rho ts)
+
+-- renamed terms have the size that they had, and fit as they did
+pub size-names : (rho : ℕ → ℕ) (t : Term) → size (apply (names rho) t) ≡ size t
+size-names rho t = ap size (sym (renamed-names rho t)) ∙ size-renamed rho stays t
+
+pub fits_with_names : (rho : ℕ → ℕ) (t : Term) → Fits t → Fits (apply (names rho) t)
+fits_with_names rho t f = subst Fits (renamed-names rho t) (fits_to rho stays t f)
+
+pub fits_without_names : (rho : ℕ → ℕ) (t : Term) → Fits (apply (names rho) t) → Fits t
+fits_without_names rho t f = fits_from rho stays t (subst Fits (sym (renamed-names rho t)) f)
 
 pub runs_with_names : (rho : ℕ → ℕ) → ((x y : ℕ) → rho x ≡ rho y → x ≡ y) → {ts us : Terms} {o : Outcome} → Runs [] ts us o → Runs [] (apply_all (names rho) ts) (apply_all (names rho) us) (renamed_outcome rho stays o)
 runs_with_names rho one_to_one {ts = ts} {us = us} {o = o} h =

@@ -3,13 +3,12 @@ use Rattle.std.proofs.Common.{ℕ, zero, suc, ◌≡◌, ◌≢◌, ◌+◌, ◌
 use Rattle.rewriting.specs.Terms.{Term, var, app, Terms, nil, cons, IsVariable}
 use Rattle.rewriting.specs.Positions.{Position, IsBefore, subterm, argument}
 use Rattle.rewriting.specs.Rules.{Rule, System, rule_at}
-use Rattle.rewriting.specs.Overlaps.{IsEarlierOverlap}
-use Rattle.rewriting.specs.Overlaps.{IsPlace}
+use Rattle.rewriting.specs.Overlaps.{IsPlace, IsEarlierOverlap}
 use Rattle.rewriting.proofs.Positions.{within}
 use Rattle.unifier_run.specs.Overlaps.{Triple}
 use Rattle.rewriting.specs.Lists.{IsAmong}
-use Rattle.rewriting.proofs.Lists.{among_left, among_right, among_either}
-use Rattle.unifier_run.proofs.Triples.{AreEarlier, AreInOrder, order_append}
+use Rattle.rewriting.proofs.Lists.{among_left, among_right, among_either, before_each, sorted_append}
+use Rattle.unifier_run.proofs.Triples.{AreEarlier, AreInOrder}
 
 -- the triples of the inner rules from i + 1 on, n of them
 abbrev pub triples_at : ℕ → Position → ℕ → ℕ → List Triple
@@ -71,7 +70,7 @@ in_place j p i (suc n) k a b = go (nat_cases (suc i) k a) (λ l. in_place j p (s
 
 order_at : (j : ℕ) (p : Position) (i n : ℕ) → AreInOrder (triples_at j p i n)
 order_at j p i zero = tt
-order_at j p i (suc n) = (first, order_at j p (suc i) n)
+order_at j p i (suc n) = (before_each IsEarlierOverlap (suc i, (p, j)) (triples_at j p (suc i) n) first, order_at j p (suc i) n)
   where
     first : (u : Triple) → IsAmong u (triples_at j p (suc i) n) → IsEarlierOverlap (suc i, (p, j)) u
     first u m = let r = at_place j p (suc i) n u m in subst (IsEarlierOverlap (suc i, (p, j))) (sym r.is) (inr (refl, inr (refl, r.above)))
@@ -186,11 +185,11 @@ argument_first j n p k t ts v u m l =
 mutual
   pub order_below : (j n : ℕ) (p : Position) (t : Term) → AreInOrder (triples_below j n p t)
   order_below j n p (var x) = tt
-  order_below j n p (app f ts) = order_append (triples_at (suc j) p 0 (counted j n p)) (triples_beside j n p 1 ts) (order_at (suc j) p 0 (counted j n p)) (order_beside j n p 1 ts) (root_first j n p ts)
+  order_below j n p (app f ts) = sorted_append IsEarlierOverlap (triples_at (suc j) p 0 (counted j n p)) (triples_beside j n p 1 ts) (order_at (suc j) p 0 (counted j n p)) (order_beside j n p 1 ts) (root_first j n p ts)
 
   pub order_beside : (j n : ℕ) (p : Position) (k : ℕ) (ts : Terms) → AreInOrder (triples_beside j n p k ts)
   order_beside j n p k nil = tt
-  order_beside j n p k (cons t ts) = order_append (triples_below j n (p ++ k ∷ []) t) (triples_beside j n p (suc k) ts) (order_below j n (p ++ k ∷ []) t) (order_beside j n p (suc k) ts) (argument_first j n p k t ts)
+  order_beside j n p k (cons t ts) = sorted_append IsEarlierOverlap (triples_below j n (p ++ k ∷ []) t) (triples_beside j n p (suc k) ts) (order_below j n (p ++ k ∷ []) t) (order_beside j n p (suc k) ts) (argument_first j n p k t ts)
 
 -- which outer rule a triple has
 pub record FromPlace (n j : ℕ) (rs : List Rule) (u : Triple) : Type 0 where
@@ -211,7 +210,7 @@ from_place n j (r ∷ rs) u m = either (among_either u (triples_below j n [] r.l
 
 pub order_from : (n j : ℕ) (rs : List Rule) → AreInOrder (triples_from n j rs)
 order_from n j [] = tt
-order_from n j (r ∷ rs) = order_append (triples_below j n [] r.left) (triples_from n (suc j) rs) (order_below j n [] r.left) (order_from n (suc j) rs) first
+order_from n j (r ∷ rs) = sorted_append IsEarlierOverlap (triples_below j n [] r.left) (triples_from n (suc j) rs) (order_below j n [] r.left) (order_from n (suc j) rs) first
   where
     first : AreEarlier (triples_below j n [] r.left) (triples_from n (suc j) rs)
     first t u m l =

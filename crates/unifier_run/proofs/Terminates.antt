@@ -1,16 +1,16 @@
 -- Why each run between lists of one length ends: an equation that binds leaves fewer variables, and each other that
 -- goes on leaves smaller sides (Baader and Nipkow, Term Rewriting and All That, section 4.5).
-use Rattle.std.proofs.Common.{ℕ, zero, suc, ◌≡◌, ◌≢◌, ◌+◌, ◌<◌, ◌≤◌, ◌⊎◌, inl, inr, Bool, true, false, nat_eq, if◌then◌else◌, ◌||◌, List, [], ◌∷◌, length, refl, sym, ap, ap₂, ◌∙◌, subst, arith, eqb-true, eq-eqb}
-use native.Mathlib.Decide.{ℕ_discrete, dec_le}
-use Rattle.rewriting.specs.Terms.{Term, var, app, Terms, nil, cons, count, Fits, size, size_all, depth}
+use Rattle.std.proofs.Common.{ℕ, zero, suc, ◌≡◌, ◌≢◌, ◌+◌, ◌<◌, ◌≤◌, ◌⊎◌, inl, inr, Bool, true, false, nat_eq, if◌then◌else◌, List, [], ◌∷◌, length, refl, sym, ap, ◌∙◌, subst, arith, eqb-true, eq-eqb}
+use native.Mathlib.Decide.{ℕ_discrete}
+use Rattle.rewriting.specs.Terms.{Term, var, app, Terms, nil, cons, count, size, size_all}
 use Rattle.rewriting.specs.Substitutions.{apply, apply_all}
 use Rattle.rewriting.specs.Variables.{occurs, occurs_in}
 use Rattle.rewriting.specs.Lists.{IsAmong}
 use Rattle.rewriting.proofs.Instances.{or_left, or_right, or_cases}
-use Rattle.rewriting.proofs.Equality.{same}
-use Rattle.unifier_run.specs.Run.{Binding, value, only, extended, DoFit, DoAllFit, Binds, Outcome, unifier, clash, too_large, Turn, ends, goes_on, Takes, side_too_large, equal_sides, occurs_inside, binding, binding_too_large, roots_differ, arguments, append, Runs, no_equation, last_equation, next_equation}
+use Rattle.rewriting.proofs.Equality.{same, fits_decided}
+use Rattle.unifier_run.specs.Run.{Binding, value, only, extended, DoFit, DoAllFit, Binds, Outcome, unifier, clash, too_large, ends, goes_on, Takes, side_too_large, equal_sides, occurs_inside, binding, binding_too_large, roots_differ, arguments, append, Runs, no_equation, last_equation, next_equation}
 use Rattle.unifier_run.proofs.Values.{apply_all-extended}
-use Rattle.unifier_run.proofs.Lists.{apply_all-append, count-apply_all, count-append}
+use Rattle.unifier_run.proofs.Lists.{apply_all-append, count-append}
 use Rattle.unifier_run.proofs.General.{IsSettled, settled_fixed, takes_settled, inj_arguments}
 
 pub do_both : {A B : Type 0} → Dec A → Dec B → Dec (A × B)
@@ -18,17 +18,9 @@ do_both (yes a) (yes b) = yes (a, b)
 do_both (yes a) (no h) = no (λ p. h p.1)
 do_both (no h) d = no (λ p. h p.0)
 
-pub does_fit : (t : Term) → Dec (Fits t)
-does_fit t = go (dec_le (size t) 10000) (dec_le (depth t) 400)
-  where
-    go : Dec (size t ≤ 10000) → Dec (depth t ≤ 400) → Dec (Fits t)
-    go (yes a) (yes b) = yes (record { nodes = a; levels = b })
-    go (yes a) (no h) = no (λ f. h f.levels)
-    go (no h) d = no (λ f. h f.nodes)
-
 do_all_fit : (b : List Binding) → Dec (DoAllFit b)
 do_all_fit [] = yes tt
-do_all_fit (e ∷ b) = do_both (does_fit e.term) (do_all_fit b)
+do_all_fit (e ∷ b) = do_both (fits_decided e.term) (do_all_fit b)
 
 -- what becomes of an equation: the run ends, a variable is bound, or sides of smaller size take its place
 data Next (b : List Binding) (l r : Term) : Type 0 where
@@ -57,7 +49,7 @@ apart b (app f ts) (app g us) fit differ = go (ℕ_discrete f g) (ℕ_discrete (
     go (no h) d = stops clash (roots_differ fit (inl h))
 
 next : (b : List Binding) (l r : Term) → Next b l r
-next b l r = go (do_both (does_fit l) (does_fit r)) (same l r)
+next b l r = go (do_both (fits_decided l) (fits_decided r)) (same l r)
   where
     go : Dec (DoFit l r) → Dec (l ≡ r) → Next b l r
     go (no h) d = stops too_large (side_too_large h)

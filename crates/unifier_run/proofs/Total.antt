@@ -1,12 +1,12 @@
 -- Each run has an outcome, and each question on a system's runs an answer: whether a term is absolutely irreducible, which
 -- rule is the first that does not clash, and which overlaps there are.
-use Rattle.std.proofs.Common.{ℕ, zero, suc, ◌≡◌, ◌≢◌, ◌<◌, ◌≤◌, ◌+◌, ◌⊎◌, inl, inr, true, List, [], ◌∷◌, ◌++◌, length, Option, Some, None, refl, sym, ap, ◌∙◌, subst, subst₂, arith, append_assoc}
+use Rattle.std.proofs.Common.{ℕ, suc, ◌≡◌, ◌≢◌, ◌<◌, ◌≤◌, ◌⊎◌, inl, inr, true, List, [], ◌∷◌, ◌++◌, length, Option, Some, None, refl, sym, ap, ◌∙◌, subst, subst₂, arith, append_assoc}
 use native.Mathlib.Decide.{dec_le}
 use Rattle.rewriting.specs.Terms.{Term, var, app, Terms, nil, cons, count, Fits, IsVariable}
-use Rattle.rewriting.specs.Positions.{Position, IsBefore, subterm, replace}
-use Rattle.rewriting.specs.Substitutions.{Substitution, apply, apply_all, compose}
+use Rattle.rewriting.specs.Positions.{Position, subterm}
+use Rattle.rewriting.specs.Substitutions.{apply, compose}
 use Rattle.rewriting.specs.Variables.{occurs_in, variables_of}
-use Rattle.rewriting.specs.Unifiers.{IsMostGeneral, even, odd}
+use Rattle.rewriting.specs.Unifiers.{even, odd}
 use Rattle.rewriting.specs.Rules.{Rule, System, rule_at, sides}
 use Rattle.rewriting.specs.Systems.{Each}
 use Rattle.rewriting.specs.Overlaps.{IsPlace, IsEarlierOverlap, conditions_under, CriticalPair, IsCriticalPair}
@@ -17,13 +17,14 @@ use Rattle.rewriting.proofs.Positions.{replaceable}
 use Rattle.rewriting.proofs.Places.{subterm-apply}
 use Rattle.rewriting.proofs.Unifiers.{of_list}
 use Rattle.rewriting.proofs.Search.{FirstRule, search_rules, FirstSubterm, AllSubterms, search_subterms}
+use Rattle.rewriting.proofs.Equality.{fits_decided}
 use Rattle.unifier_run.specs.Run.{Binding, value, Outcome, unifier, clash, too_large, IsOutcome}
 use Rattle.unifier_run.specs.Overlaps.{Triple, IsOutcomeOf, Overlap, triple, DoesPairFit, IsOverlapOf, IsTooLargeAt, AreOverlapsAt, AreOverlaps, IsPairTooLarge, AreTooManyOverlaps}
 use Rattle.unifier_run.specs.Irreducible.{IsTrial, IsEarlierTrial, DoAllClash, IsFirstOutcome, IsFirstRule, DoRulesClash}
 use Rattle.unifier_run.proofs.Values.{apply_all_nothing}
 use Rattle.unifier_run.proofs.General.{settled_empty, most_general}
 use Rattle.unifier_run.proofs.Unique.{runs_same}
-use Rattle.unifier_run.proofs.Terminates.{by_variables, do_both, does_fit}
+use Rattle.unifier_run.proofs.Terminates.{by_variables, do_both}
 use Rattle.unifier_run.proofs.Triples.{AreInOrder, DoesClash, AreThose, those_append, overlaps_at, overlaps_before}
 use Rattle.unifier_run.proofs.Spots.{all_triples, has_all, order_all}
 
@@ -116,10 +117,10 @@ all_clash_decided sys t = go (first_trial sys t)
 -- every term fits, or some does not
 all_fit : (ts : Terms) → Dec (Each Fits ts)
 all_fit nil = yes tt
-all_fit (cons t ts) = do_both (does_fit t) (all_fit ts)
+all_fit (cons t ts) = do_both (fits_decided t) (all_fit ts)
 
 pair_fits : (pair : CriticalPair) → Dec (DoesPairFit pair)
-pair_fits pair = go (do_both (does_fit pair.source) (does_fit pair.left)) (do_both (does_fit pair.right) (all_fit (sides pair.conditions)))
+pair_fits pair = go (do_both (fits_decided pair.source) (fits_decided pair.left)) (do_both (fits_decided pair.right) (all_fit (sides pair.conditions)))
   where
     go : Dec (Fits pair.source × Fits pair.left) → Dec (Fits pair.right × Each Fits (sides pair.conditions)) → Dec (DoesPairFit pair)
     go (yes a) (yes b) = yes (record { source = a.0; left = a.1; right = b.0; conditions = b.1 })

@@ -3,9 +3,9 @@ use Rattle.std.proofs.Common.{ℕ, ◌≡◌, ◌⊎◌, inl, inr, List, [], ◌
 use Rattle.rewriting.specs.Terms.{Term}
 use Rattle.rewriting.specs.Positions.{Position, IsBefore}
 use Rattle.rewriting.specs.Rules.{Rule, System}
-use Rattle.rewriting.proofs.Lists.{among_left, among_right, among_either}
-use Rattle.rewriting.specs.Overlaps.{IsEarlierOverlap}
-use Rattle.rewriting.specs.Overlaps.{IsPlace}
+use Rattle.rewriting.proofs.Lists.{among_either, before_one, sorted_left, sorted_right, sorted_across}
+use Rattle.rewriting.specs.Overlaps.{IsPlace, IsEarlierOverlap}
+use Rattle.rewriting.proofs.Before.{before_not_same, before_not_both}
 use Rattle.unifier_run.specs.Run.{clash}
 use Rattle.rewriting.specs.Lists.{IsAmong, IsBeforeAll, IsSorted}
 use Rattle.unifier_run.specs.Overlaps.{Triple, Overlap, triple, ComesBefore, IsOutcomeOf, IsOverlapOf, AreOverlapsAt}
@@ -16,41 +16,9 @@ AreEarlier ts us = (t u : Triple) → IsAmong t ts → IsAmong u us → IsEarlie
 
 -- each triple is earlier than those behind it
 abbrev pub AreInOrder : List Triple → Type 0
-AreInOrder [] = Unit {0}
-AreInOrder (t ∷ ts) = ((u : Triple) → IsAmong u ts → IsEarlierOverlap t u) × AreInOrder ts
+AreInOrder = IsSorted IsEarlierOverlap
 
-pub order_append : (ts us : List Triple) → AreInOrder ts → AreInOrder us → AreEarlier ts us → AreInOrder (ts ++ us)
-order_append [] us h k e = k
-order_append (t ∷ ts) us h k e = ((λ u m. first u (among_either u ts us m)), order_append ts us h.1 k (λ a b p q. e a b (inr p) q))
-  where
-    first : (u : Triple) → IsAmong u ts ⊎ IsAmong u us → IsEarlierOverlap t u
-    first u (inl m) = h.0 u m
-    first u (inr m) = e t u (inl refl) m
-
-pub order_left : (ts us : List Triple) → AreInOrder (ts ++ us) → AreInOrder ts
-order_left [] us h = tt
-order_left (t ∷ ts) us h = ((λ u m. h.0 u (among_left u ts us m)), order_left ts us h.1)
-
-pub order_across : (ts us : List Triple) → AreInOrder (ts ++ us) → AreEarlier ts us
-order_across [] us h t u m n = absurd m
-order_across (a ∷ ts) us h t u (inl e) n = subst (λ z. IsEarlierOverlap z u) (sym e) (h.0 u (among_right u ts us n))
-order_across (a ∷ ts) us h t u (inr m) n = order_across ts us h.1 t u m n
-
--- no position is before itself, and no two are before each other
-pub before_not_same : (p : Position) → IsBefore p p → ⊥
-before_not_same [] h = h
-before_not_same (k ∷ p) (inl h) = omega (arith, h)
-before_not_same (k ∷ p) (inr (e, h)) = before_not_same p h
-
-pub before_not_both : (p q : Position) → IsBefore p q → IsBefore q p → ⊥
-before_not_both [] [] h k = h
-before_not_both [] (l ∷ q) h k = k
-before_not_both (j ∷ p) [] h k = h
-before_not_both (j ∷ p) (l ∷ q) (inl h) (inl k) = omega (arith, h, k)
-before_not_both (j ∷ p) (l ∷ q) (inl h) (inr (e, k)) = omega (arith, h, e)
-before_not_both (j ∷ p) (l ∷ q) (inr (e, h)) (inl k) = omega (arith, k, e)
-before_not_both (j ∷ p) (l ∷ q) (inr (e, h)) (inr (f, k)) = before_not_both p q h k
-
+-- no triple is earlier than itself, and no two are earlier than each other
 pub earlier_not_same : (t : Triple) → IsEarlierOverlap t t → ⊥
 earlier_not_same (i, (p, j)) (inl h) = omega (arith, h)
 earlier_not_same (i, (p, j)) (inr (e, inl h)) = before_not_same p h
@@ -98,7 +66,7 @@ those_sorted : (sys : System) (ts : List Triple) (os : List Overlap) → AreThos
 those_sorted sys [] os h e = subst (IsSorted ComesBefore) (sym h) tt
 those_sorted sys (t ∷ ts) os (inl (c, h)) e = those_sorted sys ts os h e.1
 those_sorted sys (t ∷ ts) os (inr (a, qs, s, is, at, h)) e =
-    subst (IsSorted ComesBefore) (sym s) (before_those sys ts qs a h (λ u m. subst (λ z. IsEarlierOverlap z u) (sym at) (e.0 u m)), those_sorted sys ts qs h e.1)
+    subst (IsSorted ComesBefore) (sym s) (before_those sys ts qs a h (λ u m. subst (λ z. IsEarlierOverlap z u) (sym at) (before_one IsEarlierOverlap t u ts e.0 m)), those_sorted sys ts qs h e.1)
 
 those_whole : (sys : System) (ts : List Triple) (os : List Overlap) (i : ℕ) (p : Position) (j : ℕ) (inner outer : Rule) (part : Term) → AreThose sys ts os → IsAmong (i, (p, j)) ts → IsPlace sys i p j inner outer part
     → IsOutcomeOf inner.left part clash ⊎ ((o : Overlap) × IsAmong o os × (triple o ≡ (i, (p, j))))
@@ -126,14 +94,10 @@ overlaps_at sys Counts ts os order counts whole h =
 pub overlaps_before : (sys : System) (ts us : List Triple) (t : Triple) (os : List Overlap) → AreInOrder (ts ++ t ∷ us)
     → ((i : ℕ) (p : Position) (j : ℕ) (inner outer : Rule) (part : Term) → IsPlace sys i p j inner outer part → IsAmong (i, (p, j)) (ts ++ t ∷ us)) → AreThose sys ts os → AreOverlapsAt sys (λ u. IsEarlierOverlap u t) os
 overlaps_before sys ts us t os order whole h =
-    overlaps_at sys (λ u. IsEarlierOverlap u t) ts os (order_left ts (t ∷ us) order) (λ u m. order_across ts (t ∷ us) order u t m (inl refl))
+    overlaps_at sys (λ u. IsEarlierOverlap u t) ts os (sorted_left IsEarlierOverlap ts (t ∷ us) order) (λ u m. sorted_across IsEarlierOverlap ts (t ∷ us) order u t m (inl refl))
     (λ i p j inner outer part place c. go (i, (p, j)) c (among_either (i, (p, j)) ts (t ∷ us) (whole i p j inner outer part place))) h
   where
-    rest : (ps bs : List Triple) → AreInOrder (ps ++ bs) → AreInOrder bs
-    rest [] bs o = o
-    rest (a ∷ ps) bs o = rest ps bs o.1
-
     go : (u : Triple) → IsEarlierOverlap u t → IsAmong u ts ⊎ IsAmong u (t ∷ us) → IsAmong u ts
     go u c (inl m) = m
     go u c (inr (inl e)) = absurd (earlier_not_same t (subst (λ z. IsEarlierOverlap z t) e c))
-    go u c (inr (inr m)) = absurd (earlier_not_both u t c ((rest ts (t ∷ us) order).0 u m))
+    go u c (inr (inr m)) = absurd (earlier_not_both u t c (before_one IsEarlierOverlap t u us (sorted_right IsEarlierOverlap ts (t ∷ us) order).0 m))

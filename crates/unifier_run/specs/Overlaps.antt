@@ -1,6 +1,6 @@
 -- The list of a system's overlaps: a set of triples, sorted, each with its conditional critical pair under the unifier of
 -- the run (after Ohlebusch, Advanced Topics in Term Rewriting, chapter 7).
-use Rattle.std.specs.Prelude.{ℕ, ◌≡◌, ◌≤◌, ◌⊎◌, List, [], ◌∷◌, length}
+use Rattle.std.specs.Prelude.{ℕ, ◌≡◌, ◌≤◌, ◌⊎◌, List, length}
 use Rattle.rewriting.specs.Lists.{IsAmong, IsSorted}
 use Rattle.rewriting.specs.Terms.{Term, nil, cons, Fits}
 use Rattle.rewriting.specs.Positions.{Position}

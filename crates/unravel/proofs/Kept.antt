@@ -1,11 +1,10 @@
 -- Sizes of sides, places in a list, and variables one after the other.
-use Rattle.std.proofs.Common.{◌≡◌, ℕ, zero, suc, ◌+◌, ◌<◌, ◌≤◌, refl, ap, ◌∙◌, List, [], ◌∷◌, ◌++◌, map, length, get_or, drop, take, nat_eq, if◌then◌else◌, Bool, true, false, arith, add-one}
-use Rattle.std.specs.List.{list_any}
-use Rattle.std.proofs.lemmas.List.{length-append}
+use Rattle.std.proofs.Common.{◌≡◌, ℕ, zero, suc, ◌+◌, ◌<◌, ◌≤◌, refl, ap, ◌∙◌, List, [], ◌∷◌, ◌++◌, map, length, get_or, drop, take, nat_eq, if◌then◌else◌, arith, add-one}
 use Rattle.rewriting.specs.Terms as math
-use Rattle.rewriting.specs.Terms.{Term, var, app, Terms, nil, cons, terms_of, Fits}
+use Rattle.rewriting.specs.Terms.{Term, var, app, cons, terms_of, Fits}
 use Rattle.rewriting.specs.Substitutions.{apply, apply_all}
 use Rattle.rewriting.specs.Variables.{with_new, with_variables, with_variables_of}
+use Rattle.rewriting.proofs.Lengths.{variables_length}
 use Rattle.rewriting.specs.Unraveling.{variable_terms, keeper, index_in}
 
 size-variable_terms : (xs : List ℕ) → math.size_all (variable_terms xs) ≡ length xs
@@ -73,31 +72,14 @@ take_every [] (suc i) h = refl
 take_every (x ∷ xs) zero h = absurd (omega arith)
 take_every (x ∷ xs) (suc i) h = ap (λ q. x ∷ q) (take_every xs i (omega arith))
 
--- a term has no more variables than nodes
-length-with_new : (xs : List ℕ) (y : ℕ) → length (with_new xs y) ≤ length xs + 1
-length-with_new xs y = go (list_any (nat_eq y) xs)
-  where
-    go : (b : Bool) → length (if b then xs else (xs ++ y ∷ [])) ≤ length xs + 1
-    go true = omega arith
-    go false = let h = length-append xs (y ∷ []) in omega (arith, h)
-
-mutual
-  pub length-with_variables : (xs : List ℕ) (t : Term) → length (with_variables xs t) ≤ length xs + math.size t
-  length-with_variables xs (var y) = length-with_new xs y
-  length-with_variables xs (app f ts) = let h = length-with_variables_of xs ts in omega (arith, h)
-
-  length-with_variables_of : (xs : List ℕ) (ts : Terms) → length (with_variables_of xs ts) ≤ length xs + math.size_all ts
-  length-with_variables_of xs nil = omega arith
-  length-with_variables_of xs (cons t ts) = let h = length-with_variables xs t in let k = length-with_variables_of (with_variables xs t) ts in omega (arith, h, k)
-
 pub few_variables : (l r : Term) (order : List ℕ) → Fits l → Fits r → order ≡ with_variables (with_variables [] l) r → length order ≤ 20000
 few_variables l r order left right e =
-    let a = length-with_variables [] l in
-    let b = length-with_variables (with_variables [] l) r in
+    let a = variables_length [] l in
+    let b = variables_length (with_variables [] l) r in
     let m = left.nodes in
     let n = right.nodes in
     let same = ap length e in
     omega (arith, a, b, m, n, same)
 
 pub few_more : (xs : List ℕ) (t : Term) (ys : List ℕ) → Fits t → ys ≡ with_variables xs t → length ys ≤ length xs + 10000
-few_more xs t ys h e = let a = length-with_variables xs t in let n = h.nodes in let same = ap length e in omega (arith, a, n, same)
+few_more xs t ys h e = let a = variables_length xs t in let n = h.nodes in let same = ap length e in omega (arith, a, n, same)

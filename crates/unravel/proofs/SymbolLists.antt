@@ -1,30 +1,16 @@
 -- The symbols of an unraveled system, put one behind another.
-use Rattle.std.proofs.Common.{◌≡◌, ℕ, zero, suc, ◌+◌, ◌-◌, ◌<◌, ◌≤◌, sym, ap, ap₂, ◌∙◌, subst, List, [], ◌∷◌, ◌++◌, map, length, get_or, drop, take, arith, append_assoc, append-nil}
+use Rattle.std.proofs.Common.{◌≡◌, ℕ, zero, suc, ◌+◌, ◌-◌, ◌<◌, ◌≤◌, sym, ap, ap₂, ◌∙◌, subst, List, [], ◌∷◌, ◌++◌, map, length, get_or, drop, arith, append_assoc, append-nil}
 use Rattle.std.proofs.lemmas.List.{length-map}
 use Rattle.rewriting.specs.Terms.{Fits}
 use Rattle.rewriting.specs.Rules as rules
 use Rattle.rewriting.specs.Signatures.{Signature}
 use Rattle.rewriting.specs.Systems.{Each, terms_of_rule, AreRules}
-use Rattle.rewriting.specs.Variables.{with_variables, variables}
+use Rattle.rewriting.specs.Variables.{variables}
 use Rattle.rewriting.specs.Unraveling.{Head, file, auxiliary, file_heads, condition_heads, auxiliary_heads, keeper_arities, all_keeper_arities}
 use Rattle.term_core.specs.View.{view}
 use Rattle.term_core.specs.RuleView.{rule_view, condition_view}
-use Rattle.term_core.specs.declared.systems.Cond.{Cond}
 use Rattle.term_core.specs.declared.systems.Rule.{Rule}
 use Rattle.unravel.specs.RuleAnswers.{AreRulesSmall, first_heads, rule_heads}
-use Rattle.unravel.proofs.Appended.{rest_of}
-
-pub arities_none : (xs before : List ℕ) (conds : List Cond) → length conds < 1 → before ≡ before ++ keeper_arities xs (map condition_view conds)
-arities_none xs before [] h = sym (append-nil before)
-arities_none xs before (c ∷ cs) h = absurd (omega (arith, h))
-
-pub arities_one : (xs ys before after : List ℕ) (conds : List Cond) (c : Cond) (n : ℕ) → 1 ≤ length conds → c ≡ get_or conds 0 c → ys ≡ with_variables xs (view c.right) → n ≡ length xs + 1
-    → after ≡ (before ++ n ∷ []) ++ keeper_arities ys (map condition_view (take (length conds - 1) (drop 1 conds))) → after ≡ before ++ keeper_arities xs (map condition_view conds)
-arities_one xs ys before after [] c n h is e m q = absurd (omega (arith, h))
-arities_one xs ys before after (d ∷ cs) c n h is e m q =
-    let one : n ≡ suc (length xs) = omega (arith, m) in
-    let same : ys ≡ with_variables xs (view d.right) = e ∙ ap (λ z. with_variables xs (view z.right)) is in
-    q ∙ ap (λ z. (before ++ n ∷ []) ++ keeper_arities ys (map condition_view z)) (rest_of 1 (d ∷ cs)) ∙ append_assoc before (n ∷ []) _ ∙ ap₂ (λ a zs. before ++ a ∷ keeper_arities zs (map condition_view cs)) one same
 
 pub small_rules : (arities : Signature) (rs : List rules.Rule) → AreRules arities rs → AreRulesSmall rs
 small_rules arities [] h = tt

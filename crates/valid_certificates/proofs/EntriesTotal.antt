@@ -1,7 +1,8 @@
 -- Entries settle the overlaps of a system, or refute the redexes of two terms, or there is a first reason why they do not.
-use Rattle.std.proofs.Common.{◌≡◌, ◌≢◌, ◌⊎◌, inl, inr, ℕ, suc, List, [], ◌∷◌, Option, Some, None, refl, sym, ap, ap₂, ◌∙◌, subst}
+use Rattle.std.proofs.Common.{◌≡◌, ◌⊎◌, inl, inr, ℕ, suc, List, [], ◌∷◌, Some, None, refl, sym, ap, ap₂, ◌∙◌, subst}
 use native.Mathlib.Decide.{ℕ_discrete}
 use Rattle.std.specs.FinMap.{empty}
+use Rattle.rewriting.specs.Lists.{IsAmong}
 use Rattle.rewriting.specs.Matching.{IsLeastMatch}
 use Rattle.rewriting.specs.Overlaps.{conditions_under}
 use Rattle.rewriting.specs.Terms.{Fits}
@@ -12,20 +13,22 @@ use Rattle.unifier_run.specs.Run.{Outcome, unifier, clash, too_large}
 use Rattle.unifier_run.proofs.Total.{Listing, overlaps_total}
 use Rattle.caps.specs.Caps.{Cap, kept, IsCapLarge}
 use Rattle.caps.specs.Evidence.{IsPairOutcome}
+use Rattle.rewriting.proofs.Equality.{fits_decided}
+use Rattle.rewriting.proofs.Matched.{instance_matched}
 use Rattle.certificates.specs.Certificates.{PairEntry, Apartness, Peak, Redex, by_normal_forms, by_rigid_caps}
 use Rattle.certificates.specs.Evidence.{InfeasibilityEvidence, PairEvidence}
-use Rattle.certificates.specs.Reasons.{EvidenceReason, tcap_large, BadStep, Rejection, pair_large, too_many_pairs, pair_missing, pair_extra, evidence_fails, first_bad, second_bad, same_term, not_normal, redex_extra, redex_fails, caps_unify, caps_large}
+use Rattle.certificates.specs.Reasons.{tcap_large, BadStep, Rejection, pair_large, too_many_pairs, pair_missing, pair_extra, evidence_fails, first_bad, second_bad, same_term, not_normal, redex_extra, redex_fails, caps_unify, caps_large}
 use Rattle.certificates.specs.Sizes.{DoConditionsFit}
 use Rattle.certificates.specs.Judging.{Derives, IsFirstBad}
-use Rattle.certificates.proofs.DerivationTotal.{fits_decided, derivation_total}
+use Rattle.certificates.proofs.DerivationTotal.{derivation_total}
 use Rattle.valid_certificates.specs.Kinds.{Kind}
 use Rattle.valid_certificates.specs.Evidence.{IsInfeasibilityJudged}
 use Rattle.valid_certificates.specs.PairEvidence.{IsPairJudged}
 use Rattle.valid_certificates.specs.Entries.{triple_of, AreSettled, AreNotSettled, DoSettle, DoNotSettle, pair_is_large, pairs_are_many, entry_fails}
-use Rattle.valid_certificates.specs.Peaks.{MatchesAt, RedexPlace, IsRedex, IsListed, AreRedexes, chosen, at_redex, AreConditionsAt, IsRedexJudged, entry_place, AreRefuted, AreNotRefuted, AreShownApart, AreNotShownApart, LeadsTo, IsValidPeak, IsPeakRejected, first_fails, second_fails, not_apart}
+use Rattle.valid_certificates.specs.Peaks.{MatchesAt, RedexPlace, IsRedex, AreRedexes, chosen, at_redex, AreConditionsAt, IsRedexJudged, entry_place, AreRefuted, AreNotRefuted, AreShownApart, AreNotShownApart, LeadsTo, IsValidPeak, IsPeakRejected, first_fails, second_fails, not_apart}
 use Rattle.valid_certificates.proofs.EvidenceTotal.{HasJudgement}
 use Rattle.valid_certificates.proofs.OneOverlaps.{IsSame}
-use Rattle.valid_certificates.proofs.RedexTotal.{instance_matched, redexes_total}
+use Rattle.valid_certificates.proofs.RedexTotal.{redexes_total}
 
 -- it is valid, or rejected for some reason
 abbrev pub HasAnswer : Type 0 → (Rejection → Type 0) → Type 0
@@ -140,7 +143,7 @@ module _ (sys : System) (judged : (cs : List Condition) (e : InfeasibilityEviden
     one_total n r rs e es (yes q) (None, h) (inl s) = inl (q, h, s)
     one_total n r rs e es (yes q) (None, h) (inr (why, f)) = inr (why, inr (inr (q, h, f)))
 
-    refuted_total : (n : ℕ) (rs : List RedexPlace) (es : List Redex) → ((r : RedexPlace) → IsListed r rs → IsRedex sys u v r) → Refuted n rs es
+    refuted_total : (n : ℕ) (rs : List RedexPlace) (es : List Redex) → ((r : RedexPlace) → IsAmong r rs → IsRedex sys u v r) → Refuted n rs es
     refuted_total n [] [] each = inl tt
     refuted_total n [] (e ∷ es) each = inr (redex_extra n, refl)
     refuted_total n (r ∷ rs) [] each = inr (not_normal r.which r.position r.rule, refl)

@@ -1,15 +1,15 @@
 -- The blame for a class is one, and where there is one the class does not hold.
-use Rattle.std.proofs.Common.{ℕ, suc, ◌≡◌, inl, inr, ◌<◌, refl, sym, ap, ap₂, ◌∙◌, subst, true, false, List, [], ◌∷◌, ◌++◌, Option, Some, None}
-use Rattle.std.proofs.lemmas.Bool.{false≢true}
+use Rattle.std.proofs.Common.{ℕ, suc, ◌≡◌, inl, inr, ◌<◌, refl, sym, ap, ap₂, ◌∙◌, subst, false, List, [], ◌∷◌, ◌++◌, Option, Some, None}
+use Rattle.rewriting.specs.Lists.{IsAmong, AreDistinct}
 use Rattle.rewriting.specs.Terms.{Term, cons}
 use Rattle.rewriting.specs.Rules.{Condition, Rule, System, rule_at, sides, EachRule}
-use Rattle.rewriting.specs.Variables.{occurs, occurs_in, IsWithin}
-use Rattle.rewriting.specs.Classes.{IsAt, known, IsType3Rule, IsStable}
+use Rattle.rewriting.specs.Variables.{occurs_in}
+use Rattle.rewriting.specs.Classes.{IsAt, known}
+use Rattle.rewriting.proofs.Lists.{among_middle, distinct_middle}
 use Rattle.rewriting.proofs.Conditions.{Order, is_smaller, is_equal, is_greater, order}
 use Rattle.certificates.specs.Reasons.{Class, left_linear, type3, extended_oriented, right_stable, deterministic, Blame}
-use Rattle.rewriting.specs.Lists.{IsAmong, AreDistinct}
-use Rattle.certificates.specs.Blames.{IsFirstVariable, IsFirstRepeated, IsFresh, IsOld, IsType3Blame, IsUnstable, IsRightStableBlame, IsDeterministicBlame, IsUndetermined, IsInClass, IsRuleBlamed}
-use Rattle.certificates.proofs.Blames.{repeated_not_linear, first_occurs, blamed_outside}
+use Rattle.certificates.specs.Blames.{IsFirstVariable, IsFirstRepeated, IsOld, IsType3Blame, IsUnstable, IsRightStableBlame, IsDeterministicBlame, IsUndetermined, IsInClass, IsRuleBlamed}
+use Rattle.certificates.proofs.Blames.{not_type3, fresh_not_old, stable_or_blamed, known_or_blamed, outside, blamed_outside}
 use Rattle.valid_certificates.specs.Confluence.{IsBlameOf}
 
 -- a list is split at two places: the same one, or one behind the other
@@ -28,15 +28,6 @@ splits (a ∷ xs) (b ∷ ys) us vs x y e = (let h : a ≡ b = cc in let k : xs +
     go h (same_place s) = same_place s
     go h (first_earlier rest s) = first_earlier rest (ap₂ (λ (z : ℕ) (zs : List ℕ). z ∷ zs) (sym h) s)
     go h (second_earlier rest s) = second_earlier rest (ap₂ (λ (z : ℕ) (zs : List ℕ). z ∷ zs) h s)
-
-among_middle : (x : ℕ) (xs rest : List ℕ) → IsAmong x (xs ++ x ∷ rest)
-among_middle x [] rest = inl refl
-among_middle x (a ∷ xs) rest = inr (among_middle x xs rest)
-
-distinct_middle : (x : ℕ) (xs rest : List ℕ) → AreDistinct (xs ++ x ∷ rest) → IsAmong x xs → ⊥
-distinct_middle x [] rest d a = a
-distinct_middle x (b ∷ xs) rest d (inl e) = d.0 (subst (λ z. IsAmong z (xs ++ x ∷ rest)) e (among_middle x xs rest))
-distinct_middle x (b ∷ xs) rest d (inr a) = distinct_middle x xs rest d.1 a
 
 first_once : (P : ℕ → Type 0) (t : Term) (x y : ℕ) → IsFirstVariable P t x → IsFirstVariable P t y → x ≡ y
 first_once P t x y f g = go (splits f.before g.before f.after g.after x y (sym f.split ∙ g.split))
@@ -61,31 +52,13 @@ same_condition cs i k c d a b e = (let h : IsAt cs k c = subst (λ n. IsAt cs n 
 abbrev OneFault : ℕ → Option ℕ → ℕ → Option ℕ → Type 0
 OneFault condition variable number other = (condition ≡ number) × (variable ≡ other)
 
--- a rule with something at fault is outside the class
-not_type3 : (r : Rule) (condition : ℕ) (variable : Option ℕ) → IsType3Blame r condition variable → IsType3Rule r → ⊥
-not_type3 r condition None b h = b
-not_type3 r condition (Some x) (_, f) h =
-    false≢true (sym f.here ∙ h x (first_occurs (λ y. occurs_in y (cons r.left (sides r.conditions)) ≡ false) r.right x f))
-
 type3_once : (r : Rule) (n m : ℕ) (v w : Option ℕ) → IsType3Blame r n v → IsType3Blame r m w → OneFault n v m w
 type3_once r n m None w a b = absurd a
 type3_once r n m (Some x) None a b = absurd b
 type3_once r n m (Some x) (Some y) (e, f) (h, g) =
     (e ∙ sym h, ap Some (first_once (λ z. occurs_in z (cons r.left (sides r.conditions)) ≡ false) r.right x y f g))
 
--- what is fresh and stable is not at fault
-fresh_not_old : (r : Rule) (i : ℕ) (c : Condition) (x : ℕ) → IsFresh r i c → IsFirstVariable (IsOld r i) c.right x → ⊥
-fresh_not_old r i c x fresh f = go (first_occurs (IsOld r i) c.right x f) f.here
-  where
-    go : occurs x c.right ≡ true → IsOld r i x → ⊥
-    go o (inl e) = fresh.0 x o e
-    go o (inr e) = fresh.1 x o e
-
 module _ (sys : System) (r : Rule) where
-  stable_or_blamed : (n : ℕ) (v : Option ℕ) (b : IsRightStableBlame sys r n v) → IsFresh r b.i b.c × IsStable sys b.c.right → ⊥
-  stable_or_blamed n None b h = b.fails.1 h.1
-  stable_or_blamed n (Some x) b h = fresh_not_old r b.i b.c x h.0 b.fails
-
   unstable_once : (i : ℕ) (c : Condition) (v w : Option ℕ) → IsUnstable sys r i c v → IsUnstable sys r i c w → v ≡ w
   unstable_once i c None None a b = refl
   unstable_once i c None (Some y) a b = absurd (fresh_not_old r i c y a.0 b)
@@ -99,17 +72,14 @@ module _ (sys : System) (r : Rule) where
       here e c = subst (λ z. IsUnstable sys r b.i z v) c (subst (λ k. IsUnstable sys r k a.c v) e a.fails)
 
       go : Order a.i b.i → OneFault n v m w
-      go (is_smaller lt) = absurd (stable_or_blamed n v a (b.good_before a.i a.c lt a.is_at))
-      go (is_greater lt) = absurd (stable_or_blamed m w b (a.good_before b.i b.c lt b.is_at))
+      go (is_smaller lt) = absurd (stable_or_blamed sys r n v a (b.good_before a.i a.c lt a.is_at))
+      go (is_greater lt) = absurd (stable_or_blamed sys r m w b (a.good_before b.i b.c lt b.is_at))
       go (is_equal e) = (
         a.number ∙ ap suc e ∙ sym b.number,
         unstable_once b.i b.c v w (here e (same_condition r.conditions a.i b.i a.c b.c a.is_at b.is_at e)) b.fails,
       )
 
 module _ (r : Rule) where
-  known_or_blamed : (n x : ℕ) (b : IsUndetermined r n x) → IsWithin b.c.left (known r b.i) → ⊥
-  known_or_blamed n x b h = false≢true (sym b.first.here ∙ h x (first_occurs (λ y. occurs_in y (known r b.i) ≡ false) b.c.left x b.first))
-
   undetermined_once : (n m x y : ℕ) → IsUndetermined r n x → IsUndetermined r m y → OneFault n (Some x) m (Some y)
   undetermined_once n m x y a b = go (order a.i b.i)
     where
@@ -119,8 +89,8 @@ module _ (r : Rule) where
           (subst (λ k. IsFirstVariable (λ z. occurs_in z (known r k) ≡ false) a.c.left x) e a.first)
 
       go : Order a.i b.i → OneFault n (Some x) m (Some y)
-      go (is_smaller lt) = absurd (known_or_blamed n x a (b.good_before a.i a.c lt a.is_at))
-      go (is_greater lt) = absurd (known_or_blamed m y b (a.good_before b.i b.c lt b.is_at))
+      go (is_smaller lt) = absurd (known_or_blamed r n x a (b.good_before a.i a.c lt a.is_at))
+      go (is_greater lt) = absurd (known_or_blamed r m y b (a.good_before b.i b.c lt b.is_at))
       go (is_equal e) = (
         a.number ∙ ap suc e ∙ sym b.number,
         ap Some (first_once (λ z. occurs_in z (known r b.i) ≡ false) b.c.left x y (here e (same_condition r.conditions a.i b.i a.c b.c a.is_at b.is_at e)) b.first),
@@ -146,17 +116,6 @@ module _ (sys : System) where
   fault_once extended_oriented r n m (Some x) w a b = absurd a
   fault_once right_stable r n m v w a b = right_stable_once sys r n m v w a b
   fault_once deterministic r n m v w a b = deterministic_once r n m v w a b
-
-  outside : (class : Class) (r : Rule) (n : ℕ) (v : Option ℕ) → IsRuleBlamed sys class r n v → IsInClass sys class r → ⊥
-  outside left_linear r n None b h = b
-  outside left_linear r n (Some x) b h = repeated_not_linear r.left x b.1 h
-  outside type3 r n v b h = not_type3 r n v b h
-  outside extended_oriented r n None b h = b.1 h
-  outside extended_oriented r n (Some x) b h = b
-  outside right_stable r n v b h = stable_or_blamed sys r n v b (h.fresh b.i b.c b.is_at, h.stable b.i b.c b.is_at)
-  outside deterministic r n None b h = b
-  outside deterministic r n (Some x) (inl b) h = not_type3 r n (Some x) b h.type3
-  outside deterministic r n (Some x) (inr b) h = known_or_blamed r n x b.1 (h.determined b.1.i b.1.c b.1.is_at)
 
   same_rule : (i k : ℕ) (q r : Rule) → rule_at sys i ≡ Some q → rule_at sys k ≡ Some r → i ≡ k → q ≡ r
   same_rule i k q r a b e = (let h : rule_at sys k ≡ Some q = subst (λ n. rule_at sys n ≡ Some q) e a in cc)

@@ -9,31 +9,14 @@ use Rattle.rewriting.specs.Rules.{Condition, Rule, System, rule_at}
 use Rattle.rewriting.specs.Overlaps.{IsPlace, IsEarlierOverlap, CriticalPair, IsCriticalPair}
 use Rattle.rewriting.proofs.Lists.{among_either, before_one, sorted_append, sorted_once}
 use Rattle.rewriting.proofs.Conditions.{Order, is_smaller, is_equal, is_greater, order}
+use Rattle.rewriting.proofs.Before.{Ordered, comes_first, is_same, comes_last, order_positions, before_before}
 use Rattle.unifier_run.specs.Run.{Binding, value, Outcome, unifier, clash, too_large}
 use Rattle.rewriting.specs.Lists.{IsAmong, IsBeforeAll, IsSorted}
 use Rattle.unifier_run.specs.Overlaps.{Triple, Overlap, triple, ComesBefore, IsOutcomeOf, DoesPairFit, IsOverlapOf, IsTooLargeAt, AreOverlapsAt, AreOverlaps, IsPairTooLarge, AreTooManyOverlaps}
 use Rattle.unifier_run.proofs.Unique.{runs_same}
 use Rattle.unifier_run.proofs.Triples.{earlier_not_same, earlier_not_both}
 
--- the order of positions, and of triples, is total
-pub data Ordered {A : Type 0} (R : A → A → Type 0) (a b : A) : Type 0 where
-  comes_first : R a b → Ordered R a b
-  is_same : a ≡ b → Ordered R a b
-  comes_last : R b a → Ordered R a b
-
-pub order_positions : (p q : Position) → Ordered IsBefore p q
-order_positions [] [] = is_same refl
-order_positions [] (l ∷ q) = comes_first tt
-order_positions (k ∷ p) [] = comes_last tt
-order_positions (k ∷ p) (l ∷ q) = go (order k l) (order_positions p q)
-  where
-    go : Order k l → Ordered IsBefore p q → Ordered IsBefore (k ∷ p) (l ∷ q)
-    go (is_smaller h) o = comes_first (inl h)
-    go (is_greater h) o = comes_last (inl h)
-    go (is_equal e) (comes_first h) = comes_first (inr (e, h))
-    go (is_equal e) (is_same h) = is_same (ap₂ (λ (n : ℕ) (r : Position). n ∷ r) e h)
-    go (is_equal e) (comes_last h) = comes_last (inr (sym e, h))
-
+-- the order of triples is total
 abbrev pub IsSame : Triple → Triple → Type 0
 IsSame t u = t ≡ u
 
@@ -54,15 +37,6 @@ order_triples (i, (p, j)) (k, (q, l)) = go (order j l) (order_positions p q) (or
     go (is_equal e) (is_same s) (is_smaller h) = comes_first (inr (e, inr (s, h)))
     go (is_equal e) (is_same s) (is_greater h) = comes_last (inr (sym e, inr (sym s, h)))
     go (is_equal e) (is_same s) (is_equal h) = is_same (same_triple i k p q j l h s e)
-
-pub before_before : (p q r : Position) → IsBefore p q → IsBefore q r → IsBefore p r
-before_before p q [] h k = k
-before_before p [] (n ∷ r) h k = absurd h
-before_before [] (l ∷ q) (n ∷ r) h k = tt
-before_before (i ∷ p) (l ∷ q) (n ∷ r) (inl h) (inl k) = inl (omega (arith, h, k))
-before_before (i ∷ p) (l ∷ q) (n ∷ r) (inl h) (inr (e, k)) = inl (omega (arith, h, e))
-before_before (i ∷ p) (l ∷ q) (n ∷ r) (inr (e, h)) (inl k) = inl (omega (arith, e, k))
-before_before (i ∷ p) (l ∷ q) (n ∷ r) (inr (e, h)) (inr (f, k)) = inr (e ∙ f, before_before p q r h k)
 
 earlier_earlier : (t u v : Triple) → IsEarlierOverlap t u → IsEarlierOverlap u v → IsEarlierOverlap t v
 earlier_earlier (i, (p, j)) (k, (q, l)) (m, (r, n)) (inl h) (inl g) = inl (omega (arith, h, g))

@@ -1,90 +1,17 @@
 -- Two terms have a list of redexes: of all places those where a rule matches, each put before the first that is not earlier.
-use Rattle.std.proofs.Common.{◌≡◌, ◌⊎◌, inl, inr, ℕ, zero, suc, ◌+◌, ◌<◌, List, [], ◌∷◌, ◌++◌, map, slice_get, length, Option, Some, None, unwrap_or, refl, sym, ap, ap₂, ◌∙◌, subst, arith, nat_cmp, true, eqb-true}
-use Rattle.std.specs.FinMap.{get, insert, empty, get-empty}
-use Rattle.rewriting.specs.Lists.{IsAmong}
-use Rattle.rewriting.specs.Matching.{Extends, Solves, SolvesAll, IsLeastMatch, HasNoMatch}
+use Rattle.std.proofs.Common.{◌≡◌, ◌⊎◌, inl, inr, ℕ, zero, suc, ◌+◌, List, [], ◌∷◌, ◌++◌, map, slice_get, Option, Some, None, refl, sym, ap, ap₂, ◌∙◌, subst, arith}
+use Rattle.rewriting.specs.Lists.{IsAmong, IsBeforeAll, IsSorted}
 use Rattle.rewriting.specs.Positions.{IsBefore, positions}
 use Rattle.rewriting.specs.Substitutions.{Matches}
-use Rattle.rewriting.proofs.Common.{Term, Terms, var, app, nil, cons, Position, subterm, Substitution, Bindings, apply, apply_all, values_of, occurs, Rule, System, rule_at}
+use Rattle.rewriting.proofs.Common.{Term, Position, subterm, Rule, System, rule_at}
 use Rattle.rewriting.proofs.Conditions.{Order, is_smaller, is_equal, is_greater, order}
-use Rattle.rewriting.proofs.LeastMatches.{matched, bound_least, least_needs, Solves-extends}
+use Rattle.rewriting.proofs.Before.{Ordered, comes_first, is_same, comes_last, order_positions, before_before}
 use Rattle.rewriting.proofs.Listed.{listed}
 use Rattle.rewriting.proofs.Lists.{among_left, among_right, among_map}
-use Rattle.rewriting.proofs.Matching.{solved_instance}
-use Rattle.valid_certificates.specs.Peaks.{MatchesAt, RedexPlace, IsRedex, IsEarlierRedex, IsListed, IsBeforeAll, IsSorted, AreRedexes}
-use Rattle.valid_certificates.proofs.OneOverlaps.{Ordered, comes_first, is_same, comes_last, order_positions, before_before}
+use Rattle.rewriting.proofs.Matched.{instance_decided}
+use Rattle.valid_certificates.specs.Peaks.{MatchesAt, RedexPlace, IsRedex, IsEarlierRedex, AreRedexes}
 
--- values that a substitution has too
-abbrev Agrees : Bindings → Substitution → Type 0
-Agrees b s = (x : ℕ) (t : Term) → get b x ≡ Some t → t ≡ s x
-
--- more such values, under which the pattern becomes the instance
-record Grown (b : Bindings) (s : Substitution) (Holds : Bindings → Type 0) : Type 0 where
-  values : Bindings
-  extends : Extends b values
-  agrees : Agrees values s
-  holds : Holds values
-
-grown_at : (b : Bindings) (s : Substitution) (x : ℕ) → Agrees b s → (o : Option Term) → get b x ≡ o → Grown b s (λ d. Solves d (var x) (s x))
-grown_at b s x h (Some t) e = record { values = b; extends = λ y u k. k; agrees = h; holds = e ∙ ap Some (h x t e) }
-grown_at b s x h None e = record {
-  values = insert b x (s x);
-  extends = least.extends;
-  agrees = agrees;
-  holds = least.solves;
-}
-  where
-    least : IsLeastMatch b (insert b x (s x)) (var x) (s x)
-    least = bound_least b x (s x) e
-
-    agrees : Agrees (insert b x (s x)) s
-    agrees y t g = go (least_needs b (insert b x (s x)) (var x) (s x) least y t g)
-      where
-        go : (get b y ≡ Some t) ⊎ (occurs y (var x) ≡ true) → t ≡ s y
-        go (inl there) = h y t there
-        go (inr o) =
-            let same : y ≡ x = eqb-true y x o in
-            let here : get (insert b x (s x)) x ≡ Some (s x) = least.solves in
-            let value : Some t ≡ Some (s x) = sym g ∙ ap (get (insert b x (s x))) same ∙ here in
-            (let is : t ≡ s x = cc in is ∙ ap s (sym same))
-
-mutual
-  grown : (b : Bindings) (s : Substitution) (p : Term) → Agrees b s → Grown b s (λ d. Solves d p (apply s p))
-  grown b s (var x) h = grown_at b s x h (get b x) refl
-  grown b s (app f ps) h = let g = grown_all b s ps h in record { values = g.values; extends = g.extends; agrees = g.agrees; holds = (refl, g.holds) }
-
-  grown_all : (b : Bindings) (s : Substitution) (ps : Terms) → Agrees b s → Grown b s (λ d. SolvesAll d ps (apply_all s ps))
-  grown_all b s nil h = record { values = b; extends = λ y u k. k; agrees = h; holds = tt }
-  grown_all b s (cons p ps) h =
-      let first = grown b s p h in
-      let rest = grown_all first.values s ps first.agrees in
-      record {
-        values = rest.values;
-        extends = λ y u k. rest.extends y u (first.extends y u k);
-        agrees = rest.agrees;
-        holds = (Solves-extends first.values rest.values p (apply s p) rest.extends first.holds, rest.holds);
-      }
-
-nothing_agrees : (s : Substitution) → Agrees empty s
-nothing_agrees s x t e = absurd (let bad : None ≡ Some t = sym (get-empty nat_cmp x) ∙ e in cc)
-
--- an instance has a least match
-pub instance_matched : (p t : Term) → Matches p t → (m : Bindings) × IsLeastMatch empty m p t
-instance_matched p t (s, e) = go (matched empty p t)
-  where
-    go : ((m : Bindings) × IsLeastMatch empty m p t) ⊎ HasNoMatch empty p t → (m : Bindings) × IsLeastMatch empty m p t
-    go (inl h) = h
-    go (inr none) = let g = grown empty s p (nothing_agrees s) in absurd (none g.values g.extends (subst (Solves g.values p) e g.holds))
-
--- whether a term is an instance is decided
-instance_decided : (p t : Term) → Dec (Matches p t)
-instance_decided p t = go (matched empty p t)
-  where
-    go : ((m : Bindings) × IsLeastMatch empty m p t) ⊎ HasNoMatch empty p t → Dec (Matches p t)
-    go (inl (m, h)) = yes (values_of m, solved_instance m p t h.solves)
-    go (inr none) = no (λ h. let m = instance_matched p t h in none m.0 m.1.extends m.1.solves)
-
--- so is whether a rule matches at a position
+-- whether a rule matches at a position is decided
 module _ (sys : System) (t : Term) (p : Position) (i : ℕ) where
   at_part : (r : Rule) (u : Term) → rule_at sys i ≡ Some r → subterm t p ≡ Some u → Dec (Matches r.left u) → Dec (MatchesAt sys t p i)
   at_part r u e s (yes h) = yes (record { rule = r; part = u; is_rule = e; stands = s; matches = h })
@@ -131,20 +58,20 @@ earlier_trans a b c (inr (e, inl h)) (inr (f, inr (s, k))) = inr (e ∙ f, inl (
 earlier_trans a b c (inr (e, inr (s, h))) (inr (f, inl k)) = inr (e ∙ f, inl (subst (λ z. IsBefore z c.position) (sym s) k))
 earlier_trans a b c (inr (e, inr (s, h))) (inr (f, inr (q, k))) = inr (e ∙ f, inr (s ∙ q, omega (arith, h, k)))
 
-before_trans : (a b : RedexPlace) (rs : List RedexPlace) → IsEarlierRedex a b → IsBeforeAll b rs → IsBeforeAll a rs
+before_trans : (a b : RedexPlace) (rs : List RedexPlace) → IsEarlierRedex a b → IsBeforeAll IsEarlierRedex b rs → IsBeforeAll IsEarlierRedex a rs
 before_trans a b [] h all = tt
 before_trans a b (r ∷ rs) h (k, all) = (earlier_trans a b r h k, before_trans a b rs h all)
 
 -- a sorted list with one more place
 record With (a : RedexPlace) (rs : List RedexPlace) : Type 0 where
   list : List RedexPlace
-  sorted : IsSorted list
-  has : IsListed a list
-  keeps : (r : RedexPlace) → IsListed r rs → IsListed r list
-  only : (r : RedexPlace) → IsListed r list → (r ≡ a) ⊎ IsListed r rs
-  behind : (b : RedexPlace) → IsEarlierRedex b a → IsBeforeAll b rs → IsBeforeAll b list
+  sorted : IsSorted IsEarlierRedex list
+  has : IsAmong a list
+  keeps : (r : RedexPlace) → IsAmong r rs → IsAmong r list
+  only : (r : RedexPlace) → IsAmong r list → (r ≡ a) ⊎ IsAmong r rs
+  behind : (b : RedexPlace) → IsEarlierRedex b a → IsBeforeAll IsEarlierRedex b rs → IsBeforeAll IsEarlierRedex b list
 
-put_in : (a : RedexPlace) (rs : List RedexPlace) → IsSorted rs → With a rs
+put_in : (a : RedexPlace) (rs : List RedexPlace) → IsSorted IsEarlierRedex rs → With a rs
 put_in a [] s = record { list = a ∷ []; sorted = (tt, tt); has = inl refl; keeps = λ r h. absurd h; only = λ r h. h; behind = λ b h all. (h, tt) }
 put_in a (r ∷ rs) (low, s) = go (places_ordered a r) (put_in a rs s)
   where
@@ -174,30 +101,30 @@ put_in a (r ∷ rs) (low, s) = go (places_ordered a r) (put_in a rs s)
       behind = λ b l all. (all.0, w.behind b l all.1);
     }
       where
-        kept : (q : RedexPlace) → (q ≡ r) ⊎ IsListed q rs → (q ≡ r) ⊎ IsListed q w.list
+        kept : (q : RedexPlace) → (q ≡ r) ⊎ IsAmong q rs → (q ≡ r) ⊎ IsAmong q w.list
         kept q (inl e) = inl e
         kept q (inr k) = inr (w.keeps q k)
 
-        told : (q : RedexPlace) → (q ≡ r) ⊎ IsListed q w.list → (q ≡ a) ⊎ ((q ≡ r) ⊎ IsListed q rs)
+        told : (q : RedexPlace) → (q ≡ r) ⊎ IsAmong q w.list → (q ≡ a) ⊎ ((q ≡ r) ⊎ IsAmong q rs)
         told q (inl e) = inr (inl e)
         told q (inr k) = or_rest (w.only q k)
           where
-            or_rest : (q ≡ a) ⊎ IsListed q rs → (q ≡ a) ⊎ ((q ≡ r) ⊎ IsListed q rs)
+            or_rest : (q ≡ a) ⊎ IsAmong q rs → (q ≡ a) ⊎ ((q ≡ r) ⊎ IsAmong q rs)
             or_rest (inl e) = inl e
             or_rest (inr l) = inr (inr l)
 
 -- those of a list that have a property, sorted
 record Sorted (P : RedexPlace → Type 0) (xs : List RedexPlace) : Type 0 where
   list : List RedexPlace
-  sorted : IsSorted list
-  each : (r : RedexPlace) → IsListed r list → P r
-  whole : (r : RedexPlace) → IsAmong r xs → P r → IsListed r list
+  sorted : IsSorted IsEarlierRedex list
+  each : (r : RedexPlace) → IsAmong r list → P r
+  whole : (r : RedexPlace) → IsAmong r xs → P r → IsAmong r list
 
 module _ (P : RedexPlace → Type 0) (test : (r : RedexPlace) → Dec (P r)) where
   one_more : (a : RedexPlace) (xs : List RedexPlace) → Dec (P a) → Sorted P xs → Sorted P (a ∷ xs)
   one_more a xs (no n) h = record { list = h.list; sorted = h.sorted; each = h.each; whole = λ r m p. still r m p }
     where
-      still : (r : RedexPlace) → (r ≡ a) ⊎ IsAmong r xs → P r → IsListed r h.list
+      still : (r : RedexPlace) → (r ≡ a) ⊎ IsAmong r xs → P r → IsAmong r h.list
       still r (inl e) p = absurd (n (subst P e p))
       still r (inr m) p = h.whole r m p
   one_more a xs (yes y) h = record { list = w.list; sorted = w.sorted; each = λ r l. holds r (w.only r l); whole = λ r m p. there r m p }
@@ -205,12 +132,12 @@ module _ (P : RedexPlace → Type 0) (test : (r : RedexPlace) → Dec (P r)) whe
       w : With a h.list
       w = put_in a h.list h.sorted
 
-      holds : (r : RedexPlace) → (r ≡ a) ⊎ IsListed r h.list → P r
+      holds : (r : RedexPlace) → (r ≡ a) ⊎ IsAmong r h.list → P r
       holds r (inl e) = subst P (sym e) y
       holds r (inr l) = h.each r l
 
-      there : (r : RedexPlace) → (r ≡ a) ⊎ IsAmong r xs → P r → IsListed r w.list
-      there r (inl e) p = subst (λ z. IsListed z w.list) (sym e) w.has
+      there : (r : RedexPlace) → (r ≡ a) ⊎ IsAmong r xs → P r → IsAmong r w.list
+      there r (inl e) p = subst (λ z. IsAmong z w.list) (sym e) w.has
       there r (inr m) p = w.keeps r (h.whole r m p)
 
   sorted_of : (xs : List RedexPlace) → Sorted P xs

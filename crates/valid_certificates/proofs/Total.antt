@@ -1,5 +1,5 @@
 -- Every certificate is valid, or rejected for a reason.
-use Rattle.std.proofs.Common.{◌≡◌, ◌⊎◌, inl, inr, ℕ, suc, List, Option, Some, None, refl}
+use Rattle.std.proofs.Common.{◌≡◌, ◌⊎◌, inl, inr, ℕ, suc, List, refl}
 use Rattle.rewriting.specs.Classes.{IsLeftLinear, IsType3, IsExtendedOriented, IsDeterministic}
 use Rattle.rewriting.specs.Rules.{System, EachRule}
 use Rattle.unifier_run.specs.Irreducible.{DoAllClash}
@@ -8,12 +8,12 @@ use Rattle.interpretations.specs.Judgement.{Judgement, good, not_good, unravelin
 use Rattle.interpretations.proofs.Total.{interpretation_total}
 use Rattle.certificates.specs.Blames.{IsInClass, IsBlamed}
 use Rattle.certificates.specs.Certificates.{PairEntry, MeasureCertificate, linear_measure, Certificate, ortho_certificate, quasi_certificate, peak_certificate}
-use Rattle.certificates.specs.Reasons.{Class, left_linear, type3, extended_oriented, right_stable, deterministic, Blame, Rejection, class_fails, not_irreducible, measure_fails, unraveling_large as large_unraveling}
+use Rattle.certificates.specs.Reasons.{Class, left_linear, type3, extended_oriented, right_stable, deterministic, Blame, class_fails, not_irreducible, measure_fails, unraveling_large as large_unraveling}
 use Rattle.certificates.proofs.ClassTotal.{FirstSide, class_total, sides_total}
 use Rattle.caps.proofs.Total.{caps_total, pair_total as caps_of_two}
 use Rattle.automata.proofs.Total.{automaton_total}
 use Rattle.valid_certificates.specs.Kinds.{Kind, ortho, quasi}
-use Rattle.valid_certificates.specs.Confluence.{IsInOrthoClasses, IsValidOrtho, IsBlameOf, IsOrthoRejected, not_left_linear, not_type3, not_oriented, not_right_stable, ortho_pairs_fail, AreRightSidesIrreducible, IsFirstReducible, IsValidQuasi, IsQuasiRejected, not_deterministic, side_is_reducible, measure_is_bad, unraveling_is_large, quasi_pairs_fail}
+use Rattle.valid_certificates.specs.Confluence.{IsInOrthoClasses, IsValidOrtho, IsOrthoRejected, not_left_linear, not_type3, not_oriented, not_right_stable, ortho_pairs_fail, AreRightSidesIrreducible, IsFirstReducible, IsValidQuasi, IsQuasiRejected, not_deterministic, side_is_reducible, measure_is_bad, unraveling_is_large, quasi_pairs_fail}
 use Rattle.valid_certificates.specs.Certificates.{IsMeasureJudged, IsValid, IsRejected}
 use Rattle.valid_certificates.specs.Entries.{DoSettle, DoNotSettle}
 use Rattle.valid_certificates.specs.Laws.{CertificatesHaveAnAnswer}

@@ -1,5 +1,6 @@
 -- What a valid peak shows.
 use Rattle.std.proofs.Common.{◌≡◌, inl, inr, List, [], ◌∷◌, Some, None, refl, sym, subst, subst₂}
+use Rattle.rewriting.specs.Lists.{IsAmong}
 use Rattle.rewriting.specs.Confluence.{AreApart}
 use Rattle.rewriting.specs.Infeasibility.{IsInfeasible}
 use Rattle.rewriting.specs.Systems.{IsWellFormed}
@@ -12,13 +13,13 @@ use Rattle.certificates.specs.Evidence.{InfeasibilityEvidence, by_caps, by_autom
 use Rattle.certificates.specs.Reasons.{tcap_large}
 use Rattle.certificates.proofs.Unique.{derives_unique}
 use Rattle.valid_certificates.specs.Evidence.{IsInfeasibilityJudged}
-use Rattle.valid_certificates.specs.Peaks.{RedexPlace, IsListed, AreRedexes, chosen, IsRedexJudged, AreRefuted, AreShownApart, LeadsTo, IsValidPeak}
+use Rattle.valid_certificates.specs.Peaks.{RedexPlace, AreRedexes, chosen, IsRedexJudged, AreRefuted, AreShownApart, LeadsTo, IsValidPeak}
 use Rattle.valid_certificates.specs.Laws.{IsUnjoinable, ValidPeaksReachApart}
 use Rattle.valid_certificates.proofs.Ends.{end_reached}
 use Rattle.valid_certificates.proofs.Normal.{IsNeverMet, HasNoRedex, normal_apart}
 
 -- each listed redex has valid evidence
-judged_at : (sys : System) (u v : Term) (rs : List RedexPlace) (es : List Redex) → AreRefuted sys u v rs es → (r : RedexPlace) → IsListed r rs
+judged_at : (sys : System) (u v : Term) (rs : List RedexPlace) (es : List Redex) → AreRefuted sys u v rs es → (r : RedexPlace) → IsAmong r rs
     → (e : InfeasibilityEvidence) × IsRedexJudged sys (chosen u v r.which) r e None
 judged_at sys u v [] es h r l = absurd l
 judged_at sys u v (q ∷ rs) [] h r l = absurd h

@@ -1,6 +1,7 @@
 -- Peaks that show that a system is not confluent, and why a peak is rejected.
 use Rattle.std.specs.Prelude.{ℕ, suc, ◌≡◌, ◌≢◌, ◌⊎◌, ◌<◌, nat_eq, if◌then◌else◌, List, [], ◌∷◌, Option, None, Some}
 use Rattle.std.specs.FinMap.{get}
+use Rattle.rewriting.specs.Lists.{IsAmong, IsSorted}
 use Rattle.rewriting.specs.Terms.{Term}
 use Rattle.rewriting.specs.Positions.{Position, subterm, IsBefore}
 use Rattle.rewriting.specs.Substitutions.{Substitution, Bindings, apply, Matches}
@@ -38,25 +39,11 @@ abbrev pub IsEarlierRedex : RedexPlace → RedexPlace → Type 0
 IsEarlierRedex a b =
     (a.which < b.which) ⊎ ((a.which ≡ b.which) × (IsBefore a.position b.position ⊎ ((a.position ≡ b.position) × (a.rule < b.rule))))
 
--- the place is one of the list
-abbrev pub IsListed : RedexPlace → List RedexPlace → Type 0
-IsListed r [] = ⊥
-IsListed r (q ∷ rs) = (r ≡ q) ⊎ IsListed r rs
-
--- each is earlier than those behind it
-abbrev pub IsBeforeAll : RedexPlace → List RedexPlace → Type 0
-IsBeforeAll r [] = Unit {0}
-IsBeforeAll r (q ∷ rs) = IsEarlierRedex r q × IsBeforeAll r rs
-
-abbrev pub IsSorted : List RedexPlace → Type 0
-IsSorted [] = Unit {0}
-IsSorted (r ∷ rs) = IsBeforeAll r rs × IsSorted rs
-
 -- the list has exactly the redexes of two terms, in order
 pub record AreRedexes (sys : System) (u v : Term) (rs : List RedexPlace) : Type 0 where
-  pub each : (r : RedexPlace) → IsListed r rs → IsRedex sys u v r
-  pub whole : (r : RedexPlace) → IsRedex sys u v r → IsListed r rs
-  pub sorted : IsSorted rs
+  pub each : (r : RedexPlace) → IsAmong r rs → IsRedex sys u v r
+  pub whole : (r : RedexPlace) → IsRedex sys u v r → IsAmong r rs
+  pub sorted : IsSorted IsEarlierRedex rs
 
 -- the one of two terms that has the number 1 or 2
 abbrev pub chosen : Term → Term → ℕ → Term

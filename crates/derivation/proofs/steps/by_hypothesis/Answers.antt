@@ -6,7 +6,7 @@ use Rattle.term_core.specs.View.{view}
 use Rattle.term_core.specs.RuleView.{condition_view}
 use Rattle.derivation.specs.Judged.{IsCounted}
 use Rattle.derivation.proofs.Judging.{judged_empty}
-use Rattle.derivation.proofs.Numbers.{right_fits}
+use Rattle.certificates.proofs.Sizes.{hypothesis_fits}
 use Rattle.derivation.proofs.Contracting.{hypothesis_absent, hypothesis_elsewhere, hypothesis_large}
 use Rattle.derivation.proofs.steps.by_hypothesis.Goals as goal
 
@@ -36,4 +36,4 @@ returns-in-None c =
 
 pub replaced-requires-clause-fits : goal.replaced-requires-clause-fits
 replaced-requires-clause-fits c =
-    subst Fits (sym c.in_ok-part.ensures) (right_fits (map condition_view c.args.hyps.now) c.args.number (condition_view c.in-Some.h.now) (sym c.in-Some.ensures) c.requires.hypotheses)
+    subst Fits (sym c.in_ok-part.ensures) (hypothesis_fits (map condition_view c.args.hyps.now) c.args.number (condition_view c.in-Some.h.now) (sym c.in-Some.ensures) c.requires.hypotheses).1

@@ -7,13 +7,14 @@ use Rattle.cert_model.specs.DerivationView.{derivation_view}
 use Rattle.critical_pairs.specs.View.{overlap_view}
 use Rattle.refuter.specs.Answers.{RefutesAnswers}
 use Rattle.valid_certificates.specs.PairEvidence.{IsUnfeasibleJudged}
-use Rattle.pair_check.proofs.Judging.{numbered_fits, first_fails, second_fails, unfeasible_judged}
+use Rattle.certificates.proofs.Sizes.{hypothesis_fits}
+use Rattle.pair_check.proofs.Judging.{first_fails, second_fails, unfeasible_judged}
 use Rattle.pair_check.proofs.derived.judge_unfeasible.Goals as goal
 
 pub first_end-requires-clause-start : goal.first_end-requires-clause-start
 first_end-requires-clause-start c =
     let at = subst (λ cs. hypothesis_at (map condition_view cs) c.args.number ≡ Some (condition_view c.in-Some.cond.now)) c.deref.ensures.value (sym c.in-Some.ensures) in
-    (numbered_fits (map condition_view c.args.overlap.now.conds.items) c.args.number (condition_view c.in-Some.cond.now) c.requires.fit at).0
+    (hypothesis_fits (map condition_view c.args.overlap.now.conds.items) c.args.number (condition_view c.in-Some.cond.now) at c.requires.fit).0
 
 pub returns-in_err-one : goal.returns-in_err-one
 returns-in_err-one c =
@@ -24,7 +25,7 @@ returns-in_err-one c =
 pub second_end-requires-clause-start : goal.second_end-requires-clause-start
 second_end-requires-clause-start c =
     let at = subst (λ cs. hypothesis_at (map condition_view cs) c.args.number ≡ Some (condition_view c.in-Some.cond.now)) c.deref.ensures.value (sym c.in-Some.ensures) in
-    (numbered_fits (map condition_view c.args.overlap.now.conds.items) c.args.number (condition_view c.in-Some.cond.now) c.requires.fit at).0
+    (hypothesis_fits (map condition_view c.args.overlap.now.conds.items) c.args.number (condition_view c.in-Some.cond.now) at c.requires.fit).0
 
 pub returns-in_err-other : goal.returns-in_err-other
 returns-in_err-other c =

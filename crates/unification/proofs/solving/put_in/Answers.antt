@@ -7,7 +7,7 @@ use Rattle.term_core.specs.View.{view}
 use Rattle.unification.specs.Solving.{bindings}
 use Rattle.unification.proofs.Changed.{changed_next, fit_next, fits_there, fits_changed}
 use Rattle.unification.proofs.solving.put_in.Goals as goal
-use Rattle.unification.proofs.solving.put_in.Goals.{then-occurs+in_ok-bound+else-not-fits, in-Fun-1, in-Var-1, else-occurs}
+use Rattle.unification.proofs.solving.put_in.Goals.{then-occurs+in_ok-bound+else-not-fits, else-occurs}
 
 pub returns-then-not-fits : goal.returns-then-not-fits
 returns-then-not-fits c =
