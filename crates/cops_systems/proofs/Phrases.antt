@@ -100,3 +100,10 @@ behind (n ∷ ns) zero (x ∷ xs) rest h =
 behind (n ∷ ns) (suc i) (x ∷ xs) rest h =
     let e : suc i + suc (length xs) ≡ suc (i + suc (length xs)) = omega arith in
     rw e (behind ns i (x ∷ xs) rest h)
+
+-- a phrase has a first identifier
+pub stands_within : (ns : List program.Node) (i : ℕ) (p : Phrase) (rest : List Node) → nodes_view (drop i ns) ≡ flat p ++ rest → i < length ns
+stands_within [] zero p rest h = absurd (let h' : [] ≡ head_of p ∷ (flat_all (arguments_of p) ++ rest) = h ∙ ap (λ (xs : List Node). xs ++ rest) (flat_is p) in cc)
+stands_within [] (suc i) p rest h = absurd (let h' : [] ≡ head_of p ∷ (flat_all (arguments_of p) ++ rest) = h ∙ ap (λ (xs : List Node). xs ++ rest) (flat_is p) in cc)
+stands_within (n ∷ ns) zero p rest h = omega arith
+stands_within (n ∷ ns) (suc i) p rest h = let l = stands_within ns i p rest h in omega (arith, l)

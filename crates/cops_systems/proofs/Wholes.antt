@@ -1,5 +1,5 @@
 -- From the rules that were read to the system that a file means.
-use Rattle.std.proofs.Common.{◌≡◌, ℕ, ◌<◌, ◌^◌, Bool, List, [], ◌∷◌, ◌++◌, map, length, Result, Ok, Err, sym, ap, subst, ◌∙◌}
+use Rattle.std.proofs.Common.{◌≡◌, ℕ, ◌<◌, ◌^◌, Bool, List, [], ◌∷◌, ◌++◌, map, length, Err, sym, ap, subst, ◌∙◌}
 use Rattle.std.proofs.lemmas.Option.{slice_get_within}
 use Rattle.file_text.specs.Syntax.{RuleTree, FileTree}
 use Rattle.cops_trees.specs.View as tree
@@ -105,7 +105,5 @@ module _ (file : FileTree) (text : FileText) (is_text : IsFileText text file) (o
     pub rules_counted : AreCounted rs
     rules_counted = counted (variables_of file) names.symbols file.rules rs read_of.mean read_of.counted
 
-    pub file_read : (sys : rules.System) → ◌≡◌ {A = Result rules.System ReadError} (Ok sys) (Ok (record { arities = arities; rules = map rule_view rs })) → IsSystemOf file sys names
-    file_read sys made =
-        let whole : sys ≡ system_of arities rs = cc in
-        subst (λ (s : rules.System). IsSystemOf file s names) (sym whole) meant
+    pub file_read : (sys : rules.System) → sys ≡ system_of arities rs → IsSystemOf file sys names
+    file_read sys made = subst (λ (s : rules.System). IsSystemOf file s names) (sym made) meant

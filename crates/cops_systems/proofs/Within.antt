@@ -26,7 +26,7 @@ pub record IsWithin (u : Use) : Type 0 where
   pub depth : u.spot.depth ≤ 200
   pub number : u.number ≤ 2000
 
-is_within : (u : Use) → limit_cause u ≡ None → IsWithin u
+pub is_within : (u : Use) → limit_cause u ≡ None → IsWithin u
 is_within u h = record { rules = grind (arith, nat_tests); conditions = grind (arith, nat_tests); arguments = grind (arith, nat_tests); depth = grind (arith, nat_tests); number = grind (arith, nat_tests) }
 
 no_limit : (l other : Option MeaningCause) → cause_or l other ≡ None → l ≡ None

@@ -8,3 +8,4 @@ pub mod Counts
 pub mod Steps
 pub mod RuleSteps
 pub mod Heads
+pub mod Texts

@@ -1,4 +1,4 @@
-ghost use Rattle.std.specs.Prelude.{◌≡◌, [], IfOk, Ok, OnOk, map};
+ghost use Rattle.std.specs.Prelude.{◌≡◌, [], IfOk, OnOk, map};
 ghost use Rattle.file_text.specs.Syntax as syntax;
 ghost use Rattle.cops_trees.specs.View.{IsFileText, names_view};
 ghost use Rattle.rewriting.specs.Systems.{IsSystem};
@@ -33,14 +33,14 @@ fn read_block<'a>(alloc: Global, names: &[Name<'a>]) -> Result<NameSet<'a>, NoMe
 }
 
 // Sound rules make a system.
-fn make_system(arities: Vec<u32>, rules: Vec<Rule>) -> Result<System, ReadError>
+fn make_system(arities: Vec<u32>, rules: Vec<Rule>) -> System
     requires sound { IsSystem (record { arities = arities.items; rules = map rule_view rules.items }) }
     requires counted { AreCounted rules.items }
-    ensures { result ≡ Ok (record { arities = arities.items; rules = map rule_view rules.items }) }
+    ensures { result ≡ record { arities = arities.items; rules = map rule_view rules.items } }
 {
     match System::make(arities, rules) {
-        Ok(system) => Ok(system),
-        Err(_) => Err(ReadError::NoMemory),
+        Ok(system) => system,
+        Err(_) => unreachable!(),
     }
 }
 
@@ -56,6 +56,6 @@ pub fn read_file<'a>(alloc: Global, file: &FileText<'a>) -> Result<(System, Name
     };
     let rules = read_rules(alloc, &mut scope, file.oriented, &file.rules)?;
     let arities = scope.names.arities(alloc)?;
-    let system = make_system(arities, rules)?;
+    let system = make_system(arities, rules);
     Ok((system, scope.names))
 }

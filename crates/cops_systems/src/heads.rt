@@ -1,4 +1,4 @@
-ghost use Rattle.std.specs.Prelude.{◌≡◌, ◌+◌, ◌<◌, ◌^◌, IfOk};
+ghost use Rattle.std.specs.Prelude.{◌≡◌, ◌+◌, ◌<◌, ◌≤◌, ◌^◌, IfOk, OnOk, length};
 ghost use Rattle.cops_trees.specs.View.{node_view};
 ghost use Rattle.cops_systems.specs.Refusals.{limit_cause};
 ghost use Rattle.cops_systems.specs.Heads.{used_at, WithinAnswers, RoomAnswers, CauseAnswers, VariableAnswers, SymbolAnswers, HeadAnswers};
@@ -74,7 +74,7 @@ fn check_room(what: Count, number: usize, at: usize) -> Result<(), ReadError>
 
 // The number as 32 bits. Only a text of more than 2^32 bytes has a greater one, which is told as want of
 // memory.
-pub(crate) fn small(number: usize) -> Result<u32, NoMemory>
+fn small(number: usize) -> Result<u32, NoMemory>
     ensures { IfOk result (λ n. n ≡ number) }
 {
     match u32::try_from(number) {
@@ -105,8 +105,10 @@ fn read_variable<'a>(
     place: NodePlace,
     name: &'a str,
 ) -> Result<u32, ReadError>
-    requires { name.now ≡ node.now.name.text.now }
-    ensures { VariableAnswers variables.old (used_at place (node_view node.now)) variables.new result }
+    requires name { name.now ≡ node.now.name.text.now }
+    requires few { length variables.old ≤ 100 }
+    ensures variable { VariableAnswers variables.old (used_at place (node_view node.now)) variables.new result }
+    ensures few { OnOk result (length variables.new ≤ 100) }
 {
     let at = node.name.at;
     if node.brackets {
@@ -118,7 +120,7 @@ fn read_variable<'a>(
     if !variables.has(name) {
         check_room(Count::Variables, variables.len(), at)?;
     }
-    Ok(small(variables.add(name)?)?)
+    Ok(variables.add(name)? as u32)
 }
 
 // The number of a symbol. A name that is not there is put last.
@@ -154,10 +156,12 @@ pub(crate) fn read_head<'a>(
     node: &Node<'a>,
     place: NodePlace,
 ) -> Result<VariableOrSymbol, ReadError>
-    requires { place.before + 1 < 2 ^ 64 }
+    requires place { place.before + 1 < 2 ^ 64 }
+    requires few { length scope.old.variables ≤ 100 }
     ensures head { HeadAnswers scope.old.block scope.old.names.symbols scope.old.variables (used_at place (node_view node.now)) scope.new.names.symbols scope.new.variables result }
     ensures block { scope.new.block ≡ scope.old.block }
     ensures rules { scope.new.names.variables ≡ scope.old.names.variables }
+    ensures few { OnOk result (length scope.new.variables ≤ 100) }
 {
     within_limits(node, place)?;
     let name = text_of(&node.name)?;

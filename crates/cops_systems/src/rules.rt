@@ -5,7 +5,7 @@ ghost use Rattle.cops_systems.specs.Uses.{side_of};
 ghost use Rattle.cops_systems.specs.RuleSteps.{SideAnswers, BarAnswers, ConditionAnswers, ConditionsAnswers, PartsAnswers, RuleAnswers, RulesAnswers};
 
 use crate::errors::ReadError;
-use crate::heads::{NodePlace, Scope, small};
+use crate::heads::{NodePlace, Scope};
 use crate::terms::read_term;
 use cops_trees::{CondText, Node, RuleText};
 use std::alloc::Global;
@@ -20,8 +20,11 @@ fn read_side<'a>(
     condition: usize,
     is_left: bool,
 ) -> Result<Term, ReadError>
+    requires text { (p : syntax.Phrase) × IsTerm nodes.now p }
+    requires few { length scope.old.variables ≤ 100 }
     ensures side { (p : syntax.Phrase) → IsTerm nodes.now p → SideAnswers scope.old.block scope.old.names.symbols scope.old.variables (side_of rule condition is_left) p scope.new.names.symbols scope.new.variables result }
-    ensures few { OnOk result (rule ≤ 1000) }
+    ensures rule { OnOk result (rule ≤ 1000) }
+    ensures few { OnOk result (length scope.new.variables ≤ 100) }
     ensures block { scope.new.block ≡ scope.old.block }
     ensures rules { scope.new.names.variables ≡ scope.old.names.variables }
 {
@@ -45,6 +48,9 @@ fn read_condition<'a>(
     rule: usize,
     number: usize,
 ) -> Result<Cond, ReadError>
+    requires text { (c : syntax.ConditionTree) × IsCondition text.now c }
+    requires few { length scope.old.variables ≤ 100 }
+    ensures few { OnOk result (length scope.new.variables ≤ 100) }
     ensures condition { (c : syntax.ConditionTree) → IsCondition text.now c → ConditionAnswers scope.old.block scope.old.names.symbols scope.old.variables rule number c scope.new.names.symbols scope.new.variables result }
     ensures block { scope.new.block ≡ scope.old.block }
     ensures rules { scope.new.names.variables ≡ scope.old.names.variables }
@@ -60,6 +66,9 @@ fn read_conditions<'a>(
     texts: &[CondText<'a>],
     rule: usize,
 ) -> Result<Vec<Cond>, ReadError>
+    requires texts { (cs : List syntax.ConditionTree) × AreConditions texts.now cs }
+    requires few { length scope.old.variables ≤ 100 }
+    ensures few { OnOk result (length scope.new.variables ≤ 100) }
     ensures conditions { (cs : List syntax.ConditionTree) → AreConditions texts.now cs → ConditionsAnswers scope.old.block scope.old.names.symbols scope.old.variables rule cs scope.new.names.symbols scope.new.variables result }
     ensures block { scope.new.block ≡ scope.old.block }
     ensures rules { scope.new.names.variables ≡ scope.old.names.variables }
@@ -90,7 +99,8 @@ fn read_parts<'a>(
     text: &RuleText<'a>,
     number: usize,
 ) -> Result<Rule, ReadError>
-    requires { scope.old.variables ≡ [] }
+    requires none { scope.old.variables ≡ [] }
+    requires text { (t : syntax.RuleTree) × IsRule text.now t }
     ensures parts { (t : syntax.RuleTree) → IsRule text.now t → PartsAnswers scope.old.block oriented scope.old.names.symbols number t scope.new.names.symbols scope.new.variables result }
     ensures few { OnOk result (number ≤ 1000) }
     ensures block { scope.new.block ≡ scope.old.block }
@@ -100,7 +110,7 @@ fn read_parts<'a>(
     let right = read_side(alloc, scope, &text.right, number, 0, false)?;
     check_bar(oriented, text.bar)?;
     let conds = read_conditions(alloc, scope, &text.conditions, number)?;
-    let vars = small(scope.variables.len())?;
+    let vars = scope.variables.len() as u32;
     Ok(Rule {
         left,
         right,
@@ -117,7 +127,8 @@ fn read_rule<'a>(
     text: &RuleText<'a>,
     number: usize,
 ) -> Result<Rule, ReadError>
-    requires { length scope.old.names.variables < number }
+    requires number { length scope.old.names.variables < number }
+    requires text { (t : syntax.RuleTree) × IsRule text.now t }
     ensures rule { (t : syntax.RuleTree) → IsRule text.now t → RuleAnswers scope.old.block oriented scope.old.names.symbols number t scope.old.names.variables scope.new.names.symbols scope.new.names.variables result }
     ensures one { OnOk result (length scope.new.names.variables ≡ length scope.old.names.variables + 1) }
     ensures block { scope.new.block ≡ scope.old.block }
@@ -136,7 +147,8 @@ pub(crate) fn read_rules<'a>(
     oriented: bool,
     texts: &[RuleText<'a>],
 ) -> Result<Vec<Rule>, ReadError>
-    requires { scope.old.names.variables ≡ [] }
+    requires none { scope.old.names.variables ≡ [] }
+    requires texts { (trees : List syntax.RuleTree) × AreRules texts.now trees }
     ensures rules { (trees : List syntax.RuleTree) → AreRules texts.now trees → RulesAnswers scope.old.block oriented scope.old.names.symbols trees scope.new.names.symbols scope.new.names.variables result }
     ensures block { scope.new.block ≡ scope.old.block }
 {

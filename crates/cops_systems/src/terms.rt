@@ -1,7 +1,8 @@
-ghost use Rattle.std.specs.Prelude.{◌≡◌, ◌≤◌, ◌++◌, List, OnOk, drop};
+ghost use Rattle.std.specs.Prelude.{◌≡◌, ◌≤◌, ◌++◌, List, OnOk, drop, length};
 ghost use Rattle.file_text.specs.Syntax as syntax;
 ghost use Rattle.cops_trees.specs.View.{nodes_view, IsTerm};
 ghost use Rattle.cops_systems.specs.Heads.{side_at};
+ghost use Rattle.cops_systems.specs.Texts.{IsTermThere, AreTermsThere};
 ghost use Rattle.cops_systems.specs.Steps.{TermAnswers, ArgumentsAnswers};
 
 use crate::errors::ReadError;
@@ -11,7 +12,7 @@ use std::alloc::Global;
 use term_core::Term;
 
 // The term that begins at a place of the list of identifiers, and how many identifiers stand before
-// its end. No term runs over the end of the list, so the first arm is never taken.
+// its end.
 #[cycle(term)]
 pub(crate) fn read_term<'a>(
     alloc: Global,
@@ -19,13 +20,16 @@ pub(crate) fn read_term<'a>(
     nodes: &[Node<'a>],
     place: NodePlace,
 ) -> Result<(Term, usize), ReadError>
+    requires there { IsTermThere nodes.now place.before }
+    requires few { length scope.old.variables ≤ 100 }
     ensures term { (p : syntax.Phrase) (rest : List syntax.Node) → nodes_view (drop place.before nodes.now) ≡ syntax.flat p ++ rest → TermAnswers scope.old.block scope.old.names.symbols scope.old.variables (side_at place) place.depth place.argument place.before p scope.new.names.symbols scope.new.variables result }
-    ensures few { OnOk result (place.rule ≤ 1000) }
+    ensures rule { OnOk result (place.rule ≤ 1000) }
+    ensures few { OnOk result (length scope.new.variables ≤ 100) }
     ensures block { scope.new.block ≡ scope.old.block }
     ensures rules { scope.new.names.variables ≡ scope.old.names.variables }
 {
     let Some(node) = nodes.get(place.before) else {
-        return Err(ReadError::NoMemory);
+        unreachable!();
     };
     match read_head(alloc, scope, node, place)? {
         VariableOrSymbol::Variable(number) => Ok((Term::Var(number), place.before + 1)),
@@ -51,6 +55,9 @@ fn read_arguments<'a>(
     first: NodePlace,
     count: usize,
 ) -> Result<(Vec<Term>, usize), ReadError>
+    requires there { AreTermsThere nodes.now first.before count }
+    requires few { length scope.old.variables ≤ 100 }
+    ensures few { OnOk result (length scope.new.variables ≤ 100) }
     ensures terms { (ps : syntax.Phrases) (rest : List syntax.Node) → count ≡ syntax.count ps → nodes_view (drop first.before nodes.now) ≡ syntax.flat_all ps ++ rest → ArgumentsAnswers scope.old.block scope.old.names.symbols scope.old.variables (side_at first) first.depth first.before ps scope.new.names.symbols scope.new.variables result }
     ensures block { scope.new.block ≡ scope.old.block }
     ensures rules { scope.new.names.variables ≡ scope.old.names.variables }

@@ -1,6 +1,19 @@
+use Rattle.std.proofs.Common.{List, sym, subst}
+use Rattle.cops_trees.specs.View.{IsTerm}
+use Rattle.cops_trees.specs.declared.tree.Node.{Node}
 use Rattle.term_core.specs.View.{view}
 use Rattle.cops_systems.proofs.Parts.{both_read}
 use Rattle.cops_systems.proofs.rules.read_condition.Goals as goal
+
+pub read_side-requires-clause-text : goal.read_side-requires-clause-text
+read_side-requires-clause-text c =
+    let (tree, h) = c.requires.text in
+    (tree.left, subst (λ (ns : List Node). IsTerm ns tree.left) (sym c.deref.ensures.value) h.left)
+
+pub read_side-requires-2-clause-text : goal.read_side-requires-2-clause-text
+read_side-requires-2-clause-text c =
+    let (tree, h) = c.requires.text in
+    (tree.right, subst (λ (ns : List Node). IsTerm ns tree.right) (sym c.deref-2.ensures.value) h.right)
 
 pub returns-clause-condition : goal.returns-clause-condition
 returns-clause-condition c tree h =

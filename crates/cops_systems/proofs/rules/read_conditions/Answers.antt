@@ -5,6 +5,11 @@ use Rattle.cops_systems.proofs.Repeats.{next_condition, conditions_length, condi
 use Rattle.cops_systems.proofs.Tells.{handed}
 use Rattle.cops_systems.proofs.rules.read_conditions.Goals as goal
 
+pub read_condition-requires-clause-text : goal.read_condition-requires-clause-text
+read_condition-requires-clause-text c =
+    let n = next_condition c.args.texts.now c.requires.texts.0 c.conditions.i c.index-texts-i.result c.requires.texts.1 c.conditions-test.true c.index-texts-i.is in
+    (n.item, n.is)
+
 pub returns-in_err-cond-clause-conditions : goal.returns-in_err-cond-clause-conditions
 returns-in_err-cond-clause-conditions c cs h =
     let n = next_condition c.args.texts.now cs c.conditions.i c.index-texts-i.result h c.conditions-test.true c.index-texts-i.is in
@@ -24,6 +29,7 @@ conditions-preserved c = record {
       rw (add-one, c.in_ok-push.ensures.items) next;
   block = c.in_ok-cond.ensures.block ∙ c.conditions.invariant.block;
   rules = c.in_ok-cond.ensures.rules ∙ c.conditions.invariant.rules;
+  few = c.in_ok-cond.ensures.few;
 }
 
 pub returns-clause-conditions : goal.returns-clause-conditions

@@ -1,4 +1,4 @@
-use Rattle.std.proofs.Common.{◌≡◌, List}
+use Rattle.std.proofs.Common.{◌≡◌, ◌≤◌, List, length}
 use Rattle.file_text.specs.Syntax.{ConditionTree}
 use Rattle.cops_trees.specs.View.{AreConditions}
 use Rattle.cops_systems.proofs.Repeats.{Conditions}
@@ -9,4 +9,5 @@ invariant-conditions l = record {
   read : (cs : List ConditionTree) → AreConditions l.texts cs → Conditions l.fn.scope.block l.fn.scope.names.symbols l.fn.scope.variables l.rule cs l.i l.scope.names.symbols l.scope.variables l.conds.items;
   block : l.scope.block ≡ l.fn.scope.block;
   rules : l.scope.names.variables ≡ l.fn.scope.names.variables;
+  few : length l.scope.variables ≤ 100;
 }

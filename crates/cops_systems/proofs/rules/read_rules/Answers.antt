@@ -5,6 +5,11 @@ use Rattle.cops_systems.proofs.Repeats.{next_rule, rules_length, rules_fail, rul
 use Rattle.cops_systems.proofs.Tells.{handed}
 use Rattle.cops_systems.proofs.rules.read_rules.Goals as goal
 
+pub read_rule-requires-clause-text : goal.read_rule-requires-clause-text
+read_rule-requires-clause-text c =
+    let n = next_rule c.args.texts.now c.requires.texts.0 c.rules.i c.index-texts-i.result c.requires.texts.1 c.rules-test.true c.index-texts-i.is in
+    (n.item, n.is)
+
 pub returns-in_err-rule-clause-rules : goal.returns-in_err-rule-clause-rules
 returns-in_err-rule-clause-rules c trees h =
     let n = next_rule c.args.texts.now trees c.rules.i c.index-texts-i.result h c.rules-test.true c.index-texts-i.is in

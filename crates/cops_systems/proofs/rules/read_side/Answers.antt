@@ -6,6 +6,9 @@ use Rattle.cops_systems.proofs.Parts.{whole_list, side_read}
 use Rattle.cops_systems.proofs.Tells.{handed}
 use Rattle.cops_systems.proofs.rules.read_side.Goals as goal
 
+pub read_term-requires-clause-there : goal.read_term-requires-clause-there
+read_term-requires-clause-there c = (c.requires.text.0, [], whole_list c.args.nodes.now c.requires.text.0 c.requires.text.1)
+
 pub returns-in_err-term-clause-side : goal.returns-in_err-term-clause-side
 returns-in_err-term-clause-side c p h =
     handed (SideAnswers c.args.scope.now.block c.args.scope.now.names.symbols c.args.scope.now.variables (side_of c.args.rule c.args.condition c.args.is_left) p

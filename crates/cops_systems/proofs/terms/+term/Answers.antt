@@ -1,12 +1,14 @@
-use Rattle.std.proofs.Common.{◌≡◌, ℕ, ◌+◌, ◌<◌, ◌++◌, ◌∙◌, List, length, get_or, refl, ap, drop, arith, add-one}
+use Rattle.std.proofs.Common.{◌≡◌, ℕ, ◌+◌, ◌<◌, ◌++◌, ◌∙◌, false, true, List, length, get_or, refl, ap, drop, arith, add-one}
+use Rattle.std.proofs.lemmas.Bool.{lt-ltb}
 use Rattle.std.proofs.lemmas.Option.{slice_get_read}
 use Rattle.file_text.specs.Syntax.{Phrase, count, Node, flat, flat_all}
 use Rattle.cops_trees.specs.View.{node_view, nodes_view}
 use Rattle.cops_trees.specs.declared.tree.Node as program
 use Rattle.cops_systems.specs.Steps.{TermAnswers, ArgumentsAnswers}
-use Rattle.cops_systems.specs.Heads.{side_at}
-use Rattle.cops_systems.proofs.Phrases.{next_phrase, head_of, head_is, behind_head, arguments_of, count_is}
+use Rattle.cops_systems.specs.Heads.{side_at, used_at}
+use Rattle.cops_systems.proofs.Phrases.{next_phrase, head_of, head_is, behind_head, arguments_of, count_is, stands_within}
 use Rattle.cops_systems.proofs.Tells.{handed}
+use Rattle.cops_systems.proofs.Within.{is_within}
 use Rattle.cops_systems.proofs.Walks.{head_fails, arguments_fail, whole_variable, whole_symbol, nodes_here, loop_fails, loop_step, loop_end}
 use Rattle.cops_systems.proofs.terms.+term.Goals as goal
 
@@ -58,6 +60,43 @@ read_term-returns-in_ok-terms-in-Symbol-clause-term t c p rest h =
     p (node_view c.in-Some.node.now) c.read_head.new.scope.names.symbols c.read_arguments.new.scope.names.symbols c.read_head.new.scope.variables c.read_arguments.new.scope.variables
     c.in-Symbol.number c.in_ok-terms-in-Symbol.terms c.in_ok-terms-in-Symbol.next same head.0 head.1 read'
 
+pub read_term-unreachable-requires : goal.read_term-unreachable-requires
+read_term-unreachable-requires t c =
+    let (p, rest, h) = c.requires.there in
+    let within = lt-ltb c.args.place.before (length c.args.nodes.now) (stands_within c.args.nodes.now c.args.place.before p rest h) in
+    let bad : false ≡ true = c.in_default.ensures.lookup.0 ∙ within in
+    absurd (cc)
+
+pub read_term-read_arguments-requires : goal.read_term-read_arguments-requires
+read_term-read_arguments-requires t c =
+    let x = c.in-Some.ensures.lookup in
+    let (p, rest, h) = c.requires.there in
+    let same = here c.args.nodes.now c.args.place.before c.in-Some.node.now p rest x.3.0 x.1 h in
+    let falls = c.decreases in
+    let shallow = (is_within (used_at c.args.place (node_view c.in-Some.node.now)) c.in_ok-number.ensures.head.0).depth in (
+      omega (arith, falls, shallow),
+      ((arguments_of p, rest, ap (λ (n : Node). n.arguments) same ∙ count_is p, later c.args.nodes.now c.args.place.before p rest h), c.in_ok-number.ensures.few),
+    )
+
+pub read_arguments-read_term-requires : goal.read_arguments-read_term-requires
+read_arguments-read_term-requires t c =
+    let (ps, rest, many, h) = c.requires.there in
+    let loop = c.arguments.invariant.read ps rest many h in
+    let test = c.arguments-test.true in
+    let n = next_phrase ps c.arguments.argument (omega (arith, many)) in
+    let falls = c.decreases in (
+      omega (arith, falls),
+      (
+        (
+          n.phrase,
+          _,
+          nodes_here c.args.scope.now.block c.args.scope.now.names.symbols c.args.scope.now.variables (side_at c.args.first) c.args.first.depth c.args.first.before
+              c.args.nodes.now ps rest c.arguments.argument c.arguments.scope.names.symbols c.arguments.scope.variables c.arguments.terms.items c.arguments.before loop n,
+        ),
+        c.arguments.invariant.few,
+      ),
+    )
+
 pub read_arguments-returns-in_err-term-clause-terms : goal.read_arguments-returns-in_err-term-clause-terms
 read_arguments-returns-in_err-term-clause-terms t c ps rest many h =
     let loop = c.arguments.invariant.read ps rest many h in
@@ -86,6 +125,7 @@ read_arguments-arguments-preserved t c = record {
       rw (add-one, c.in_ok-push.ensures.items) next;
   block = c.in_ok-term.ensures.block ∙ c.arguments.invariant.block;
   rules = c.in_ok-term.ensures.rules ∙ c.arguments.invariant.rules;
+  few = c.in_ok-term.ensures.few;
 }
 
 pub read_arguments-returns-clause-terms : goal.read_arguments-returns-clause-terms

@@ -1,4 +1,4 @@
-use Rattle.std.proofs.Common.{◌≡◌, ◌+◌, ◌*◌, ◌-◌, ◌++◌, List, drop}
+use Rattle.std.proofs.Common.{◌≡◌, ◌+◌, ◌*◌, ◌-◌, ◌≤◌, ◌++◌, List, drop, length}
 use Rattle.file_text.specs.Syntax.{Phrases, count, Node, flat_all}
 use Rattle.cops_trees.specs.View.{nodes_view}
 use Rattle.cops_systems.specs.Heads.{side_at}
@@ -11,6 +11,7 @@ invariant-read_arguments-arguments l = record {
       → Loop l.fn.scope.block l.fn.scope.names.symbols l.fn.scope.variables (side_at l.first) l.first.depth l.first.before l.nodes ps rest l.argument l.scope.names.symbols l.scope.variables l.terms.items l.before;
   block : l.scope.block ≡ l.fn.scope.block;
   rules : l.scope.names.variables ≡ l.fn.scope.names.variables;
+  few : length l.scope.variables ≤ 100;
 }
 
 abbrev pub decreases-read_term : goal.decreases-read_term
