@@ -1,12 +1,9 @@
-//! Small automata and sets: what terms reach, which automata are closed, and how they grow. They stand apart
-//! from the crates that they call, which with tests of their own would be proved twice.
+//! What no text of an automaton says: the choices of a batch, transitions that do not count, and states past the limits of
+//! texts. The cases of `evidence_cases` have all else. They stand apart from the crates that they call, which with tests of their
+//! own would be proved twice.
 #![tactic(auto)]
 
 #[cfg(test)]
-mod closed;
+mod batches;
 #[cfg(test)]
-mod grown;
-#[cfg(test)]
-mod runs;
-#[cfg(test)]
-mod sets;
+mod foreign;

@@ -1,18 +1,10 @@
-//! Small systems and certificates: what derivations, evidence, entries and whole certificates are judged to be. They stand
-//! apart from the crates that they call, which with tests of their own would be proved twice.
+//! What is judged of systems and certificates that no run of the program judges: the cases of `run_cases` have all else. They
+//! stand apart from the crates that they call, which with tests of their own would be proved twice.
 #![tactic(auto)]
 
 #[cfg(test)]
-mod derivations;
+mod conflicts;
 #[cfg(test)]
-mod infeasibility;
+mod foreign_symbols;
 #[cfg(test)]
-mod limits;
-#[cfg(test)]
-mod ortho;
-#[cfg(test)]
-mod pairs;
-#[cfg(test)]
-mod peaks;
-#[cfg(test)]
-mod whole_certificates;
+mod measures;
