@@ -1,7 +1,7 @@
 -- Whatever is added is asked for, and a set to which a round adds nothing is grown.
 use Rattle.std.proofs.Common.{◌≡◌, ℕ, zero, suc, ◌<◌, ◌≤◌, ◌⊎◌, inl, inr, refl, sym, subst, List, [], ◌∷◌, length, replicate, Option, Some, None, arith}
 use Rattle.std.specs.Prelude.{Contains, slice_get}
-use Rattle.rewriting.specs.Terms.{Term, var, app, Terms, nil, cons}
+use Rattle.rewriting.specs.Terms.{Term, var, app}
 use Rattle.rewriting.specs.Rules.{Rule, System}
 use Rattle.rewriting.specs.Variables.{variable_occurrences}
 use Rattle.certificates.specs.Evidence.{Transition}

@@ -2,6 +2,7 @@
 use Rattle.std.proofs.Common.{◌≡◌, ℕ, zero, suc, ◌<◌, ◌⊎◌, inl, inr, sym, ◌∙◌, subst, List, [], ◌∷◌, ◌++◌, take, drop, Option, Some, None, arith}
 use Rattle.std.specs.Prelude.{slice_get}
 use Rattle.rewriting.specs.Positions.{IsBefore}
+use Rattle.rewriting.proofs.Before.{before_before}
 use Rattle.certificates.specs.Evidence.{Transition}
 use Rattle.rewriting.specs.Lists.{IsBeforeAll, IsSorted}
 use Rattle.automata.specs.Growth.{IsHeadBefore, IsTransitionBefore}
@@ -13,15 +14,6 @@ head_trans (Some f) (Some g) None p q = tt
 head_trans (Some f) None c p q = absurd q
 head_trans None b c p q = absurd p
 
-numbers_trans : (xs ys zs : List ℕ) → IsBefore xs ys → IsBefore ys zs → IsBefore xs zs
-numbers_trans xs ys [] p q = absurd q
-numbers_trans [] ys (c ∷ zs) p q = tt
-numbers_trans (a ∷ xs) [] (c ∷ zs) p q = absurd p
-numbers_trans (a ∷ xs) (b ∷ ys) (c ∷ zs) (inl l) (inl m) = inl (omega arith)
-numbers_trans (a ∷ xs) (b ∷ ys) (c ∷ zs) (inl l) (inr (e, m)) = inl (omega arith)
-numbers_trans (a ∷ xs) (b ∷ ys) (c ∷ zs) (inr (d, l)) (inl m) = inl (omega arith)
-numbers_trans (a ∷ xs) (b ∷ ys) (c ∷ zs) (inr (d, l)) (inr (e, m)) = inr (d ∙ e, numbers_trans xs ys zs l m)
-
 pub before_trans : (a b c : Transition) → IsTransitionBefore a b → IsTransitionBefore b c → IsTransitionBefore a c
 before_trans a b c (inl h) (inl k) = inl (head_trans a.symbol b.symbol c.symbol h k)
 before_trans a b c (inl h) (inr (e, k)) = inl (subst (IsHeadBefore a.symbol) e h)
@@ -30,7 +22,7 @@ before_trans a b c (inr (e, h)) (inr (f, k)) = inr (e ∙ f, go h k)
   where
     go : IsBefore a.arguments b.arguments ⊎ ((a.arguments ≡ b.arguments) × (a.target < b.target)) → IsBefore b.arguments c.arguments ⊎ ((b.arguments ≡ c.arguments) × (b.target < c.target))
         → IsBefore a.arguments c.arguments ⊎ ((a.arguments ≡ c.arguments) × (a.target < c.target))
-    go (inl p) (inl q) = inl (numbers_trans a.arguments b.arguments c.arguments p q)
+    go (inl p) (inl q) = inl (before_before a.arguments b.arguments c.arguments p q)
     go (inl p) (inr (g, q)) = inl (subst (IsBefore a.arguments) g p)
     go (inr (g, p)) (inl q) = inl (subst (λ z. IsBefore z c.arguments) (sym g) q)
     go (inr (g, p)) (inr (i, q)) = inr (g ∙ i, omega arith)

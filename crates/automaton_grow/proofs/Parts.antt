@@ -39,12 +39,6 @@ module _ {A B : Type 0} (f : A → B) where
       go (y ∷ ys) zero h e = ap (λ z. f z ∷ []) (sym e)
       go (y ∷ ys) (suc k) h e = ap (λ zs. f y ∷ zs) (go ys k (omega arith) e)
 
-  pub all_taken : (xs : List A) (i : ℕ) → length xs ≤ i → map f (take i xs) ≡ map f xs
-  all_taken [] zero h = refl
-  all_taken [] (suc i) h = refl
-  all_taken (x ∷ xs) zero h = absurd (omega arith)
-  all_taken (x ∷ xs) (suc i) h = ap (λ z. f x ∷ z) (all_taken xs i (omega arith))
-
   pub taken : (xs : List A) (i : ℕ) (y : B) → Contains (map f (take i xs)) y → Contains (map f xs) y
   taken xs zero y h = absurd (contains_none y h)
   taken [] (suc i) y h = absurd (contains_none y h)
@@ -104,9 +98,6 @@ twins_append p q (d ∷ ds) es = go (nat_eq d.target p) (twins_append p q ds es)
     go false e = e
 
 module _ (p q : ℕ) (ds : List Transition) (i : ℕ) (d : Transition) (h : i < length ds) (at : d ≡ get_or ds i d) where
-  twin : evidence.Transition
-  twin = record (transition_view d) { target = q }
-
   abbrev So : ℕ → evidence.Transition → Type 0
   So k = Contains (twins p q (map transition_view (take k ds)))
 

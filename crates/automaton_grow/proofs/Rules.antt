@@ -5,7 +5,6 @@ use Rattle.std.proofs.Common.{add_assoc}
 use Rattle.rewriting.specs.Terms.{Term, var, app, size, Fits}
 use Rattle.rewriting.specs.Signatures.{Signature}
 use Rattle.rewriting.specs.Rules as math
-use Rattle.rewriting.specs.Rules.{rule_at}
 use Rattle.rewriting.specs.Systems.{AreRules, IsSystem, condition_count}
 use Rattle.rewriting.specs.Variables.{variable_occurrences}
 use Rattle.automata.specs.Growth.{inner, proper, first_state, state_count}
@@ -28,12 +27,6 @@ rules_left rs i r h e = rw add-one (go rs i h e)
     go [] k h e = absurd (omega arith)
     go (q ∷ qs) zero h e = ap (λ z. rule_view z ∷ map rule_view qs) (sym e)
     go (q ∷ qs) (suc k) h e = go qs k (omega arith) e
-
-pub rules_none : (rs : List Rule) (i : ℕ) → length rs ≤ i → map rule_view (drop i rs) ≡ []
-rules_none [] zero h = refl
-rules_none [] (suc i) h = refl
-rules_none (r ∷ rs) zero h = absurd (omega arith)
-rules_none (r ∷ rs) (suc i) h = rules_none rs i (omega arith)
 
 views_length : (rs : List Rule) → length (map rule_view rs) ≡ length rs
 views_length [] = refl

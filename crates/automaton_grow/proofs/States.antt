@@ -1,13 +1,13 @@
 -- The numbers of the transitions that are asked for are states.
-use Rattle.std.proofs.Common.{◌≡◌, ℕ, zero, suc, ◌+◌, ◌<◌, ◌≤◌, ◌⊎◌, inl, inr, refl, sym, ap, ◌∙◌, subst, List, [], ◌∷◌, length, Some, Bool, true, false, arith}
+use Rattle.std.proofs.Common.{◌≡◌, ℕ, zero, suc, ◌+◌, ◌<◌, ◌≤◌, ◌⊎◌, inl, inr, refl, sym, ap, ◌∙◌, subst, List, [], ◌∷◌, Some, Bool, true, false, arith}
 use Rattle.std.specs.Prelude.{Contains, All, slice_get, nat_eq, if◌then◌else◌}
 use Rattle.std.proofs.lemmas.List.Elements.{All-nil, All-head, All-replicate, All-contains}
-use Rattle.rewriting.specs.Terms.{Term, var, app, Terms, nil, cons}
+use Rattle.rewriting.specs.Terms.{Term, var, app}
 use Rattle.rewriting.specs.Rules.{Rule, System}
 use Rattle.certificates.specs.Evidence.{Transition}
 use Rattle.automata.specs.Runs.{ReachBy}
 use Rattle.automata.specs.Closed.{state_of}
-use Rattle.automata.specs.Growth.{inner, inner_in, proper, top, tops, inside, inside_all, grown, proper_before, first_state, state_count, moves, HasStates}
+use Rattle.automata.specs.Growth.{proper, inside, grown, proper_before, first_state, state_count, moves, HasStates}
 use Rattle.automata.proofs.Asked.{state_below, inside_states, grown_states, before_count, contains_head, contains_tail}
 use Rattle.automaton_grow.specs.Growing.{IsBasic, for_symbol, for_variables, for_term, twins, twins_of, IsAskedByRule}
 use Rattle.automaton_grow.proofs.Adding.{contains_cases, contains_none}

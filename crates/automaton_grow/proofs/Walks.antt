@@ -1,15 +1,14 @@
 -- Walks over the arguments of a term.
-use Rattle.std.proofs.Common.{◌≡◌, ℕ, zero, suc, ◌+◌, ◌<◌, ◌≤◌, refl, sym, ap, ap₂, ◌∙◌, List, [], ◌∷◌, ◌++◌, drop, length, get_or, Vec, Global, Bool, true, false, append_assoc, add-one, min, arith}
+use Rattle.std.proofs.Common.{◌≡◌, ℕ, zero, suc, ◌+◌, ◌<◌, ◌≤◌, refl, sym, ap, ap₂, ◌∙◌, List, [], ◌∷◌, ◌++◌, drop, length, get_or, Bool, true, false, append_assoc, add-one, min, arith}
 use Rattle.std.specs.Prelude.{nat_eq, if◌then◌else◌}
 use Rattle.std.proofs.Common.{eqb-true}
 use Rattle.rewriting.specs.Terms as math
-use Rattle.rewriting.specs.Terms.{var, app, nil, cons, size, size_all}
+use Rattle.rewriting.specs.Terms.{var, app, cons, size, size_all}
 use Rattle.certificates.specs.Evidence as evidence
 use Rattle.automata.specs.Closed.{state_of}
 use Rattle.automata.specs.Growth.{inner, inner_in, top, tops, inside, inside_all, grown}
 use Rattle.term_core.specs.View.{view, views}
-use Rattle.term_core.specs.declared.terms.Term.{Term, Fun}
-use Rattle.term_core.proofs.Views.{view-Fun}
+use Rattle.term_core.specs.declared.terms.Term.{Term}
 
 pub args_left : (ts : List Term) (i : ℕ) (t : Term) → i < length ts → t ≡ get_or ts i t → views (drop i ts) ≡ cons (view t) (views (drop (i + 1) ts))
 args_left ts i t h e = rw add-one (go ts i h e)
@@ -19,19 +18,9 @@ args_left ts i t h e = rw add-one (go ts i h e)
     go (u ∷ us) zero h e = ap (λ z. cons (view z) (views us)) (sym e)
     go (u ∷ us) (suc k) h e = go us k (omega arith) e
 
-pub args_none : (ts : List Term) (i : ℕ) → length ts ≤ i → views (drop i ts) ≡ nil
-args_none [] zero h = refl
-args_none [] (suc i) h = refl
-args_none (t ∷ ts) zero h = absurd (omega arith)
-args_none (t ∷ ts) (suc i) h = args_none ts i (omega arith)
-
 pub append_nil : {X : Type 0} (xs : List X) → xs ++ [] ≡ xs
 append_nil [] = refl
 append_nil (x ∷ xs) = ap (λ z. x ∷ z) (append_nil xs)
-
--- the term with these arguments
-pub whole : (t : Term) (f : ℕ) (v : Vec Term Global) (items : List Term) → t ≡ Fun f v → items ≡ v.items → view t ≡ app f (views items)
-whole t f v items is e = ap view is ∙ view-Fun f v ∙ ap (λ z. app f (views z)) (sym e)
 
 module _ (e : ℕ → ℕ) (ts : List Term) (i : ℕ) where
   pub tops_next : (t : Term) (qs more all : List ℕ) (n q k : ℕ) → i < length ts → t ≡ get_or ts i t → qs ++ tops e n (views (drop i ts)) ≡ all → more ≡ qs ++ q ∷ [] → q ≡ top e n (view t) → k ≡ n + inner (view t)

@@ -1,5 +1,5 @@
 -- What the whole of growing answers.
-use Rattle.std.proofs.Common.{Ok, Err, Result, IfOk, zero, suc}
+use Rattle.std.proofs.Common.{Ok, Err, Result, IfOk}
 use Rattle.rewriting.specs.Terms.{Term}
 use Rattle.rewriting.specs.Rules.{System}
 use Rattle.rewriting.specs.Systems.{IsWellFormed}
