@@ -1,6 +1,6 @@
 -- Conditions of a list, one by one.
-use Rattle.std.proofs.Common.{ℕ, zero, suc, ◌≡◌, ◌+◌, ◌<◌, ◌≤◌, true, List, [], ◌∷◌, ◌++◌, map, length, take, drop, get_or, refl, sym, ap, ap₂, ◌∙◌, subst, arith, add-one, append_assoc}
-use Rattle.rewriting.specs.Terms.{Term, Fits}
+use Rattle.std.proofs.Common.{ℕ, zero, suc, ◌≡◌, ◌+◌, ◌<◌, ◌≤◌, true, List, [], ◌∷◌, ◌++◌, map, length, take, get_or, refl, sym, ap, ◌∙◌, subst, arith, add-one}
+use Rattle.rewriting.specs.Terms.{Fits}
 use Rattle.rewriting.specs.Substitutions.{Substitution, apply}
 use Rattle.rewriting.specs.Variables.{occurs, occurs_in}
 use Rattle.rewriting.specs.Rules as math

@@ -1,7 +1,12 @@
+pub mod Exits
 pub mod Conditions
 pub mod Rooms
 pub mod Sizes
 pub mod Spot
-pub mod Loops
-pub mod Walks
+pub mod Runs
+pub mod Passing
+pub mod Candidates
+pub mod Roots
+pub mod Rests
+pub mod Finds
 pub mod Whole

@@ -1,5 +1,5 @@
 -- Parts of terms that fit, and answers carried from parts to wholes.
-use Rattle.std.proofs.Common.{ℕ, zero, suc, ◌≡◌, ◌+◌, ◌<◌, ◌≤◌, max, List, [], ◌∷◌, ◌++◌, map, length, get_or, Option, Some, None, IsSome, refl, sym, ap, ◌∙◌, subst, arith, Result, Ok, Err}
+use Rattle.std.proofs.Common.{ℕ, zero, suc, ◌≡◌, ◌<◌, ◌≤◌, List, [], ◌∷◌, map, length, get_or, Option, Some, None, IsSome, refl, sym, ap, ◌∙◌, subst, arith, Result, Ok, Err}
 use Rattle.std.proofs.lemmas.Bool.{false≢true}
 use Rattle.rewriting.specs.Terms as terms
 use Rattle.rewriting.specs.Terms.{var, app, Terms, nil, cons, size, size_all, depth, depth_all, Fits}
@@ -10,7 +10,6 @@ use Rattle.rewriting.specs.Rules as math
 use Rattle.rewriting.specs.Systems.{Each}
 use Rattle.rewriting.specs.Overlaps.{conditions_under}
 use Rattle.rewriting.proofs.Positions.{within, subterm-replace, replaceable}
-use Rattle.term_core.specs.View.{view}
 use Rattle.term_core.specs.RuleView.{condition_view}
 use Rattle.term_core.specs.SubstView.{ApplyAnswers}
 use Rattle.term_core.specs.Replace.{ReplaceAnswers}
@@ -18,7 +17,7 @@ use Rattle.term_core.specs.declared.terms.Term.{Term}
 use Rattle.term_core.specs.declared.terms.TermError.{TermError}
 use Rattle.term_core.specs.declared.terms.TermError.TheVariants.{NoPosition, TooLarge, NoMemory}
 use Rattle.term_core.specs.declared.systems.Cond.{Cond}
-use Rattle.critical_pairs.specs.Building.{IsMade, InstanceAnswers, InstancesAnswers, ContractedAnswers, ConditionsAnswers, PairAnswers}
+use Rattle.critical_pairs.specs.Building.{InstanceAnswers, InstancesAnswers, ContractedAnswers, ConditionsAnswers, PairAnswers}
 use Rattle.critical_pairs.proofs.Conditions.{one_fits, fit_left, fit_right}
 use Rattle.rewriting.proofs.Places.{subterm-apply}
 
@@ -120,3 +119,7 @@ pub second_error : (m : Substitution) (cs ds before after : List math.Condition)
 second_error m cs ds before after NoPosition a = a
 second_error m cs ds before after TooLarge a = λ f. a (fit_right (conditions_under m cs) _ f)
 second_error m cs ds before after NoMemory a = tt
+
+-- the same conditions
+pub same_conditions : (m : Substitution) (cs ds before after : List math.Condition) (r : Result (Unit {0}) TermError) → ds ≡ cs → InstancesAnswers m ds before after r → InstancesAnswers m cs before after r
+same_conditions m cs ds before after r e h = subst (λ z. InstancesAnswers m z before after r) e h

@@ -1,38 +1,36 @@
 -- What a run at a triple says of the system's overlaps.
-use Rattle.std.proofs.Common.{ℕ, zero, suc, ◌≡◌, ◌≢◌, ◌+◌, ◌<◌, ◌≤◌, ◌⊎◌, inl, inr, List, [], ◌∷◌, ◌++◌, map, length, Option, Some, None, IsSome, refl, sym, ap, ap₂, ◌∙◌, subst, subst₂, arith, slice_get, Result, Ok, Err, ◌^◌, max}
+use Rattle.std.proofs.Common.{ℕ, zero, suc, ◌≡◌, ◌+◌, ◌<◌, inl, inr, List, [], ◌∷◌, ◌++◌, map, length, Option, Some, IsSome, refl, sym, ap, ap₂, ◌∙◌, subst, subst₂, arith, slice_get, Err, ◌^◌, max}
 use Rattle.rewriting.specs.Terms.{Term, Terms, var, app, nil, cons, size, size_all, depth, depth_all, IsVariable, Fits}
 use Rattle.rewriting.specs.Positions.{Position, subterm, replace}
 use Rattle.rewriting.specs.Substitutions.{Substitution, apply, apply_all, compose, Bindings, values_of}
-use Rattle.rewriting.specs.Unifiers.{IsMostGeneral, even, odd}
+use Rattle.rewriting.specs.Unifiers.{even, odd}
 use Rattle.rewriting.specs.Rules.{Condition, Rule, System, rule_at, sides}
 use Rattle.rewriting.specs.Systems.{Each, terms_of_rule, IsRule, AreRules, IsSystem}
-use Rattle.rewriting.specs.Overlaps.{IsPlace, CriticalPair, IsCriticalPair, condition_under, conditions_under}
+use Rattle.rewriting.specs.Overlaps.{IsPlace, CriticalPair, IsCriticalPair, conditions_under}
 use Rattle.rewriting.proofs.Instances.{apply-apply, apply-agree}
 use Rattle.rewriting.proofs.Positions.{replaceable}
 use Rattle.rewriting.proofs.Places.{subterm-apply}
 use Rattle.rewriting.proofs.Unifiers.{of_list}
 use Rattle.unifier_run.specs.Run.{Binding, value, Outcome, unifier, clash, too_large, IsOutcome}
 use Rattle.unifier_run.specs.Laws.{as_map}
-use Rattle.unifier_run.specs.Overlaps.{Triple, Overlap, triple, IsOutcomeOf, DoesPairFit, IsOverlapOf, IsTooLargeAt}
+use Rattle.unifier_run.specs.Overlaps.{Overlap, IsOutcomeOf, DoesPairFit, IsOverlapOf, IsTooLargeAt}
 use Rattle.unifier_run.proofs.General.{most_general}
 use Rattle.unifier_run.proofs.Maps.{values_of-as_map}
-use Rattle.unifier_run.proofs.Triples.{DoesClash, AreThose}
-use Rattle.critical_pairs.specs.Building.{rule_under, IsMade}
+use Rattle.unifier_run.proofs.Triples.{DoesClash}
+use Rattle.critical_pairs.specs.Building.{rule_under, IsMade, PairAnswers}
 use Rattle.critical_pairs.proofs.Sizes.{fits_part}
-use Rattle.critical_pairs.specs.Searching.{AreFound, IsLargeAmong, IsManyAmong, IsInner, IsPartAt, IsSpot, IsRefusal, PutAnswers, SearchAnswers}
+use Rattle.critical_pairs.specs.Sides.{IsSpot, RunAnswers}
+use Rattle.term_core.specs.declared.terms.TermError.{TermError}
+use Rattle.term_core.specs.declared.terms.TermError.TheVariants.{NoPosition, TooLarge as TermTooLarge, NoMemory as OutOfMemory}
 use Rattle.term_core.specs.View.{view}
 use Rattle.term_core.specs.RuleView.{condition_view, rule_view}
 use Rattle.term_core.specs.declared.systems.Cond.{Cond}
 use Rattle.term_core.specs.declared.systems.Rule as Program
-use Rattle.critical_pairs.specs.declared.Overlap as Made
-use Rattle.critical_pairs.specs.View.{overlap_view}
-use Rattle.critical_pairs.specs.declared.OverlapError.{OverlapError}
-use Rattle.critical_pairs.specs.declared.OverlapError.TheVariants.{PairTooLarge, TooManyPairs, NoMemory}
 
-same_rule : (o : Option Rule) (a b : Rule) → o ≡ Some a → o ≡ Some b → a ≡ b
+pub same_rule : (o : Option Rule) (a b : Rule) → o ≡ Some a → o ≡ Some b → a ≡ b
 same_rule o a b e h = (let k : Some a ≡ Some b = sym e ∙ h in cc)
 
-same_term : (o : Option Term) (a b : Term) → o ≡ Some a → o ≡ Some b → a ≡ b
+pub same_term : (o : Option Term) (a b : Term) → o ≡ Some a → o ≡ Some b → a ≡ b
 same_term o a b e h = (let k : Some a ≡ Some b = sym e ∙ h in cc)
 
 variable_renamed : (t : Term) → (IsVariable (apply odd t) → ⊥) → IsVariable t → ⊥
@@ -146,6 +144,11 @@ module _ (sys : System) (i : ℕ) (p : Position) (j : ℕ) (inner outer : Rule) 
         let q = made_pair in
         record { inner = R; outer = Q; part = T; place = place; why = inr (b, q.0, outcome_there (unifier b) run, critical q.0 q.1, n q.0 q.1) }
 
+    pub pair_refused : (e : TermError) → PairAnswers (values_of m) i p j inner outer (Err e) → RunAnswers sys i p j (Err e)
+    pair_refused NoPosition h = h
+    pair_refused TermTooLarge h = pair_too_large h
+    pair_refused OutOfMemory h = tt
+
 -- renaming keeps sizes
 abbrev pub IsRenaming : Substitution → Type 0
 IsRenaming s = (x : ℕ) → (size (s x) ≡ 1) × (depth (s x) ≡ 1)
@@ -212,48 +215,3 @@ module _ (sys : System) (i : ℕ) (p : Position) (j : ℕ) (inner outer : Progra
       let few = (numbered_rule sys i spot.is_inner.rule spot.system spot.is_inner.is_rule).few_conditions in
       let same : length inner.conds.items ≡ length spot.is_inner.rule.conditions = sym (length_views inner.conds.items) ∙ (ap (λ z. length z.conditions) spot.is_inner.renamed ∙ length_under even spot.is_inner.rule.conditions) in
       omega (arith, few, same)
-
--- answers at one triple
-append_nothing : (os : List Overlap) → os ++ [] ≡ os
-append_nothing [] = refl
-append_nothing (o ∷ os) = ap (λ z. o ∷ z) (append_nothing os)
-
-pub one_clash : (sys : System) (i : ℕ) (p : Position) (j : ℕ) (before : List Overlap) → DoesClash sys (i, (p, j)) → length before ≤ 20000 → AreFound sys ((i, (p, j)) ∷ []) before before
-one_clash sys i p j before h few = record { more = []; all = sym (append_nothing before); those = inl (h, refl); few = few }
-
-pub one_refused : (sys : System) (i : ℕ) (p : Position) (j : ℕ) (before after : List Overlap) (e : OverlapError) → IsTooLargeAt sys i p j → length before ≤ 20000 → IsRefusal i p j e → SearchAnswers sys ((i, (p, j)) ∷ []) before after (Err e)
-one_refused sys i p j before after (PairTooLarge k q l) large few (a, b, c) =
-    record {
-      earlier = [];
-      later = [];
-      split = ap₂ (λ x y. (x, y) ∷ []) (sym a) (ap₂ (λ x y. (x, y)) (sym b) (sym c));
-      more = [];
-      those = refl;
-      large = subst (λ z. IsTooLargeAt sys z q.items l) (sym a) (subst (λ z. IsTooLargeAt sys i z l) (sym b) (subst (IsTooLargeAt sys i p) (sym c) large));
-      few = subst (λ z. length z ≤ 20000) (sym (append_nothing before)) few;
-    }
-one_refused sys i p j before after TooManyPairs large few h = absurd h
-one_refused sys i p j before after NoMemory large few h = tt
-
-pub one_put : (sys : System) (i : ℕ) (p : Position) (j : ℕ) (before after : List Overlap) (o : Overlap) (r : Result (Unit {0}) OverlapError) → IsOverlapOf sys o → triple o ≡ (i, (p, j)) → PutAnswers before o after r → SearchAnswers sys ((i, (p, j)) ∷ []) before after r
-one_put sys i p j before after o (Ok u) is at h = record { more = o ∷ []; all = h.0; those = inr (o, [], refl, is, at, refl); few = h.1 }
-one_put sys i p j before after o (Err (PairTooLarge k q l)) is at h = absurd h
-one_put sys i p j before after o (Err TooManyPairs) is at h =
-    record {
-      next = o;
-      is_overlap = is;
-      earlier = [];
-      later = [];
-      split = ap (λ z. z ∷ []) (sym at);
-      more = [];
-      those = refl;
-      many = ap length (append_nothing before) ∙ h;
-    }
-one_put sys i p j before after o (Err NoMemory) is at h = tt
-
-pub few_views : (os : List Made.Overlap) → length os ≤ 20000 → length (map overlap_view os) ≤ 20000
-few_views os h = let e = length_overlaps os in omega (arith, h, e)
-  where
-    length_overlaps : (os : List Made.Overlap) → length (map overlap_view os) ≡ length os
-    length_overlaps [] = refl
-    length_overlaps (o ∷ os) = ap suc (length_overlaps os)

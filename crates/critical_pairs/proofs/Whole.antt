@@ -1,25 +1,25 @@
--- The search on all triples of a system.
-use Rattle.std.proofs.Common.{ℕ, ◌≡◌, ◌+◌, ◌*◌, ◌≤◌, List, [], ◌∷◌, ◌++◌, map, length, Vec, Global, refl, sym, ap, ap₂, ◌∙◌, subst, arith, Result, Ok, Err}
+-- The list of the overlaps that a search offers.
+use Rattle.std.proofs.Common.{ℕ, suc, ◌≡◌, ◌+◌, ◌*◌, ◌≤◌, List, [], ◌∷◌, ◌++◌, map, length, refl, sym, ap, ap₂, ◌∙◌, subst, arith, Err, append_assoc, inr}
 use Rattle.rewriting.specs.Terms.{Term, var}
-use Rattle.rewriting.specs.Substitutions.{Substitution, apply}
+use Rattle.rewriting.specs.Substitutions.{Substitution}
 use Rattle.rewriting.specs.Unifiers.{even, odd}
 use Rattle.rewriting.specs.Rules.{Condition, Rule, System}
 use Rattle.rewriting.proofs.Instances.{apply-agree}
-use Rattle.unifier_run.specs.Overlaps.{Overlap}
-use Rattle.unifier_run.specs.Overlaps as defined
+use Rattle.rewriting.specs.Overlaps.{IsEarlierOverlap}
+use Rattle.unifier_run.specs.Overlaps.{Triple, Overlap, triple, IsOverlapOf, IsTooLargeAt, AreOverlapsAt, AreOverlaps}
 use Rattle.rewriting.specs.Lists.{IsAmong}
-use Rattle.unifier_run.proofs.Triples.{AreInOrder, overlaps_at, overlaps_before}
+use Rattle.unifier_run.proofs.Triples.{AreInOrder, DoesClash, AreThose, those_append, overlaps_at, overlaps_before}
 use Rattle.unifier_run.proofs.Spots.{all_triples, has_all, order_all}
 use Rattle.unification.specs.Answers.{renaming}
-use Rattle.term_core.specs.RuleView.{rule_view}
-use Rattle.critical_pairs.specs.View.{overlap_view}
 use Rattle.critical_pairs.specs.Building.{rule_under}
-use Rattle.critical_pairs.specs.Searching.{SearchAnswers}
+use Rattle.critical_pairs.specs.Offers.{Search, DoesPass, IsNext, IsOffered, IsDone, OfferAnswers}
 use Rattle.critical_pairs.specs.Answers.{OverlapsAnswers}
+use Rattle.critical_pairs.specs.View.{overlap_view}
 use Rattle.critical_pairs.specs.declared.Overlap as Made
 use Rattle.critical_pairs.specs.declared.OverlapError.{OverlapError}
 use Rattle.critical_pairs.specs.declared.OverlapError.TheVariants.{PairTooLarge, TooManyPairs, NoMemory}
 use Rattle.critical_pairs.proofs.Spot.{under_agree}
+use Rattle.critical_pairs.proofs.Passing.{none_there}
 
 rule_agree : (s t : Substitution) (r : Rule) → ((x : ℕ) → s x ≡ t x) → rule_under s r ≡ rule_under t r
 rule_agree s t r h = three _ _ _ _ _ _ (apply-agree s t r.left (λ x o. h x)) (apply-agree s t r.right (λ x o. h x)) (under_agree s t r.conditions h)
@@ -37,28 +37,71 @@ evens rs = rules_agree (renaming 2 0) even rs (λ x. let e : 2 * x + 0 ≡ 2 * x
 pub odds : (rs : List Rule) → map (rule_under (renaming 2 1)) rs ≡ map (rule_under odd) rs
 odds rs = rules_agree (renaming 2 1) odd rs (λ x. refl)
 
-pub whole_found : (sys : System) (start : List Made.Overlap) (found : Vec Made.Overlap Global) → start ≡ [] → SearchAnswers sys (all_triples sys) (map overlap_view start) (map overlap_view found.items) (Ok tt) → OverlapsAnswers sys (Ok found)
-whole_found sys start found e h =
-    let same : map overlap_view found.items ≡ h.more = h.all ∙ ap (λ z. map overlap_view z ++ h.more) e in
-    record {
-      are = subst (defined.AreOverlapsAt sys (λ t. Unit {0})) (sym same) (overlaps_at sys (λ t. Unit {0}) (all_triples sys) h.more (order_all sys) (λ t m. tt) (λ i p j inner outer part place u. has_all sys i p j inner outer part place) h.those);
-      few = h.few;
-    }
+-- a list of the overlaps that were offered
+pub record Gathered (sys : System) (s : Search) (os : List Overlap) : Type 0 where
+  pub system : s.system ≡ sys
+  pub earlier : List Triple
+  pub split : all_triples sys ≡ earlier ++ s.rest
+  pub those : AreThose sys earlier os
+  pub counted : s.offered ≡ length os
+  pub few : s.offered ≤ 20000
 
-pub whole_error : (sys : System) (start after : List Made.Overlap) (e : OverlapError) → start ≡ [] → SearchAnswers sys (all_triples sys) (map overlap_view start) (map overlap_view after) (Err e) → OverlapsAnswers sys (Err e)
-whole_error sys start after (PairTooLarge i p j) e h =
-    record {
-      is_large = h.large;
-      before = h.more;
-      are_before = overlaps_before sys h.earlier h.later (i, (p.items, j)) h.more (subst AreInOrder h.split (order_all sys)) (λ a q b inner outer part place. subst (λ z. IsAmong (a, (q, b)) z) h.split (has_all sys a q b inner outer part place)) h.those;
-      few = subst (λ z. length (map overlap_view z ++ h.more) ≤ 20000) e h.few;
-    }
-whole_error sys start after TooManyPairs e h =
-    record {
-      next = h.next;
-      is_overlap = h.is_overlap;
-      before = h.more;
-      are_before = overlaps_before sys h.earlier h.later (defined.triple h.next) h.more (subst AreInOrder h.split (order_all sys)) (λ a q b inner outer part place. subst (λ z. IsAmong (a, (q, b)) z) h.split (has_all sys a q b inner outer part place)) h.those;
-      many = subst (λ z. length (map overlap_view z ++ h.more) ≡ 20000) e h.many;
-    }
-whole_error sys start after NoMemory e h = tt
+append_nothing : {A : Type 0} (os : List A) → os ++ [] ≡ os
+append_nothing [] = refl
+append_nothing (o ∷ os) = ap (λ z. o ∷ z) (append_nothing os)
+
+module _ (sys : System) (s : Search) (os : List Overlap) (g : Gathered sys s os) where
+  further : (later : List Triple) (h : DoesPass s.system s.rest later) → all_triples sys ≡ (g.earlier ++ h.passed) ++ later
+  further later h = g.split ∙ (ap (λ z. g.earlier ++ z) h.split ∙ sym (append_assoc g.earlier h.passed later))
+
+  none_further : (later : List Triple) (h : DoesPass s.system s.rest later) → AreThose sys (g.earlier ++ h.passed) os
+  none_further later h =
+      subst (AreThose sys (g.earlier ++ h.passed)) (append_nothing os)
+      (those_append sys g.earlier h.passed os [] g.those (none_there sys h.passed (λ t m. subst (λ z. DoesClash z t) g.system (h.clash t m))))
+
+  overlap_there : (o : Overlap) → IsOverlapOf s.system o → IsOverlapOf sys o
+  overlap_there o h = subst (λ z. IsOverlapOf z o) g.system h
+
+  pub one_more : (t : Search) (o : Overlap) → t.system ≡ s.system → IsOffered s t o → Gathered sys t (os ++ o ∷ [])
+  one_more t o e h =
+      record {
+        system = e ∙ g.system;
+        earlier = (g.earlier ++ h.passes.passed) ++ triple o ∷ [];
+        split = further _ h.passes ∙ sym (append_assoc (g.earlier ++ h.passes.passed) (triple o ∷ []) t.rest);
+        those = those_append sys (g.earlier ++ h.passes.passed) (triple o ∷ []) os (o ∷ []) (none_further _ h.passes) (inr (o, [], refl, overlap_there o h.is_overlap, refl, refl));
+        counted = h.counted ∙ (ap suc g.counted ∙ sym (length_more os));
+        few = h.few;
+      }
+    where
+      length_more : (qs : List Overlap) → length (qs ++ o ∷ []) ≡ suc (length qs)
+      length_more [] = refl
+      length_more (q ∷ qs) = ap suc (length_more qs)
+
+  pub all_found : (t : Search) → IsDone s t → AreOverlaps sys os
+  all_found t h =
+      let all : g.earlier ++ h.passes.passed ≡ all_triples sys = sym (append_nothing (g.earlier ++ h.passes.passed)) ∙ sym (further [] h.passes) in
+      record {
+        are = overlaps_at sys (λ t. Unit {0}) (all_triples sys) os (order_all sys) (λ t m. tt) (λ i p j inner outer part place u. has_all sys i p j inner outer part place) (subst (λ z. AreThose sys z os) all (none_further [] h.passes));
+        few = subst (λ z. z ≤ 20000) g.counted g.few;
+      }
+
+  found_before : (t : Triple) → IsNext s.system s.rest t → AreOverlapsAt sys (λ u. IsEarlierOverlap u t) os
+  found_before t (later, h) =
+      let split = further (t ∷ later) h in
+      overlaps_before sys (g.earlier ++ h.passed) later t os (subst AreInOrder split (order_all sys)) (λ a q b inner outer part place. subst (λ z. IsAmong (a, (q, b)) z) split (has_all sys a q b inner outer part place)) (none_further (t ∷ later) h)
+
+  pub list_refused : (t : Search) (e : OverlapError) → OfferAnswers s t (Err e) → OverlapsAnswers sys (Err e)
+  list_refused t (PairTooLarge i p j) (n, h) =
+      record {
+        is_large = subst (λ z. IsTooLargeAt z i p.items j) g.system h;
+        before = os;
+        are_before = found_before (i, (p.items, j)) n;
+        few = subst (λ z. z ≤ 20000) g.counted g.few;
+      }
+  list_refused t TooManyPairs h =
+      record { next = h.further; is_overlap = overlap_there h.further h.is_overlap; before = os; are_before = found_before (triple h.further) h.is_next; many = sym g.counted ∙ h.many }
+  list_refused t NoMemory h = tt
+
+pub one_last : (os : List Made.Overlap) (o : Made.Overlap) → map overlap_view (os ++ o ∷ []) ≡ map overlap_view os ++ overlap_view o ∷ []
+one_last [] o = refl
+one_last (q ∷ os) o = ap (λ z. overlap_view q ∷ z) (one_last os o)

@@ -1,5 +1,5 @@
 -- What the parts of a critical pair answer, over rules whose variables are renamed apart already.
-use Rattle.std.specs.Prelude.{ℕ, ◌≡◌, ◌<◌, ◌+◌, ◌*◌, ◌^◌, true, List, [], ◌∷◌, ◌++◌, map, length, Some, Vec, Result, Ok, Err}
+use Rattle.std.specs.Prelude.{ℕ, ◌≡◌, ◌<◌, ◌+◌, ◌*◌, ◌^◌, true, List, ◌++◌, map, length, Some, Vec, Result, Ok, Err}
 use Rattle.std.specs.Global.{Global}
 use Rattle.rewriting.specs.Terms as terms
 use Rattle.rewriting.specs.Terms.{Fits}

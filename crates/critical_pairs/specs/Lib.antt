@@ -1,4 +1,9 @@
 pub mod View
 pub mod Answers
 pub mod Building
-pub mod Searching
+pub mod Offers
+pub mod Places
+pub mod Cursors
+pub mod Sides
+pub mod Finding
+pub mod SearchView

@@ -4,17 +4,20 @@
 //! of the second. So `overlaps` gives one overlap: the inner rule 1, the position `[1]` and the outer rule 2. Its source is
 //! f(a, x), from which the inner rule makes its left term f(c, x), and the outer one its right term x, where x == b. The
 //! variable x of the outer rule is 2 * 0 + 1 there, since those of the inner rule are even.
+//! `OverlapSearch` offers the same overlaps one after the other, and keeps none of them.
 #![tactic(auto)]
 
 ghost use Rattle.std.specs.Prelude.{◌≡◌};
 ghost use Rattle.critical_pairs.specs.Answers.{OverlapsAnswers};
 
+mod cursor;
 mod pairs;
+mod places;
 mod renaming;
-mod searching;
+mod search;
+mod sides;
 
-use crate::renaming::rename_rules;
-use crate::searching::search;
+pub use search::OverlapSearch;
 use std::alloc::{AllocError, AllocFailed, Global};
 use term_core::{Cond, NoMemory, System, Term};
 
@@ -88,11 +91,10 @@ impl<T: Drop> From<AllocFailed<T>> for OverlapError {
 pub fn overlaps(alloc: Global, sys: &System) -> Result<Vec<Overlap>, OverlapError>
     ensures { OverlapsAnswers sys.now result }
 {
-    let inners = rename_rules(alloc, sys.arities(), sys.rules(), 0)?;
-    let outers = rename_rules(alloc, sys.arities(), sys.rules(), 1)?;
+    let mut search = OverlapSearch::new(alloc, sys)?;
     let mut found = Vec::new(alloc);
-    match search(alloc, sys, &inners, &outers, &mut found) {
-        Ok(()) => Ok(found),
-        Err(e) => Err(e),
+    while let Some(overlap) = search.next(alloc)? {
+        found.push(overlap)?;
     }
+    Ok(found)
 }

@@ -14,19 +14,22 @@ use crate::Overlap;
 use std::alloc::{AllocError, Global};
 use term_core::{Cond, Rule, Subst, Term, TermError, replace};
 
+/// The number of an inner rule, a position, and the number of an outer rule.
+#[derive(Clone, Copy)]
+pub struct Triple<'a> {
+    pub inner: u32,
+    pub pos: &'a [u32],
+    pub outer: u32,
+}
+
 fn instance(alloc: Global, m: &Subst, cond: &Cond) -> Result<Cond, TermError>
     requires left { Fits (view cond.now.left) }
     requires right { Fits (view cond.now.right) }
     ensures { InstanceAnswers (values_of m.now) (condition_view cond.now) result }
 {
-    let left = match m.apply(alloc, &cond.left) {
-        Ok(left) => left,
-        Err(e) => return Err(e),
-    };
-    match m.apply(alloc, &cond.right) {
-        Ok(right) => Ok(Cond { left, right }),
-        Err(e) => Err(e),
-    }
+    let left = m.apply(alloc, &cond.left)?;
+    let right = m.apply(alloc, &cond.right)?;
+    Ok(Cond { left, right })
 }
 
 fn instances(alloc: Global, m: &Subst, conds: &[Cond], out: &mut Vec<Cond>) -> Result<(), TermError>
@@ -34,10 +37,7 @@ fn instances(alloc: Global, m: &Subst, conds: &[Cond], out: &mut Vec<Cond>) -> R
     ensures { InstancesAnswers (values_of m.now) (map condition_view conds.now) (map condition_view out.old.items) (map condition_view out.new.items) result }
 {
     for cond in conds {
-        match instance(alloc, m, cond) {
-            Ok(instance) => out.push(instance)?,
-            Err(e) => return Err(e),
-        }
+        out.push(instance(alloc, m, cond)?)?;
     }
     Ok(())
 }
@@ -55,10 +55,8 @@ fn contracted(
     requires there { IsSome (subterm (view source.now) pos.now) }
     ensures { ContractedAnswers (view source.now) pos.now (apply (values_of m.now) (view right.now)) result }
 {
-    match m.apply(alloc, right) {
-        Ok(u) => replace(alloc, source, pos, &u),
-        Err(e) => Err(e),
-    }
+    let part = m.apply(alloc, right)?;
+    replace(alloc, source, pos, &part)
 }
 
 // The instances of the conditions of the inner rule, then of the outer one.
@@ -68,14 +66,9 @@ fn conditions(alloc: Global, m: &Subst, inner: &Rule, outer: &Rule) -> Result<Ve
     ensures { ConditionsAnswers (values_of m.now) (rule_view inner.now).conditions (rule_view outer.now).conditions result }
 {
     let mut out = Vec::new(alloc);
-    match instances(alloc, m, &inner.conds, &mut out) {
-        Ok(()) => {}
-        Err(e) => return Err(e),
-    }
-    match instances(alloc, m, &outer.conds, &mut out) {
-        Ok(()) => Ok(out),
-        Err(e) => Err(e),
-    }
+    instances(alloc, m, &inner.conds, &mut out)?;
+    instances(alloc, m, &outer.conds, &mut out)?;
+    Ok(out)
 }
 
 /// A copy of a position.
@@ -85,42 +78,28 @@ pub fn copy(alloc: Global, pos: &[u32]) -> Result<Vec<u32>, AllocError>
     pos.iter().copied().collect(alloc)
 }
 
-/// The overlap that m makes of an inner rule, number i, and an outer rule, number j.
+/// The overlap that m makes of the two rules of a triple.
 pub fn pair(
     alloc: Global,
     m: &Subst,
     inner: &Rule,
-    i: u32,
     outer: &Rule,
-    j: u32,
-    pos: &[u32],
+    triple: &Triple,
 ) -> Result<Overlap, TermError>
     requires inner { Each Fits (terms_of_rule (rule_view inner.now)) }
     requires outer { Each Fits (terms_of_rule (rule_view outer.now)) }
-    requires there { IsSome (subterm (view outer.now.left) pos.now) }
+    requires there { IsSome (subterm (view outer.now.left) triple.now.pos.now) }
     requires few { length inner.now.conds.items < 2 ^ 32 }
-    ensures { PairAnswers (values_of m.now) i pos.now j (rule_view inner.now) (rule_view outer.now) result }
+    ensures { PairAnswers (values_of m.now) triple.now.inner triple.now.pos.now triple.now.outer (rule_view inner.now) (rule_view outer.now) result }
 {
-    let source = match m.apply(alloc, &outer.left) {
-        Ok(source) => source,
-        Err(e) => return Err(e),
-    };
-    let left = match contracted(alloc, m, &source, pos, &inner.right) {
-        Ok(left) => left,
-        Err(e) => return Err(e),
-    };
-    let right = match m.apply(alloc, &outer.right) {
-        Ok(right) => right,
-        Err(e) => return Err(e),
-    };
-    let conds = match conditions(alloc, m, inner, outer) {
-        Ok(conds) => conds,
-        Err(e) => return Err(e),
-    };
+    let source = m.apply(alloc, &outer.left)?;
+    let left = contracted(alloc, m, &source, triple.pos, &inner.right)?;
+    let right = m.apply(alloc, &outer.right)?;
+    let conds = conditions(alloc, m, inner, outer)?;
     Ok(Overlap {
-        inner: i,
-        pos: copy(alloc, pos)?,
-        outer: j,
+        inner: triple.inner,
+        pos: copy(alloc, triple.pos)?,
+        outer: triple.outer,
         source,
         left,
         right,

@@ -1,18 +1,23 @@
-use Rattle.std.proofs.Common.{◌≡◌, ◌∙◌, ap, map}
-use Rattle.unification.specs.Answers.{renaming}
-use Rattle.term_core.specs.RuleView.{rule_view}
-use Rattle.critical_pairs.specs.Building.{rule_under}
-use Rattle.critical_pairs.proofs.Whole.{whole_found, whole_error, evens, odds}
+use Rattle.std.proofs.Common.{◌∙◌, subst, sym, ap, map, Ok}
+use Rattle.critical_pairs.specs.View.{overlap_view}
+use Rattle.critical_pairs.specs.Answers.{OverlapsAnswers}
+use Rattle.critical_pairs.specs.Offers.{OfferAnswers}
+use Rattle.critical_pairs.proofs.Exits.{handed_on}
+use Rattle.critical_pairs.proofs.Whole.{Gathered, one_more, all_found, list_refused, one_last}
 use Rattle.critical_pairs.proofs.overlaps.Goals as goal
 
-pub search-requires-clause-inners : goal.search-requires-clause-inners
-search-requires-clause-inners c = ap (map rule_view) c.deref.ensures.value ∙ (c.in_ok-inners.ensures ∙ (ap (map (rule_under (renaming 2 0))) c.rules.ensures.rules ∙ evens c.args.sys.now.rules))
+pub returns-in_err-overlap : goal.returns-in_err-overlap
+returns-in_err-overlap c =
+    subst (OverlapsAnswers c.args.sys.now) (sym (handed_on _ _ c.from_residual-in_err-overlap.ensures.1))
+    (list_refused c.args.sys.now c.loop-found.search (map overlap_view c.loop-found.found.items) c.loop-found.invariant c.next.new.self c.in_err-overlap.field-0.0 c.in_err-overlap.ensures.answer)
 
-pub search-requires-clause-outers : goal.search-requires-clause-outers
-search-requires-clause-outers c = ap (map rule_view) c.deref-2.ensures.value ∙ (c.in_ok-outers.ensures ∙ (ap (map (rule_under (renaming 2 1))) c.rules-2.ensures.rules ∙ odds c.args.sys.now.rules))
-
-pub returns-in-Ok : goal.returns-in-Ok
-returns-in-Ok c = whole_found c.args.sys.now c.new-found.result.items c.search.new.found c.new-found.ensures.items c.in-Ok.ensures
+pub loop-found-preserved : goal.loop-found-preserved
+loop-found-preserved c =
+    let offered = subst (λ z. OfferAnswers c.loop-found.search c.next.new.self (Ok z)) c.in-Some.is c.in_ok-overlap.ensures.answer in
+    subst (Gathered c.args.sys.now c.next.new.self) (sym (ap (map overlap_view) c.in_ok-push.ensures.items ∙ one_last c.loop-found.found.items c.in-Some.overlap))
+    (one_more c.args.sys.now c.loop-found.search (map overlap_view c.loop-found.found.items) c.loop-found.invariant c.next.new.self (overlap_view c.in-Some.overlap) c.next.ensures.system offered)
 
 pub returns : goal.returns
-returns c = whole_error c.args.sys.now c.new-found.result.items c.search.new.found.items c.in-Err.e c.new-found.ensures.items c.in-Err.ensures
+returns c =
+    let done = subst (λ z. OfferAnswers c.loop-found.search c.next.new.self (Ok z)) c.in_default.is c.in_ok-overlap.ensures.answer in
+    all_found c.args.sys.now c.loop-found.search (map overlap_view c.loop-found.found.items) c.loop-found.invariant c.next.new.self done

@@ -6,6 +6,8 @@ use Rattle.rewriting.specs.Systems.{Each}
 use Rattle.rewriting.specs.Overlaps.{condition_under, conditions_under}
 use Rattle.term_core.specs.RuleView.{condition_view}
 use Rattle.critical_pairs.proofs.Conditions.{both_fit, under-append, fit_append, map_take_next, map-append}
+use Rattle.critical_pairs.specs.Building.{InstancesAnswers}
+use Rattle.critical_pairs.proofs.Exits.{handed_on}
 use Rattle.critical_pairs.proofs.Sizes.{instances_error}
 use Rattle.critical_pairs.proofs.pairs.instances.Goals as goal
 
@@ -15,8 +17,12 @@ instance-requires-clause-left c = (both_fit _ c.loop-cond.cond-index _ c.loop-co
 pub instance-requires-clause-right : goal.instance-requires-clause-right
 instance-requires-clause-right c = (both_fit _ c.loop-cond.cond-index _ c.loop-cond-test.true c.cond-item.is c.requires).1
 
-pub returns-in-Err : goal.returns-in-Err
-returns-in-Err c = instances_error _ _ c.loop-cond.cond-index _ (map condition_view c.args.out.now.items) (map condition_view c.loop-cond.out.items) c.in-Err.e c.loop-cond-test.true c.cond-item.is c.in-Err.ensures
+pub returns-in_err-instance : goal.returns-in_err-instance
+returns-in_err-instance c =
+    let before = map condition_view c.args.out.now.items in
+    let after = map condition_view c.loop-cond.out.items in
+    subst (InstancesAnswers (values_of c.args.m.now) (map condition_view c.args.conds.now) before after) (sym (handed_on _ _ c.from_residual.ensures.1))
+    (instances_error _ _ c.loop-cond.cond-index _ before after _ c.loop-cond-test.true c.cond-item.is c.in_err-instance.ensures)
 
 pub loop-cond-preserved : goal.loop-cond-preserved
 loop-cond-preserved c =
@@ -28,8 +34,8 @@ loop-cond-preserved c =
     sym (under-append s _ _) ∙ ap (conditions_under s) (sym (map_take_next _ i _ c.loop-cond-test.true c.cond-item.is)) in
     record {
       added =
-          ap (map condition_view) c.in_ok-push-in-Ok.ensures.items
-          ∙ (map-append _ _ ∙ (ap₂ (λ x y. x ++ y ∷ []) c.loop-cond.invariant.added c.in-Ok.ensures.0
+          ap (map condition_view) c.in_ok-push.ensures.items
+          ∙ (map-append _ _ ∙ (ap₂ (λ x y. x ++ y ∷ []) c.loop-cond.invariant.added c.in_ok-instance.ensures.0
           ∙ (append_assoc before done (condition_under s (condition_view c.cond-item.result) ∷ []) ∙ ap (λ z. before ++ z) next)));
-      fit = subst (λ z. Each Fits (sides z)) next (fit_append _ _ c.loop-cond.invariant.fit (c.in-Ok.ensures.1, (c.in-Ok.ensures.2, tt)));
+      fit = subst (λ z. Each Fits (sides z)) next (fit_append _ _ c.loop-cond.invariant.fit (c.in_ok-instance.ensures.1, (c.in_ok-instance.ensures.2, tt)));
     }

@@ -1,4 +1,4 @@
-use Rattle.std.proofs.Common.{◌≡◌, ◌∙◌, ◌++◌, ◌∷◌, [], sym, ap, ap₂, map}
+use Rattle.std.proofs.Common.{◌∙◌, ◌++◌, ◌∷◌, [], sym, ap, ap₂, map}
 use Rattle.rewriting.specs.Overlaps.{conditions_under}
 use Rattle.term_core.specs.RuleView.{condition_view}
 use Rattle.unification.specs.Answers.{renaming}

@@ -1,4 +1,3 @@
-use Rattle.std.proofs.Common.{◌≡◌}
 use Rattle.critical_pairs.proofs.Rooms.{rule_has_room}
 use Rattle.critical_pairs.proofs.renaming.rename_rules.Goals as goal
 

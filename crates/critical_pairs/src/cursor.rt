@@ -1,0 +1,107 @@
+// Where a search for overlaps stands.
+ghost use Rattle.std.specs.Prelude.{◌≡◌, ◌<◌, ◌^◌, [], IfOk, OnOk, map, length};
+ghost use Rattle.rewriting.specs.Terms.{Fits};
+ghost use Rattle.rule_index.specs.Index.{listed};
+ghost use Rattle.term_core.specs.View.{view};
+ghost use Rattle.critical_pairs.specs.Offers.{DoesPass};
+ghost use Rattle.critical_pairs.specs.Places.{place_view, places_below};
+ghost use Rattle.critical_pairs.specs.Cursors.{rest_of, IsCursor, CandidateAnswers, StandAnswers, EnterAnswers, SettleAnswers};
+ghost use Rattle.critical_pairs.specs.Sides.{AreSides};
+
+use crate::places::{Place, places};
+use crate::sides::Sides;
+use rule_index::RuleIndex;
+use std::alloc::Global;
+use term_core::{NoMemory, Term};
+
+/// An outer rule, one of its places, and one of the inner rules with the root there.
+#[derive(Debug, Drop)]
+pub struct Cursor {
+    /// The outer rule's number, from 1; 0 before the first.
+    pub outer: u32,
+    /// The places of its left side.
+    pub places: Vec<Place>,
+    /// The number of the place, from 0.
+    pub place: usize,
+    /// The number of the inner rule among those with the root, from 0.
+    pub candidate: usize,
+}
+
+// The inner rule with a number among the candidates at a place. At the root only those before the outer rule count.
+fn candidate(index: &RuleIndex, place: &Place, outer: u32, number: usize) -> Option<u32>
+    ensures { CandidateAnswers (listed index.now place.now.root) place.now.pos.items outer number result }
+{
+    let inner = *index.with_root(place.root).get(number)?;
+    if place.pos.is_empty() && inner >= outer {
+        None
+    } else {
+        Some(inner)
+    }
+}
+
+impl Cursor {
+    /// The cursor before the first outer rule.
+    pub fn new(alloc: Global) -> Cursor
+        ensures outer { result.outer ≡ 0 }
+        ensures places { result.places.items ≡ [] }
+    {
+        Cursor {
+            outer: 0,
+            places: Vec::new(alloc),
+            place: 0,
+            candidate: 0,
+        }
+    }
+
+    // Goes on to the next inner rule that the outer rule may overlap with.
+    fn settle_in_rule(&mut self, sides: &Sides) -> Option<u32>
+        requires sides { AreSides sides.now }
+        requires cursor { IsCursor sides.now.sys.now self.old }
+        ensures outer { self.new.outer ≡ self.old.outer }
+        ensures places { self.new.places ≡ self.old.places }
+        ensures passes { DoesPass sides.now.sys.now (rest_of sides.now.sys.now self.old) (rest_of sides.now.sys.now self.new) }
+        ensures answer { StandAnswers sides.now.sys.now self.new result }
+    {
+        while self.place < self.places.len() {
+            let place = &self.places[self.place];
+            if let Some(inner) = candidate(&sides.index, place, self.outer, self.candidate) {
+                return Some(inner);
+            }
+            self.place += 1;
+            self.candidate = 0;
+        }
+        None
+    }
+
+    // Goes on to the places of the next outer rule.
+    fn enter(&mut self, alloc: Global, left: &Term) -> Result<(), NoMemory>
+        requires fits { Fits (view left.now) }
+        requires few { self.old.outer < 2 ^ 31 }
+        ensures { EnterAnswers self.old (view left.now) self.new result }
+    {
+        self.places = places(alloc, left)?;
+        self.outer += 1;
+        self.place = 0;
+        self.candidate = 0;
+        Ok(())
+    }
+
+    /// Goes on to the next inner rule whose left side has the root of a place: its number, or none where nothing is left.
+    pub fn settle(&mut self, alloc: Global, sides: &Sides) -> Result<Option<u32>, NoMemory>
+        requires sides { AreSides sides.now }
+        requires cursor { IsCursor sides.now.sys.now self.old }
+        ensures cursor { IsCursor sides.now.sys.now self.new }
+        ensures passes { DoesPass sides.now.sys.now (rest_of sides.now.sys.now self.old) (rest_of sides.now.sys.now self.new) }
+        ensures answer { SettleAnswers sides.now.sys.now self.new result }
+    {
+        'rules: loop {
+            if let Some(inner) = self.settle_in_rule(sides) {
+                return Ok(Some(inner));
+            }
+            let Some(rule) = sides.sys.rules().get(self.outer as usize) else {
+                return Ok(None);
+            };
+            self.enter(alloc, &rule.left)?;
+        }
+    }
+}

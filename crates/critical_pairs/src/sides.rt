@@ -1,0 +1,80 @@
+// The rules of a system with their variables renamed apart, and their runs.
+ghost use Rattle.std.specs.Prelude.{◌≡◌, IfOk};
+ghost use Rattle.critical_pairs.specs.Sides.{AreSides, IsSpotOf, RunAnswers, AttemptAnswers, IsRefusal};
+
+use crate::pairs::{Triple, copy, pair};
+use crate::renaming::rename_rules;
+use crate::{Overlap, OverlapError};
+use rule_index::RuleIndex;
+use std::alloc::Global;
+use term_core::{NoMemory, Rule, System, TermError, subterm};
+use unification::{Unified, unify_terms};
+
+/// The rules of a system as inner rules, with variable 2k for each variable k, and as outer rules, with 2k + 1; and
+/// the numbers of the rules by root.
+#[derive(Debug, Drop)]
+pub struct Sides<'a> {
+    pub sys: &'a System,
+    pub inners: Vec<Rule>,
+    pub outers: Vec<Rule>,
+    pub index: RuleIndex,
+}
+
+fn too_large(alloc: Global, triple: &Triple) -> OverlapError
+    ensures { IsRefusal triple.now.inner triple.now.pos.now triple.now.outer result }
+{
+    match copy(alloc, triple.pos) {
+        Ok(pos) => OverlapError::PairTooLarge {
+            inner: triple.inner,
+            pos,
+            outer: triple.outer,
+        },
+        Err(_) => OverlapError::NoMemory,
+    }
+}
+
+impl<'a> Sides<'a> {
+    pub fn new(alloc: Global, sys: &'a System) -> Result<Sides<'a>, NoMemory>
+        ensures system { IfOk result (λ s. s.sys.now ≡ sys.now) }
+        ensures sides { IfOk result AreSides }
+    {
+        Ok(Sides {
+            sys,
+            inners: rename_rules(alloc, sys.arities(), sys.rules(), 0)?,
+            outers: rename_rules(alloc, sys.arities(), sys.rules(), 1)?,
+            index: RuleIndex::new(alloc, sys)?,
+        })
+    }
+
+    // The overlap at a triple, where the run has a unifier.
+    fn run(&self, alloc: Global, triple: &Triple) -> Result<Option<Overlap>, TermError>
+        requires sides { AreSides self.now }
+        requires spot { IsSpotOf self.now.sys.now triple.now.inner triple.now.pos.now triple.now.outer }
+        ensures { RunAnswers self.now.sys.now triple.now.inner triple.now.pos.now triple.now.outer result }
+    {
+        let inner = &self.inners[triple.inner as usize - 1];
+        let outer = &self.outers[triple.outer as usize - 1];
+        // The renamed left side has the positions of the rule's.
+        let Some(part) = subterm(&outer.left, triple.pos) else {
+            return Ok(None);
+        };
+        match unify_terms(alloc, &inner.left, part)? {
+            Unified::Clash => Ok(None),
+            Unified::TooLarge => Err(TermError::TooLarge),
+            Unified::Mgu(m) => Ok(Some(pair(alloc, &m, inner, outer, triple)?)),
+        }
+    }
+
+    /// The overlap at a triple, where there is one, or its refusal.
+    pub fn attempt(&self, alloc: Global, triple: &Triple) -> Result<Option<Overlap>, OverlapError>
+        requires sides { AreSides self.now }
+        requires spot { IsSpotOf self.now.sys.now triple.now.inner triple.now.pos.now triple.now.outer }
+        ensures { AttemptAnswers self.now.sys.now triple.now.inner triple.now.pos.now triple.now.outer result }
+    {
+        match self.run(alloc, triple) {
+            Ok(found) => Ok(found),
+            Err(TermError::TooLarge) => Err(too_large(alloc, triple)),
+            Err(_) => Err(OverlapError::NoMemory),
+        }
+    }
+}
