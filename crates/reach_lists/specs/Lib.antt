@@ -2,5 +2,6 @@ pub mod Matches
 pub mod Sites
 pub mod Solutions
 pub mod Lists
+pub mod Codes
 pub mod Queue
 pub mod Laws

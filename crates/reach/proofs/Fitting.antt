@@ -1,0 +1,163 @@
+-- Places, listed terms and rounds: what fits, and what a round costs.
+use Rattle.std.proofs.Common.{◌≡◌, ℕ, zero, suc, ◌+◌, ◌-◌, ◌≤◌, ◌<◌, List, [], ◌∷◌, ◌++◌, append_assoc, length, flat_map, drop, slice_get, Some, refl, sym, ap, ap₂, ◌∙◌, subst, add-one, length-append, arith}
+use Rattle.rewriting.specs.Terms as math
+use Rattle.rewriting.specs.Rules.{Condition, Rule, System, rule_at, sides}
+use Rattle.rewriting.specs.Signatures.{Signature}
+use Rattle.rewriting.specs.Systems.{Each, AreRules, IsRule, IsSystem}
+use Rattle.certificates.specs.Judging.{hypothesis_at}
+use Rattle.certificates.specs.Sizes.{DoConditionsFit}
+use Rattle.cc_count.specs.Counts.{Counts, Spends}
+use Rattle.reach_lists.specs.Sites.{Site, rule_site, hypothesis_site, sites}
+use Rattle.reach_lists.specs.Solutions as lists
+use Rattle.reach_lists.specs.Lists.{total, with_terms, breadth_first, expanded, successors, asked_from, cost_by}
+use Rattle.reach_lists.specs.Laws.{EachOf}
+use Rattle.reach_lists.proofs.Tests.{small_fits}
+use Rattle.reach_lists.proofs.Each.{each_to, each_any}
+use Rattle.reach_lists.proofs.Derived.{IsSite, sites_are}
+use Rattle.reach_lists.proofs.Equations.{no_rounds, one_round}
+use Rattle.reach_lists.proofs.Growing.{each_with_all, expanded_first, round, IsLonger, longer_with_all}
+use Rattle.reach.specs.Offers.{added}
+use Rattle.reach.specs.Parts.{DoesSiteFit, DoAllFit}
+use Rattle.reach.proofs.Paying.{Paying, paying_begins, paying_goes_on, last_part}
+use Rattle.reach.specs.Costs.{Costs}
+use Rattle.reach.specs.declared.listed.ReachStop.{ReachStop}
+use Rattle.rewriting.specs.Positions.{Position}
+use Rattle.rewriting.specs.Substitutions.{Bindings}
+use Rattle.reach_lists.specs.Lists.{at_site, asked_at, by_solution, unconditional}
+use Rattle.std.proofs.Common.{Result}
+use Rattle.reach.proofs.Searching.{round_cost, next_cost, cost_rises}
+
+sides_fit : (cs : List Condition) → Each math.Fits (sides cs) → DoConditionsFit cs
+sides_fit [] h = tt
+sides_fit (c ∷ cs) h = (h.0, h.1.0, sides_fit cs h.1.1)
+
+rule_in : (arities : Signature) (rs : List Rule) (i : ℕ) (r : Rule) → AreRules arities rs → slice_get rs i ≡ Some r → IsRule arities r
+rule_in arities [] i r h e = cc
+rule_in arities (q ∷ rs) zero r h e = (let same : q ≡ r = cc in subst (IsRule arities) same h.0)
+rule_in arities (q ∷ rs) (suc i) r h e = rule_in arities rs i r h.1 e
+
+numbered_in : (sys : System) (i : ℕ) (r : Rule) → IsSystem sys → rule_at sys i ≡ Some r → IsRule sys.arities r
+numbered_in sys zero r h e = cc
+numbered_in sys (suc i) r h e = rule_in sys.arities sys.rules i r h.rules e
+
+condition_in : (hs : List Condition) (k : ℕ) (h : Condition) → DoConditionsFit hs → slice_get hs k ≡ Some h → math.Fits h.right
+condition_in [] k h f e = cc
+condition_in (g ∷ hs) zero h f e = (let same : g ≡ h = cc in subst (λ (z : Condition). math.Fits z.right) same f.1)
+condition_in (g ∷ hs) (suc k) h f e = condition_in hs k h f.2 e
+
+hypothesis_in : (hyps : List Condition) (k : ℕ) (h : Condition) → DoConditionsFit hyps → hypothesis_at hyps k ≡ Some h → math.Fits h.right
+hypothesis_in hyps zero h f e = cc
+hypothesis_in hyps (suc k) h f e = condition_in hyps k h f e
+
+site_fits : (sys : System) (hyps : List Condition) (t : math.Term) → IsSystem sys → DoConditionsFit hyps → (s : Site) → IsSite sys hyps t s → DoesSiteFit s
+site_fits sys hyps t system fit (rule_site p i r b) m = (let f = (numbered_in sys i r system m.is_rule).fits in (f.1.0, sides_fit r.conditions f.1.1))
+site_fits sys hyps t system fit (hypothesis_site p k h) m = hypothesis_in hyps k h fit m.0
+
+pub sites_fit : (sys : System) (hyps : List Condition) (t : math.Term) → IsSystem sys → DoConditionsFit hyps → (ss : List Site) → ss ≡ sites sys hyps t → EachOf DoesSiteFit ss
+sites_fit sys hyps t system fit ss e =
+    subst (EachOf DoesSiteFit) (sym e) (each_to (IsSite sys hyps t) DoesSiteFit (λ s m. site_fits sys hyps t system fit s m) (sites sys hyps t) (sites_are sys hyps t))
+
+-- listed terms fit
+pub listed_fit : (next : lists.Reached → List lists.Reached) (t : math.Term) → math.Fits t → (d : ℕ) → DoAllFit (breadth_first next d t)
+listed_fit next t fits zero = subst DoAllFit (sym (no_rounds next t)) (fits, tt)
+listed_fit next t fits (suc d) =
+    subst DoAllFit (sym (one_round next d t))
+    (each_with_all (λ r. math.Fits r.term) (breadth_first next d t) (flat_map next (breadth_first next d t)) (listed_fit next t fits d)
+    (each_any (λ r. math.size r.term ≤ 200 → math.Fits r.term) (λ r small. small_fits r.term small) (flat_map next (breadth_first next d t))))
+
+pub behind_expanded : (next : lists.Reached → List lists.Reached) (t : math.Term) (d : ℕ) → length (expanded next d t) ≤ length (breadth_first next d t)
+behind_expanded next t d =
+    let h = expanded_first next t d in
+    let e = ap length h.is ∙ length-append (expanded next d t) h.more in
+    omega (arith, e)
+
+-- a round of a list that is known so far
+module _ (sys : System) (hyps : List Condition) (inner : math.Term → List lists.Reached) (price : math.Term → ℕ) (t : math.Term) (d from : ℕ) (l : List lists.Reached)
+    (is : l ≡ breadth_first (successors sys hyps inner) d t) (place : from ≡ length (expanded (successors sys hyps inner) d t)) where
+  pub round_is : added l (flat_map (successors sys hyps inner) (drop from l)) + total (λ u. total price (asked_from sys hyps inner u.term)) (drop from l) ≡ round_cost sys hyps inner price t d
+  round_is = ap₂ (λ m k. added m (flat_map (successors sys hyps inner) (drop k m)) + total (λ u. total price (asked_from sys hyps inner u.term)) (drop k m)) is place
+
+  pub round_list : (new : List lists.Reached) → new ≡ with_terms l (flat_map (successors sys hyps inner) (drop from l)) → new ≡ breadth_first (successors sys hyps inner) (d + 1) t
+  round_list new e =
+      let one : suc d ≡ d + 1 = omega arith in
+      e ∙ ap₂ (λ m k. with_terms m (flat_map (successors sys hyps inner) (drop k m))) is place ∙ sym (round (successors sys hyps inner) t d) ∙ ap (λ n. breadth_first (successors sys hyps inner) n t) one
+
+  pub round_paid : (a b c : Counts) → Spends a (cost_by sys hyps inner price d t) b → Spends b (round_cost sys hyps inner price t d) c → Spends a (cost_by sys hyps inner price (d + 1) t) c
+  round_paid a b c h k =
+      let one : suc d ≡ d + 1 = omega arith in
+      let e = next_cost sys hyps inner price t d in
+      let h0 = h.left in
+      let h1 = h.spent in
+      let k0 = k.left in
+      let k1 = k.spent in
+      subst (λ n. Spends a (cost_by sys hyps inner price n t) c) one (record { left = omega (arith, h0, k0, e); spent = omega (arith, h1, k1, e) })
+
+  -- the rest is enough for the round
+  pub round_rest : (steps : ℕ) → d < steps → (a b : Counts) → Spends a (cost_by sys hyps inner price d t) b
+      → (rest : ℕ) × Paying (cost_by sys hyps inner price steps t) a b rest × (round_cost sys hyps inner price t d ≤ rest)
+  round_rest steps low a b h =
+      let j : ℕ = steps - (d + 1) in
+      let same : j + suc d ≡ steps = omega (arith, low) in
+      let more = subst (λ n. cost_by sys hyps inner price (suc d) t ≤ cost_by sys hyps inner price n t) same (cost_rises sys hyps inner price t (suc d) j) in
+      let e = next_cost sys hyps inner price t d in
+      (cost_by sys hyps inner price steps t - cost_by sys hyps inner price d t, record { paid = cost_by sys hyps inner price d t; spends = h; whole = omega (arith, more, e) }, omega (arith, more, e))
+
+-- the term at a place of a list that only grew
+each_at : (l : List lists.Reached) (i : ℕ) (u : lists.Reached) → DoAllFit l → slice_get l i ≡ Some u → math.Fits u.term
+each_at [] i u h e = cc
+each_at (r ∷ l) zero u h e = (let same : r ≡ u = cc in subst (λ (z : lists.Reached). math.Fits z.term) same h.0)
+each_at (r ∷ l) (suc i) u h e = each_at l i u h.1 e
+
+slice_get_append_left : (xs ys : List lists.Reached) (i : ℕ) → i < length xs → slice_get (xs ++ ys) i ≡ slice_get xs i
+slice_get_append_left [] ys i low = absurd (omega (arith, low))
+slice_get_append_left (x ∷ xs) ys zero low = refl
+slice_get_append_left (x ∷ xs) ys (suc i) low = slice_get_append_left xs ys i (omega (arith, low))
+
+drop_at_place : (l : List lists.Reached) (i : ℕ) (u : lists.Reached) → slice_get l i ≡ Some u → drop i l ≡ u ∷ drop (i + 1) l
+drop_at_place l i u e = rw add-one (go l i e)
+  where
+    go : (ys : List lists.Reached) (k : ℕ) → slice_get ys k ≡ Some u → drop k ys ≡ u ∷ drop (suc k) ys
+    go [] k h = cc
+    go (y ∷ ys) zero h = (let same : y ≡ u = cc in ap (λ z. z ∷ ys) same)
+    go (y ∷ ys) (suc k) h = go ys k h
+
+module _ (old items : List lists.Reached) (i to : ℕ) (u : lists.Reached) (grown : IsLonger old items) (end : to ≡ length old) (low : i < to) (is : slice_get items i ≡ Some u) where
+  inside : i < length old
+  inside = omega (arith, low, end)
+
+  old_at : slice_get old i ≡ Some u
+  old_at = sym (slice_get_append_left old grown.more i inside) ∙ ap (λ z. slice_get z i) (sym grown.is) ∙ is
+
+  pub place_inside : i < length items
+  place_inside = (let n = ap length grown.is ∙ length-append old grown.more in omega (arith, low, end, n))
+
+  pub term_fits : DoAllFit old → math.Fits u.term
+  term_fits h = each_at old i u h old_at
+
+  pub rest_splits : drop i old ≡ u ∷ drop (i + 1) old
+  rest_splits = drop_at_place old i u old_at
+
+longer_trans : (l m n : List lists.Reached) → IsLonger l m → IsLonger m n → IsLonger l n
+longer_trans l m n h k = record { more = h.more ++ k.more; is = k.is ∙ ap (λ z. z ++ k.more) h.is ∙ append_assoc l h.more k.more }
+
+pub grows_on : (l m n : List lists.Reached) → IsLonger l m → (rs : List lists.Reached) → n ≡ with_terms m rs → IsLonger l n
+grows_on l m n h rs e = subst (IsLonger l) (sym e) (longer_trans l m (with_terms m rs) h (longer_with_all m rs))
+
+pub place_of_round : (next : lists.Reached → List lists.Reached) (t : math.Term) (d to : ℕ) (l : List lists.Reached) → l ≡ breadth_first next d t → to ≡ length l → to ≡ length (expanded next (d + 1) t)
+place_of_round next t d to l is e = let one : suc d ≡ d + 1 = omega arith in e ∙ ap length is ∙ ap (λ n. length (expanded next n t)) one
+
+-- a rule at a place: its solutions, then what they give
+pub rule_site_taken : (inner : math.Term → List lists.Reached) (price : math.Term → ℕ) (u : lists.Reached) (p q : Position) (i : ℕ) (r : Rule) (cs : List Condition) (v : Bindings) (one : lists.Solution)
+    (sols ds : List lists.Solution) (l m : List lists.Reached) (a b c : Counts) (o : Result (Unit {0}) ReachStop)
+    → q ≡ p → cs ≡ r.conditions → one ≡ unconditional v → ds ≡ sols → sols ≡ lists.solutions inner cs (one ∷ []) → Spends a (total price (lists.asked inner cs (one ∷ []))) b
+    → Costs (λ _. m ≡ with_terms l (flat_map (by_solution u q i r) ds)) (added l (flat_map (by_solution u q i r) ds) + 0) b c o
+    → Costs (λ _. m ≡ with_terms l (at_site inner u (rule_site p i r v))) (added l (at_site inner u (rule_site p i r v)) + total price (asked_at inner (rule_site p i r v))) a c o
+rule_site_taken inner price u p q i r cs v one sols ds l m a b c o eq ec ef ed es h k =
+    let found : ds ≡ lists.solutions inner r.conditions (unconditional v ∷ []) = ed ∙ es ∙ ap₂ (λ x y. lists.solutions inner x (y ∷ [])) ec ef in
+    let terms : flat_map (by_solution u q i r) ds ≡ at_site inner u (rule_site p i r v) = ap₂ (λ x y. flat_map (by_solution u x i r) y) eq found in
+    let made : total price (lists.asked inner cs (one ∷ [])) ≡ total price (asked_at inner (rule_site p i r v)) = ap₂ (λ x y. total price (lists.asked inner x (y ∷ []))) ec ef in
+    let count = ap (added l) terms in
+    last_part (λ _. m ≡ with_terms l (flat_map (by_solution u q i r) ds)) (λ _. m ≡ with_terms l (at_site inner u (rule_site p i r v)))
+    (added l (at_site inner u (rule_site p i r v)) + total price (asked_at inner (rule_site p i r v))) a b c (added l (flat_map (by_solution u q i r) ds) + 0) o
+    (paying_goes_on _ a a b (total price (lists.asked inner cs (one ∷ []))) _ _ (omega (arith, made, count)) (paying_begins _ a) h)
+    (λ x e. e ∙ ap (with_terms l) terms) k

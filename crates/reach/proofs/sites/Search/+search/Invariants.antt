@@ -1,0 +1,99 @@
+use Rattle.std.proofs.Common.{◌≡◌, ◌+◌, ◌*◌, ◌++◌, ◌∷◌, [], length, flat_map, drop, map}
+use Rattle.certificates.specs.Sizes.{DoConditionsFit}
+use Rattle.cc_count.specs.Counts.{Spends}
+use Rattle.reach_lists.specs.Laws.{EachOf}
+use Rattle.reach_lists.specs.Lists.{total, condition_list, condition_cost, with_terms, breadth_first, expanded, successors, asked_from, at_site, asked_at, cost_by}
+use Rattle.reach_lists.specs.Solutions as math_solutions
+use Rattle.reach_lists.proofs.Growing.{IsLonger}
+use Rattle.term_core.specs.View.{view}
+use Rattle.term_core.specs.RuleView.{condition_view}
+use Rattle.reach.specs.Offers.{added}
+use Rattle.reach.specs.Parts.{DoesSiteFit}
+use Rattle.reach.specs.ReachedView.{reached_view}
+use Rattle.reach.specs.SiteView.{site_view}
+use Rattle.reach.specs.SolutionView.{solution_view, solutions_view}
+use Rattle.reach.proofs.Paying.{Paying}
+use Rattle.reach.proofs.sites.Search.+search.Given as goal
+
+abbrev pub decreases-list : goal.decreases-list
+decreases-list l = 7 * l.depth + 6
+
+abbrev pub decreases-round : goal.decreases-round
+decreases-round l = 7 * l.depth + 5
+
+abbrev pub decreases-expand : goal.decreases-expand
+decreases-expand l = 7 * l.depth + 4
+
+abbrev pub decreases-expand_at : goal.decreases-expand_at
+decreases-expand_at l = 7 * l.depth + 3
+
+abbrev pub decreases-solutions : goal.decreases-solutions
+decreases-solutions l = 7 * l.depth + 2
+
+abbrev pub decreases-next_solutions : goal.decreases-next_solutions
+decreases-next_solutions l = 7 * l.depth + 1
+
+abbrev pub decreases-extend : goal.decreases-extend
+decreases-extend l = 7 * l.depth
+
+abbrev pub invariant-expand-sites : goal.invariant-expand-sites
+invariant-expand-sites l = record {
+  list :
+      with_terms l.list (flat_map (at_site (condition_list l.self.sys.now (map condition_view l.self.hyps.now) l.depth) (reached_view l.u)) (map site_view (drop l.site-index l.site-items)))
+      ≡ with_terms l.fn.list (successors l.self.sys.now (map condition_view l.self.hyps.now) (condition_list l.self.sys.now (map condition_view l.self.hyps.now) l.depth) (reached_view l.u));
+  paying :
+      Paying
+      (added l.fn.list (successors l.self.sys.now (map condition_view l.self.hyps.now) (condition_list l.self.sys.now (map condition_view l.self.hyps.now) l.depth) (reached_view l.u))
+      + total (condition_cost l.self.sys.now (map condition_view l.self.hyps.now) l.depth) (asked_from l.self.sys.now (map condition_view l.self.hyps.now) (condition_list l.self.sys.now (map condition_view l.self.hyps.now) l.depth) (view l.u.term)))
+      l.fn.budget l.budget
+      (added l.list (flat_map (at_site (condition_list l.self.sys.now (map condition_view l.self.hyps.now) l.depth) (reached_view l.u)) (map site_view (drop l.site-index l.site-items)))
+      + total (condition_cost l.self.sys.now (map condition_view l.self.hyps.now) l.depth) (flat_map (asked_at (condition_list l.self.sys.now (map condition_view l.self.hyps.now) l.depth)) (map site_view (drop l.site-index l.site-items))));
+  fit : EachOf DoesSiteFit (map site_view (drop l.site-index l.site-items));
+}
+
+abbrev pub invariant-list-rounds : goal.invariant-list-rounds
+invariant-list-rounds l = record {
+  list : l.list ≡ breadth_first (successors l.self.sys.now (map condition_view l.self.hyps.now) (condition_list l.self.sys.now (map condition_view l.self.hyps.now) l.depth)) l.counter (view l.start);
+  from : l.from ≡ length (expanded (successors l.self.sys.now (map condition_view l.self.hyps.now) (condition_list l.self.sys.now (map condition_view l.self.hyps.now) l.depth)) l.counter (view l.start));
+  paid :
+      Spends l.fn.budget
+      (cost_by l.self.sys.now (map condition_view l.self.hyps.now) (condition_list l.self.sys.now (map condition_view l.self.hyps.now) l.depth) (condition_cost l.self.sys.now (map condition_view l.self.hyps.now) l.depth) l.counter (view l.start))
+      l.budget;
+}
+
+abbrev pub invariant-round-terms : goal.invariant-round-terms
+invariant-round-terms l = record {
+  to : l.to ≡ length l.fn.list;
+  longer : IsLonger l.fn.list l.list;
+  list :
+      with_terms l.list (flat_map (successors l.self.sys.now (map condition_view l.self.hyps.now) (condition_list l.self.sys.now (map condition_view l.self.hyps.now) l.depth)) (drop l.k l.fn.list))
+      ≡ with_terms l.fn.list (flat_map (successors l.self.sys.now (map condition_view l.self.hyps.now) (condition_list l.self.sys.now (map condition_view l.self.hyps.now) l.depth)) (drop l.from l.fn.list));
+  paying :
+      Paying
+      (added l.fn.list (flat_map (successors l.self.sys.now (map condition_view l.self.hyps.now) (condition_list l.self.sys.now (map condition_view l.self.hyps.now) l.depth)) (drop l.from l.fn.list))
+      + total (λ u. total (condition_cost l.self.sys.now (map condition_view l.self.hyps.now) l.depth) (asked_from l.self.sys.now (map condition_view l.self.hyps.now) (condition_list l.self.sys.now (map condition_view l.self.hyps.now) l.depth) u.term)) (drop l.from l.fn.list))
+      l.fn.budget l.budget
+      (added l.list (flat_map (successors l.self.sys.now (map condition_view l.self.hyps.now) (condition_list l.self.sys.now (map condition_view l.self.hyps.now) l.depth)) (drop l.k l.fn.list))
+      + total (λ u. total (condition_cost l.self.sys.now (map condition_view l.self.hyps.now) l.depth) (asked_from l.self.sys.now (map condition_view l.self.hyps.now) (condition_list l.self.sys.now (map condition_view l.self.hyps.now) l.depth) u.term)) (drop l.k l.fn.list));
+}
+
+abbrev pub invariant-next_solutions-found : goal.invariant-next_solutions-found
+invariant-next_solutions-found l = record {
+  found :
+      solutions_view l.out.items ++ flat_map (math_solutions.extensions (condition_list l.self.sys.now (map condition_view l.self.hyps.now) l.depth) (condition_view l.cond)) (solutions_view (drop l.s-index l.found))
+      ≡ flat_map (math_solutions.extensions (condition_list l.self.sys.now (map condition_view l.self.hyps.now) l.depth) (condition_view l.cond)) (solutions_view l.found);
+  paying :
+      Paying (total (condition_cost l.self.sys.now (map condition_view l.self.hyps.now) l.depth) (flat_map (math_solutions.starts (condition_view l.cond)) (solutions_view l.found))) l.fn.budget l.budget
+      (total (condition_cost l.self.sys.now (map condition_view l.self.hyps.now) l.depth) (flat_map (math_solutions.starts (condition_view l.cond)) (solutions_view (drop l.s-index l.found))));
+}
+
+abbrev pub invariant-solutions-conds : goal.invariant-solutions-conds
+invariant-solutions-conds l = record {
+  found :
+      math_solutions.solutions (condition_list l.self.sys.now (map condition_view l.self.hyps.now) l.depth) (map condition_view (drop l.cond-index l.conds)) (solutions_view l.found.items)
+      ≡ math_solutions.solutions (condition_list l.self.sys.now (map condition_view l.self.hyps.now) l.depth) (map condition_view l.conds) (solution_view l.fn.first ∷ []);
+  paying :
+      Paying (total (condition_cost l.self.sys.now (map condition_view l.self.hyps.now) l.depth) (math_solutions.asked (condition_list l.self.sys.now (map condition_view l.self.hyps.now) l.depth) (map condition_view l.conds) (solution_view l.fn.first ∷ []))) l.fn.budget l.budget
+      (total (condition_cost l.self.sys.now (map condition_view l.self.hyps.now) l.depth) (math_solutions.asked (condition_list l.self.sys.now (map condition_view l.self.hyps.now) l.depth) (map condition_view (drop l.cond-index l.conds)) (solutions_view l.found.items)));
+  fit : DoConditionsFit (map condition_view (drop l.cond-index l.conds));
+}

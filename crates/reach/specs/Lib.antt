@@ -1,0 +1,11 @@
+pub mod ReachedView
+pub mod Keys
+pub mod ListingView
+pub mod SolutionView
+pub mod SiteView
+pub mod Costs
+pub mod Answers
+pub mod Ready
+pub mod Offers
+pub mod Walks
+pub mod Parts

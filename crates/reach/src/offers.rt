@@ -1,0 +1,195 @@
+ghost use Rattle.std.specs.Prelude.{◌≡◌, ◌≤◌, ◌<◌, ◌+◌, ◌++◌, ◌∷◌, [], Some, None, IfOk, OnOk, IfSome, MatchOption, if◌then◌else◌, option_map, option_to_list, option_and_then, flat_map, map};
+ghost use Rattle.rewriting.specs.Terms as math;
+ghost use Rattle.rewriting.specs.Positions as position;
+ghost use Rattle.rewriting.specs.Substitutions.{apply, values_of};
+ghost use Rattle.certificates.specs.Derivations.{by_rule, by_hypothesis, derivations_of};
+ghost use Rattle.reach_lists.specs.Lists as lists;
+ghost use Rattle.reach_lists.specs.Matches.{is_covered};
+ghost use Rattle.reach_lists.specs.Solutions.{then_step};
+ghost use Rattle.term_core.specs.View.{view};
+ghost use Rattle.term_core.specs.RuleView.{rule_view, condition_view};
+ghost use Rattle.cert_model.specs.DerivationView.{derivation_view, step_view};
+ghost use Rattle.reach.specs.ReachedView.{reached_view, list_view};
+ghost use Rattle.reach.specs.SolutionView.{solution_view};
+ghost use Rattle.reach.specs.Costs.{Costs};
+ghost use Rattle.reach.specs.Offers.{Takes};
+ghost use Rattle.reach.specs.Keys.{IsTaken};
+ghost use Rattle.reach.specs.Parts.{IsInstance};
+
+use crate::keys::key_with;
+use crate::listed::{MAX_CELLS, ReachStop, Reached};
+use crate::listing::{Listing, Taken};
+use crate::solutions::Solution;
+use cc_count::Budget;
+use cert_model::{Derivation, Step, copy_numbers};
+use std::alloc::Global;
+use term_core::{Cond, NoMemory, Rule, Subst, Term, TermError, replace};
+
+// The derivations in a list of their own.
+pub(crate) fn copied_derivations(
+    alloc: Global,
+    ds: &[Derivation],
+) -> Result<Vec<Derivation>, NoMemory>
+    ensures { IfOk result (λ copy. map derivation_view copy.items ≡ map derivation_view ds.now) }
+{
+    let mut copy = Vec::with_capacity(alloc, ds.len())?;
+    for d in ds {
+        copy.push(d.try_clone(alloc)?)?;
+    }
+    Ok(copy)
+}
+
+// The derivation with one step more.
+fn with_step(alloc: Global, by: &Derivation, step: Step) -> Result<Derivation, NoMemory>
+    ensures { IfOk result (λ d. derivation_view d ≡ then_step (derivation_view by.now) (step_view step)) }
+{
+    let mut longer = by.try_clone(alloc)?;
+    longer.steps.push(step)?;
+    Ok(longer)
+}
+
+// Puts a term last on the list, which takes it, one step behind `u`, for a unit.
+fn put(
+    alloc: Global,
+    list: &mut Listing,
+    u: &Reached,
+    new: Taken,
+    step: Step,
+    budget: &mut Budget,
+) -> Result<(), ReachStop>
+    requires { IsTaken list.old new }
+    ensures { Costs (λ _. list.new ≡ list.old ++ record { term = view new.term; by = then_step (derivation_view u.now.by) (step_view step) } ∷ []) 1 budget.old budget.new result }
+{
+    if !budget.take() {
+        return Err(ReachStop::Spent);
+    }
+    let by = with_step(alloc, &u.by, step)?;
+    let Taken { term, key } = new;
+    list.push(key, Reached { term, by })?;
+    Ok(())
+}
+
+// The term with another part at a position, where it has one and the list takes that. It is built only then.
+fn placed(
+    alloc: Global,
+    list: &Listing,
+    t: &Term,
+    p: &[u32],
+    part: &Term,
+) -> Result<Option<Taken>, NoMemory>
+    requires t { math.Fits (view t.now) }
+    requires part { math.Fits (view part.now) }
+    ensures terms { IfOk result (λ o. option_map (λ n. view n.term) o ≡ option_and_then (λ v. if lists.takes list.now v then Some v else None) (position.replace (view t.now) p.now (view part.now))) }
+    ensures taken { IfOk result (λ o. IfSome o (IsTaken list.now)) }
+{
+    if list.is_full() {
+        return Ok(None);
+    }
+    let Some(key) = key_with(alloc, t, p, part)? else {
+        return Ok(None);
+    };
+    if key.len() > MAX_CELLS {
+        return Ok(None);
+    }
+    if list.has(&key) {
+        return Ok(None);
+    }
+    match replace(alloc, t, p, part) {
+        Ok(term) => Ok(Some(Taken { term, key })),
+        Err(TermError::NoPosition) => Ok(None),
+        Err(TermError::TooLarge) => Ok(None),
+        Err(TermError::NoMemory) => Err(NoMemory),
+    }
+}
+
+// The instance of a term whose variables all have values, where it fits.
+pub(crate) fn instance(alloc: Global, values: &Subst, t: &Term) -> Result<Option<Term>, NoMemory>
+    requires { math.Fits (view t.now) }
+    ensures { IfOk result (IsInstance values.now (view t.now)) }
+{
+    if !values.covers(t) {
+        return Ok(None);
+    }
+    match values.apply(alloc, t) {
+        Ok(u) => Ok(Some(u)),
+        Err(TermError::NoMemory) => Err(NoMemory),
+        Err(_) => Ok(None),
+    }
+}
+
+// Offers the list the term that a solution of a rule's conditions gives.
+pub(crate) fn offer_solution(
+    alloc: Global,
+    list: &mut Listing,
+    u: &Reached,
+    pos: &[u32],
+    number: u32,
+    rule: &Rule,
+    s: &Solution,
+    budget: &mut Budget,
+) -> Result<(), ReachStop>
+    requires u { math.Fits (view u.now.term) }
+    requires right { math.Fits (view rule.now.right) }
+    ensures { Takes list.old (lists.by_solution (reached_view u.now) pos.now number (rule_view rule.now) (solution_view s.now)) 0 list.new budget.old budget.new result }
+{
+    if list.is_full() {
+        return Ok(());
+    }
+    let Some(part) = instance(alloc, &s.values, &rule.right)? else {
+        return Ok(());
+    };
+    let Some(new) = placed(alloc, list, &u.term, pos, &part)? else {
+        return Ok(());
+    };
+    let step = Step::Rule {
+        rule: number,
+        pos: copy_numbers(alloc, pos)?,
+        conds: copied_derivations(alloc, &s.by)?,
+    };
+    put(alloc, list, u, new, step, budget)
+}
+
+// Offers the list the term with a hypothesis' right side at a position.
+pub(crate) fn offer_hypothesis(
+    alloc: Global,
+    list: &mut Listing,
+    u: &Reached,
+    pos: &[u32],
+    number: u32,
+    hypothesis: &Cond,
+    budget: &mut Budget,
+) -> Result<(), ReachStop>
+    requires u { math.Fits (view u.now.term) }
+    requires right { math.Fits (view hypothesis.now.right) }
+    ensures { Takes list.old (lists.stepped (reached_view u.now) pos.now (view hypothesis.now.right) (by_hypothesis number pos.now)) 0 list.new budget.old budget.new result }
+{
+    let Some(new) = placed(alloc, list, &u.term, pos, &hypothesis.right)? else {
+        return Ok(());
+    };
+    let step = Step::Hyp {
+        number,
+        pos: copy_numbers(alloc, pos)?,
+    };
+    put(alloc, list, u, new, step, budget)
+}
+
+// Offers the list the terms that the solutions of a rule's conditions give, in order.
+pub(crate) fn offer_solutions(
+    alloc: Global,
+    list: &mut Listing,
+    u: &Reached,
+    pos: &[u32],
+    number: u32,
+    rule: &Rule,
+    solutions: &[Solution],
+    budget: &mut Budget,
+) -> Result<(), ReachStop>
+    requires u { math.Fits (view u.now.term) }
+    requires right { math.Fits (view rule.now.right) }
+    ensures { Takes list.old (flat_map (lists.by_solution (reached_view u.now) pos.now number (rule_view rule.now)) (map solution_view solutions.now)) 0 list.new budget.old budget.new result }
+{
+    'solutions: for s in solutions {
+        offer_solution(alloc, list, u, pos, number, rule, s, budget)?;
+    }
+    Ok(())
+}
