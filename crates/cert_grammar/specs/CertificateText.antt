@@ -61,12 +61,12 @@ AreEntries names (e ∷ es) = IsMeasured names e.head × (length e.coefficients 
 abbrev pub IsMeasure : NameTable → MeasureCertificate → Type 0
 IsMeasure names (linear_measure entries) = (length entries ≤ 25000) × AreEntries names entries
 
-abbrev pub AreRedexes : NameTable → List Redex → Type 0
-AreRedexes names [] = Unit {0}
-AreRedexes names (r ∷ rs) = (r.which ≤ largest) × ArePlaces r.position × (r.rule ≤ largest) × IsInfeasibility names r.evidence × AreRedexes names rs
+abbrev pub AreRedexEntries : NameTable → List Redex → Type 0
+AreRedexEntries names [] = Unit {0}
+AreRedexEntries names (r ∷ rs) = (r.which ≤ largest) × ArePlaces r.position × (r.rule ≤ largest) × IsInfeasibility names r.evidence × AreRedexEntries names rs
 
 abbrev pub IsApart : NameTable → Apartness → Type 0
-IsApart names (by_normal_forms redexes) = (length redexes ≤ 20000) × AreRedexes names redexes
+IsApart names (by_normal_forms redexes) = (length redexes ≤ 20000) × AreRedexEntries names redexes
 IsApart names by_rigid_caps = Unit {0}
 
 abbrev pub CanBeSpelt : NameTable → Certificate → Type 0

@@ -3,7 +3,7 @@ use Rattle.std.specs.Prelude.{◌≡◌, ◌≤◌, ◌<◌, ℕ, List, [], ◌�
 use Rattle.certificates.specs.Evidence.{Transition, Automaton, InfeasibilityEvidence, by_caps, by_automaton, PairEvidence, trivial_pair, infeasible_pair, conflicting_pair, joined_pair, unfeasible_pair}
 use Rattle.certificates.specs.Certificates.{PairEntry}
 use Rattle.cops_read.specs.NameTable.{NameTable, name_at, number_of}
-use Rattle.cert_grammar.specs.Words.{largest, position_text, ArePlaces, name_of, IsIdentifier, IsNamed}
+use Rattle.cert_grammar.specs.Words.{largest, each_behind, position_text, ArePlaces, name_of, IsIdentifier, IsNamed}
 use Rattle.cert_grammar.specs.Steps.{derivation_text}
 use Rattle.cert_grammar.specs.Limits.{IsDerivation}
 
@@ -15,8 +15,7 @@ pub record IsName (names : NameTable) (f : ℕ) (name : List ℕ) : Type 0 where
 
 -- numbers with a space before each
 abbrev pub numbers_text : List ℕ → List ℕ
-numbers_text [] = []
-numbers_text (n ∷ ns) = codes " " ++ (decimal n ++ numbers_text ns)
+numbers_text = each_behind 32
 
 -- the states behind one, each with a comma before it, and the bracket
 abbrev pub further_states_text : List ℕ → List ℕ

@@ -48,10 +48,14 @@ abbrev mutual
   further_text names nil = codes ")"
   further_text names (cons t ts) = codes "," ++ (term_text names t ++ further_text names ts)
 
+-- each number behind a byte
+abbrev pub each_behind : ℕ → List ℕ → List ℕ
+each_behind byte [] = []
+each_behind byte (n ∷ ns) = byte ∷ (decimal n ++ each_behind byte ns)
+
 -- numbers with a dot before each
 abbrev pub parts_text : List ℕ → List ℕ
-parts_text [] = []
-parts_text (k ∷ p) = codes "." ++ (decimal k ++ parts_text p)
+parts_text = each_behind 46
 
 -- the root is e; of other positions the numbers stand with dots between them
 abbrev pub position_text : Position → List ℕ

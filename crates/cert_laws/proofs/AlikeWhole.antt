@@ -4,8 +4,8 @@ use Rattle.file_text.specs.Bytes.{is_id}
 use Rattle.rewriting.specs.Unraveling.{Head, file, auxiliary}
 use Rattle.certificates.specs.Certificates.{PairEntry, LinearEntry, MeasureCertificate, linear_measure, Redex, Apartness, by_normal_forms, by_rigid_caps, Peak, Certificate, ortho_certificate, quasi_certificate, peak_certificate}
 use Rattle.cert_grammar.specs.Words.{largest}
-use Rattle.cert_grammar.specs.Marks.{Naming, Demand, Counted, in_range, is_few, Mark, fixed, word}
-use Rattle.cert_grammar.specs.WordMarks.{number, position, term_marks, derivation_marks}
+use Rattle.cert_grammar.specs.Marks.{Naming, Demand, Counted, in_range, is_few, Mark, fixed}
+use Rattle.cert_grammar.specs.WordMarks.{term_marks, derivation_marks}
 use Rattle.cert_grammar.specs.CertificateMarks.{infeasibility_marks, evidence_marks, pairs_marks, coefficients_marks, measured_marks, entries_marks, measure_marks, redexes_marks, apart_marks, peak_marks, body_marks, certificate_marks}
 use Rattle.cert_grammar.specs.Refusals.{HaveNames, Skeleton, marks_of}
 use Rattle.cert_laws.specs.MarkLaws.{Alike, ended, same}

@@ -70,7 +70,7 @@ goes_behind p m ms bytes o h (f ∷ front, mark, g) =
       opens_along p ms o front mark g.back g.rest (cc) g.reached,
     )
 
-whole_ends : (rest : List ℕ) → IsWhole rest → Ends is_id rest
+pub whole_ends : (rest : List ℕ) → IsWhole rest → Ends is_id rest
 whole_ends [] h = tt
 whole_ends (b ∷ rest) h = h
 

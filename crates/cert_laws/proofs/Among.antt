@@ -2,10 +2,10 @@
 use Rattle.std.proofs.Common.{◌≡◌, ◌⊎◌, inl, inr, ℕ, ◌+◌, List, [], ◌∷◌, ◌++◌, length, Some, None, refl, sym, ap, ◌∙◌, subst, append_assoc, append-nil, length-append, arith}
 use Rattle.std.proofs.lemmas.List.{append_cancel_left}
 use Rattle.cops_read.specs.NameTable.{NameTable}
-use Rattle.cert_grammar.specs.Marks.{CertificateCause, syntax, verdict, Mark, fixed, mark_text, marks_text, demands_of}
-use Rattle.cert_grammar.specs.Refusals.{IsReached, GoesTo, Pass}
+use Rattle.cert_grammar.specs.Marks.{CertificateCause, verdict, Mark, mark_text, marks_text, demands_of}
+use Rattle.cert_grammar.specs.Refusals.{GoesTo, Pass}
 use Rattle.cert_laws.specs.MarkLaws.{GoesAlong}
-use Rattle.cert_laws.specs.RefusedAmong.{FailsFrom, IsJudgedAmong, BeginsAmong, CannotGoOn, IsStuckAmong, IsRefusedAmong, After, Either, IsOther, BeginsOtherwise}
+use Rattle.cert_laws.specs.RefusedAmong.{FailsFrom, IsJudgedAmong, BeginsAmong, CannotGoOn, IsStuckAmong, IsRefusedAmong, After, Either, BeginsOtherwise}
 use Rattle.cert_laws.proofs.Along.{goes_past}
 use Rattle.cert_laws.proofs.OneRefusal.{refused_never, tail_goes, head_is, only_is, tail_text, further_place}
 

@@ -4,6 +4,7 @@ use Rattle.cops_read.specs.NameTable.{NameTable}
 use Rattle.cert_grammar.specs.Marks.{CertificateCause, verdict, Mark, marks_text, demands_of}
 use Rattle.cert_grammar.specs.Refusals.{Fails, Skeleton, marks_of, skeleton_text, Begins, IsCertificateRefused}
 use Rattle.cert_laws.specs.RefusedAmong.{FailsFrom, BeginsAmong, CannotGoOn, IsRefusedAmong, IsSkeleton}
+use Rattle.cert_laws.proofs.Paths.{take_front}
 
 -- among all texts of the grammar it is the refusal of the text
 pub refused_whole : (names : NameTable) (bytes : List ℕ) (e : CertificateCause) (at : ℕ) → IsRefusedAmong names 0 IsSkeleton bytes e at → IsCertificateRefused names bytes e at
@@ -36,10 +37,6 @@ refused_whole names bytes e at (inr (q, k, n)) = inr (q, record { within = withi
 
     front_is : (done left : List ℕ) (n : ℕ) → n ≡ length done → bytes ≡ done ++ left → take n bytes ≡ done
     front_is done left n q e = ap (take n) e ∙ ap (λ (i : ℕ). take i (done ++ left)) q ∙ take_front done left
-      where
-        take_front : (done left : List ℕ) → take (length done) (done ++ left) ≡ done
-        take_front [] left = refl
-        take_front (b ∷ done) left = ap (λ (w : List ℕ). b ∷ w) (take_front done left)
 
     begun : (w : List ℕ) → BeginsAmong IsSkeleton w → Begins w
     begun w (ms, r, (s, a), e) = (s, r, ap marks_text a ∙ e)

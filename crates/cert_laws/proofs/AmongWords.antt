@@ -1,13 +1,13 @@
 -- How the refusal of a text comes from that of what is behind a word, and where a word itself is refused.
-use Rattle.std.proofs.Common.{◌≡◌, inl, inr, ℕ, ◌+◌, Bool, true, false, List, [], ◌∷◌, ◌++◌, length, Some, None, refl, sym, ap, ◌∙◌, subst, append_assoc, append-nil, length-append, arith}
+use Rattle.std.proofs.Common.{◌≡◌, inl, inr, ℕ, ◌+◌, Bool, List, [], ◌∷◌, ◌++◌, length, None, refl, sym, ap, ◌∙◌, subst, append_assoc, append-nil, length-append, arith}
 use Rattle.std.proofs.lemmas.List.{append_cancel_left}
 use Rattle.file_text.specs.Bytes.{is_id}
 use Rattle.cops_read.specs.NameTable.{NameTable}
-use Rattle.cert_grammar.specs.Marks.{CertificateCause, syntax, verdict, Mark, mark_text, marks_text, demands_of}
+use Rattle.cert_grammar.specs.Marks.{CertificateCause, verdict, Mark, mark_text, marks_text, demands_of}
 use Rattle.cert_grammar.specs.Refusals.{IsReached}
 use Rattle.cert_laws.specs.MarkLaws.{GoesAlong}
-use Rattle.cert_laws.specs.RefusedAmong.{FailsFrom, IsJudgedAmong, BeginsAmong, CannotGoOn, IsRefusedAmong, After, AfterMark}
-use Rattle.cert_grammar.proofs.Runs.{All, Ends, run_same, all_append}
+use Rattle.cert_laws.specs.RefusedAmong.{FailsFrom, BeginsAmong, CannotGoOn, IsRefusedAmong, After, AfterMark}
+use Rattle.cert_grammar.proofs.Runs.{All, Ends, run_same}
 use Rattle.cert_laws.proofs.Along.{Opens, opens_text, goes_behind}
 use Rattle.cert_laws.proofs.Among.{fails_behind, refused_after}
 
@@ -18,16 +18,6 @@ pub record AreWords {A : Type 0} (mark : A → Mark) (Allowed : A → Type 0) (T
   pub whole : (x : A) (back : List Mark) (rest : List ℕ) → IsReached (mark x) back rest → Ends is_id rest
   pub same : (x y : A) → spell x ≡ spell y → x ≡ y
   pub opens : (x : A) (ks : List Mark) → Text x ks → Opens is_id ks
-
--- a run is at the front of a whole one
-run_front : (p : ℕ → Bool) (w s t r : List ℕ) → All p w → Ends p t → s ++ t ≡ w ++ r → (v : List ℕ) × (s ≡ w ++ v)
-run_front p [] s t r h k e = (s, refl)
-run_front p (c ∷ w) [] [] r h k e = absurd cc
-run_front p (c ∷ w) [] (b ∷ t) r h k e = absurd (let q : b ≡ c = cc in let f : true ≡ false = sym h.0 ∙ ap p (sym q) ∙ k in cc)
-run_front p (c ∷ w) (b ∷ s) t r h k e =
-    let others = run_front p w s t r h.1 k cc in
-    let q : b ≡ c = cc in
-    (others.0, ap (λ (n : ℕ). n ∷ s) q ∙ ap (λ (l : List ℕ). c ∷ l) others.1)
 
 ends_front : (p : ℕ → Bool) (done left r : List ℕ) (b : ℕ) → Ends p (done ++ b ∷ left) → Ends p ((done ++ b ∷ []) ++ r)
 ends_front p [] left r b h = h
@@ -95,83 +85,3 @@ module _ {A : Type 0} (mark : A → Mark) (Allowed : A → Type 0) (Text : A →
             let i = this_goes x y ks rest a j.1.3 j.1.4 w (g.front, g.mark, g.goes) in
             h.2 f place (mark x ∷ ks, (ks, refl, subst (λ (z : A). Text z ks) i j.1.4), subst (λ (z : A). FailsFrom names from (mark z ∷ ks) (mark_text (mark x) ++ rest) f place) i g),
       )
-
-  -- the whole word is refused
-  pub refused_word : (names : NameTable) (from : ℕ) (x : A) (ks : List Mark) (rest : List ℕ) (e : CertificateCause) (at : ℕ) → Allowed x → Text x ks → IsReached (mark x) ks rest → verdict names from (demands_of (mark x)) ≡ Some (e, at) → IsRefusedAmong names from (AfterMark mark Allowed Text) (mark_text (mark x) ++ rest) e at
-  refused_word names from x ks rest e at a t r v = inl (
-    mark x ∷ ks,
-    (x, ks, refl, a, t),
-    record {
-      front = [];
-      mark = mark x;
-      goes = record { back = ks; parts = refl; rest = rest; text = refl; reached = r };
-      passed = tt;
-      refused = (let places : from ≡ from + 0 = omega arith in subst (λ (n : ℕ). verdict names n (demands_of (mark x)) ≡ Some (e, at)) places v);
-    },
-  )
-
-  -- inside a run a byte stands with which no word goes on
-  pub refused_inside : (names : NameTable) (from : ℕ) (x : A) (ks : List Mark) (u v left : List ℕ) (b : ℕ) → Allowed x → Text x ks → spell x ≡ u ++ v → All is_id u → is_id b ≡ true → ((y : A) (w : List ℕ) → Allowed y → spell y ≡ u ++ b ∷ w → ⊥) → IsRefusedAmong names from (AfterMark mark Allowed Text) (front ++ (u ++ b ∷ left)) syntax (from + length (front ++ u))
-  refused_inside names from x ks u v left b a t s h k n = inr (
-    refl,
-    record {
-      done = front ++ u;
-      left = b ∷ left;
-      parts = sym (append_assoc front u (b ∷ left));
-      place = refl;
-      before = (mark x ∷ ks, v ++ marks_text ks, (x, ks, refl, a, t), word_text x ks ∙ ap (λ (w : List ℕ). front ++ (w ++ marks_text ks)) s ∙ ap (λ (w : List ℕ). front ++ w) (append_assoc u v (marks_text ks)) ∙ sym (append_assoc front u (v ++ marks_text ks)));
-      next = next;
-    },
-    unjudged,
-  )
-    where
-      longer : (y : A) (r t : List ℕ) → Allowed y → Ends is_id t → spell y ++ t ≡ u ++ b ∷ r → ⊥
-      longer y r t al o e =
-          let p = run_front is_id (u ++ b ∷ []) (spell y) t r (all_append is_id u (b ∷ []) h (k, tt)) o (e ∙ sym (append_assoc u (b ∷ []) r)) in
-          n y p.0 al (p.1 ∙ append_assoc u (b ∷ []) p.0)
-
-      next : BeginsAmong (AfterMark mark Allowed Text) ((front ++ u) ++ b ∷ []) → ⊥
-      next (ms, r, (y, ls, q, al, i), e) =
-          longer y r (marks_text ls) al (opens_text is_id ls (kind.opens y ls i)) (append_cancel_left front (spell y ++ marks_text ls) (u ++ b ∷ r)
-          (sym (word_text y ls) ∙ sym (ap marks_text q) ∙ e ∙ append_assoc (front ++ u) (b ∷ []) r ∙ append_assoc front u (b ∷ r)))
-
-      unjudged : (f : CertificateCause) (place : ℕ) → IsJudgedAmong names from (AfterMark mark Allowed Text) (front ++ (u ++ b ∷ left)) f place → ⊥
-      unjudged f place (ms, (y, ls, q, al, i), g) =
-          let p = word_goes y ls (u ++ b ∷ left) i (subst (λ (l : List Mark). GoesAlong l (front ++ (u ++ b ∷ left))) q (g.front, g.mark, g.goes)) in
-          longer y left p.0 al p.2 (sym p.1)
-
-  -- a run ends before it is a word
-  pub refused_unfinished : (names : NameTable) (from : ℕ) (x : A) (ks : List Mark) (u v left : List ℕ) → Allowed x → Text x ks → spell x ≡ u ++ v → All is_id u → Ends is_id left → ((y : A) → Allowed y → spell y ≡ u → ⊥) → IsRefusedAmong names from (AfterMark mark Allowed Text) (front ++ (u ++ left)) syntax (from + length (front ++ u))
-  refused_unfinished names from x ks u v left a t s h k n = inr (
-    refl,
-    record {
-      done = front ++ u;
-      left = left;
-      parts = sym (append_assoc front u left);
-      place = refl;
-      before = (mark x ∷ ks, v ++ marks_text ks, (x, ks, refl, a, t), word_text x ks ∙ ap (λ (w : List ℕ). front ++ (w ++ marks_text ks)) s ∙ ap (λ (w : List ℕ). front ++ w) (append_assoc u v (marks_text ks)) ∙ sym (append_assoc front u (v ++ marks_text ks)));
-      next = cannot left k;
-    },
-    unjudged,
-  )
-    where
-      exactly : (y : A) (r t : List ℕ) → Allowed y → Ends is_id t → Ends is_id r → spell y ++ t ≡ u ++ r → ⊥
-      exactly y r t al o p e = n y al (run_same is_id (spell y) u t r (kind.run y al) h o p e).0
-
-      ended : (ms : List Mark) → AfterMark mark Allowed Text ms → marks_text ms ≡ front ++ u → ⊥
-      ended ms (y, ls, q, al, i) e =
-          exactly y [] (marks_text ls) al (opens_text is_id ls (kind.opens y ls i)) tt (append_cancel_left front (spell y ++ marks_text ls) (u ++ []) (sym (word_text y ls) ∙ sym (ap marks_text q) ∙ e ∙ ap (λ (w : List ℕ). front ++ w) (sym (append-nil u))))
-
-      further : (b : ℕ) → is_id b ≡ false → BeginsAmong (AfterMark mark Allowed Text) ((front ++ u) ++ b ∷ []) → ⊥
-      further b o (ms, r, (y, ls, q, al, i), e) =
-          exactly y (b ∷ r) (marks_text ls) al (opens_text is_id ls (kind.opens y ls i)) o (append_cancel_left front (spell y ++ marks_text ls) (u ++ b ∷ r)
-          (sym (word_text y ls) ∙ sym (ap marks_text q) ∙ e ∙ append_assoc (front ++ u) (b ∷ []) r ∙ append_assoc front u (b ∷ r)))
-
-      cannot : (left : List ℕ) → Ends is_id left → CannotGoOn (AfterMark mark Allowed Text) (front ++ u) left
-      cannot [] o = ended
-      cannot (b ∷ left) o = further b o
-
-      unjudged : (f : CertificateCause) (place : ℕ) → IsJudgedAmong names from (AfterMark mark Allowed Text) (front ++ (u ++ left)) f place → ⊥
-      unjudged f place (ms, (y, ls, q, al, i), g) =
-          let p = word_goes y ls (u ++ left) i (subst (λ (l : List Mark). GoesAlong l (front ++ (u ++ left))) q (g.front, g.mark, g.goes)) in
-          exactly y left p.0 al p.2 k (sym p.1)

@@ -3,11 +3,11 @@ use Rattle.std.proofs.Common.{◌≡◌, ℕ, suc, Bool, true, false, List, [], 
 use Rattle.rewriting.specs.Unraveling.{Head, file, auxiliary}
 use Rattle.certificates.specs.Evidence.{Transition, InfeasibilityEvidence, by_caps, by_automaton, PairEvidence, trivial_pair, infeasible_pair, conflicting_pair, joined_pair, unfeasible_pair}
 use Rattle.certificates.specs.Certificates.{PairEntry, LinearEntry, linear_measure, Redex, Apartness, by_normal_forms, by_rigid_caps, Certificate, ortho_certificate, quasi_certificate, peak_certificate}
-use Rattle.cert_grammar.specs.Words.{largest}
-use Rattle.cert_grammar.specs.Marks.{Naming, Counted, has_arity, in_range, is_few, fits_answer, Mark, fixed, word, symbol, behind}
-use Rattle.cert_grammar.specs.WordMarks.{numeral, number, number_for, position, term_marks, derivation_marks}
-use Rattle.cert_grammar.specs.CertificateMarks.{state, accepting_marks, states_marks, head_marks, transitions_marks, infeasibility_marks, evidence_marks, pairs_marks, coefficients_marks, measured_marks, entries_marks, redexes_marks, apart_marks, body_marks, answer_marks, certificate_marks}
+use Rattle.cert_grammar.specs.Marks.{Naming, Counted, has_arity, is_few, Mark, fixed, word, symbol, behind}
+use Rattle.cert_grammar.specs.WordMarks.{number, number_for, term_marks, derivation_marks}
+use Rattle.cert_grammar.specs.CertificateMarks.{state, accepting_marks, states_marks, head_marks, transitions_marks, infeasibility_marks, evidence_marks, pairs_marks, measured_marks, entries_marks, redexes_marks, apart_marks, body_marks, answer_marks, certificate_marks}
 use Rattle.cert_grammar.specs.Refusals.{HaveNames, Skeleton, marks_of}
+use Rattle.cert_laws.proofs.Shapes.{automaton_with, pair_with, redex_with, numbers_with, body_with}
 use Rattle.cert_laws.proofs.Along.{have_append}
 use Rattle.cert_laws.proofs.EveryName.{every_name, number_of_name, every_name_is, renumbered, term_renumbered}
 
@@ -40,11 +40,6 @@ other_transitions (t ∷ ts) x bound i =
       same_length = ap suc more.same_length;
     }
 
-abbrev automaton_with : ℕ → List ℕ → ℕ → List Mark → List Mark
-automaton_with bound qs n l =
-    fixed (codes "states ") ∷ word (numeral bound) (in_range 0 1 (suc largest) bound ∷ is_few Counted.states bound ∷ [])
-    ∷ fixed (codes "\naccepting") ∷ (accepting_marks bound qs ++ (fixed (codes "\ntransitions ") ∷ number_for Counted.transitions n ∷ fixed (codes "\n") ∷ l))
-
 other_infeasibility : (e : InfeasibilityEvidence) (x : Naming) → HaveNames (infeasibility_marks x e) → Other infeasibility_marks x e
 other_infeasibility by_caps x i = record { other = by_caps; same = refl }
 other_infeasibility (by_automaton k a) x i =
@@ -63,9 +58,6 @@ other_evidence (conflicting_pair a b) x i = record { other = conflicting_pair a 
 other_evidence (joined_pair d e) x i = record { other = joined_pair d e; same = refl }
 other_evidence (unfeasible_pair k d e) x i = record { other = unfeasible_pair k d e; same = refl }
 
-abbrev pair_with : ℕ → PairEntry → List Mark → List Mark
-pair_with n p l = word (codes "pair") (is_few Counted.pairs n ∷ []) ∷ fixed (codes " ") ∷ number p.inner ∷ fixed (codes " ") ∷ position p.position ∷ fixed (codes " ") ∷ number p.outer ∷ fixed (codes " ") ∷ l
-
 other_pairs : (ps : List PairEntry) (x : Naming) (n : ℕ) → HaveNames (pairs_marks x n ps) → Other (λ y qs. pairs_marks y n qs) x ps
 other_pairs [] x n i = record { other = []; same = refl }
 other_pairs (p ∷ ps) x n i =
@@ -76,9 +68,6 @@ other_pairs (p ∷ ps) x n i =
       other = record { inner = p.inner; position = p.position; outer = p.outer; evidence = e.other } ∷ more.other;
       same = ap (λ (l : List Mark). pair_with n p (l ++ pairs_marks x (suc n) ps)) e.same ∙ ap (λ (l : List Mark). pair_with n p (evidence_marks every_name e.other ++ l)) more.same;
     }
-
-abbrev redex_with : ℕ → Redex → List Mark → List Mark
-redex_with n r l = word (codes "redex") (is_few Counted.redexes n ∷ []) ∷ fixed (codes " ") ∷ number r.which ∷ fixed (codes " ") ∷ position r.position ∷ fixed (codes " ") ∷ number r.rule ∷ fixed (codes " ") ∷ l
 
 other_redexes : (rs : List Redex) (x : Naming) (n : ℕ) → HaveNames (redexes_marks x n rs) → Other (λ y ss. redexes_marks y n ss) x rs
 other_redexes [] x n i = record { other = []; same = refl }
@@ -95,9 +84,6 @@ other_measured : (a : Head) (x : Naming) (n : ℕ) → HaveNames (measured_marks
 other_measured (file f) x n i = record { other = file (number_of_name (x f)); same = ap (λ (w : List ℕ). word (codes "fun") (is_few Counted.entries n ∷ []) ∷ fixed (codes " ") ∷ symbol w [] ∷ []) (sym (every_name_is (x f) i.0)) }
 other_measured (auxiliary r c) x n i = record { other = auxiliary r c; same = refl }
 
-abbrev numbers_with : List ℕ → List Mark
-numbers_with ks = coefficients_marks 1 ks ++ (fixed (codes "\n") ∷ [])
-
 other_entries : (es : List LinearEntry) (x : Naming) (n : ℕ) → HaveNames (entries_marks x n es) → Other (λ y ds. entries_marks y n ds) x es
 other_entries [] x n i = record { other = []; same = refl }
 other_entries (e ∷ es) x n i =
@@ -112,9 +98,6 @@ other_entries (e ∷ es) x n i =
 other_apart : (a : Apartness) (x : Naming) → HaveNames (apart_marks x a) → Other apart_marks x a
 other_apart (by_normal_forms rs) x i = let r = other_redexes rs x 1 i in record { other = by_normal_forms r.other; same = ap (λ (l : List Mark). fixed (codes "normal\n") ∷ l) r.same }
 other_apart by_rigid_caps x i = record { other = by_rigid_caps; same = refl }
-
-abbrev body_with : List ℕ → Bool → Option Bool → List Mark → List Mark
-body_with kind told given l = word kind (fits_answer told given ∷ []) ∷ fixed (codes "\n") ∷ l
 
 other_body : (c : Certificate) (given : Option Bool) (x : Naming) → HaveNames (body_marks x given c) → Other (λ y d. body_marks y given d) x c
 other_body (ortho_certificate ps) given x i = let r = other_pairs ps x 1 i in record { other = ortho_certificate r.other; same = ap (body_with (codes "ortho") true given) r.same }

@@ -1,5 +1,5 @@
 -- One naming serves all texts: a symbol's number tells its name.
-use Rattle.std.proofs.Common.{◌≡◌, ℕ, zero, suc, ◌+◌, ◌*◌, ◌/◌, ◌%◌, ◌<◌, ◌≤◌, ◌==◌, nat_lt, Bool, true, false, cond, ◌&&◌, List, [], ◌∷◌, ◌++◌, refl, sym, ap, ◌∙◌, codes, ne_eqb, arith}
+use Rattle.std.proofs.Common.{◌≡◌, ℕ, zero, suc, ◌+◌, ◌*◌, ◌/◌, ◌%◌, ◌<◌, ◌≤◌, ◌==◌, nat_lt, Bool, true, cond, ◌&&◌, List, [], ◌∷◌, ◌++◌, refl, sym, ap, ◌∙◌, codes, ne_eqb, arith}
 use Rattle.std.proofs.lemmas.Bool.{ltb-true}
 use Rattle.file_text.specs.Bytes.{is_id}
 use Rattle.rewriting.specs.Terms.{Term, var, app, Terms, nil, cons, count, size, size_all}
@@ -8,6 +8,7 @@ use Rattle.cert_grammar.specs.Marks.{Naming, has_arity, Mark, fixed, symbol, beh
 use Rattle.cert_grammar.specs.WordMarks.{is_node, term_marks, arguments_marks, further_marks}
 use Rattle.cert_grammar.specs.Refusals.{HaveNames}
 use Rattle.cert_grammar.proofs.Runs.{All, name_id}
+use Rattle.cert_grammar.proofs.ScanLaws.{and_first, and_second}
 use Rattle.cert_laws.proofs.Along.{have_append}
 
 -- the bytes of a number to the base 256 below its first digit, which is 1
@@ -23,15 +24,7 @@ number_of_name [] = 1
 number_of_name (b ∷ name) = b + 256 * number_of_name name
 
 id_small : (b : ℕ) → is_id b ≡ true → b < 256
-id_small b e = let low = ltb-true b 127 (right (nat_lt 32 b) (nat_lt b 127) (left (nat_lt 32 b && nat_lt b 127) _ e)) in omega arith
-  where
-    left : (v w : Bool) → (v && w) ≡ true → v ≡ true
-    left true w e = refl
-    left false w e = absurd cc
-
-    right : (v w : Bool) → (v && w) ≡ true → w ≡ true
-    right true w e = e
-    right false w e = absurd cc
+id_small b e = let low = ltb-true b 127 (and_second (nat_lt 32 b) (nat_lt b 127) (and_first (nat_lt 32 b && nat_lt b 127) _ e)) in omega arith
 
 letters_of : (name : List ℕ) (k : ℕ) → number_of_name name ≤ k → All is_id name → letters k (number_of_name name) ≡ name
 letters_of [] zero le h = refl

@@ -1,5 +1,5 @@
 -- The reader that stops at the first refusal: what it accepts is a certificate, and where it stops the text is refused.
-use Rattle.std.proofs.Common.{◌≡◌, ◌⊎◌, inl, inr, ℕ, true, List, [], ◌∷◌, ◌++◌, length, take, drop, Some, None, refl, sym, ap, ◌∙◌, subst, arith, length-append}
+use Rattle.std.proofs.Common.{◌≡◌, ℕ, true, List, [], ◌∷◌, ◌++◌, length, take, drop, Some, None, refl, sym, ap, ◌∙◌, subst, arith, length-append}
 use Rattle.std.proofs.lemmas.List.{append-nil, take-append-drop, length-take-le}
 use Rattle.file_text.specs.Bytes.{is_id}
 use Rattle.cops_read.specs.NameTable.{NameTable}
@@ -13,7 +13,7 @@ use Rattle.cert_laws.proofs.Spelt.{text_both, pass_both}
 use Rattle.cert_grammar.proofs.ScanLaws.{IsWordOf, scanned}
 use Rattle.cert_grammar.proofs.ScanWords.{name_is}
 use Rattle.cert_laws.proofs.LeadTables.{In, closes, leads_close}
-use Rattle.cert_laws.proofs.Paths.{Path, path-append, text_is, found_there, not_true}
+use Rattle.cert_laws.proofs.Paths.{Path, path-append, text_is, found_there, not_true, drop_behind}
 use Rattle.cert_laws.proofs.Moves.{starts, starts_text, close_in}
 use Rattle.cert_laws.proofs.Reached.{Move, Moves, moves_path, moves_text, moves_more}
 use Rattle.cert_laws.proofs.Completions.{completes}
@@ -60,15 +60,11 @@ skeleton_of ms p =
 abbrev pub read_of : Lead → List ℕ → List ℕ
 read_of a bytes = take (taken a bytes) bytes
 
-drop_front : (u v : List ℕ) → drop (length u) (u ++ v) ≡ v
-drop_front [] v = refl
-drop_front (b ∷ u) v = drop_front u v
-
 -- the bytes behind bytes at the front
 behind_bytes : (bs bytes rest w : List ℕ) → bytes ≡ w ++ rest → w ≡ bs → bytes ≡ bs ++ drop (length bs) bytes
 behind_bytes bs bytes rest w e f =
     let whole = e ∙ ap (λ (x : List ℕ). x ++ rest) f in
-    whole ∙ ap (λ (x : List ℕ). bs ++ x) (sym (ap (drop (length bs)) whole ∙ drop_front bs rest))
+    whole ∙ ap (λ (x : List ℕ). bs ++ x) (sym (ap (drop (length bs)) whole ∙ drop_behind bs rest))
 
 pub move_text : (a : Lead) (bytes : List ℕ) → is_there a bytes ≡ true → bytes ≡ mark_text (mark_of a (read_of a bytes)) ++ drop (taken a bytes) bytes
 move_text (text bs items) bytes e = let f = found_there (text bs items) bytes e in behind_bytes bs bytes f.rest f.word_of f.parts (text_is bs f.word_of f.spelt)
@@ -130,7 +126,7 @@ reached_lead (check demand byte items) bytes s back e c p =
 reached_lead (keyword bs demands items) bytes s back e c p =
     let f = found_there (keyword bs demands items) bytes e in
     let whole = f.parts ∙ ap (λ (w : List ℕ). w ++ f.rest) (text_is bs f.word_of f.spelt) in
-    subst IsWhole (sym (ap (drop (length bs)) whole ∙ drop_front bs f.rest)) (whole_of f.rest f.ends)
+    subst IsWhole (sym (ap (drop (length bs)) whole ∙ drop_behind bs f.rest)) (whole_of f.rest f.ends)
 reached_lead (numeral_lead demands items) bytes s back e c p = whole_of _ (found_there (numeral_lead demands items) bytes e).ends
 reached_lead (position_lead items) bytes s back e c p = whole_of _ (found_there (position_lead items) bytes e).ends
 reached_lead (variable_lead demands items) bytes s back e c p = whole_of _ (found_there (variable_lead demands items) bytes e).ends

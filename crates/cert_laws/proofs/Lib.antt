@@ -18,6 +18,7 @@ pub mod OneAnswer
 pub mod Rows
 pub mod PassTerms
 pub mod PassSteps
+pub mod Shapes
 pub mod PassEvidence
 pub mod PassWhole
 pub mod Inside

@@ -5,6 +5,7 @@ use Rattle.cops_read.specs.NameTable.{NameTable}
 use Rattle.cert_grammar.specs.Marks.{CertificateCause, Demand, meets, refusal_of, refusal_place, verdict, Mark, fixed, mark_text, marks_text, demands_of}
 use Rattle.cert_grammar.specs.Refusals.{GoesTo, Pass, Fails, IsRefusedAtMark}
 use Rattle.cert_laws.specs.MarkLaws.{GoesAlong, Alike, ended, same, parted}
+use Rattle.cert_laws.proofs.Spelt.{text_both}
 use Rattle.cert_laws.proofs.AlikeWhole.{alike_skeletons}
 
 -- where nothing is refused the place does not matter
@@ -80,12 +81,8 @@ one_refusal names bytes e f at place (s, h) (t, i) = one_failure (alike_skeleton
 abbrev pub Closes : List Mark → Type 0
 Closes ms = (front : List Mark) × (t : List ℕ) × (ms ≡ front ++ fixed t ∷ [])
 
-text_append : (a b : List Mark) → marks_text (a ++ b) ≡ marks_text a ++ marks_text b
-text_append [] b = refl
-text_append (m ∷ a) b = ap (λ (w : List ℕ). mark_text m ++ w) (text_append a b) ∙ sym (append_assoc (mark_text m) (marks_text a) (marks_text b))
-
 whole_goes : (ms : List Mark) (bytes : List ℕ) → Closes ms → bytes ≡ marks_text ms → GoesAlong ms bytes
-whole_goes ms bytes (front, t, e) q = (front, fixed t, record { back = []; parts = e; rest = []; text = q ∙ ap marks_text e ∙ text_append front (fixed t ∷ []); reached = tt })
+whole_goes ms bytes (front, t, e) q = (front, fixed t, record { back = []; parts = e; rest = []; text = q ∙ ap marks_text e ∙ text_both front (fixed t ∷ []); reached = tt })
 
 never : {ms ns : List Mark} → Alike ms ns → (names : NameTable) (a : ℕ) (bytes : List ℕ) (x : CertificateCause × ℕ) → (ms ≡ []) ⊎ Closes ms → bytes ≡ marks_text ms → Pass names ms → (front : List Mark) (mark : Mark) → GoesTo ns bytes front mark → Pass names front → verdict names a (demands_of mark) ≡ Some x → ⊥
 never ended names a bytes x c e p front mark g q r = nowhere bytes front mark g

@@ -4,10 +4,11 @@ use Rattle.certificates.specs.Evidence.{Transition, Automaton, InfeasibilityEvid
 use Rattle.cops_read.specs.NameTable.{NameTable}
 use Rattle.cert_grammar.specs.Words.{largest, name_of}
 use Rattle.cert_grammar.specs.EvidenceText.{AreStates, IsHead, AreTransitions, IsAutomaton, IsInfeasibility, IsEvidence}
-use Rattle.cert_grammar.specs.Marks.{Naming, Counted, has_arity, in_range, is_few, Mark, fixed, word, symbol, behind}
-use Rattle.cert_grammar.specs.WordMarks.{numeral, number, number_for, derivation_marks}
+use Rattle.cert_grammar.specs.Marks.{Naming, Counted, has_arity, is_few, Mark, fixed, symbol, behind}
+use Rattle.cert_grammar.specs.WordMarks.{number, number_for, derivation_marks}
 use Rattle.cert_grammar.specs.CertificateMarks.{state, accepting_marks, further_states_marks, states_marks, head_marks, transitions_marks, automaton_marks, infeasibility_marks, evidence_marks}
 use Rattle.cert_grammar.specs.Refusals.{HaveNames, Pass}
+use Rattle.cert_laws.proofs.Shapes.{automaton_with}
 use Rattle.cert_laws.proofs.Along.{have_append}
 use Rattle.cert_laws.proofs.PassTerms.{range_met, few_met, number_met, pass_append, symbol_met, arity_met}
 use Rattle.cert_laws.proofs.PassSteps.{derivation_met}
@@ -73,12 +74,6 @@ record MeantAutomaton (x : Naming) (names : NameTable) (a : Automaton) : Type 0 
   automaton : Automaton
   is_automaton : IsAutomaton names automaton
   marks : automaton_marks x a ≡ automaton_marks (name_of names) automaton
-
--- the marks of an automaton by its number of transitions and their marks
-abbrev automaton_with : ℕ → List ℕ → ℕ → List Mark → List Mark
-automaton_with bound qs n l =
-    fixed (codes "states ") ∷ word (numeral bound) (in_range 0 1 (suc largest) bound ∷ is_few Counted.states bound ∷ [])
-    ∷ fixed (codes "\naccepting") ∷ (accepting_marks bound qs ++ (fixed (codes "\ntransitions ") ∷ number_for Counted.transitions n ∷ fixed (codes "\n") ∷ l))
 
 meant_automaton : (a : Automaton) (x : Naming) (names : NameTable) → HaveNames (automaton_marks x a) → Pass names (automaton_marks x a) → MeantAutomaton x names a
 meant_automaton a x names i h =

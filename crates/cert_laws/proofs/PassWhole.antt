@@ -5,11 +5,12 @@ use Rattle.certificates.specs.Certificates.{PairEntry, LinearEntry, linear_measu
 use Rattle.cops_read.specs.NameTable.{NameTable}
 use Rattle.cert_grammar.specs.Words.{largest, name_of}
 use Rattle.cert_grammar.specs.EvidenceText.{ArePairs, AreAtMost}
-use Rattle.cert_grammar.specs.CertificateText.{IsMeasured, AreEntries, AreRedexes, IsApart, CanBeSpelt, IsCertificateText}
+use Rattle.cert_grammar.specs.CertificateText.{IsMeasured, AreEntries, AreRedexEntries, IsApart, CanBeSpelt, IsCertificateText}
 use Rattle.cert_grammar.specs.Marks.{Naming, Counted, is_few, fits_answer, is_answer, Mark, fixed, word, symbol, marks_text}
-use Rattle.cert_grammar.specs.WordMarks.{number, position, term_marks, derivation_marks}
+use Rattle.cert_grammar.specs.WordMarks.{term_marks, derivation_marks}
 use Rattle.cert_grammar.specs.CertificateMarks.{infeasibility_marks, evidence_marks, pairs_marks, coefficients_marks, measured_marks, entries_marks, redexes_marks, apart_marks, body_marks, certificate_marks}
 use Rattle.cert_grammar.specs.Refusals.{HaveNames, Pass, Skeleton, marks_of, skeleton_text}
+use Rattle.cert_laws.proofs.Shapes.{pair_with, redex_with, numbers_with, body_with}
 use Rattle.cert_laws.proofs.Along.{have_append}
 use Rattle.cert_laws.proofs.PassTerms.{first_met, range_met, few_met, number_met, places_met, pass_append, symbol_met, meant_term}
 use Rattle.cert_laws.proofs.PassSteps.{derivation_met}
@@ -22,9 +23,6 @@ record Meant {A : Type 0} (marks_of : Naming → ℕ → List A → List Mark) (
   are : Are names items
   marks : marks_of x n list ≡ marks_of (name_of names) n items
   few : n + length items ≤ suc most
-
-abbrev pair_with : ℕ → PairEntry → List Mark → List Mark
-pair_with n p l = word (codes "pair") (is_few Counted.pairs n ∷ []) ∷ fixed (codes " ") ∷ number p.inner ∷ fixed (codes " ") ∷ position p.position ∷ fixed (codes " ") ∷ number p.outer ∷ fixed (codes " ") ∷ l
 
 meant_pairs : (ps : List PairEntry) (x : Naming) (names : NameTable) (n : ℕ) → n ≤ 20001 → HaveNames (pairs_marks x n ps) → Pass names (pairs_marks x n ps) → Meant pairs_marks ArePairs 20000 x names n ps
 meant_pairs [] x names n le i h = record { items = []; are = tt; marks = refl; few = omega arith }
@@ -42,10 +40,7 @@ meant_pairs (p ∷ ps) x names n le i h =
       few = (let q : n + suc (length others.items) ≤ 20001 = omega arith in q);
     }
 
-abbrev redex_with : ℕ → Redex → List Mark → List Mark
-redex_with n r l = word (codes "redex") (is_few Counted.redexes n ∷ []) ∷ fixed (codes " ") ∷ number r.which ∷ fixed (codes " ") ∷ position r.position ∷ fixed (codes " ") ∷ number r.rule ∷ fixed (codes " ") ∷ l
-
-meant_redexes : (rs : List Redex) (x : Naming) (names : NameTable) (n : ℕ) → n ≤ 20001 → HaveNames (redexes_marks x n rs) → Pass names (redexes_marks x n rs) → Meant redexes_marks AreRedexes 20000 x names n rs
+meant_redexes : (rs : List Redex) (x : Naming) (names : NameTable) (n : ℕ) → n ≤ 20001 → HaveNames (redexes_marks x n rs) → Pass names (redexes_marks x n rs) → Meant redexes_marks AreRedexEntries 20000 x names n rs
 meant_redexes [] x names n le i h = record { items = []; are = tt; marks = refl; few = omega arith }
 meant_redexes (r ∷ rs) x names n le i h =
     let parts = pass_append names (infeasibility_marks x r.evidence) (redexes_marks x (suc n) rs) h.1.1.1.1.1.1.1.1 in
@@ -82,9 +77,6 @@ meant_head (file f) x names n i h =
     let k = symbol_met names (x f) [] h.1.1.0 in
     record { head = file k.number; is_measured = (x f, record { named = k.named; identifier = i.0; found = k.found }); marks = ap (λ (w : List ℕ). word (codes "fun") (is_few Counted.entries n ∷ []) ∷ fixed (codes " ") ∷ symbol w [] ∷ []) (sym k.same); few = (few_met names Counted.entries n [] h.0).0 }
 meant_head (auxiliary r c) x names n i h = record { head = auxiliary r c; is_measured = (number_met names r [] h.1.1.0, number_met names c [] h.1.1.1.1.0); marks = refl; few = (few_met names Counted.entries n [] h.0).0 }
-
-abbrev numbers_with : List ℕ → List Mark
-numbers_with ks = coefficients_marks 1 ks ++ (fixed (codes "\n") ∷ [])
 
 meant_entries : (es : List LinearEntry) (x : Naming) (names : NameTable) (n : ℕ) → n ≤ 25001 → HaveNames (entries_marks x n es) → Pass names (entries_marks x n es) → Meant entries_marks AreEntries 25000 x names n es
 meant_entries [] x names n le i h = record { items = []; are = tt; marks = refl; few = omega arith }
@@ -123,9 +115,6 @@ meant_apart (by_normal_forms rs) x names i h =
     let few = k.few in
     record { apart = by_normal_forms k.items; is_apart = ((let q : length k.items ≤ 20000 = omega arith in q), k.are); marks = ap (λ (l : List Mark). fixed (codes "normal\n") ∷ l) k.marks }
 meant_apart by_rigid_caps x names i h = record { apart = by_rigid_caps; is_apart = tt; marks = refl }
-
-abbrev body_with : List ℕ → Bool → Option Bool → List Mark → List Mark
-body_with kind told given l = word kind (fits_answer told given ∷ []) ∷ fixed (codes "\n") ∷ l
 
 meant_body : (c : Certificate) (x : Naming) (names : NameTable) (given : Option Bool) → HaveNames (body_marks x given c) → Pass names (body_marks x given c) → MeantCertificate x names given c
 meant_body (ortho_certificate ps) x names given i h =

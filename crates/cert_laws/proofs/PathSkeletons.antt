@@ -8,7 +8,8 @@ use Rattle.certificates.specs.Derivations.{Derivation, no_steps, first_step, Ste
 use Rattle.certificates.specs.Evidence.{Transition, Automaton, InfeasibilityEvidence, by_caps, by_automaton, PairEvidence, trivial_pair, infeasible_pair, conflicting_pair, joined_pair, unfeasible_pair}
 use Rattle.certificates.specs.Certificates.{PairEntry, LinearEntry, linear_measure, Redex, Apartness, by_normal_forms, by_rigid_caps, Peak, Certificate, ortho_certificate, quasi_certificate, peak_certificate}
 use Rattle.cert_grammar.specs.Words.{largest}
-use Rattle.cert_grammar.specs.Steps.{step_count, derivation_count}
+use Rattle.certificates.specs.Judging.{derivation_count}
+use Rattle.certificates.specs.Sizes.{step_count}
 use Rattle.cert_grammar.specs.Marks.{Naming, pairs, entries, numbers, steps, redexes, states, transitions, Demand, has_arity, in_range, is_few, Mark, fixed, word, symbol, behind}
 use Rattle.cert_grammar.specs.WordMarks.{numeral, number, number_for, position, are_places, is_node, term_marks, arguments_marks, further_marks, steps_marks, derivations_marks, derivation_marks}
 use Rattle.cert_grammar.specs.CertificateMarks.{state, accepting_marks, further_states_marks, states_marks, transitions_marks, automaton_marks, infeasibility_marks, evidence_marks, pairs_marks, coefficients_marks, entries_marks, redexes_marks, apart_marks, peak_marks, body_marks, certificate_marks}

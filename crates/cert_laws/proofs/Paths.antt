@@ -1,12 +1,12 @@
 -- Marks along stacks of items, and bytes along them.
-use Rattle.std.proofs.Common.{◌≡◌, ◌⊎◌, inl, inr, ℕ, ◌<◌, ◌==◌, Bool, true, false, not, nat_lt, ◌&&◌, if◌then◌else◌, List, [], ◌∷◌, ◌++◌, length, take, drop, Some, None, refl, sym, ap, ◌∙◌, subst, arith, append_assoc, eqb-true, length-drop}
+use Rattle.std.proofs.Common.{◌≡◌, inl, inr, ℕ, ◌<◌, ◌==◌, Bool, true, false, not, nat_lt, ◌&&◌, if◌then◌else◌, List, [], ◌∷◌, ◌++◌, length, take, drop, Some, None, refl, sym, ap, ◌∙◌, subst, arith, append_assoc, eqb-true, length-drop}
 use Rattle.std.proofs.lemmas.Bool.{ltb-true}
 use Rattle.std.proofs.lemmas.List.{append-nil, take-append-drop}
 use Rattle.file_text.specs.Bytes.{is_id}
-use Rattle.cert_grammar.specs.Marks.{Mark, mark_text}
+use Rattle.cert_grammar.specs.Marks.{Mark}
 use Rattle.cert_grammar.specs.Scans.{Mode, spelling, number_begins, next, is_word, Scan, scan}
 use Rattle.cert_grammar.specs.Items.{Item, Lead, text, check, keyword, numeral_lead, position_lead, variable_lead, name_lead, leads}
-use Rattle.cert_grammar.specs.FirstRefusal.{mode_of, ends_here, ends_lead, is_there, first_there, taken, mark_of, items_of}
+use Rattle.cert_grammar.specs.FirstRefusal.{mode_of, ends_here, ends_lead, is_there, first_there, mark_of, items_of}
 use Rattle.cert_grammar.proofs.ScanLaws.{Goes, Stops, IsWordOf, scanned, scan_exact, and_first, and_second, word_stops}
 use Rattle.cert_laws.proofs.LeadTables.{In, head_of, misses, misses_all, are_apart, leads_apart}
 
@@ -29,11 +29,6 @@ pub path-append : (front back : List Mark) (s u t : List Item) → Path front s 
 path-append [] back s u t p q = subst (λ (x : List Item). Path back x t) (sym p) q
 path-append (m ∷ front) back [] u t p q = absurd p
 path-append (m ∷ front) back (i ∷ s) u t p q = (p.0, p.1, path-append front back (p.0 ++ s) u t p.2 q)
-
-pub path_split : (front back : List Mark) (s t : List Item) → Path (front ++ back) s t → (u : List Item) × Path front s u × Path back u t
-path_split [] back s t p = (s, refl, p)
-path_split (m ∷ front) back [] t p = absurd p
-path_split (m ∷ front) back (i ∷ s) t p = let rest = path_split front back (p.0 ++ s) t p.2 in (rest.0, (p.0, p.1, rest.1), rest.2)
 
 pub path_above : (ms : List Mark) (s t r : List Item) → Path ms s t → Path ms (s ++ r) (t ++ r)
 path_above [] s t r p = ap (λ (x : List Item). x ++ r) p
@@ -89,7 +84,7 @@ lead_stops (name_lead demands items) w rest h e = stops_word h.last rest h.whole
 pub lead_scan : (a : Lead) (w rest : List ℕ) → (h : IsWordOf (mode_of a) w) → ends_lead a rest ≡ true → scan (mode_of a) (w ++ rest) ≡ record { size = length w; mode = h.last }
 lead_scan a w rest h e = scan_exact w rest (mode_of a) h.last h.goes (lead_stops a w rest h e)
 
-drop_behind : (w rest : List ℕ) → drop (length w) (w ++ rest) ≡ rest
+pub drop_behind : (w rest : List ℕ) → drop (length w) (w ++ rest) ≡ rest
 drop_behind [] rest = refl
 drop_behind (b ∷ w) rest = drop_behind w rest
 

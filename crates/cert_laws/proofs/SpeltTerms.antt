@@ -4,7 +4,9 @@ use Rattle.rewriting.specs.Terms.{Term, var, app, Terms, nil, cons, count, size,
 use Rattle.certificates.specs.Derivations.{Derivation, no_steps, first_step, Step, by_rule, by_hypothesis, Derivations, no_derivations, first_derivation}
 use Rattle.cops_read.specs.NameTable.{NameTable}
 use Rattle.cert_grammar.specs.Words.{largest, term_text, arguments_text, further_text, name_of, IsSpelt, AreSpelt}
-use Rattle.cert_grammar.specs.Steps.{step_count, derivation_count, steps_line, rule_line, steps_text, step_text, derivations_text, derivation_text}
+use Rattle.certificates.specs.Judging.{derivation_count}
+use Rattle.certificates.specs.Sizes.{step_count}
+use Rattle.cert_grammar.specs.Steps.{steps_line, rule_line, steps_text, step_text, derivations_text, derivation_text}
 use Rattle.cert_grammar.specs.Limits.{AreSteps, IsStep, AreDerivations, IsDerivation}
 use Rattle.cert_grammar.specs.Marks.{Counted, in_range, is_shallow, verdict, Mark}
 use Rattle.cert_grammar.specs.WordMarks.{numeral, is_node, term_marks, arguments_marks, further_marks, steps_mark, rule_mark, steps_marks, step_marks, derivations_marks, derivation_marks}

@@ -8,7 +8,7 @@ use Rattle.cops_read.specs.NameTable.{NameTable}
 use Rattle.cert_grammar.specs.Words.{largest, position_text, term_text, name_of}
 use Rattle.cert_grammar.specs.Steps.{derivation_text}
 use Rattle.cert_grammar.specs.EvidenceText.{numbers_text, further_states_text, states_text, head_text, transitions_text, automaton_text, infeasibility_text, evidence_text, pairs_text, AreAtMost, AreStates, IsHead, AreTransitions, IsAutomaton, IsInfeasibility, IsEvidence, ArePairs, IsName}
-use Rattle.cert_grammar.specs.CertificateText.{measured_text, entries_text, measure_text, redexes_text, apart_text, body_text, certificate_text, answer_line, IsMeasured, AreEntries, IsMeasure, AreRedexes, IsApart, CanBeSpelt}
+use Rattle.cert_grammar.specs.CertificateText.{measured_text, entries_text, measure_text, redexes_text, apart_text, body_text, certificate_text, answer_line, IsMeasured, AreEntries, IsMeasure, AreRedexEntries, IsApart, CanBeSpelt}
 use Rattle.cert_grammar.specs.Marks.{Counted, limit, in_range, is_few, fits_answer, is_answer, Mark, fixed, word}
 use Rattle.cert_grammar.specs.WordMarks.{numeral, number, position, term_marks, derivation_marks}
 use Rattle.cert_grammar.specs.CertificateMarks.{state, accepting_marks, further_states_marks, states_marks, head_marks, transitions_marks, automaton_marks, infeasibility_marks, evidence_marks, pairs_marks, coefficients_marks, measured_marks, entries_marks, measure_marks, redexes_marks, apart_marks, body_marks, certificate_marks}
@@ -80,7 +80,7 @@ spelt_pairs (p ∷ ps) names n few h =
     (put_fixed names (codes " ") _ _ (put_number names p.outer _ _ h.2 (put_fixed names (codes " ") _ _ (spelt_evidence p.evidence names h.3)))))))))
     (spelt_pairs ps names (suc n) (omega arith) h.4)
 
-spelt_redexes : (rs : List Redex) (names : NameTable) (n : ℕ) → n + length rs ≤ 20001 → AreRedexes names rs → Spells names (redexes_marks (name_of names) n rs) (redexes_text names rs)
+spelt_redexes : (rs : List Redex) (names : NameTable) (n : ℕ) → n + length rs ≤ 20001 → AreRedexEntries names rs → Spells names (redexes_marks (name_of names) n rs) (redexes_text names rs)
 spelt_redexes [] names n few h = nothing names
 spelt_redexes (r ∷ rs) names n few h =
     let more : n + suc (length rs) ≤ 20001 = few in

@@ -1,12 +1,10 @@
 -- Terms by their first marks.
-use Rattle.std.proofs.Common.{◌≡◌, inl, inr, ℕ, suc, ◌+◌, List, [], ◌∷◌, ◌++◌, refl, sym, ap, ◌∙◌, subst, codes, append_assoc, arith}
+use Rattle.std.proofs.Common.{◌≡◌, inl, inr, ℕ, suc, ◌+◌, List, [], ◌∷◌, ◌++◌, refl, sym, ap, ◌∙◌, subst, codes, append_assoc}
 use Rattle.rewriting.specs.Terms.{var, app, nil, cons, count, size}
-use Rattle.certificates.specs.Derivations.{no_steps, first_step, by_rule, by_hypothesis}
 use Rattle.cert_grammar.specs.Words.{IsIdentifier}
-use Rattle.cert_grammar.specs.Steps.{step_count, derivation_count}
 use Rattle.cert_grammar.specs.Marks.{Naming, has_arity, Mark, fixed, symbol, behind}
-use Rattle.cert_grammar.specs.WordMarks.{is_node, term_marks, arguments_marks, further_marks, steps_marks, derivations_marks}
-use Rattle.cert_laws.specs.TextSets.{NamesAll, TermThen, ArgumentsThen, FurtherThen, TermByMark, ArgumentsByMark, FurtherByMark}
+use Rattle.cert_grammar.specs.WordMarks.{is_node, term_marks, arguments_marks, further_marks}
+use Rattle.cert_laws.specs.TextSets.{NamesAll, TermThen, ArgumentsThen, TermByMark, ArgumentsByMark}
 use Rattle.cert_laws.proofs.Along.{have_append}
 use Rattle.cert_laws.proofs.Spelt.{have_both}
 

@@ -1,22 +1,13 @@
 -- Numbers, positions, variables and names are words of a kind; sets with the same texts refuse alike.
-use Rattle.std.proofs.Common.{inl, inr, ℕ, List, [], ◌∷◌, ◌++◌, refl, codes}
+use Rattle.std.proofs.Common.{inl, inr, ℕ, List, [], ◌∷◌, refl}
 use Rattle.file_text.specs.Bytes.{is_id}
-use Rattle.rewriting.specs.Positions.{Position}
 use Rattle.cops_read.specs.NameTable.{NameTable}
 use Rattle.cert_grammar.specs.Words.{IsIdentifier}
-use Rattle.cert_grammar.specs.Marks.{CertificateCause, Demand, Mark, word, symbol}
-use Rattle.cert_grammar.specs.WordMarks.{numeral, places_text, position}
-use Rattle.cert_grammar.specs.Refusals.{IsWhole}
+use Rattle.cert_grammar.specs.Marks.{CertificateCause, Demand, Mark, symbol}
 use Rattle.cert_laws.specs.RefusedAmong.{CannotGoOn, IsRefusedAmong}
-use Rattle.cert_laws.specs.TextSets.{Anything}
-use Rattle.cert_grammar.proofs.Runs.{All, Ends, numeral_id, numeral_same, name_id}
-use Rattle.cert_laws.proofs.Along.{Opens}
-use Rattle.cert_laws.proofs.AlikeTerms.{places_id, places_same}
+use Rattle.cert_grammar.proofs.Runs.{name_id}
+use Rattle.cert_laws.proofs.Along.{Opens, whole_ends}
 use Rattle.cert_laws.proofs.AmongWords.{AreWords}
-
-whole_ends : (rest : List ℕ) → IsWhole rest → Ends is_id rest
-whole_ends [] h = tt
-whole_ends (b ∷ rest) h = h
 
 pub name_words : (demands : List Demand) (Text : List ℕ → List Mark → Type 0) → ((name : List ℕ) (ks : List Mark) → Text name ks → Opens is_id ks) → AreWords (λ name. symbol name demands) IsIdentifier Text [] (λ name. name)
 name_words demands Text o = record { text = λ name. refl; run = λ name i. name_id name i; whole = λ name back rest h. whole_ends rest h; same = λ a b e. e; opens = o }

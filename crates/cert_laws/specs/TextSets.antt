@@ -1,11 +1,9 @@
 -- Sets of texts that begin with a part of a certificate and go on with a text of another set, by the part's first mark.
-use Rattle.std.specs.Prelude.{◌≡◌, ℕ, suc, ◌+◌, List, [], ◌∷◌, ◌++◌, codes}
+use Rattle.std.specs.Prelude.{◌≡◌, ℕ, suc, ◌+◌, List, ◌∷◌, ◌++◌, codes}
 use Rattle.rewriting.specs.Terms.{Term, Terms, count, size, size_all}
-use Rattle.certificates.specs.Derivations.{Derivation, Derivations}
 use Rattle.cert_grammar.specs.Words.{largest, IsIdentifier}
-use Rattle.cert_grammar.specs.Steps.{step_count, derivation_count}
-use Rattle.cert_grammar.specs.Marks.{Naming, steps, has_arity, in_range, is_few, is_shallow, Mark, fixed, word, symbol, behind}
-use Rattle.cert_grammar.specs.WordMarks.{numeral, number, position, is_node, term_marks, arguments_marks, further_marks, steps_marks, derivations_marks}
+use Rattle.cert_grammar.specs.Marks.{Naming, has_arity, in_range, Mark, fixed, word, symbol, behind}
+use Rattle.cert_grammar.specs.WordMarks.{numeral, is_node, term_marks, arguments_marks, further_marks}
 use Rattle.cert_grammar.specs.Refusals.{HaveNames}
 use Rattle.cert_laws.specs.RefusedAmong.{After, AfterMark, Either}
 
@@ -35,7 +33,3 @@ TermByMark u depth n Next =
 abbrev pub ArgumentsByMark : Naming → ℕ → ℕ → (ℕ → ℕ → List Mark → Type 0) → List Mark → Type 0
 ArgumentsByMark u depth n Next =
     Either (Next 0 0) (After (fixed (codes "(")) (TermThen u depth n (λ s. FurtherThen u depth (n + s) (λ c z. Next (suc c) (s + z)))))
-
-abbrev pub FurtherByMark : Naming → ℕ → ℕ → (ℕ → ℕ → List Mark → Type 0) → List Mark → Type 0
-FurtherByMark u depth n Next =
-    Either (After (fixed (codes ")")) (Next 0 0)) (After (fixed (codes ",")) (TermThen u depth n (λ s. FurtherThen u depth (n + s) (λ c z. Next (suc c) (s + z)))))

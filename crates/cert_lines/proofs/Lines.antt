@@ -4,7 +4,9 @@ use Rattle.std.proofs.lemmas.List.{append_cancel_left}
 use Rattle.rewriting.specs.Positions.{Position}
 use Rattle.certificates.specs.Derivations.{Derivation, no_steps, first_step, Step, by_rule, by_hypothesis, Derivations, no_derivations, first_derivation}
 use Rattle.cert_grammar.specs.Words.{largest, position_text}
-use Rattle.cert_grammar.specs.Steps.{steps_text, step_text, derivations_text, derivation_text, step_count, derivation_count, rule_line, hypothesis_line, steps_line}
+use Rattle.certificates.specs.Judging.{derivation_count}
+use Rattle.certificates.specs.Sizes.{step_count}
+use Rattle.cert_grammar.specs.Steps.{steps_text, step_text, derivations_text, derivation_text, rule_line, hypothesis_line, steps_line}
 use Rattle.cert_grammar.specs.Reading.{NumberBefore, PositionBefore, RuleAt, HypothesisAt, StepsAt, StepAt, DerivationsAt, DerivationAt}
 use Rattle.cert_grammar.proofs.Numerals.{number_before_same, space_no_digit, end_no_digit}
 use Rattle.cert_lines.proofs.Places.{position_before_same, space_is_other, end_is_other}

@@ -3,7 +3,9 @@ use Rattle.std.proofs.Common.{◌≡◌, ℕ, suc, ◌-◌, List, ◌++◌, refl
 use Rattle.std.proofs.lemmas.List.{append_cancel_left}
 use Rattle.rewriting.specs.Positions.{Position}
 use Rattle.certificates.specs.Derivations.{Derivation, no_steps, first_step, Step, by_rule, by_hypothesis, Derivations, no_derivations, first_derivation}
-use Rattle.cert_grammar.specs.Steps.{steps_text, step_text, derivations_text, derivation_text, step_count, derivation_count}
+use Rattle.certificates.specs.Judging.{derivation_count}
+use Rattle.certificates.specs.Sizes.{step_count}
+use Rattle.cert_grammar.specs.Steps.{steps_text, step_text, derivations_text, derivation_text}
 use Rattle.cert_grammar.specs.Reading.{NumberBefore, StepsAt, StepAt, DerivationsAt, DerivationAt}
 use Rattle.cert_grammar.proofs.Numerals.{number_before_same, end_no_digit}
 use Rattle.cert_lines.proofs.Lines.{rule_parts, hypothesis_parts, rule_at_same, hypothesis_at_same, derivation_parts, rule_text, hypothesis_text, derivation_more, derivations_end}

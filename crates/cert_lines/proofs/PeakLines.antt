@@ -12,7 +12,7 @@ use Rattle.cert_grammar.specs.Steps.{derivation_text}
 use Rattle.cert_grammar.specs.Reading.{Lacks, IsCut}
 use Rattle.cert_grammar.specs.ReadingTerms.{IsTermAt, IsTermText}
 use Rattle.cert_grammar.specs.EvidenceText.{infeasibility_text}
-use Rattle.cert_grammar.specs.CertificateText.{redexes_text, apart_text, AreRedexes}
+use Rattle.cert_grammar.specs.CertificateText.{redexes_text, apart_text, AreRedexEntries}
 use Rattle.cert_lines.specs.ReadingParts.{Items}
 use Rattle.cert_lines.specs.ReadingEvidence.{InfeasibilityAt, TwoDerivations, PlaceAt}
 use Rattle.cert_lines.specs.ReadingCertificates.{RedexAt, IsRedexesText, IsApartText, IsPeakText}
@@ -56,7 +56,7 @@ redex_one names bytes x y h k =
 regroup : (i p o v others r : List ℕ) → ((codes "redex " ++ (i ++ (codes " " ++ (p ++ (codes " " ++ (o ++ (codes " " ++ v))))))) ++ others) ++ r ≡ codes "redex " ++ (i ++ 32 ∷ (p ++ 32 ∷ (o ++ 32 ∷ (v ++ (others ++ r)))))
 regroup i p o v others r = simp append_assoc
 
-pub redexes_items : (names : NameTable) (rs : List Redex) (bytes rest : List ℕ) → bytes ≡ redexes_text names rs ++ rest → AreRedexes names rs → Items (RedexAt names) bytes rs rest
+pub redexes_items : (names : NameTable) (rs : List Redex) (bytes rest : List ℕ) → bytes ≡ redexes_text names rs ++ rest → AreRedexEntries names rs → Items (RedexAt names) bytes rs rest
 redexes_items names [] bytes rest e h = e
 redexes_items names (p ∷ rs) bytes rest e h = (
   redexes_text names rs ++ rest,
@@ -70,11 +70,11 @@ redexes_items names (p ∷ rs) bytes rest e h = (
   redexes_items names rs (redexes_text names rs ++ rest) rest refl h.4,
 )
 
-pub items_redexes : (names : NameTable) (rs : List Redex) (bytes rest : List ℕ) → Items (RedexAt names) bytes rs rest → (bytes ≡ redexes_text names rs ++ rest) × AreRedexes names rs
+pub items_redexes : (names : NameTable) (rs : List Redex) (bytes rest : List ℕ) → Items (RedexAt names) bytes rs rest → (bytes ≡ redexes_text names rs ++ rest) × AreRedexEntries names rs
 items_redexes names [] bytes rest h = (h, tt)
 items_redexes names (p ∷ rs) bytes rest h = whole h.1 (items_redexes names rs h.0 rest h.2)
   where
-    whole : RedexAt names bytes (p, h.0) → (h.0 ≡ redexes_text names rs ++ rest) × AreRedexes names rs → (bytes ≡ redexes_text names (p ∷ rs) ++ rest) × AreRedexes names (p ∷ rs)
+    whole : RedexAt names bytes (p, h.0) → (h.0 ≡ redexes_text names rs ++ rest) × AreRedexEntries names rs → (bytes ≡ redexes_text names (p ∷ rs) ++ rest) × AreRedexEntries names (p ∷ rs)
     whole a others =
         let place = a.3 in
         let second = place.2 in (

@@ -1,14 +1,11 @@
 -- The text of a certificate, part by part.
-use Rattle.std.proofs.Common.{◌≡◌, ◌⊎◌, inl, inr, ℕ, Bool, true, false, List, [], ◌∷◌, ◌++◌, Result, Ok, Err, refl, sym, ap, ◌∙◌, subst, codes, append_assoc}
-use Rattle.std.specs.Result.{IfOk, IfErr}
+use Rattle.std.proofs.Common.{◌≡◌, ◌⊎◌, inl, inr, ℕ, true, false, List, [], ◌∷◌, ◌++◌, refl, sym, ap, ◌∙◌, subst, codes, append_assoc}
 use Rattle.certificates.specs.Certificates.{PairEntry, LinearEntry, MeasureCertificate, linear_measure, Peak, Certificate, ortho_certificate, quasi_certificate, peak_certificate}
 use Rattle.cops_read.specs.NameTable.{NameTable}
-use Rattle.cert_lines.specs.declared.error.Unread.{Unread}
 use Rattle.cert_grammar.specs.EvidenceText.{pairs_text}
 use Rattle.cert_grammar.specs.CertificateText.{entries_text, measure_text, peak_text, body_text, certificate_text, answer_line, CanBeSpelt, IsCertificateText}
 use Rattle.cert_lines.specs.ReadingEvidence.{IsPairsText}
-use Rattle.cert_lines.specs.ReadingCertificates.{BeginsNoEntry, EntriesAt, IsPeakText, IsQuasiText, IsBodyText, IsPlainText, HasAnswer, IsAnsweredText}
-use Rattle.cert_lines.specs.Answers.{IsRefused, Answers}
+use Rattle.cert_lines.specs.ReadingCertificates.{BeginsNoEntry, EntriesAt, IsPeakText, IsQuasiText, IsBodyText, IsPlainText, IsAnsweredText}
 use Rattle.cert_lines.proofs.Parts.{OneText, firsts, seconds, pairs_equal, word_off, words_apart}
 use Rattle.cert_lines.proofs.PairLines.{last_line, pairs_one}
 use Rattle.cert_lines.proofs.MeasureLines.{entries_one}

@@ -7,7 +7,7 @@ use Rattle.cops_read.specs.NameTable.{NameTable}
 use Rattle.cert_grammar.specs.Words.{largest, IsSpelt}
 use Rattle.cert_grammar.specs.Limits.{IsDerivation}
 use Rattle.cert_grammar.specs.EvidenceText.{numbers_text, pairs_text, AreAtMost, ArePairs}
-use Rattle.cert_grammar.specs.CertificateText.{measured_text, entries_text, measure_text, redexes_text, apart_text, peak_text, body_text, certificate_text, answer_line, IsMeasured, AreEntries, IsMeasure, AreRedexes, IsApart, CanBeSpelt}
+use Rattle.cert_grammar.specs.CertificateText.{measured_text, entries_text, measure_text, redexes_text, apart_text, peak_text, body_text, certificate_text, answer_line, IsMeasured, AreEntries, IsMeasure, AreRedexEntries, IsApart, CanBeSpelt}
 use Rattle.cert_lines.specs.ReadingParts.{StopsAt, ends_part}
 use Rattle.cert_lines.specs.ReadingEvidence.{PlaceAt, InfeasibilityAt}
 
@@ -33,7 +33,7 @@ RedexAt names bytes x = (b : List ℕ) × (c : List ℕ) × (bytes ≡ codes "re
 
 -- all bytes are redexes and the last line, a way to be apart and the last line, and so on
 abbrev pub IsRedexesText : NameTable → List ℕ → List Redex → Type 0
-IsRedexesText names bytes redexes = (bytes ≡ redexes_text names redexes ++ codes "end\n") × (length redexes ≤ 20000) × AreRedexes names redexes
+IsRedexesText names bytes redexes = (bytes ≡ redexes_text names redexes ++ codes "end\n") × (length redexes ≤ 20000) × AreRedexEntries names redexes
 
 abbrev pub IsApartText : NameTable → List ℕ → Apartness → Type 0
 IsApartText names bytes a = (bytes ≡ apart_text names a ++ codes "end\n") × IsApart names a

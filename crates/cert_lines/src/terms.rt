@@ -9,11 +9,12 @@ ghost use Rattle.cert_lines.specs.Answers.{Answers};
 
 use crate::error::Unread;
 use crate::words::number;
-use cert_grammar::{MOST_LEVELS, MOST_NODES, behind, is_id};
+use cert_grammar::behind;
+use cops_lex::is_id;
 use cops_read::Names;
 use std::alloc::Global;
 use std::str;
-use term_core::Term;
+use term_core::{MAX_DEPTH, MAX_NODES, Term};
 
 /// Whether an identifier goes on with the first byte.
 pub fn goes_on(bytes: &[u8]) -> bool
@@ -167,7 +168,7 @@ fn arguments<'a>(
 pub fn whole_term(alloc: Global, names: &Names, bytes: &[u8]) -> Result<Term, Unread>
     ensures { Answers (IsTermText names.now bytes.now) view result }
 {
-    let (found, rest, _) = term(alloc, names, bytes, MOST_LEVELS, MOST_NODES)?;
+    let (found, rest, _) = term(alloc, names, bytes, MAX_DEPTH, MAX_NODES)?;
     if rest.is_empty() {
         Ok(found)
     } else {

@@ -15,11 +15,12 @@ ghost use Rattle.cert_refusals.specs.declared.error.CertError.TheVariants.{NoMem
 use crate::error::{CertCount, CertError};
 use crate::items::Frame;
 use cert_grammar::{
-    MOST_ENTRIES, MOST_LEVELS, MOST_NESTING, MOST_NODES, MOST_NUMBERS, MOST_PAIRS, MOST_REDEXES,
-    MOST_STATES, MOST_STEPS, MOST_TRANSITIONS, behind,
+    MOST_ENTRIES, MOST_NESTING, MOST_NUMBERS, MOST_PAIRS, MOST_REDEXES, MOST_STATES, MOST_STEPS,
+    MOST_TRANSITIONS, behind,
 };
 use cops_read::Names;
 use std::str;
+use term_core::{MAX_DEPTH, MAX_NODES};
 
 const LARGEST: u64 = 4_294_967_295;
 
@@ -34,7 +35,7 @@ fn limit(what: CertCount) -> usize
         CertCount::Redexes => MOST_REDEXES as usize,
         CertCount::States => MOST_STATES as usize,
         CertCount::Transitions => MOST_TRANSITIONS as usize,
-        CertCount::Nodes => MOST_NODES as usize,
+        CertCount::Nodes => MAX_NODES as usize,
     }
 }
 
@@ -212,7 +213,7 @@ pub fn node(number: usize, depth: usize, at: usize) -> Result<(), CertError>
     ensures few { OnOk result (number ≤ 10000) }
 {
     few(CertCount::Nodes, number, at)?;
-    if depth > MOST_LEVELS as usize {
+    if depth > MAX_DEPTH as usize {
         Err(CertError::CertTooDeep { at })
     } else {
         Ok(())

@@ -5,7 +5,7 @@ ghost use Rattle.cert_grammar.specs.FirstRefusal as spec;
 ghost use Rattle.cert_refusals.specs.ReaderView.{mode_view, text_view, bare, IsLeadRead};
 
 use crate::scans::{Mode, is_word, scan};
-use cert_grammar::is_id;
+use cops_lex::is_id;
 
 /// Bytes of the grammar in which nothing is left open.
 #[derive(Clone, Copy, Debug, Drop)]

@@ -4,7 +4,7 @@ ghost use Rattle.std.specs.Prelude.{◌≡◌, ◌≤◌, ◌==◌, if◌then◌
 ghost use Rattle.cert_grammar.specs.Scans as spec;
 ghost use Rattle.cert_refusals.specs.ReaderView.{mode_view};
 
-use cert_grammar::is_id;
+use cops_lex::is_id;
 
 /// How far a word has been read.
 #[derive(Clone, Copy, Debug, Drop)]

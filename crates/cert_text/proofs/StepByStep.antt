@@ -14,9 +14,9 @@ use Rattle.cert_grammar.specs.FirstRefusal.{Left, Step, accepts, refuses, goes_o
 use Rattle.cert_refusals.specs.declared.error.CertError.{CertError}
 use Rattle.cert_refusals.specs.declared.error.CertError.TheVariants.{CertSyntax, UnknownName, WrongArity, BadNumber, CertTooDeep, TooMany, NoMemory}
 use Rattle.cert_refusals.specs.declared.items.Item as code
-use Rattle.cert_refusals.specs.ReaderView.{item_view, items_view, told, stopped, IsTold, StepAnswers, step_at}
+use Rattle.cert_refusals.specs.ReaderView.{item_view, items_view, told, stopped, IsTold}
 use Rattle.cert_refusals.specs.CertRefusals.{IsRefusedAs}
-use Rattle.cert_laws.proofs.FirstRefusals.{Reached, reached_start}
+use Rattle.cert_laws.proofs.FirstRefusals.{Reached}
 use Rattle.cert_laws.proofs.ExactReader.{weight, goes_nearer, refuses_rightly, accepts_rightly, place_within}
 
 abbrev pub left_at : List ℕ → List Item → List ℕ → Left
@@ -24,11 +24,6 @@ left_at bytes items left = record { at = length bytes - length left; items = ite
 
 abbrev pub Stands : NameTable → List ℕ → List Item → List ℕ → Type 0
 Stands names bytes items left = Reached names bytes (left_at bytes items left) × (length left ≤ length bytes)
-
-pub stands_first : (names : NameTable) (bytes : List ℕ) → Stands names bytes (item_view code.TheVariants.Opening ∷ []) bytes
-stands_first names bytes =
-    let none : 0 ≡ length bytes - length bytes = omega arith in
-    (subst (λ (n : ℕ). Reached names bytes (record { at = n; items = item_view code.TheVariants.Opening ∷ []; bytes = bytes })) none (reached_start names bytes), omega arith)
 
 abbrev pub IsNearer : NameTable → List ℕ → List Item → List ℕ → List Item → List ℕ → Type 0
 IsNearer names bytes before left after rest = Stands names bytes after rest × (weight (left_at bytes after rest) < weight (left_at bytes before left))

@@ -1,5 +1,5 @@
 -- Derivations and terms that are put part by part.
-use Rattle.std.proofs.Common.{◌≡◌, ◌≤◌, ◌-◌, ℕ, suc, List, [], ◌∷◌, ◌++◌, map, get_or, take, drop, length, codes, subst, sym, ◌∙◌, ap, refl}
+use Rattle.std.proofs.Common.{◌≡◌, ◌≤◌, ◌-◌, ℕ, List, [], ◌∷◌, ◌++◌, map, get_or, take, drop, length, codes, subst, sym, ◌∙◌, ap}
 use Rattle.std.proofs.lemmas.List.{length-map}
 use Rattle.std.specs.Global.{Vec}
 use Rattle.certificates.specs.Derivations as math
@@ -11,17 +11,12 @@ use Rattle.term_core.specs.declared.terms.Term.{Term}
 use Rattle.term_core.specs.View.{view, views}
 use Rattle.cops_read.specs.NameTable.{NameTable}
 use Rattle.cert_grammar.specs.Words.{term_text, arguments_text, further_text}
-use Rattle.cert_grammar.specs.Steps.{step_count, derivation_count, steps_line, rule_line, steps_text, step_text, derivations_text, derivation_text}
+use Rattle.certificates.specs.Judging.{derivation_count}
+use Rattle.certificates.specs.Sizes.{step_count}
+use Rattle.certificates.proofs.Sizes.{steps_counted, derivations_counted}
+use Rattle.cert_grammar.specs.Steps.{steps_line, rule_line, steps_text, step_text, derivations_text, derivation_text}
 use Rattle.cert_grammar.proofs.Views.{step_of_rule, derivation_of_steps}
 use Rattle.cert_writing.proofs.Writing.{Leads, InParts, first_and_others}
-
-steps_counted : (ss : List math.Step) → step_count (derivation_of ss) ≡ length ss
-steps_counted [] = refl
-steps_counted (s ∷ ss) = ap suc (steps_counted ss)
-
-derivations_counted : (ds : List math.Derivation) → derivation_count (derivations_of ds) ≡ length ds
-derivations_counted [] = refl
-derivations_counted (d ∷ ds) = ap suc (derivations_counted ds)
 
 -- behind the line that tells their number come the steps
 pub steps_begin : {S : Type 0} (took : S → List ℕ → S → Type 0) → InParts took → (s t : S) (d : Derivation) (n : ℕ) (items : List Step) → n ≡ length d.steps.items → items ≡ d.steps.items

@@ -1,5 +1,5 @@
 -- What the readers promise of a certificate is what its check asks.
-use Rattle.std.proofs.Common.{◌≡◌, ℕ, suc, ◌-◌, List, [], ◌∷◌, map, refl, ap, ◌∙◌, arith}
+use Rattle.std.proofs.Common.{◌≡◌, ℕ, ◌-◌, List, [], ◌∷◌, map, ap, ◌∙◌, arith}
 use Rattle.std.specs.Prelude.{slice_get}
 use Rattle.std.proofs.lemmas.Option.{slice_get-map}
 use Rattle.rewriting.specs.Terms.{Term, Terms, var, app, nil, cons}
@@ -9,14 +9,12 @@ use Rattle.certificates.specs.Derivations.{Derivation, no_steps, first_step, Ste
 use Rattle.certificates.specs.Evidence.{PairEvidence, trivial_pair, infeasible_pair, conflicting_pair, joined_pair, unfeasible_pair}
 use Rattle.certificates.specs.Certificates.{PairEntry, Apartness, by_normal_forms, by_rigid_caps, Certificate, ortho_certificate, quasi_certificate, peak_certificate}
 use Rattle.certificates.specs.Sizes.{IsShort, AreStepsShort, IsStepShort, AreShort}
-use Rattle.certificates.specs.Sizes as sizes
 use Rattle.valid_certificates.specs.Entries.{IsPairShort, ArePairsShort}
 use Rattle.noncon_check.specs.Judges.{AreFew}
 use Rattle.cert_check.specs.Kinds.{CanBeJudged}
 use Rattle.cops_read.specs.NameTable.{NameTable}
 use Rattle.cops_read.specs.File.{IsFile}
 use Rattle.cert_grammar.specs.Words.{IsSpelt, AreSpelt}
-use Rattle.cert_grammar.specs.Steps as steps
 use Rattle.cert_grammar.specs.Limits.{AreSteps, IsStep, AreDerivations, IsDerivation}
 use Rattle.cert_grammar.specs.EvidenceText.{IsEvidence, ArePairs}
 use Rattle.cert_grammar.specs.CertificateText.{IsApart, IsCertificateText}
@@ -32,10 +30,6 @@ mutual
   spelt_all_over names arities e nil h = tt
   spelt_all_over names arities e (cons t ts) h = (spelt_over names arities e t h.0, spelt_all_over names arities e ts h.1)
 
-same_count : (d : Derivation) → steps.step_count d ≡ sizes.step_count d
-same_count no_steps = refl
-same_count (first_step s d) = ap suc (same_count d)
-
 mutual
   steps_short : (levels : ℕ) (d : Derivation) → AreSteps levels d → AreStepsShort d
   steps_short levels no_steps h = tt
@@ -47,10 +41,10 @@ mutual
 
   all_short : (levels : ℕ) (ds : Derivations) → AreDerivations levels ds → AreShort ds
   all_short levels no_derivations h = tt
-  all_short levels (first_derivation d ds) h = (omega (arith, same_count d, h.1), steps_short (levels - 1) d h.2, all_short levels ds h.3)
+  all_short levels (first_derivation d ds) h = (let few = h.1 in omega (arith, few), steps_short (levels - 1) d h.2, all_short levels ds h.3)
 
 short : (d : Derivation) → IsDerivation 50 d → IsShort d
-short d h = record { few_steps = omega (arith, same_count d, h.1); inner = steps_short 49 d h.2 }
+short d h = record { few_steps = let few = h.1 in omega (arith, few); inner = steps_short 49 d h.2 }
 
 few : (names : NameTable) (a : Apartness) → IsApart names a → AreFew a
 few names (by_normal_forms es) h = let at_most = h.0 in omega arith

@@ -1,34 +1,22 @@
 -- What is said of each refusal is what its answer says.
 use Rattle.std.proofs.Common.{◌≡◌, ℕ, List, Option, Some, None, refl, subst}
 use Rattle.std.specs.Prelude.{Err, option_map}
-use Rattle.cc_io.specs.declared.shelf.ReadAllError.{ReadAllError}
-use Rattle.cc_io.specs.declared.shelf.ReadAllError.TheVariants as reading
 use Rattle.cops_read.specs.File.{FileCause}
 use Rattle.cops_systems.specs.declared.errors.ReadError.{ReadError}
 use Rattle.cert_grammar.specs.Marks as marks
 use Rattle.cert_refusals.specs.declared.error.CertError.{CertError}
-use Rattle.concon_run.specs.FileRefusals.{most_file_bytes, no_system_text, file_cause_words, file_error_cause, file_refusal_text}
-use Rattle.concon_run.specs.CertRefusals.{most_cert_bytes, no_certificate_text, cert_cause_words, cert_error_cause, cert_refusal_text}
+use Rattle.concon_run.specs.FileRefusals.{no_system_text, file_cause_words, file_error_cause, file_refusal_text}
+use Rattle.concon_run.specs.CertRefusals.{no_certificate_text, cert_cause_words, cert_error_cause, cert_refusal_text}
 use Rattle.concon_run.specs.Outcomes.{no_system, no_certificate}
 use Rattle.concon_run.specs.Said.{Said}
 use Rattle.concon_run.specs.Causes.{said_of}
 use Rattle.concon_run.specs.Judging.{refused_answer, answer_of}
-use Rattle.concon_run.specs.Refusals.{refused_said, unread_said}
+use Rattle.concon_run.specs.Refusals.{refused_said}
 use Rattle.concon_run.specs.Replies.{IsSaidIfMemory}
-use Rattle.concon_run.specs.declared.judge.NoVerdict.TheVariants.{FileUnread, FileRefused, CertUnread, CertRefused}
+use Rattle.concon_run.specs.declared.judge.NoVerdict.TheVariants.{FileRefused, CertRefused}
 use Rattle.concon_run.specs.declared.status.Status.TheVariants as status
 
 module _ (file cert : List ℕ) where
-  unread_file : (e : ReadAllError) → unread_said file e status.FileRefused most_file_bytes ≡ said_of (answer_of file cert (Err (FileUnread e)))
-  unread_file reading.ReadFault = refl
-  unread_file (reading.TooLong n) = refl
-  unread_file reading.NoMemory = refl
-
-  unread_cert : (e : ReadAllError) → unread_said cert e status.CertRefused most_cert_bytes ≡ said_of (answer_of file cert (Err (CertUnread e)))
-  unread_cert reading.ReadFault = refl
-  unread_cert (reading.TooLong n) = refl
-  unread_cert reading.NoMemory = refl
-
   refused_file : (o : Option (FileCause × ℕ))
       → refused_said status.FileRefused file (option_map (λ r. (r.1, file_cause_words r.0)) o) ≡ said_of (refused_answer file cert (option_map no_system (option_map (λ r. no_system_text r.0 r.1) o)))
   refused_file (Some r) = refl
@@ -38,12 +26,6 @@ module _ (file cert : List ℕ) where
       → refused_said status.CertRefused cert (option_map (λ r. (r.1, cert_cause_words r.0)) o) ≡ said_of (refused_answer file cert (option_map no_certificate (option_map (λ r. no_certificate_text r.0 r.1) o)))
   refused_cert (Some r) = refl
   refused_cert None = refl
-
-  pub unread_file_said : (e : ReadAllError) (said : Said) → IsSaidIfMemory (unread_said file e status.FileRefused most_file_bytes) said → IsSaidIfMemory (said_of (answer_of file cert (Err (FileUnread e)))) said
-  unread_file_said e said h = subst (λ w. IsSaidIfMemory w said) (unread_file e) h
-
-  pub unread_cert_said : (e : ReadAllError) (said : Said) → IsSaidIfMemory (unread_said cert e status.CertRefused most_cert_bytes) said → IsSaidIfMemory (said_of (answer_of file cert (Err (CertUnread e)))) said
-  unread_cert_said e said h = subst (λ w. IsSaidIfMemory w said) (unread_cert e) h
 
   pub refused_file_said : (e : ReadError) (text : Option (ℕ × List ℕ)) (said : Said) → text ≡ file_refusal_text e → IsSaidIfMemory (refused_said status.FileRefused file text) said
       → IsSaidIfMemory (said_of (answer_of file cert (Err (FileRefused e)))) said

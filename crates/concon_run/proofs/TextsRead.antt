@@ -6,9 +6,6 @@ use Rattle.cops_read.specs.NameTable.{NameTable}
 use Rattle.cc_io.specs.Errors.{IsTooLong}
 use Rattle.cc_io.specs.declared.shelf.ReadAllError.{ReadAllError}
 use Rattle.cc_io.specs.declared.shelf.ReadAllError.TheVariants.{ReadFault, TooLong, NoMemory}
-use Rattle.cops_read.specs.Answers.{IsRefusedFor}
-use Rattle.cops_systems.specs.declared.errors.ReadError.{ReadError}
-use Rattle.cops_systems.specs.declared.errors.ReadError.TheVariants as causes
 use Rattle.concon_run.specs.FileRefusals.{long_file, most_file_bytes}
 use Rattle.cert_refusals.specs.CertRefusals.{IsRefusedAs}
 use Rattle.cert_refusals.specs.declared.error.CertError.{CertError}
@@ -17,7 +14,7 @@ use Rattle.concon_run.specs.CertRefusals.{long_certificate, most_cert_bytes}
 use Rattle.concon_run.specs.Outcomes.{Bytes, IsRefusedFile, IsRefusedCertificate}
 use Rattle.concon_run.specs.Causes.{told_or_any}
 use Rattle.concon_run.specs.Judging.{SystemAnswers, CertificateAnswers}
-use Rattle.concon_run.specs.declared.judge.NoVerdict.TheVariants.{FileUnread, FileRefused, CertUnread, CertRefused}
+use Rattle.concon_run.specs.declared.judge.NoVerdict.TheVariants.{FileUnread, CertUnread, CertRefused}
 use Rattle.std.specs.Prelude.{Err, IsErrOf}
 
 -- some text is longer, and if one is told it is
@@ -42,24 +39,6 @@ pub cert_unread : {A : Type 0} (told : Option (List ℕ)) (failed : Type 0) (nam
 cert_unread told failed names ReadFault fault long = fault refl
 cert_unread told failed names (TooLong n) fault long = no_certificate_beyond told names (long tt)
 cert_unread told failed names NoMemory fault long = tt
-
--- a text of no more than so many bytes that the reader refuses
-pub file_refused : (file : Bytes) (failed : Type 0) (bytes : List ℕ) (e : ReadError) → file bytes → length bytes ≤ most_file_bytes → IsRefusedFor bytes e → SystemAnswers file failed (Err (FileRefused e))
-file_refused file failed bytes (causes.BadByte at) f short h = (bytes, f, (short, h))
-file_refused file failed bytes (causes.IdTooLong at) f short h = (bytes, f, (short, h))
-file_refused file failed bytes (causes.CommentNotClosed at) f short h = (bytes, f, (short, h))
-file_refused file failed bytes (causes.Syntax at) f short h = (bytes, f, (short, h))
-file_refused file failed bytes (causes.UnknownBlock at) f short h = (bytes, f, (short, h))
-file_refused file failed bytes (causes.RepeatedBlock at) f short h = (bytes, f, (short, h))
-file_refused file failed bytes (causes.ConditionTypeOther at) f short h = (bytes, f, (short, h))
-file_refused file failed bytes (causes.MissingRules at) f short h = (bytes, f, (short, h))
-file_refused file failed bytes (causes.ConditionsWithoutType at) f short h = (bytes, f, (short, h))
-file_refused file failed bytes (causes.VariableWithArguments at) f short h = (bytes, f, (short, h))
-file_refused file failed bytes (causes.ArityDiffers at) f short h = (bytes, f, (short, h))
-file_refused file failed bytes (causes.LeftVariable at) f short h = (bytes, f, (short, h))
-file_refused file failed bytes (causes.TooDeep at) f short h = (bytes, f, (short, h))
-file_refused file failed bytes (causes.TooMany what limit at) f short h = (bytes, f, (short, h.0))
-file_refused file failed bytes causes.NoMemory f short h = tt
 
 -- the same of a certificate
 pub cert_refused : (cert : Bytes) (failed : Type 0) (names : NameTable) (bytes : List ℕ) (e : CertError) → cert bytes → length bytes ≤ most_cert_bytes → IsRefusedAs names bytes e

@@ -1,5 +1,5 @@
 -- What was read and judged is what the check comes to.
-use Rattle.std.specs.Prelude.{List, ℕ, Option, Some, None, IfSome, Result, Ok, Err, option_map}
+use Rattle.std.specs.Prelude.{List, ℕ, Option, Some, None, Result, Ok, Err, option_map}
 use Rattle.std.proofs.Common.{sym, subst}
 use Rattle.rewriting.specs.Rules.{System}
 use Rattle.certificates.specs.Certificates.{Certificate, ortho_certificate, quasi_certificate, peak_certificate}
@@ -10,9 +10,9 @@ use Rattle.cc_io.specs.declared.shelf.ReadAllError.TheVariants as reading
 use Rattle.concon_run.specs.Words.{IsCheck}
 use Rattle.concon_run.specs.FileRefusals.{FileRefusal, file_refusal_of}
 use Rattle.concon_run.specs.CertRefusals.{CertRefusal, cert_refusal_of}
-use Rattle.concon_run.specs.Outcomes.{no_system, no_certificate, SpellsSystem, IsRefusedFile, SpellsCertificate, IsRefusedCertificate, IsTrueOf}
-use Rattle.concon_run.specs.Causes.{Run, bytes_of, HasFailed, IsCaused, IsRight}
-use Rattle.concon_run.specs.Judging.{IsShown, SystemAnswers, CertificateAnswers, CheckAnswers, refused_answer, answer_of}
+use Rattle.concon_run.specs.Outcomes.{no_system, no_certificate, SpellsSystem, SpellsCertificate, IsTrueOf}
+use Rattle.concon_run.specs.Causes.{Run, bytes_of, IsCaused, IsRight}
+use Rattle.concon_run.specs.Judging.{IsShown, CheckAnswers, refused_answer, answer_of}
 use Rattle.concon_run.specs.declared.judge.NoVerdict.{NoVerdict}
 use Rattle.concon_run.specs.declared.judge.NoVerdict.TheVariants.{FileUnread, FileRefused, CertUnread, CertRefused, Rejected, NoMemory}
 
@@ -39,37 +39,7 @@ module _ (run : Run) (file cert : List ℕ) where
   no_verdict_is_right NoMemory = tt
 
   module _ (form : IsCheck run.words file cert) where
-    refused_file : (o : Option FileRefusal) → IfSome o (IsRefusedFile (bytes_of run file)) → IsCaused run (refused_answer file cert (option_map no_system o))
-    refused_file (Some r) h = (form, h)
-    refused_file None h = (file, cert, form)
-
-    -- the file spells no system, or was not read
-    pub no_system_caused : (e : NoVerdict) → SystemAnswers (bytes_of run file) (HasFailed run file) (Err e) → IsCaused run (answer_of file cert (Err e))
-    no_system_caused (FileUnread reading.ReadFault) h = (form, h)
-    no_system_caused (FileUnread (reading.TooLong n)) h = (form, h)
-    no_system_caused (FileUnread reading.NoMemory) h = (file, cert, form)
-    no_system_caused (FileRefused e) h = refused_file (file_refusal_of e) h
-    no_system_caused (CertUnread e) h = absurd h
-    no_system_caused (CertRefused e) h = absurd h
-    no_system_caused (Rejected names reason) h = absurd h
-    no_system_caused NoMemory h = absurd h
-
     module _ (sys : System) (names : NameTable) (f : SpellsSystem (bytes_of run file) sys names) where
-      refused_cert : (o : Option CertRefusal) → IfSome o (IsRefusedCertificate (bytes_of run cert) names) → IsCaused run (refused_answer file cert (option_map no_certificate o))
-      refused_cert (Some r) h = (form, (sys, names, f, h))
-      refused_cert None h = (file, cert, form)
-
-      -- the text is that of no certificate, or was not read
-      pub no_certificate_caused : (e : NoVerdict) → CertificateAnswers (bytes_of run cert) (HasFailed run cert) names (Err e) → IsCaused run (answer_of file cert (Err e))
-      no_certificate_caused (FileUnread e) h = absurd h
-      no_certificate_caused (FileRefused e) h = absurd h
-      no_certificate_caused (CertUnread reading.ReadFault) h = (form, h, (sys, names, f))
-      no_certificate_caused (CertUnread (reading.TooLong n)) h = (form, (sys, names, f, h))
-      no_certificate_caused (CertUnread reading.NoMemory) h = (file, cert, form)
-      no_certificate_caused (CertRefused e) h = refused_cert (cert_refusal_of e) h
-      no_certificate_caused (Rejected others reason) h = absurd h
-      no_certificate_caused NoMemory h = absurd h
-
       -- the certificate was checked
       pub judged : (c : Certificate) → SpellsCertificate (bytes_of run cert) names c → (r : Result Verdict NoVerdict) → CheckAnswers sys names c r → IsCaused run (answer_of file cert r)
       judged c t (Ok v) h = (form, (sys, names, c, f, t, h.1, h.0))

@@ -1,5 +1,5 @@
 pub mod Status
-pub mod Numbers
+pub mod Paths
 pub mod Pieces
 pub mod Rejections
 pub mod Words

@@ -3,7 +3,8 @@ use Rattle.std.specs.Prelude.{◌++◌, ℕ, List, [], Option, Some, None, codes
 use Rattle.rewriting.specs.Positions.{Position}
 use Rattle.certificates.specs.Reasons.{StepReason, no_such_rule, no_such_hypothesis, no_redex, wrong_count, unbound, condition_fails, too_large, BadStep, Class, left_linear, type3, extended_oriented, right_stable, deterministic, Blame, MeasureReason, wrong_shape, wrong_coefficient, overflow_at, smaller_variable, smaller_constant, EvidenceReason, not_allowed, not_root, sides_differ, tcap_unifies, tcap_large, conflict_number, conflict_left, conflict_unifies, conflict_large, auto_number, auto_any, auto_misses, auto_wide, auto_not_closed, auto_wide_right, auto_reaches, join_left, join_right, join_differs, unfeasible_number, unfeasible_first, unfeasible_second, first_reducible, second_reducible, unfeasible_unifies, unfeasible_large, Rejection, class_fails, not_irreducible, measure_fails, unraveling_large, pair_large, too_many_pairs, pair_missing, pair_extra, evidence_fails, first_bad, second_bad, same_term, not_normal, redex_extra, redex_fails, caps_unify, caps_large}
 use Rattle.cops_read.specs.NameTable.{NameTable, variable_at}
-use Rattle.concon_run.specs.Numbers.{each_behind, dotted, position_text}
+use Rattle.cert_grammar.specs.Words.{each_behind, position_text}
+use Rattle.concon_run.specs.Paths.{path_text}
 
 abbrev pub step_reason_text : StepReason → List ℕ
 step_reason_text no_such_rule = codes "no such rule"
@@ -16,7 +17,7 @@ step_reason_text too_large = codes "too large"
 
 -- the path, and the reason
 abbrev pub bad_step_text : BadStep → List ℕ
-bad_step_text bad = dotted bad.path ++ (codes " " ++ step_reason_text bad.reason)
+bad_step_text bad = path_text bad.path ++ (codes " " ++ step_reason_text bad.reason)
 
 -- three numbers as an overlap or a redex has them
 abbrev pub place_text : ℕ → Position → ℕ → List ℕ
@@ -44,33 +45,33 @@ measure_text (overflow_at n) = codes "measure overflow rule " ++ decimal n
 measure_text (smaller_variable n k) = codes "measure rule " ++ (decimal n ++ (codes " variable |" ++ decimal k))
 measure_text (smaller_constant n) = codes "measure rule " ++ (decimal n ++ codes " constant")
 
-abbrev pub evidence_text : EvidenceReason → List ℕ
-evidence_text not_allowed = codes "not allowed"
-evidence_text not_root = codes "trivial not root"
-evidence_text sides_differ = codes "trivial sides differ"
-evidence_text tcap_unifies = codes "tcap unifies"
-evidence_text tcap_large = codes "tcap large"
-evidence_text conflict_number = codes "conflict number"
-evidence_text conflict_left = codes "conflict left sides"
-evidence_text conflict_unifies = codes "conflict unifies"
-evidence_text conflict_large = codes "conflict large"
-evidence_text auto_number = codes "auto number"
-evidence_text auto_any = codes "auto state 0"
-evidence_text auto_misses = codes "auto misses"
-evidence_text (auto_wide n) = codes "auto wide rule " ++ decimal n
-evidence_text (auto_not_closed n states q) = codes "auto not closed rule " ++ (decimal n ++ (codes " states" ++ (each_behind 32 states ++ (codes " to " ++ decimal q))))
-evidence_text auto_wide_right = codes "auto wide right side"
-evidence_text auto_reaches = codes "auto reaches"
-evidence_text (join_left bad) = codes "join left step " ++ bad_step_text bad
-evidence_text (join_right bad) = codes "join right step " ++ bad_step_text bad
-evidence_text join_differs = codes "join ends differ"
-evidence_text unfeasible_number = codes "unfeasible number"
-evidence_text (unfeasible_first bad) = codes "unfeasible first step " ++ bad_step_text bad
-evidence_text (unfeasible_second bad) = codes "unfeasible second step " ++ bad_step_text bad
-evidence_text first_reducible = codes "unfeasible first reducible"
-evidence_text second_reducible = codes "unfeasible second reducible"
-evidence_text unfeasible_unifies = codes "unfeasible unifies"
-evidence_text unfeasible_large = codes "unfeasible large"
+abbrev pub evidence_reason_text : EvidenceReason → List ℕ
+evidence_reason_text not_allowed = codes "not allowed"
+evidence_reason_text not_root = codes "trivial not root"
+evidence_reason_text sides_differ = codes "trivial sides differ"
+evidence_reason_text tcap_unifies = codes "tcap unifies"
+evidence_reason_text tcap_large = codes "tcap large"
+evidence_reason_text conflict_number = codes "conflict number"
+evidence_reason_text conflict_left = codes "conflict left sides"
+evidence_reason_text conflict_unifies = codes "conflict unifies"
+evidence_reason_text conflict_large = codes "conflict large"
+evidence_reason_text auto_number = codes "auto number"
+evidence_reason_text auto_any = codes "auto state 0"
+evidence_reason_text auto_misses = codes "auto misses"
+evidence_reason_text (auto_wide n) = codes "auto wide rule " ++ decimal n
+evidence_reason_text (auto_not_closed n states q) = codes "auto not closed rule " ++ (decimal n ++ (codes " states" ++ (each_behind 32 states ++ (codes " to " ++ decimal q))))
+evidence_reason_text auto_wide_right = codes "auto wide right side"
+evidence_reason_text auto_reaches = codes "auto reaches"
+evidence_reason_text (join_left bad) = codes "join left step " ++ bad_step_text bad
+evidence_reason_text (join_right bad) = codes "join right step " ++ bad_step_text bad
+evidence_reason_text join_differs = codes "join ends differ"
+evidence_reason_text unfeasible_number = codes "unfeasible number"
+evidence_reason_text (unfeasible_first bad) = codes "unfeasible first step " ++ bad_step_text bad
+evidence_reason_text (unfeasible_second bad) = codes "unfeasible second step " ++ bad_step_text bad
+evidence_reason_text first_reducible = codes "unfeasible first reducible"
+evidence_reason_text second_reducible = codes "unfeasible second reducible"
+evidence_reason_text unfeasible_unifies = codes "unfeasible unifies"
+evidence_reason_text unfeasible_large = codes "unfeasible large"
 
 abbrev pub rejection_text : NameTable → Rejection → List ℕ
 rejection_text names (class_fails blame) = blame_text names blame
@@ -81,13 +82,13 @@ rejection_text names (pair_large i p j) = codes "overlap large " ++ place_text i
 rejection_text names too_many_pairs = codes "overlaps too many"
 rejection_text names (pair_missing i p j) = codes "pair missing " ++ place_text i p j
 rejection_text names (pair_extra n) = codes "pair extra " ++ decimal n
-rejection_text names (evidence_fails n reason) = (codes "pair " ++ (decimal n ++ codes " ")) ++ evidence_text reason
+rejection_text names (evidence_fails n reason) = (codes "pair " ++ (decimal n ++ codes " ")) ++ evidence_reason_text reason
 rejection_text names (first_bad bad) = codes "peak first step " ++ bad_step_text bad
 rejection_text names (second_bad bad) = codes "peak second step " ++ bad_step_text bad
 rejection_text names same_term = codes "peak same term"
 rejection_text names (not_normal which p i) = codes "peak not normal " ++ place_text which p i
 rejection_text names (redex_extra n) = codes "peak redex extra " ++ decimal n
-rejection_text names (redex_fails n reason) = (codes "peak redex " ++ (decimal n ++ codes " ")) ++ evidence_text reason
+rejection_text names (redex_fails n reason) = (codes "peak redex " ++ (decimal n ++ codes " ")) ++ evidence_reason_text reason
 rejection_text names caps_unify = codes "peak caps unify"
 rejection_text names caps_large = codes "peak caps large"
 

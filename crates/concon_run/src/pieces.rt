@@ -1,6 +1,7 @@
 //! Texts that are put together of pieces.
 ghost use Rattle.std.specs.Prelude.{◌≡◌, ◌++◌, OnOk, decimal};
-ghost use Rattle.concon_run.specs.Numbers.{each_behind, dotted, position_text};
+ghost use Rattle.cert_grammar.specs.Words.{each_behind, position_text};
+ghost use Rattle.concon_run.specs.Paths.{path_text};
 ghost use Rattle.concon_run.specs.Pieces.{piece_text, pieces_text};
 
 use itoa::Buffer;
@@ -46,11 +47,14 @@ fn put_each(out: &mut Vec<u8>, byte: u8, numbers: &[u32]) -> Result<(), AllocErr
     Ok(())
 }
 
-fn put_dotted(out: &mut Vec<u8>, numbers: &[u32]) -> Result<(), AllocError>
-    ensures { OnOk result (out.new.items ≡ out.old.items ++ dotted numbers.now) }
+fn put_position(out: &mut Vec<u8>, numbers: &[u32]) -> Result<(), AllocError>
+    ensures { OnOk result (out.new.items ≡ out.old.items ++ position_text numbers.now) }
 {
     match numbers {
-        [] => Ok(()),
+        [] => {
+            out.push(b'e')?;
+            Ok(())
+        }
         [first, others @ ..] => {
             put_number(out, *first)?;
             put_each(out, b'.', others)
@@ -58,14 +62,13 @@ fn put_dotted(out: &mut Vec<u8>, numbers: &[u32]) -> Result<(), AllocError>
     }
 }
 
-fn put_position(out: &mut Vec<u8>, numbers: &[u32]) -> Result<(), AllocError>
-    ensures { OnOk result (out.new.items ≡ out.old.items ++ position_text numbers.now) }
+fn put_path(out: &mut Vec<u8>, numbers: &[u32]) -> Result<(), AllocError>
+    ensures { OnOk result (out.new.items ≡ out.old.items ++ path_text numbers.now) }
 {
     if numbers.is_empty() {
-        out.push(b'e')?;
         Ok(())
     } else {
-        put_dotted(out, numbers)
+        put_position(out, numbers)
     }
 }
 
@@ -76,7 +79,7 @@ fn put(out: &mut Vec<u8>, piece: Piece) -> Result<(), AllocError>
         Piece::Text(bytes) => out.extend_from_slice(bytes),
         Piece::Number(n) => put_number(out, n),
         Piece::Place(at) => put_place(out, at),
-        Piece::Path(numbers) => put_dotted(out, numbers),
+        Piece::Path(numbers) => put_path(out, numbers),
         Piece::Position(numbers) => put_position(out, numbers),
         Piece::States(numbers) => put_each(out, b' ', numbers),
         Piece::Name(name) => out.extend_from_slice(name.as_bytes()),

@@ -1,7 +1,7 @@
 //! The texts of rejections.
 ghost use Rattle.std.specs.Prelude.{◌≡◌, ◌++◌, IfOk, OnOk, codes, decimal};
 ghost use Rattle.cert_model.specs.ReasonView.{step_reason_view, bad_step_view, class_view, blame_view, measure_reason_view, evidence_reason_view, rejected_view};
-ghost use Rattle.concon_run.specs.Rejections.{step_reason_text, bad_step_text, class_text, variable_text, blame_text, place_text, measure_text, evidence_text, rejection_text, rejected_line};
+ghost use Rattle.concon_run.specs.Rejections.{step_reason_text, bad_step_text, class_text, variable_text, blame_text, place_text, measure_text, evidence_reason_text, rejection_text, rejected_line};
 ghost use Rattle.certificates.specs.Reasons.{auto_not_closed};
 
 use crate::pieces::{Piece, put_all};
@@ -150,7 +150,7 @@ fn put_not_closed(
     states: &[u32],
     target: u32,
 ) -> Result<(), AllocError>
-    ensures { OnOk result (out.new.items ≡ out.old.items ++ evidence_text (auto_not_closed rule states.now target)) }
+    ensures { OnOk result (out.new.items ≡ out.old.items ++ evidence_reason_text (auto_not_closed rule states.now target)) }
 {
     put_all(
         out,
@@ -166,7 +166,7 @@ fn put_not_closed(
 }
 
 fn put_evidence(out: &mut Vec<u8>, reason: &EvidenceReason) -> Result<(), AllocError>
-    ensures { OnOk result (out.new.items ≡ out.old.items ++ evidence_text (evidence_reason_view reason.now)) }
+    ensures { OnOk result (out.new.items ≡ out.old.items ++ evidence_reason_text (evidence_reason_view reason.now)) }
 {
     match reason {
         EvidenceReason::NotAllowed => put_words(out, b"not allowed"),
@@ -209,7 +209,7 @@ fn put_entry(
     entry: u32,
     reason: &EvidenceReason,
 ) -> Result<(), AllocError>
-    ensures { OnOk result (out.new.items ≡ out.old.items ++ ((what.now ++ (decimal entry ++ codes " ")) ++ evidence_text (evidence_reason_view reason.now))) }
+    ensures { OnOk result (out.new.items ≡ out.old.items ++ ((what.now ++ (decimal entry ++ codes " ")) ++ evidence_reason_text (evidence_reason_view reason.now))) }
 {
     put_all(
         out,

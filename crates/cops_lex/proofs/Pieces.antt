@@ -3,21 +3,21 @@ use Rattle.std.proofs.Common.{◌≡◌, ℕ, ◌+◌, ◌≤◌, Bool, true, fa
 use Rattle.file_text.specs.declared.Kind.{Kind}
 use Rattle.file_text.specs.declared.Token.{Token}
 use Rattle.file_text.specs.Bytes.{white_len, comment_len}
-use Rattle.file_text.specs.Tokens.{kind_at, len_at, longest, open_after, is_comment_at, behind_white, Stands, StandsComment, Piece, token, comment, tokens_of, LeadsTo, opened}
+use Rattle.file_text.specs.Tokens.{kind_at, len_at, longest, open_after, is_comment_at, behind_white, Stands, StandsComment, Piece, token, comment, tokens_of, StandInTurn, opened}
 
 -- Up to this place the text is these tokens, and so many brackets are open.
 pub record HasRead (bytes : List ℕ) (ts : List Token) (count : ℕ) (at : ℕ) : Type 0 where
   pub pieces : List Piece
-  pub leads : LeadsTo bytes 0 0 pieces at
+  pub leads : StandInTurn bytes 0 0 pieces at
   pub tokens : tokens_of pieces ≡ ts
   pub counted : count ≡ opened 0 pieces
 
-leads_token : (bytes : List ℕ) (at count : ℕ) (ps : List Piece) (m : ℕ) (t : Token) → LeadsTo bytes at count ps m → Stands bytes m (opened count ps) t → LeadsTo bytes at count (ps ++ token t ∷ []) t.to
+leads_token : (bytes : List ℕ) (at count : ℕ) (ps : List Piece) (m : ℕ) (t : Token) → StandInTurn bytes at count ps m → Stands bytes m (opened count ps) t → StandInTurn bytes at count (ps ++ token t ∷ []) t.to
 leads_token bytes at count [] m t l s = (subst (λ n. Stands bytes n count t) (sym l) s, refl)
 leads_token bytes at count (token u ∷ ps) m t l s = (l.0, leads_token bytes u.to (open_after count u.kind) ps m t l.1 s)
 leads_token bytes at count (comment to ∷ ps) m t l s = (l.0, leads_token bytes to count ps m t l.1 s)
 
-leads_comment : (bytes : List ℕ) (at count : ℕ) (ps : List Piece) (m to : ℕ) → LeadsTo bytes at count ps m → StandsComment bytes m (opened count ps) to → LeadsTo bytes at count (ps ++ comment to ∷ []) to
+leads_comment : (bytes : List ℕ) (at count : ℕ) (ps : List Piece) (m to : ℕ) → StandInTurn bytes at count ps m → StandsComment bytes m (opened count ps) to → StandInTurn bytes at count (ps ++ comment to ∷ []) to
 leads_comment bytes at count [] m to l s = (subst (λ n. StandsComment bytes n count to) (sym l) s, refl)
 leads_comment bytes at count (token u ∷ ps) m to l s = (l.0, leads_comment bytes u.to (open_after count u.kind) ps m to l.1 s)
 leads_comment bytes at count (comment k ∷ ps) m to l s = (l.0, leads_comment bytes k count ps m to l.1 s)

@@ -5,7 +5,7 @@ ghost use Rattle.std.specs.Prelude.{◌≡◌};
 ghost use Rattle.cops_lex.specs.declared.LexError.TheVariants.{NoMemory};
 
 pub use file_text::{Kind, Token};
-pub use scan::tokens;
+pub use scan::{is_id, tokens};
 use std::alloc::AllocFailed;
 use thiserror::Error;
 

@@ -16,10 +16,13 @@ fn is_white(b: u8) -> bool
     b == 9 || b == 10 || b == 13 || b == 32
 }
 
-fn is_id(b: u8) -> bool
+/// Whether the byte is one of identifiers.
+pub fn is_id(b: u8) -> bool
     ensures { result ≡ spec.is_id b }
 {
-    b > 32 && b < 127 && !(b == 40 || b == 41 || b == 44 || b == 124 || b == 34 || b == 92)
+    b > 32
+        && b < 127
+        && !(b == b'(' || b == b')' || b == b',' || b == b'|' || b == b'"' || b == b'\\')
 }
 
 fn begins_arrow(bytes: &[u8]) -> bool

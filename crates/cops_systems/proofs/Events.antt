@@ -226,11 +226,6 @@ module _ (block : Names) where
     part_bar : (rule at : ℕ) → IsPart rule (bar_at at ∷ []) (λ table names. bar_refusal oriented (Some at)) (λ table. table) (λ names. names)
     part_bar rule at = record { refusal = λ front. bar_is oriented at; symbols = λ table names h. refl; variables = λ table names h. refl; others = λ r names h. refl }
 
-    -- the refusal of a guard
-    abbrev guard_refusal : ℕ → Option Guard → Table → Names → Refused
-    guard_refusal rule None table names = None
-    guard_refusal rule (Some g) table names = or_refusal (bar_refusal oriented (Some g.at)) (conditions_refusal block table names rule 1 (g.first ∷ g.others))
-
     part_rule : (number : ℕ) (r : RuleTree) → IsPart number (rule_events number r)
         (λ table names. or_refusal (side_refusal block table names (side_of number 0 true) r.left)
         (or_refusal (side_refusal block (with_symbols block table r.left) (with_variables block names r.left) (side_of number 0 false) r.right)

@@ -12,12 +12,10 @@ use Rattle.term_core.specs.declared.systems.Cond.{Cond}
 use Rattle.cops_systems.specs.Meaning.{sides, with_symbols, with_all_symbols, with_variables, with_all_variables, rule_variables, IsTermOf, AreConditionsOf}
 use Rattle.cops_systems.specs.Uses.{Side, side_of}
 use Rattle.cops_systems.specs.Refusals.{MeaningCause}
-use Rattle.cops_systems.specs.Steps.{Tells, or_refusal, IsRead, term_refusal}
-use Rattle.cops_systems.specs.RuleSteps.{side_refusal, condition_refusal, conditions_refusal, bar_refusal, rule_refusal, IsSideRead, IsConditionRead, AreConditionsRead, IsRuleRead}
-use Rattle.cops_systems.specs.declared.errors.ReadError.{ReadError}
+use Rattle.cops_systems.specs.Steps.{or_refusal, IsRead, term_refusal}
+use Rattle.cops_systems.specs.RuleSteps.{side_refusal, conditions_refusal, bar_refusal, IsSideRead, IsConditionRead, AreConditionsRead, IsRuleRead}
 use Rattle.cops_names.proofs.Lists.{Extends, extends_trans}
 use Rattle.cops_systems.proofs.Growth.{symbols_extend, all_symbols_extend, variables_extend, all_variables_extend, term_grows}
-use Rattle.cops_systems.proofs.Tells.{tells_here, tells_then}
 
 pub whole_list : (ns : List program.Node) (p : Phrase) → IsTerm ns p → nodes_view ns ≡ flat p ++ []
 whole_list ns p h = h ∙ sym (append-nil (flat p))
@@ -34,9 +32,6 @@ module _ (block : List (List ℕ)) (table : List (List ℕ × ℕ)) (names : Lis
     moved : side_refusal block middle between (side_of rule number false) c.right
         ≡ side_refusal block (with_symbols block table c.left) (with_variables block names c.left) (side_of rule number false) c.right
     moved = ap₂ (λ (x : List (List ℕ × ℕ)) (v : List (List ℕ)). side_refusal block x v (side_of rule number false) c.right) h.symbols h.variables
-
-    pub right_fails : (e : ReadError) → Tells e (side_refusal block middle between (side_of rule number false) c.right) → Tells e (condition_refusal block table names rule number c)
-    right_fails e t = tells_then (side_refusal block table names (side_of rule number false) c.left) _ e h.accepted (subst (Tells e) moved t)
 
     pub both_read : (after : List (List ℕ × ℕ)) (later : List (List ℕ)) (r : math.Term) → IsSideRead block middle between (side_of rule number false) c.right after later r
         → IsConditionRead block table names rule number c after later (record { left = l; right = r })
@@ -87,11 +82,6 @@ module _ (block : List (List ℕ)) (oriented : Bool) (table : List (List ℕ × 
     moved_right : side_refusal block middle between at_right t.right ≡ side_refusal block first_symbols first_names at_right t.right
     moved_right = ap₂ (λ (x : List (List ℕ × ℕ)) (v : List (List ℕ)). side_refusal block x v at_right t.right) first_read.symbols first_read.variables
 
-    pub right_part_fails : (e : ReadError) → Tells e (side_refusal block middle between at_right t.right) → Tells e (rule_refusal block oriented table number t)
-    right_part_fails e h =
-        tells_then (side_refusal block table [] at_left t.left) next_refusal e first_read.accepted
-        (tells_here (side_refusal block first_symbols first_names at_right t.right) late_refusal e (subst (Tells e) moved_right h))
-
     module _ (third : List (List ℕ × ℕ)) (then : List (List ℕ)) (u : math.Term) (second : IsSideRead block middle between at_right t.right third then u) where
       second_accepted : side_refusal block first_symbols first_names at_right t.right ≡ None
       second_accepted = sym moved_right ∙ second.accepted
@@ -102,25 +92,12 @@ module _ (block : List (List ℕ)) (oriented : Bool) (table : List (List ℕ × 
       then_is : then ≡ second_names
       then_is = second.variables ∙ ap (λ (v : List (List ℕ)). with_variables block v t.right) first_read.variables
 
-      late_fails : (e : ReadError) → Tells e late_refusal → Tells e (rule_refusal block oriented table number t)
-      late_fails e h =
-          tells_then (side_refusal block table [] at_left t.left) next_refusal e first_read.accepted
-          (tells_then (side_refusal block first_symbols first_names at_right t.right) late_refusal e second_accepted h)
-
-      pub bar_fails : (bar : Option ℕ) (e : ReadError) → bar ≡ option_map (λ g. g.at) t.guard → Tells e (bar_refusal oriented bar) → Tells e (rule_refusal block oriented table number t)
-      bar_fails bar e is h =
-          late_fails e (tells_here (bar_refusal oriented (option_map (λ (g : Guard). g.at) t.guard)) last_refusal e (subst (λ (b : Option ℕ). Tells e (bar_refusal oriented b)) is h))
-
       moved_last : conditions_refusal block third then number 1 (conditions_of t) ≡ last_refusal
       moved_last = ap₂ (λ (x : List (List ℕ × ℕ)) (v : List (List ℕ)). conditions_refusal block x v number 1 (conditions_of t)) third_is then_is
 
       module _ (bar : Option ℕ) (is : bar ≡ option_map (λ g. g.at) t.guard) (clear : bar_refusal oriented bar ≡ None) where
         bar_accepted : bar_refusal oriented (option_map (λ g. g.at) t.guard) ≡ None
         bar_accepted = sym (ap (bar_refusal oriented) is) ∙ clear
-
-        pub conditions_fail : (e : ReadError) → Tells e (conditions_refusal block third then number 1 (conditions_of t)) → Tells e (rule_refusal block oriented table number t)
-        conditions_fail e h =
-            late_fails e (tells_then (bar_refusal oriented (option_map (λ (g : Guard). g.at) t.guard)) last_refusal e bar_accepted (subst (Tells e) moved_last h))
 
         pub parts_read : (after : List (List ℕ × ℕ)) (later : List (List ℕ)) (lt ut : Term) (conds : Vec Cond Global) (n : ℕ) → view lt ≡ l → view ut ≡ u → n ≡ length later
             → AreConditionsRead block third then number (conditions_of t) after later (map condition_view conds.items)

@@ -23,10 +23,6 @@ pub count_is : (p : Phrase) → (head_of p).arguments ≡ count (arguments_of p)
 count_is (word f) = refl
 count_is (call f ts) = refl
 
-pub nodes_is : (p : Phrase) → nodes p ≡ suc (all_nodes (arguments_of p))
-nodes_is (word f) = refl
-nodes_is (call f ts) = refl
-
 mutual
   pub flat_length : (p : Phrase) → length (flat p) ≡ nodes p
   flat_length (word f) = refl

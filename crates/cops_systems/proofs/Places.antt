@@ -3,7 +3,7 @@ use Rattle.std.proofs.Common.{◌≡◌, ℕ, suc, ◌+◌, ◌≤◌, Bool, tru
 use Rattle.file_text.specs.Syntax.{Phrase, Phrases, word, call, none, more, ConditionTree, Guard, RuleTree}
 use Rattle.file_text.proofs.TreeWords.{OfPhrase, OfPhrases, OfConditions, OfGuard, OfRules}
 use Rattle.file_text.proofs.Within.{NameWithin, PlaceWithin, tree_within}
-use Rattle.cops_systems.specs.Uses.{Spot, spots, spots_of_all, Side, side_of, Event, use_of, bar_at, place, uses_from, term_events, condition_events, guard_events, rule_events, rules_events, events}
+use Rattle.cops_systems.specs.Uses.{Spot, spots, spots_of_all, Side, side_of, Event, place, uses_from, term_events, condition_events, guard_events, rule_events, rules_events, events}
 use Rattle.cops_systems.specs.Meaning.{variables_of}
 use Rattle.cops_systems.specs.Refusals.{MeaningCause, event_cause, first_or, first_refusal}
 use Rattle.cops_systems.specs.File.{MeansNothing}

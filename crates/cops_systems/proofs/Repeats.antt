@@ -68,9 +68,6 @@ module _ (block : List (List ℕ)) where
     pub mean : AreConditionsOf block now later (take i cs) (map condition_view ds)
 
   module _ (table : List (List ℕ × ℕ)) (names : List (List ℕ)) (rule : ℕ) (cs : List ConditionTree) where
-    pub conditions_start : (ds : List Cond) → ds ≡ [] → Conditions table names rule cs 0 table names ds
-    conditions_start ds e = record { refusal = refl; symbols = refl; variables = refl; mean = subst (λ (x : List Cond). AreConditionsOf block table names [] (map condition_view x)) (sym e) tt }
-
     module _ (i : ℕ) (now : List (List ℕ × ℕ)) (later : List (List ℕ)) (ds : List Cond) (h : Conditions table names rule cs i now later ds) where
       pub conditions_fail : (P : ConditionTree → Type 0) (n : IsNext P cs i) (e : ReadError) → Tells e (condition_refusal block now later rule (i + 1) n.item) → Tells e (conditions_refusal block table names rule 1 cs)
       conditions_fail P n e t =
@@ -135,15 +132,6 @@ module _ (block : List (List ℕ)) where
     pub counted : AreNumbersOf block (take i ts) rs
 
   module _ (oriented : Bool) (table : List (List ℕ × ℕ)) (ts : List RuleTree) where
-    pub rules_start : (listed : List (List (List ℕ))) (rs : List Rule) → listed ≡ [] → rs ≡ [] → Rules oriented table ts 0 table listed rs
-    rules_start listed rs e f = record {
-      refusal = refl;
-      symbols = refl;
-      variables = e;
-      mean = subst (λ (x : List Rule). AreRulesOf block table [] (map rule_view x)) (sym f) tt;
-      counted = subst (λ (x : List Rule). AreNumbersOf block [] x) (sym f) tt;
-    }
-
     module _ (i : ℕ) (now : List (List ℕ × ℕ)) (listed : List (List (List ℕ))) (rs : List Rule) (h : Rules oriented table ts i now listed rs) where
       pub rules_fail : (P : RuleTree → Type 0) (n : IsNext P ts i) (e : ReadError) → Tells e (rule_refusal block oriented now (i + 1) n.item) → Tells e (rules_refusal block oriented table 1 ts)
       rules_fail P n e t =

@@ -27,9 +27,6 @@ tells_as o others h NoMemory t = tt
 pub tells_here : (o others : Option (MeaningCause × ℕ)) (e : ReadError) → Tells e o → Tells e (or_refusal o others)
 tells_here o others = tells_as o (or_refusal o others) (λ r h. ap (λ (x : Option (MeaningCause × ℕ)). or_refusal x others) h)
 
-pub tells_then : (o others : Option (MeaningCause × ℕ)) (e : ReadError) → o ≡ None → Tells e others → Tells e (or_refusal o others)
-tells_then o others e h t = subst (λ (x : Option (MeaningCause × ℕ)). Tells e (or_refusal x others)) (sym h) t
-
 first_stays : (cause : Option MeaningCause) (at : ℕ) (others : Option (MeaningCause × ℕ)) (r : MeaningCause × ℕ) → first_or cause at None ≡ Some r → first_or cause at others ≡ Some r
 first_stays None at others r h = cc
 first_stays (Some cause) at others r h = h

@@ -137,9 +137,6 @@ module _ (block : List (List ℕ)) where
     pub nodes_left : nodes_view (drop before ns) ≡ flat_all (drop_phrases i ps) ++ rest
 
   module _ (table : List (List ℕ × ℕ)) (names : List (List ℕ)) (side : Side) (depth start : ℕ) (ns : List program.Node) (ps : Phrases) (rest : List Node) where
-    pub loop_start : nodes_view (drop start ns) ≡ flat_all ps ++ rest → Loop table names side depth start ns ps rest 0 table names [] start
-    loop_start h = record { refusal = refl; symbols = refl; variables = refl; mean = tt; end = refl; nodes_left = h }
-
     module _ (i : ℕ) (now : List (List ℕ × ℕ)) (later : List (List ℕ)) (terms : List Term) (before : ℕ) (h : Loop table names side depth start ns ps rest i now later terms before) where
       -- where the next phrase stands
       pub nodes_here : (n : IsNext ps i) → nodes_view (drop before ns) ≡ flat n.phrase ++ (flat_all (drop_phrases (suc i) ps) ++ rest)

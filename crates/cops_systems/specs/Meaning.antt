@@ -1,7 +1,5 @@
 -- Which system, with which names, the syntax tree of a file means.
-use Rattle.std.specs.Prelude.{◌≡◌, ℕ, Bool, true, false, if◌then◌else◌, List, [], ◌∷◌, ◌++◌, map, position, Option, Some, is_some, option_map, slice_get}
-use Rattle.std.specs.List.{list_any}
-use Rattle.std.specs.Str.{bytes_eq}
+use Rattle.std.specs.Prelude.{◌≡◌, ℕ, true, false, if◌then◌else◌, List, [], ◌∷◌, ◌++◌, map, Some, is_some, option_map, slice_get}
 use Rattle.file_text.specs.Syntax.{Phrase, Phrases, word, call, none, more, count, ConditionTree, RuleTree, conditions_of, FileTree}
 use Rattle.rewriting.specs.Terms.{Term, var, app, Terms, nil, cons}
 use Rattle.rewriting.specs.Rules.{Condition, Rule}

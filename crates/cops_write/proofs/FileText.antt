@@ -2,7 +2,7 @@
 use Rattle.std.proofs.Common.{◌≡◌, ℕ, Bool, true, false, List, [], ◌∷◌, ◌++◌, map, Some, refl, sym, ap, ap₂, ◌∙◌, subst, append_assoc, append-nil, codes}
 use Rattle.file_text.specs.declared.Kind.TheVariants.{Id, LeftParen, RightParen}
 use Rattle.file_text.specs.Syntax.{Name, RuleTree, FileTree}
-use Rattle.file_text.specs.Grammar.{Word, id, left_paren, right_paren, spelled_rules, Block, condition_type, variables, rules, spelled_block, spelled_blocks, oriented_in, variables_in, rules_in, are_distinct, IsFile}
+use Rattle.file_text.specs.Grammar.{Word, id, left_paren, right_paren, spelled_rules, Block, condition_type, variables, rules, spelled_block, spelled_blocks, oriented_in, variables_in, rules_in, are_distinct, SpellTree}
 use Rattle.file_text.specs.Texts.{words_of, IsText}
 use Rattle.file_text.proofs.Names.{IsName, ends_id, condition_type_name, oriented_name, variables_name, rules_name}
 use Rattle.file_text.proofs.Lexemes.{Lexeme, lexeme, Reads, reads_end, reads_white, reads_id, reads_block, reads_closing_bracket, spelled}
@@ -194,7 +194,7 @@ pub record Written (conditional : Bool) (names : List (List ℕ)) (rs : List Rul
 -- the words of the whole text
 record WholeFile (conditional : Bool) (names : List (List ℕ)) (rs : List RuleTree) (ws : List Word) : Type 0 where
   tree : FileTree
-  whole : IsFile ws tree
+  whole : SpellTree ws tree
   oriented : tree.oriented ≡ conditional
   variables : map (λ n. n.text) tree.variables ≡ names
   alike : RulesAlike rs tree.rules

@@ -1,6 +1,6 @@
 -- A text that is written part by part, and what is left of it.
 use Rattle.std.proofs.Common.{◌≡◌, ◌≤◌, ◌<◌, ◌+◌, ◌-◌, ℕ, suc, List, [], ◌∷◌, ◌++◌, get_or, take, drop, length, subst, sym, ◌∙◌, ap, arith, add-one, drop-cons, append_assoc}
-use Rattle.std.proofs.lemmas.List.{take_all, drop_all, append-nil}
+use Rattle.std.proofs.lemmas.List.{take_all, drop_all}
 use Rattle.cops_write.specs.Grows.{Grows}
 
 -- what is written behind these bytes makes the whole text, where the rest of it follows
@@ -10,9 +10,6 @@ pub record Leads (start whole now left : List ℕ) : Type 0 where
 pub both : {a b c x y : List ℕ} → Grows a x b → Grows b y c → Grows a (x ++ y) c
 both {a} {b} {c} {x} {y} h k = record { by = k.by ∙ ap (λ (w : List ℕ). w ++ y) h.by ∙ append_assoc a x y }
 
-pub nothing : (a : List ℕ) → Grows a [] a
-nothing a = record { by = sym (append-nil a) }
-
 pub begins : {a b x : List ℕ} (left : List ℕ) → Grows a x b → Leads a (x ++ left) b left
 begins {a} {b} {x} left h = record { on = ap (λ (w : List ℕ). w ++ left) h.by ∙ append_assoc a x left }
 
@@ -21,9 +18,6 @@ goes_on {start} {whole} {now} {next} {x} left l h = record { on = ap (λ (w : Li
 
 pub ends : {start whole now next x : List ℕ} → Leads start whole now x → Grows now x next → Grows start whole next
 ends {start} {whole} {now} {next} {x} l h = record { by = h.by ∙ l.on }
-
-pub ended : {start whole now : List ℕ} → Leads start whole now [] → Grows start whole now
-ended {start} {whole} {now} l = record { by = sym (append-nil now) ∙ l.on }
 
 pub as_text : {a b x : List ℕ} (y : List ℕ) → y ≡ x → Grows a x b → Grows a y b
 as_text {a} {b} {x} y e h = record { by = h.by ∙ ap (λ (w : List ℕ). a ++ w) (sym e) }

@@ -2,7 +2,7 @@
 use Rattle.std.proofs.Common.{◌≡◌, ℕ, Bool, true, false, ◌&&◌, if◌then◌else◌, List, [], ◌∷◌, ◌++◌, length, Option, Some, None, Result, Ok, Err, refl, sym, ap, subst, ◌∙◌, append_assoc}
 use Rattle.std.proofs.lemmas.List.{append-nil}
 use Rattle.file_text.specs.Syntax.{Name, RuleTree, FileTree}
-use Rattle.file_text.specs.Grammar.{Word, Block, spelled_blocks, are_distinct, oriented_in, variables_in, rules_in, IsFile}
+use Rattle.file_text.specs.Grammar.{Word, Block, spelled_blocks, are_distinct, oriented_in, variables_in, rules_in, SpellTree}
 use Rattle.file_text.specs.Refusals.{SyntaxCause}
 use Rattle.file_text.proofs.Machine.{State, outside, behind_bracket, behind_type, behind_oriented, in_variables, in_rules, step_any, repeats, file_or_missing, finish, numbered, run, finished, read_file}
 use Rattle.file_text.proofs.ReadingWords.{some_is}
@@ -42,16 +42,16 @@ finish_is n (Ok other) file e = ap (λ (f : FileTree). Ok f) (file_is other file
 finish_is n (Err c) file e = absurd cc
 
 -- the blocks that are read spell a file
-finish_sound : (ws : List Word) (bs : List Block) (file : FileTree) → ws ≡ spelled_blocks bs → are_distinct bs ≡ true → file_or_missing bs (rules_in bs) ≡ Ok file → IsFile ws file
+finish_sound : (ws : List Word) (bs : List Block) (file : FileTree) → ws ≡ spelled_blocks bs → are_distinct bs ≡ true → file_or_missing bs (rules_in bs) ≡ Ok file → SpellTree ws file
 finish_sound ws bs file spelled new e = go (rules_in bs) refl e
   where
-    go : (m : Option (List RuleTree)) → rules_in bs ≡ m → file_or_missing bs m ≡ Ok file → IsFile ws file
+    go : (m : Option (List RuleTree)) → rules_in bs ≡ m → file_or_missing bs m ≡ Ok file → SpellTree ws file
     go None is e = absurd cc
     go (Some rs) is e =
         let same : tree bs rs ≡ file = file_is (tree bs rs) file (ap told e) in
-        subst (IsFile ws) same record { blocks = bs; spelled = spelled; distinct = new; oriented = refl; variables = refl; rules = is }
+        subst (SpellTree ws) same record { blocks = bs; spelled = spelled; distinct = new; oriented = refl; variables = refl; rules = is }
 
-state_sound : (ws : List Word) (s : State) (file : FileTree) → goes true (outside []) ws ≡ Some s → finish s ≡ Ok file → IsFile ws file
+state_sound : (ws : List Word) (s : State) (file : FileTree) → goes true (outside []) ws ≡ Some s → finish s ≡ Ok file → SpellTree ws file
 state_sound ws (outside bs) file e is = finish_sound ws bs file (sym (goes_words ws (outside bs) e)) (goes_new ws (outside []) (outside bs) e refl) is
 state_sound ws (behind_bracket bs) file e is = absurd cc
 state_sound ws (behind_type bs at) file e is = absurd cc
@@ -60,10 +60,10 @@ state_sound ws (in_variables bs at names) file e is = absurd cc
 state_sound ws (in_rules bs at r) file e is = absurd cc
 
 -- what is read is spelled
-pub file_sound : (ws : List Word) (file : FileTree) → read_file ws ≡ Ok file → IsFile ws file
+pub file_sound : (ws : List Word) (file : FileTree) → read_file ws ≡ Ok file → SpellTree ws file
 file_sound ws file e = go (run 0 (outside []) ws) refl e
   where
-    go : (r : Result State (SyntaxCause × ℕ)) → run 0 (outside []) ws ≡ r → finished (length ws) r ≡ Ok file → IsFile ws file
+    go : (r : Result State (SyntaxCause × ℕ)) → run 0 (outside []) ws ≡ r → finished (length ws) r ≡ Ok file → SpellTree ws file
     go (Err c) is e = absurd cc
     go (Ok s) is e = state_sound ws s file (run_goes 0 ws (outside []) s is) (finish_is (length ws) (finish s) file e)
 
@@ -72,7 +72,7 @@ pub distinct_go : (bs : List Block) → are_distinct bs ≡ true → goes true (
 distinct_go bs d = blocks_go true bs [] (distinct_free bs [] d)
 
 -- what is spelled is read
-pub file_complete : (ws : List Word) (file : FileTree) → IsFile ws file → read_file ws ≡ Ok file
+pub file_complete : (ws : List Word) (file : FileTree) → SpellTree ws file → read_file ws ≡ Ok file
 file_complete ws file h =
     let gone = ap (goes true (outside [])) h.spelled ∙ distinct_go h.blocks h.distinct in
     ap (finished (length ws)) (goes_run 0 ws (outside []) (outside h.blocks) gone)
@@ -84,5 +84,5 @@ ok_file : (file other : FileTree) (r : Result FileTree (SyntaxCause × ℕ)) →
 ok_file file other r p q = file_is file other (sym p ∙ q)
 
 -- words spell one file
-pub one_file : (ws : List Word) (file other : FileTree) → IsFile ws file → IsFile ws other → file ≡ other
+pub one_file : (ws : List Word) (file other : FileTree) → SpellTree ws file → SpellTree ws other → file ≡ other
 one_file ws file other p q = ok_file file other (read_file ws) (file_complete ws file p) (file_complete ws other q)

@@ -11,8 +11,8 @@ use Rattle.std.proofs.lemmas.Slice.Eq.{bytes_eq-Decides}
 use Rattle.file_text.specs.declared.Kind.{Kind}
 use Rattle.file_text.specs.declared.Kind.TheVariants.{Id, LeftParen, RightParen, Comma, Bar, Arrow, Equal}
 use Rattle.file_text.specs.declared.Token.{Token}
-use Rattle.file_text.specs.Bytes.{is_white, white_len, run_len, is_comment_word, begins_comment, comment_len}
-use Rattle.file_text.specs.Tokens.{kind_at, len_at, longest, open_after, is_comment_at, behind_white, Stands, StandsComment, Piece, token, comment, tokens_of, LeadsTo, Spells}
+use Rattle.file_text.specs.Bytes.{is_white, white_len, run_len, is_comment_word, comment_len}
+use Rattle.file_text.specs.Tokens.{kind_at, len_at, longest, open_after, is_comment_at, behind_white, Stands, StandsComment, Piece, token, comment, tokens_of, StandInTurn, Spells}
 use Rattle.file_text.proofs.OneReading.{begins_with_bracket}
 use Rattle.file_text.proofs.Names.{IsName, ends_id, name_ends, name_at, run_is_id, no_right}
 
@@ -34,7 +34,7 @@ lexemes_of bytes ts = map (lexeme_of bytes) ts
 pub record Continues (bytes : List ℕ) (at : ℕ) (count : ℕ) (ls : List Lexeme) : Type 0 where
   pub pieces : List Piece
   pub end : ℕ
-  pub leads : LeadsTo bytes at count pieces end
+  pub leads : StandInTurn bytes at count pieces end
   pub whole : behind_white bytes end ≡ length bytes
   pub lexemes : lexemes_of bytes (tokens_of pieces) ≡ ls
 
@@ -71,7 +71,7 @@ white_then b bs = refl
 
 record Led (bytes : List ℕ) (at : ℕ) (count : ℕ) (ps : List Piece) : Type 0 where
   end : ℕ
-  leads : LeadsTo bytes at count ps end
+  leads : StandInTurn bytes at count ps end
   whole : behind_white bytes end ≡ length bytes
 
 -- the white space before a place is white space before its pieces
@@ -253,7 +253,7 @@ stands_named bytes at count t s is =
     let span : t.to - t.from ≡ run_len left = omega (arith, s.ends, len) in
     subst (λ (n : ℕ). IsName (take n left)) (sym span) (name_at left (s.kind ∙ ap (λ (k : Kind). Some k) is) (subst (λ (n : ℕ). n ≤ longest) len s.short))
 
-led_named : (bytes : List ℕ) (at count : ℕ) (ps : List Piece) (end : ℕ) → LeadsTo bytes at count ps end → All (IsNamed bytes) (tokens_of ps)
+led_named : (bytes : List ℕ) (at count : ℕ) (ps : List Piece) (end : ℕ) → StandInTurn bytes at count ps end → All (IsNamed bytes) (tokens_of ps)
 led_named bytes at count [] end l = λ k d lt. absurd (omega arith)
 led_named bytes at count (token t ∷ ps) end l = All-cons (IsNamed bytes) t (tokens_of ps) (stands_named bytes at count t l.0) (led_named bytes t.to (open_after count t.kind) ps end l.1)
 led_named bytes at count (comment to ∷ ps) end l = led_named bytes to count ps end l.1

@@ -5,7 +5,7 @@ use Rattle.file_text.specs.declared.Kind.{Kind}
 use Rattle.file_text.specs.declared.Kind.TheVariants.{Id, LeftParen}
 use Rattle.file_text.specs.declared.Token.{Token}
 use Rattle.file_text.specs.Bytes.{run_len, is_comment_word, comment_len, white_len}
-use Rattle.file_text.specs.Tokens.{kind_at, len_at, longest, open_after, is_comment_at, behind_white, Stands, StandsComment, Piece, token, comment, tokens_of, LeadsTo, opened, Spells, IsReached, TokenCause, bad_byte, long_id, open_comment, HasNoTokens}
+use Rattle.file_text.specs.Tokens.{kind_at, len_at, longest, open_after, is_comment_at, behind_white, Stands, StandsComment, Piece, token, comment, tokens_of, StandInTurn, opened, Spells, IsReached, TokenCause, bad_byte, long_id, open_comment, HasNoTokens}
 
 abbrev some : {A : Type 0} → A → Option A
 some x = Some x
@@ -55,7 +55,7 @@ record Stops (bytes : List ℕ) (end : ℕ) (count : ℕ) : Type 0 where
   tokens : (t : Token) → Stands bytes end count t → ⊥
   comments : (to : ℕ) → StandsComment bytes end count to → ⊥
 
-same_end : (bytes : List ℕ) (at count : ℕ) (ps qs : List Piece) (m n : ℕ) → LeadsTo bytes at count ps m → Stops bytes m (opened count ps) → LeadsTo bytes at count qs n → Stops bytes n (opened count qs) → (ps ≡ qs) × (m ≡ n)
+same_end : (bytes : List ℕ) (at count : ℕ) (ps qs : List Piece) (m n : ℕ) → StandInTurn bytes at count ps m → Stops bytes m (opened count ps) → StandInTurn bytes at count qs n → Stops bytes n (opened count qs) → (ps ≡ qs) × (m ≡ n)
 same_end bytes at count [] [] m n l p r q = (refl, sym l ∙ r)
 same_end bytes at count [] (token u ∷ qs) m n l p r q = absurd ((subst (λ (k : ℕ). Stops bytes k count) (sym l) p).tokens u r.0)
 same_end bytes at count [] (comment to ∷ qs) m n l p r q = absurd ((subst (λ (k : ℕ). Stops bytes k count) (sym l) p).comments to r.0)
@@ -66,12 +66,12 @@ same_end bytes at count (comment to ∷ ps) (token u ∷ qs) m n l p r q = absur
 same_end bytes at count (token t ∷ ps) (token u ∷ qs) m n l p r q =
     let same = same_token bytes at count t u l.0 r.0 in
     let others = same_end bytes t.to (open_after count t.kind) ps qs m n l.1 p
-    (subst (λ (v : Token). LeadsTo bytes v.to (open_after count v.kind) qs n) (sym same) r.1)
+    (subst (λ (v : Token). StandInTurn bytes v.to (open_after count v.kind) qs n) (sym same) r.1)
     (subst (λ (v : Token). Stops bytes n (opened (open_after count v.kind) qs)) (sym same) q) in
     (ap (λ (v : Token). token v ∷ ps) same ∙ ap (λ (os : List Piece). token u ∷ os) others.0, others.1)
 same_end bytes at count (comment to ∷ ps) (comment other ∷ qs) m n l p r q =
     let same = same_comment bytes at count to other l.0 r.0 in
-    let others = same_end bytes to count ps qs m n l.1 p (subst (λ (k : ℕ). LeadsTo bytes k count qs n) (sym same) r.1) q in
+    let others = same_end bytes to count ps qs m n l.1 p (subst (λ (k : ℕ). StandInTurn bytes k count qs n) (sym same) r.1) q in
     (ap (λ (k : ℕ). comment k ∷ ps) same ∙ ap (λ (os : List Piece). comment other ∷ os) others.0, others.1)
 
 none_stops : (bytes : List ℕ) (end count : ℕ) → kind_at (drop (behind_white bytes end) bytes) ≡ None → Stops bytes end count
@@ -114,7 +114,7 @@ Last bytes (Some open_comment) count place at = (is_comment_at count (drop place
 
 record Outcome (bytes : List ℕ) (cause : Option TokenCause) (at : ℕ) (pieces : List Piece) : Type 0 where
   end : ℕ
-  leads : LeadsTo bytes 0 0 pieces end
+  leads : StandInTurn bytes 0 0 pieces end
   last : Last bytes cause (opened 0 pieces) (behind_white bytes end) at
 
 last_stops : (bytes : List ℕ) (cause : Option TokenCause) (count end at : ℕ) → Last bytes cause count (behind_white bytes end) at → Stops bytes end count

@@ -2,7 +2,7 @@
 use Rattle.std.proofs.Common.{◌≡◌, inl, inr, true, false, ℕ, zero, suc, ◌+◌, List, [], ◌∷◌, ◌++◌, length, take, slice_get, Option, Some, None, Result, Ok, Err, refl, sym, ap, subst, ◌∙◌, arith}
 use Rattle.std.proofs.Math.Seq.{take-length, take-append_seam}
 use Rattle.file_text.specs.Syntax.{RuleTree, FileTree}
-use Rattle.file_text.specs.Grammar.{Word, Block, spelled_blocks, rules_in, IsFile}
+use Rattle.file_text.specs.Grammar.{Word, Block, spelled_blocks, rules_in, SpellTree}
 use Rattle.file_text.specs.Refusals.{SyntaxCause, unknown_block, repeated_block, other_condition_type, wrong_syntax, missing_rules, Calls, EndCalls, AreClear, AreRefused}
 use Rattle.file_text.proofs.Machine.{State, outside, behind_bracket, behind_type, behind_oriented, in_variables, in_rules, file_or_missing, finish, numbered, run, finished, read_file}
 use Rattle.file_text.proofs.ReadingWords.{some_is}
@@ -142,5 +142,5 @@ pub one_refusal : (ws : List Word) (c d : SyntaxCause) (k m : ℕ) → AreRefuse
 one_refusal ws c d k m p q =
     let same = error_is (c, k) (d, m) (read_file ws) (refused_complete ws c k p) (refused_complete ws d m q) in (ap (λ (e : SyntaxCause × ℕ). e.0) same, ap (λ (e : SyntaxCause × ℕ). e.1) same)
 
-pub never_refused : (ws : List Word) (file : FileTree) (c : SyntaxCause) (k : ℕ) → IsFile ws file → AreRefused ws c k → ⊥
+pub never_refused : (ws : List Word) (file : FileTree) (c : SyntaxCause) (k : ℕ) → SpellTree ws file → AreRefused ws c k → ⊥
 never_refused ws file c k h r = let read = file_complete ws file h in let refused = refused_complete ws c k r in cc

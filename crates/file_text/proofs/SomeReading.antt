@@ -6,7 +6,7 @@ use Rattle.file_text.specs.declared.Kind.{Kind}
 use Rattle.file_text.specs.declared.Kind.TheVariants.{Id, LeftParen, RightParen, Comma, Bar, Arrow, Equal}
 use Rattle.file_text.specs.declared.Token.{Token}
 use Rattle.file_text.specs.Bytes.{is_white, white_len, count_after, closing_len, comment_len}
-use Rattle.file_text.specs.Tokens.{kind_at, len_at, longest, open_after, is_comment_at, behind_white, Stands, StandsComment, Piece, token, comment, tokens_of, LeadsTo, opened, Spells, IsReached, TokenCause, bad_byte, long_id, open_comment, HasNoTokens}
+use Rattle.file_text.specs.Tokens.{kind_at, len_at, longest, open_after, is_comment_at, behind_white, Stands, StandsComment, Piece, token, comment, tokens_of, StandInTurn, opened, Spells, IsReached, TokenCause, bad_byte, long_id, open_comment, HasNoTokens}
 use Rattle.file_text.proofs.OneReading.{Last}
 use Rattle.file_text.proofs.Fronts.{kind_fits}
 
@@ -105,7 +105,7 @@ front bytes at count le =
 record Outcome (bytes : List ℕ) (at : ℕ) (count : ℕ) : Type 0 where
   pieces : List Piece
   end : ℕ
-  leads : LeadsTo bytes at count pieces end
+  leads : StandInTurn bytes at count pieces end
   cause : Option TokenCause
   place : ℕ
   last : Last bytes cause (opened count pieces) (behind_white bytes end) place
@@ -127,10 +127,10 @@ outcome : (fuel : ℕ) (bytes : List ℕ) (at count : ℕ) → at ≤ length byt
 outcome zero bytes at count le enough = by_front bytes at count (λ to n lt most. absurd (omega arith)) (front bytes at count le)
 outcome (suc fuel) bytes at count le enough = by_front bytes at count (λ to n lt most. outcome fuel bytes to n most (omega arith)) (front bytes at count le)
 
-reached : (bytes : List ℕ) (ps : List Piece) (end : ℕ) → LeadsTo bytes 0 0 ps end → IsReached bytes (opened 0 ps) (behind_white bytes end)
+reached : (bytes : List ℕ) (ps : List Piece) (end : ℕ) → StandInTurn bytes 0 0 ps end → IsReached bytes (opened 0 ps) (behind_white bytes end)
 reached bytes ps end l = record { pieces = ps; end = end; leads = l; behind = refl; counted = refl }
 
-told : (bytes : List ℕ) (cause : Option TokenCause) (place end : ℕ) (ps : List Piece) → LeadsTo bytes 0 0 ps end → Last bytes cause (opened 0 ps) (behind_white bytes end) place
+told : (bytes : List ℕ) (cause : Option TokenCause) (place end : ℕ) (ps : List Piece) → StandInTurn bytes 0 0 ps end → Last bytes cause (opened 0 ps) (behind_white bytes end) place
     → ((ts : List Token) × Spells bytes ts) ⊎ ((cause : TokenCause) × (at : ℕ) × HasNoTokens bytes cause at)
 told bytes None place end ps l last = inl (tokens_of ps, record { pieces = ps; end = end; leads = l; whole = last.0; tokens = refl })
 told bytes (Some bad_byte) place end ps l last = inr (bad_byte, behind_white bytes end, (opened 0 ps, reached bytes ps end l, last.0, last.1))

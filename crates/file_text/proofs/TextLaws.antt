@@ -3,7 +3,7 @@ use Rattle.std.proofs.Common.{◌≡◌, ◌⊎◌, inl, inr, ℕ, List, Result,
 use Rattle.file_text.specs.declared.Token.{Token}
 use Rattle.file_text.specs.Tokens.{Spells}
 use Rattle.file_text.specs.Syntax.{FileTree}
-use Rattle.file_text.specs.Grammar.{IsFile}
+use Rattle.file_text.specs.Grammar.{SpellTree}
 use Rattle.file_text.specs.Refusals.{SyntaxCause, AreRefused}
 use Rattle.file_text.specs.Texts.{words_of, place_of_token, IsText, IsNoText}
 use Rattle.file_text.proofs.Machine.{read_file}
@@ -13,7 +13,7 @@ use Rattle.file_text.proofs.RefusedFiles.{one_refusal, never_refused, refused_so
 
 pub one_tree_of : (bytes : List ℕ) (file other : FileTree) → IsText bytes file → IsText bytes other → file ≡ other
 one_tree_of bytes file other p q =
-    one_file (words_of bytes q.tokens) file other (subst (λ (ts : List Token). IsFile (words_of bytes ts) file) (one_list bytes p.tokens q.tokens p.spelled q.spelled) p.whole) q.whole
+    one_file (words_of bytes q.tokens) file other (subst (λ (ts : List Token). SpellTree (words_of bytes ts) file) (one_list bytes p.tokens q.tokens p.spelled q.spelled) p.whole) q.whole
 
 pub one_refusal_of : (bytes : List ℕ) (cause other : SyntaxCause) (at place : ℕ) → IsNoText bytes cause at → IsNoText bytes other place → (cause ≡ other) × (at ≡ place)
 one_refusal_of bytes cause other at place p q =
@@ -23,7 +23,7 @@ one_refusal_of bytes cause other at place p q =
 
 pub never_tree_and_refusal : (bytes : List ℕ) (file : FileTree) (cause : SyntaxCause) (at : ℕ) → IsText bytes file → IsNoText bytes cause at → ⊥
 never_tree_and_refusal bytes file cause at p q =
-    never_refused (words_of bytes q.tokens) file cause q.number (subst (λ (ts : List Token). IsFile (words_of bytes ts) file) (one_list bytes p.tokens q.tokens p.spelled q.spelled) p.whole) q.refused
+    never_refused (words_of bytes q.tokens) file cause q.number (subst (λ (ts : List Token). SpellTree (words_of bytes ts) file) (one_list bytes p.tokens q.tokens p.spelled q.spelled) p.whole) q.refused
 
 -- ---- what the reader says of the text
 

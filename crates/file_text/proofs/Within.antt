@@ -6,9 +6,8 @@ use Rattle.file_text.specs.declared.Kind.{Kind}
 use Rattle.file_text.specs.declared.Kind.TheVariants.{Id, LeftParen, RightParen, Comma, Bar, Arrow, Equal}
 use Rattle.file_text.specs.declared.Token.{Token}
 use Rattle.file_text.specs.Syntax.{Name, FileTree}
-use Rattle.file_text.specs.Grammar.{Word}
 use Rattle.file_text.specs.Refusals.{SyntaxCause}
-use Rattle.file_text.specs.Tokens.{kind_at, open_after, Piece, token, comment, tokens_of, LeadsTo, Spells, TokenCause, bad_byte, long_id, open_comment, HasNoTokens}
+use Rattle.file_text.specs.Tokens.{kind_at, open_after, Piece, token, comment, tokens_of, StandInTurn, TokenCause, bad_byte, long_id, open_comment, HasNoTokens}
 use Rattle.file_text.specs.Texts.{word_of_kind, words_of, place_of_token, IsText, IsNoText}
 use Rattle.file_text.proofs.Fronts.{kind_fits}
 use Rattle.file_text.proofs.TreeWords.{OfWord, OfWords, OfRules, of_file}
@@ -27,7 +26,7 @@ module _ (bytes : List ℕ) where
   no_tokens_within open_comment at h = omega (arith, h.5)
 
   -- the token with a number, or the end
-  token_within : (at count : ℕ) (ps : List Piece) (end number : ℕ) → LeadsTo bytes at count ps end → place_of_token bytes (tokens_of ps) number ≤ length bytes
+  token_within : (at count : ℕ) (ps : List Piece) (end number : ℕ) → StandInTurn bytes at count ps end → place_of_token bytes (tokens_of ps) number ≤ length bytes
   token_within at count [] end number l = omega arith
   token_within at count (token t ∷ ps) end zero l = omega (arith, begins_within t.from t.kind l.0.kind)
   token_within at count (token t ∷ ps) end (suc n) l = token_within t.to (open_after count t.kind) ps end n l.1
@@ -56,7 +55,7 @@ module _ (bytes : List ℕ) where
   kind_within Arrow n h = tt
   kind_within Equal n h = tt
 
-  words_within : (at count : ℕ) (ps : List Piece) (end : ℕ) → LeadsTo bytes at count ps end → OfWords NameWithin PlaceWithin (words_of bytes (tokens_of ps))
+  words_within : (at count : ℕ) (ps : List Piece) (end : ℕ) → StandInTurn bytes at count ps end → OfWords NameWithin PlaceWithin (words_of bytes (tokens_of ps))
   words_within at count [] end l = tt
   words_within at count (token t ∷ ps) end l =
       let here = begins_within t.from t.kind l.0.kind in

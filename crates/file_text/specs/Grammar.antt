@@ -107,8 +107,8 @@ rules_in (condition_type p q ∷ bs) = rules_in bs
 rules_in (variables p names ∷ bs) = rules_in bs
 rules_in (rules p rs ∷ bs) = Some rs
 
--- blocks in any order, each at most once, and one of rules
-pub record IsFile (ws : List Word) (file : FileTree) : Type 0 where
+-- the words spell the tree: blocks in any order, each at most once, and one of rules
+pub record SpellTree (ws : List Word) (file : FileTree) : Type 0 where
   pub blocks : List Block
   pub spelled : ws ≡ spelled_blocks blocks
   pub distinct : are_distinct blocks ≡ true

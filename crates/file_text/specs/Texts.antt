@@ -5,7 +5,7 @@ use Rattle.file_text.specs.declared.Kind.TheVariants.{Id, LeftParen, RightParen,
 use Rattle.file_text.specs.declared.Token.{Token}
 use Rattle.file_text.specs.Tokens.{Spells}
 use Rattle.file_text.specs.Syntax.{Name, FileTree}
-use Rattle.file_text.specs.Grammar.{Word, id, left_paren, right_paren, comma, bar, arrow, equal, IsFile}
+use Rattle.file_text.specs.Grammar.{Word, id, left_paren, right_paren, comma, bar, arrow, equal, SpellTree}
 use Rattle.file_text.specs.Refusals.{SyntaxCause, AreRefused}
 
 abbrev pub word_of_kind : Kind → Name → Word
@@ -28,7 +28,7 @@ words_of bytes ts = map (word_of bytes) ts
 pub record IsText (bytes : List ℕ) (file : FileTree) : Type 0 where
   pub tokens : List Token
   pub spelled : Spells bytes tokens
-  pub whole : IsFile (words_of bytes tokens) file
+  pub whole : SpellTree (words_of bytes tokens) file
 
 -- the first byte of a token with this number, or the length of the text
 abbrev pub place_of_token : List ℕ → List Token → ℕ → ℕ

@@ -74,16 +74,16 @@ tokens_of (token t ∷ ps) = t ∷ tokens_of ps
 tokens_of (comment to ∷ ps) = tokens_of ps
 
 -- from a place on, where so many brackets are open, these pieces stand, with white space before and between them, and the last ends at a place
-abbrev pub LeadsTo : List ℕ → ℕ → ℕ → List Piece → ℕ → Type 0
-LeadsTo bytes at count [] end = at ≡ end
-LeadsTo bytes at count (token t ∷ ps) end = Stands bytes at count t × LeadsTo bytes t.to (open_after count t.kind) ps end
-LeadsTo bytes at count (comment to ∷ ps) end = StandsComment bytes at count to × LeadsTo bytes to count ps end
+abbrev pub StandInTurn : List ℕ → ℕ → ℕ → List Piece → ℕ → Type 0
+StandInTurn bytes at count [] end = at ≡ end
+StandInTurn bytes at count (token t ∷ ps) end = Stands bytes at count t × StandInTurn bytes t.to (open_after count t.kind) ps end
+StandInTurn bytes at count (comment to ∷ ps) end = StandsComment bytes at count to × StandInTurn bytes to count ps end
 
 -- the text is these tokens, with white space and comments before, between and behind them
 pub record Spells (bytes : List ℕ) (ts : List Token) : Type 0 where
   pub pieces : List Piece
   pub end : ℕ
-  pub leads : LeadsTo bytes 0 0 pieces end
+  pub leads : StandInTurn bytes 0 0 pieces end
   pub whole : behind_white bytes end ≡ length bytes
   pub tokens : tokens_of pieces ≡ ts
 
@@ -97,7 +97,7 @@ opened count (comment to ∷ ps) = opened count ps
 pub record IsReached (bytes : List ℕ) (count : ℕ) (place : ℕ) : Type 0 where
   pub pieces : List Piece
   pub end : ℕ
-  pub leads : LeadsTo bytes 0 0 pieces end
+  pub leads : StandInTurn bytes 0 0 pieces end
   pub behind : place ≡ behind_white bytes end
   pub counted : count ≡ opened 0 pieces
 

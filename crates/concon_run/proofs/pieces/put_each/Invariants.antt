@@ -1,6 +1,6 @@
-use Rattle.std.proofs.Common.{◌≡◌, ◌++◌, take}
-use Rattle.concon_run.specs.Numbers.{each_behind}
+use Rattle.std.proofs.Common.{◌≡◌, ◌∷◌, ◌++◌, take, decimal}
+use Rattle.std.specs.List.{flat_map}
 use Rattle.concon_run.proofs.pieces.put_each.Given as goal
 
 abbrev pub invariant-numbers : goal.invariant-numbers
-invariant-numbers l = l.out.items ≡ l.fn.out.items ++ each_behind l.byte (take l.n-index l.numbers)
+invariant-numbers l = l.out.items ≡ l.fn.out.items ++ flat_map (λ n. l.byte ∷ decimal n) (take l.n-index l.numbers)
