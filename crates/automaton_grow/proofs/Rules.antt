@@ -5,12 +5,12 @@ use Rattle.std.proofs.Common.{add_assoc}
 use Rattle.rewriting.specs.Terms.{Term, var, app, size, Fits}
 use Rattle.rewriting.specs.Signatures.{Signature}
 use Rattle.rewriting.specs.Rules as math
-use Rattle.rewriting.specs.Systems.{AreRules, IsSystem, condition_count}
+use Rattle.rewriting.specs.Systems.{AreRules, IsSystem, condition_count, DoSidesFit}
 use Rattle.rewriting.specs.Variables.{variable_occurrences}
 use Rattle.automata.specs.Growth.{inner, proper, first_state, state_count}
 use Rattle.term_core.specs.RuleView.{rule_view}
 use Rattle.term_core.specs.declared.systems.Rule.{Rule}
-use Rattle.automaton_grow.specs.Limits.{DoFit, all_proper, IsWideFor, AreNarrowBelow, IsFirstWideFor}
+use Rattle.automaton_grow.specs.Limits.{all_proper, IsWideFor, AreNarrowBelow, IsFirstWideFor}
 use Rattle.automaton_grow.proofs.Sizes.{inner_in_size}
 use Rattle.automaton_grow.proofs.States.{proper_at, proper_none, room_at}
 
@@ -36,14 +36,14 @@ pub same_count : (rs : List Rule) (sys : math.System) → map rule_view rs ≡ s
 same_count rs sys e = sym (views_length rs) ∙ ap length e
 
 -- both sides fit
-do_fit : (arities : Signature) (rs : List math.Rule) → AreRules arities rs → DoFit rs
+do_fit : (arities : Signature) (rs : List math.Rule) → AreRules arities rs → DoSidesFit rs
 do_fit arities [] h = tt
 do_fit arities (r ∷ rs) (h, hs) = (h.fits.0, h.fits.1.0, do_fit arities rs hs)
 
-pub system_fits : (sys : math.System) (rules : List math.Rule) → rules ≡ sys.rules → IsSystem sys → DoFit rules
-system_fits sys rules e h = subst DoFit (sym e) (do_fit sys.arities sys.rules h.rules)
+pub system_fits : (sys : math.System) (rules : List math.Rule) → rules ≡ sys.rules → IsSystem sys → DoSidesFit rules
+system_fits sys rules e h = subst DoSidesFit (sym e) (do_fit sys.arities sys.rules h.rules)
 
-pub fits_at : (rs : List math.Rule) (i : ℕ) (r : math.Rule) → DoFit rs → slice_get rs i ≡ Some r → Fits r.left × Fits r.right
+pub fits_at : (rs : List math.Rule) (i : ℕ) (r : math.Rule) → DoSidesFit rs → slice_get rs i ≡ Some r → Fits r.left × Fits r.right
 fits_at [] i r h e = absurd (cc)
 fits_at (a ∷ rs) zero r (h, k, rest) e = let same : a ≡ r = cc in subst (λ z. Fits z.left × Fits z.right) same (h, k)
 fits_at (a ∷ rs) (suc i) r (h, k, rest) e = fits_at rs i r rest e
@@ -54,8 +54,8 @@ proper_size (app f ts) = let h = inner_in_size ts in omega arith
 
 -- counting
 module _ (rs : List Rule) (i : ℕ) (r : Rule) (h : i < length rs) (at : r ≡ get_or rs i r) where
-  pub fit_here : DoFit (map rule_view (drop i rs)) → Fits (rule_view r).left × Fits (rule_view r).right × DoFit (map rule_view (drop (i + 1) rs))
-  fit_here fit = subst DoFit (rules_left rs i r h at) fit
+  pub fit_here : DoSidesFit (map rule_view (drop i rs)) → Fits (rule_view r).left × Fits (rule_view r).right × DoSidesFit (map rule_view (drop (i + 1) rs))
+  fit_here fit = subst DoSidesFit (rules_left rs i r h at) fit
 
   pub count_here : all_proper (map rule_view (drop i rs)) ≡ proper (rule_view r).right + all_proper (map rule_view (drop (i + 1) rs))
   count_here = ap all_proper (rules_left rs i r h at)

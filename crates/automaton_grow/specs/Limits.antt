@@ -1,16 +1,11 @@
 -- The limits on states and choices, rule by rule.
 use Rattle.std.specs.Prelude.{ℕ, suc, ◌≡◌, ◌<◌, ◌≤◌, ◌^◌, List, [], ◌∷◌, length, slice_get, Option, None, Some, Result, Ok, Err}
-use Rattle.rewriting.specs.Terms.{Term, Fits}
+use Rattle.rewriting.specs.Terms.{Term}
 use Rattle.rewriting.specs.Rules.{Rule, System}
 use Rattle.rewriting.specs.Variables.{variable_occurrences}
 use Rattle.automata.specs.Growth.{proper_before, state_count, AreStatesMany}
 use Rattle.automaton_grow.specs.declared.GrowError.{GrowError}
 use Rattle.automaton_grow.specs.declared.GrowError.TheVariants.{TooWide, TooManyStates, TooManyTransitions, NoMemory}
-
--- both sides of each rule fit
-abbrev pub DoFit : List Rule → Type 0
-DoFit [] = Unit {0}
-DoFit (r ∷ rs) = Fits r.left × Fits r.right × DoFit rs
 
 -- how many proper subterms that are no variables the right sides have
 abbrev pub all_proper : List Rule → ℕ

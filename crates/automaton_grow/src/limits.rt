@@ -3,7 +3,8 @@ ghost use Rattle.std.specs.Prelude.{◌<◌, ◌≤◌, ◌+◌, ◌^◌, ◌↔
 ghost use Rattle.rewriting.specs.Terms.{Fits};
 ghost use Rattle.term_core.specs.View.{view};
 ghost use Rattle.term_core.specs.RuleView.{rule_view};
-ghost use Rattle.automaton_grow.specs.Limits.{DoFit, all_proper, CountAnswers, StatesAnswer, WidthAnswers, IsWideFor};
+ghost use Rattle.automaton_grow.specs.Limits.{all_proper, CountAnswers, StatesAnswer, WidthAnswers, IsWideFor};
+ghost use Rattle.rewriting.specs.Systems.{DoSidesFit};
 
 use crate::GrowError;
 use crate::sides::{inner, proper};
@@ -18,7 +19,7 @@ const MOST_CHOICES: u32 = 100_000;
 
 // The count with the states of these right sides, where there are not too many.
 fn count_from(rules: &[Rule], first: u32) -> Option<u32>
-    requires fit { DoFit (map rule_view rules.now) }
+    requires fit { DoSidesFit (map rule_view rules.now) }
     requires small { first ≤ 20000 }
     ensures { CountAnswers (first + all_proper (map rule_view rules.now)) result }
 {

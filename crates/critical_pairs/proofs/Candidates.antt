@@ -14,8 +14,8 @@ use Rattle.rule_index.proofs.Walks.{ascending, is_listed, listed_rule, Stands}
 use Rattle.unifier_run.specs.Run.{clash, roots_differ, last_equation}
 use Rattle.unifier_run.specs.Overlaps.{Triple, IsOutcomeOf}
 use Rattle.unifier_run.proofs.Values.{apply_nothing}
-use Rattle.unifier_run.proofs.Triples.{DoesClash}
-use Rattle.unifier_run.proofs.Spots.{counted, triples_at, at_place}
+use Rattle.unifier_run.proofs.Spots.{at_place}
+use Rattle.unifier_run.specs.Triples.{triples_at, counted, DoesClash}
 use Rattle.critical_pairs.specs.Offers.{DoesPass}
 use Rattle.critical_pairs.specs.Places.{IsRootAt}
 use Rattle.critical_pairs.specs.Cursors.{done, triples_behind, CandidateAnswers}

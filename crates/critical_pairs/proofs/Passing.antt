@@ -4,7 +4,8 @@ use Rattle.rewriting.specs.Lists.{IsAmong}
 use Rattle.rewriting.proofs.Lists.{among_either}
 use Rattle.rewriting.specs.Rules.{System}
 use Rattle.unifier_run.specs.Overlaps.{Triple}
-use Rattle.unifier_run.proofs.Triples.{DoesClash, AreThose}
+use Rattle.unifier_run.proofs.Triples.{AreThose}
+use Rattle.unifier_run.specs.Triples.{DoesClash}
 use Rattle.critical_pairs.specs.Offers.{DoesPass}
 
 pub pass_none : (sys : System) (ts : List Triple) → DoesPass sys ts ts

@@ -9,7 +9,7 @@ use Rattle.rule_index.specs.Index.{listed, IsIndexOf}
 use Rattle.rule_index.specs.Roots.{rules_with_root}
 use Rattle.rule_index.proofs.Walks.{ascending, listed_rule}
 use Rattle.unifier_run.specs.Overlaps.{Triple}
-use Rattle.unifier_run.proofs.Spots.{counted, triples_at, triples_from, all_triples}
+use Rattle.unifier_run.specs.Triples.{triples_at, counted, triples_from, all_triples}
 use Rattle.critical_pairs.specs.Offers.{DoesPass}
 use Rattle.critical_pairs.specs.Places.{RootAt, place_view, places_below, triples_of, IsRootAt}
 use Rattle.critical_pairs.specs.Cursors.{rest_of_places, rest_of, IsCursor, StandsBefore, CandidateAnswers, IsEntered}
@@ -172,14 +172,6 @@ rule_there xs rs k x e h g = subst (λ z. slice_get z k ≡ Some (rule_view x)) 
     go [] k h g = absurd (omega arith)
     go (y ∷ ys) zero h g = ap (λ z. Some (rule_view z)) (sym g)
     go (y ∷ ys) (suc k) h g = go ys k (omega arith) g
-
-pub no_rule_there : (xs : List Looked.Rule) (rs : List Rule) (k : ℕ) → map rule_view xs ≡ rs → length xs ≤ k → length rs ≤ k
-no_rule_there xs rs k e h = subst (λ z. length z ≤ k) e (go xs k h)
-  where
-    go : (ys : List Looked.Rule) (k : ℕ) → length ys ≤ k → length (map rule_view ys) ≤ k
-    go [] k h = omega arith
-    go (y ∷ ys) zero h = absurd (omega arith)
-    go (y ∷ ys) (suc k) h = let l = go ys k (omega arith) in omega (arith, l)
 
 pub left_fits : (sys : System) (k : ℕ) (r : Rule) → IsSystem sys → slice_get sys.rules k ≡ Some r → Fits r.left
 left_fits sys k r h e = (numbered_rule sys (suc k) r h e).fits.0

@@ -5,7 +5,7 @@ use Rattle.rewriting.specs.Terms.{Term, Terms, var, app, nil, cons, size, size_a
 use Rattle.rewriting.specs.Positions.{Position, subterm, argument}
 use Rattle.rewriting.specs.Rules.{Rule, System, rule_at}
 use Rattle.rewriting.proofs.Lists.{among_either}
-use Rattle.unifier_run.proofs.Spots.{counted, triples_at, triples_below, triples_beside}
+use Rattle.unifier_run.specs.Triples.{triples_at, counted, triples_below, triples_beside}
 use Rattle.term_core.specs.View.{view, views}
 use Rattle.term_core.specs.declared.terms.Term as T
 use Rattle.term_core.proofs.Views.{view-Fun, view-Var}
@@ -87,9 +87,6 @@ module _ (p : Position) (t : T.Term) (f : ℕ) (v : Vec T.Term Global) (is : t �
       go [] k h e = absurd (omega arith)
       go (x ∷ ts) zero h e = subst (λ z. size (view z) ≤ size_all (views (x ∷ ts))) (sym e) (omega arith)
       go (x ∷ ts) (suc k) h e = let r = go ts k (omega arith) e in omega (arith, r)
-
-pub no_places : (p : Position) (t : T.Term) (x : ℕ) → t ≡ T.Var x → places_below p (view t) ≡ []
-no_places p t x is = ap (places_below p) (ap view is ∙ view-Var x)
 
 -- what is left when the last number is taken away
 pub popped : (q w p : List ℕ) (n x : ℕ) → q ≡ take (n - 1) w → w ≡ p ++ x ∷ [] → n ≡ length w → q ≡ p

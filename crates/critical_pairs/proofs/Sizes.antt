@@ -53,16 +53,6 @@ instances_error m cs i c before after NoPosition h k a = a
 instances_error m cs i c before after TooLarge h k a = λ f. a (one_fits m cs i c h k f)
 instances_error m cs i c before after NoMemory h k a = tt
 
-pub instance_left : (m : Substitution) (c : math.Condition) (e : TermError) → ApplyAnswers (apply m c.left) (Err e) → InstanceAnswers m c (Err e)
-instance_left m c NoPosition a = a
-instance_left m c TooLarge a = λ f. a f.0
-instance_left m c NoMemory a = tt
-
-pub instance_right : (m : Substitution) (c : math.Condition) (e : TermError) → ApplyAnswers (apply m c.right) (Err e) → InstanceAnswers m c (Err e)
-instance_right m c NoPosition a = a
-instance_right m c TooLarge a = λ f. a f.1
-instance_right m c NoMemory a = tt
-
 pub contracted_error : (t : terms.Term) (p : Position) (u : terms.Term) (e : TermError) → ApplyAnswers u (Err e) → ContractedAnswers t p u (Err e)
 contracted_error t p u NoPosition a = a
 contracted_error t p u TooLarge a = λ v r f. a (fits_part v p u (subterm-replace t p u v r) f)

@@ -16,7 +16,7 @@ use Rattle.unifier_run.specs.Laws.{as_map}
 use Rattle.unifier_run.specs.Overlaps.{Overlap, IsOutcomeOf, DoesPairFit, IsOverlapOf, IsTooLargeAt}
 use Rattle.unifier_run.proofs.General.{most_general}
 use Rattle.unifier_run.proofs.Maps.{values_of-as_map}
-use Rattle.unifier_run.proofs.Triples.{DoesClash}
+use Rattle.unifier_run.specs.Triples.{DoesClash}
 use Rattle.critical_pairs.specs.Building.{rule_under, IsMade, PairAnswers}
 use Rattle.critical_pairs.proofs.Sizes.{fits_part}
 use Rattle.critical_pairs.specs.Sides.{IsSpot, RunAnswers}

@@ -8,8 +8,9 @@ use Rattle.rewriting.proofs.Instances.{apply-agree}
 use Rattle.rewriting.specs.Overlaps.{IsEarlierOverlap}
 use Rattle.unifier_run.specs.Overlaps.{Triple, Overlap, triple, IsOverlapOf, IsTooLargeAt, AreOverlapsAt, AreOverlaps}
 use Rattle.rewriting.specs.Lists.{IsAmong}
-use Rattle.unifier_run.proofs.Triples.{AreInOrder, DoesClash, AreThose, those_append, overlaps_at, overlaps_before}
-use Rattle.unifier_run.proofs.Spots.{all_triples, has_all, order_all}
+use Rattle.unifier_run.proofs.Triples.{AreInOrder, AreThose, those_append, overlaps_at, overlaps_before}
+use Rattle.unifier_run.proofs.Spots.{has_all, order_all}
+use Rattle.unifier_run.specs.Triples.{all_triples, DoesClash}
 use Rattle.unification.specs.Answers.{renaming}
 use Rattle.critical_pairs.specs.Building.{rule_under}
 use Rattle.critical_pairs.specs.Offers.{Search, DoesPass, IsNext, IsOffered, IsDone, OfferAnswers}

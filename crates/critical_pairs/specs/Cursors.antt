@@ -6,7 +6,7 @@ use Rattle.rewriting.specs.Terms.{Term}
 use Rattle.rewriting.specs.Rules.{System}
 use Rattle.rule_index.specs.Roots.{rules_with_root}
 use Rattle.unifier_run.specs.Overlaps.{Triple}
-use Rattle.unifier_run.proofs.Spots.{counted, triples_at, triples_from}
+use Rattle.unifier_run.specs.Triples.{triples_at, counted, triples_from}
 use Rattle.critical_pairs.specs.Places.{RootAt, place_view, places_below, triples_of, IsRootAt}
 use Rattle.critical_pairs.specs.declared.cursor.Cursor.{Cursor}
 use Rattle.term_core.specs.declared.terms.NoMemory.{NoMemory}

@@ -4,8 +4,7 @@ use Rattle.rewriting.specs.Lists.{IsAmong}
 use Rattle.rewriting.specs.Rules.{System}
 use Rattle.unifier_run.specs.Overlaps as math
 use Rattle.unifier_run.specs.Overlaps.{Triple, triple, IsOverlapOf, IsTooLargeAt}
-use Rattle.unifier_run.proofs.Triples.{DoesClash}
-use Rattle.unifier_run.proofs.Spots.{all_triples}
+use Rattle.unifier_run.specs.Triples.{all_triples, DoesClash}
 use Rattle.critical_pairs.specs.View.{overlap_view}
 use Rattle.critical_pairs.specs.declared.Overlap.{Overlap}
 use Rattle.critical_pairs.specs.declared.OverlapError.{OverlapError}

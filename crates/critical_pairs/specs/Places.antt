@@ -4,7 +4,7 @@ use Rattle.rewriting.specs.Terms.{Term, Terms, var, app, nil, cons}
 use Rattle.rewriting.specs.Positions.{Position, subterm}
 use Rattle.rewriting.specs.Rules.{Rule, System, rule_at}
 use Rattle.unifier_run.specs.Overlaps.{Triple}
-use Rattle.unifier_run.proofs.Spots.{counted, triples_at}
+use Rattle.unifier_run.specs.Triples.{triples_at, counted}
 use Rattle.critical_pairs.specs.declared.places.Place.{Place}
 
 -- a position and a symbol

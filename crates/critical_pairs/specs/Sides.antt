@@ -9,7 +9,7 @@ use Rattle.rewriting.specs.Systems.{IsSystem}
 use Rattle.rewriting.specs.Overlaps.{IsPlace}
 use Rattle.rule_index.specs.Index.{IsIndexOf}
 use Rattle.unifier_run.specs.Overlaps.{triple, IsOverlapOf, IsTooLargeAt}
-use Rattle.unifier_run.proofs.Triples.{DoesClash}
+use Rattle.unifier_run.specs.Triples.{DoesClash}
 use Rattle.term_core.specs.RuleView.{rule_view}
 use Rattle.term_core.specs.declared.terms.TermError.{TermError}
 use Rattle.term_core.specs.declared.terms.TermError.TheVariants.{NoPosition, TooLarge, NoMemory}

@@ -165,12 +165,12 @@ one_outcome bytes cause other at to ps qs p q =
 spelled_outcome : (bytes : List ℕ) (ts : List Token) (s : Spells bytes ts) → Outcome bytes None (length bytes) s.pieces
 spelled_outcome bytes ts s = record { end = s.end; leads = s.leads; last = (s.whole, sym s.whole) }
 
-record Refusal (bytes : List ℕ) (cause : TokenCause) (at : ℕ) : Type 0 where
+record RefusedThere (bytes : List ℕ) (cause : TokenCause) (at : ℕ) : Type 0 where
   pieces : List Piece
   outcome : Outcome bytes (Some cause) at pieces
 
 -- what is known of a place that is reached, said of the place behind the pieces
-moved_last : (bytes : List ℕ) (cause : TokenCause) (count place at : ℕ) (r : IsReached bytes count place) → Last bytes (Some cause) count place at → Refusal bytes cause at
+moved_last : (bytes : List ℕ) (cause : TokenCause) (count place at : ℕ) (r : IsReached bytes count place) → Last bytes (Some cause) count place at → RefusedThere bytes cause at
 moved_last bytes cause count place at r last = record {
   pieces = r.pieces;
   outcome = record {
@@ -180,7 +180,7 @@ moved_last bytes cause count place at r last = record {
   };
 }
 
-refusal_of : (bytes : List ℕ) (cause : TokenCause) (at : ℕ) → HasNoTokens bytes cause at → Refusal bytes cause at
+refusal_of : (bytes : List ℕ) (cause : TokenCause) (at : ℕ) → HasNoTokens bytes cause at → RefusedThere bytes cause at
 refusal_of bytes bad_byte at h = moved_last bytes bad_byte h.0 at at h.1 (h.2, h.3, refl)
 refusal_of bytes long_id at h = moved_last bytes long_id h.0 at at h.1 (h.2, h.3, refl)
 refusal_of bytes open_comment at h = moved_last bytes open_comment h.0 h.1 at h.2 (h.3, h.4, h.5)

@@ -10,7 +10,7 @@ use Rattle.rewriting.proofs.Decided.{IsDecided, or_greater, at_most, as_other, b
 use Rattle.rewriting.proofs.Equality.{fits_decided}
 use Rattle.rewriting.proofs.Search.{FirstBelow, search_below, FirstAt, search_at, decided}
 use Rattle.certificates.specs.Certificates.{LinearEntry}
-use Rattle.interpretations.specs.Size.{DoSidesFit}
+use Rattle.rewriting.specs.Systems.{DoSidesFit}
 use Rattle.interpretations.specs.Linear.{Interpretation, constant, coefficient, coefficient_from, IsEntry, AreNumbersGood, IsLarge, Overflows, AreCoefficientsKept, Falls}
 use Rattle.interpretations.specs.Judged.{IsFirstSmaller, IsConstantKept}
 use Rattle.interpretations.proofs.Values.{above, above_all}

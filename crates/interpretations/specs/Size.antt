@@ -1,19 +1,13 @@
 -- Whether the sides of an unraveled system fit.
 use Rattle.std.specs.Prelude.{ℕ, zero, suc, ◌≡◌, ◌+◌, ◌<◌, List, [], ◌∷◌, Some, length, take}
-use Rattle.rewriting.specs.Terms.{Fits}
 use Rattle.rewriting.specs.Rules.{Rule, System, rule_at}
-use Rattle.rewriting.specs.Systems.{condition_count}
+use Rattle.rewriting.specs.Systems.{DoSidesFit, condition_count}
 use Rattle.rewriting.specs.Unraveling.{unraveled_rule}
 
 -- the number of the first auxiliary symbol of a rule: it stands behind the system's symbols and those for all earlier conditions
 abbrev pub first_keeper : System → ℕ → ℕ
 first_keeper sys zero = length sys.arities
 first_keeper sys (suc i) = length sys.arities + condition_count (take i sys.rules)
-
--- both sides of each rule fit
-abbrev pub DoSidesFit : List Rule → Type 0
-DoSidesFit [] = Unit {0}
-DoSidesFit (r ∷ rs) = Fits r.left × Fits r.right × DoSidesFit rs
 
 -- both sides of each rule of the unraveled system that comes from rule i fit
 abbrev pub DoesRuleFit : System → ℕ → Rule → Type 0

@@ -1,4 +1,3 @@
-pub mod Deciding
 pub mod Redexes
 pub mod Judged
 pub mod Walks

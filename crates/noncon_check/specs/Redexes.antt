@@ -1,17 +1,18 @@
 -- The redexes of a term, in order.
-use Rattle.std.specs.Prelude.{ℕ, suc, ◌≡◌, Bool, false, if◌then◌else◌, List, [], ◌∷◌, ◌++◌, map, Option, None, Some}
+use Rattle.std.specs.Prelude.{ℕ, suc, ◌≡◌, Bool, false, if◌then◌else◌, List, [], ◌∷◌, ◌++◌, map, Option, None, Some, is_some}
+use Rattle.std.specs.FinMap.{empty}
 use Rattle.rewriting.specs.Lists.{IsAmong, IsSorted}
 use Rattle.rewriting.specs.Terms.{Term, Terms, var, app, nil, cons}
 use Rattle.rewriting.specs.Positions.{Position}
 use Rattle.rewriting.specs.Rules.{Rule, System, rule_at}
+use Rattle.rewriting.specs.Tests.{match_onto}
 use Rattle.rule_index.specs.Roots.{rules_with_root}
 use Rattle.valid_certificates.specs.Peaks.{RedexPlace, MatchesAt, IsEarlierRedex}
-use Rattle.noncon_check.specs.Deciding.{is_match}
 
 -- whether there is a rule, and its left side matches the term
 abbrev pub is_hit : Option Rule → Term → Bool
 is_hit None t = false
-is_hit (Some r) t = is_match r.left t
+is_hit (Some r) t = is_some (match_onto empty r.left t)
 
 -- the numbers among these of the rules that match the term
 abbrev pub hits : System → Term → List ℕ → List ℕ

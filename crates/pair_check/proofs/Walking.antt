@@ -114,9 +114,6 @@ module _ (kind : Kind) (sys : System) where
   one_left os es i reason all more e =
       let w = drop_within es i more in subst₂ (λ p q. AreNotSettled kind sys (suc i) p q reason) (sym (drop_past os i all)) (sym w.2) e
 
-pub each_is : (sys : System) (os : List Overlap) → AreOverlaps sys os → EachIsOverlap sys os
-each_is sys os h o l = (h.are.each o l).0
-
 -- the overlaps are those of the system
 pub all_settled : (kind : Kind) (sys : System) (os : List Overlap) (es : List PairEntry) → AreOverlaps sys os → (r : Result (Unit {0}) CheckError) → SettledAnswers kind sys 1 os es r → SettleAnswers kind sys es r
 all_settled kind sys os es are (Ok _) h = (os, are, h)

@@ -11,7 +11,7 @@ use Rattle.reach_lists.specs.Sites.{Site, rule_site, hypothesis_site, sites}
 use Rattle.reach_lists.specs.Solutions as lists
 use Rattle.reach_lists.specs.Lists.{total, with_terms, breadth_first, expanded, successors, asked_from, cost_by}
 use Rattle.reach_lists.specs.Laws.{EachOf}
-use Rattle.reach_lists.proofs.Tests.{small_fits}
+use Rattle.rewriting.proofs.Tests.{small_fits}
 use Rattle.reach_lists.proofs.Each.{each_to, each_any}
 use Rattle.reach_lists.proofs.Derived.{IsSite, sites_are}
 use Rattle.reach_lists.proofs.Equations.{no_rounds, one_round}

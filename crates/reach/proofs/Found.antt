@@ -9,9 +9,9 @@ use Rattle.std.specs.HashMap.{HashMap, get, IsUnchanged}
 use Rattle.indexmap.specs.IndexMap.{insert_entry}
 use Rattle.indexmap.proofs.CallerLemmas.{insert_entry-new}
 use Rattle.rewriting.specs.Terms as math
-use Rattle.reach_lists.specs.Matches.{is_same}
+use Rattle.rewriting.specs.Tests.{is_same}
 use Rattle.reach_lists.specs.Lists.{is_listed}
-use Rattle.reach_lists.proofs.Tests.{same_is, equal_same}
+use Rattle.rewriting.proofs.Tests.{same_is, equal_same}
 use Rattle.term_core.specs.View.{view}
 use Rattle.reach.specs.declared.listed.Reached.{Reached}
 use Rattle.reach.specs.ReachedView.{reached_view}

@@ -11,12 +11,12 @@ use Rattle.std.proofs.lemmas.Option.{cond_some}
 use Rattle.rewriting.specs.Matching.{Covers}
 use Rattle.certificates.proofs.Growth.{part_fits}
 use Rattle.cc_count.specs.Counts.{Counts, Spends}
-use Rattle.reach_lists.specs.Matches.{is_same, is_covered}
+use Rattle.rewriting.specs.Tests.{is_same, is_covered}
 use Rattle.reach_lists.specs.Solutions as lists
 use Rattle.reach_lists.specs.Solutions.{then_step}
 use Rattle.reach_lists.specs.Lists.{is_listed, takes, with_terms, stepped, by_solution}
 use Rattle.reach_lists.specs.Laws.{EachOf, IsSettled}
-use Rattle.reach_lists.proofs.Tests.{same_is, equal_same, covers_is, small_fits}
+use Rattle.rewriting.proofs.Tests.{same_is, equal_same, covers_is, small_fits}
 use Rattle.reach_lists.proofs.Each.{each_map, each_of_option}
 use Rattle.reach_lists.proofs.Growing.{with_terms-append, settled_add_nothing, settled_not_taken}
 use Rattle.term_core.specs.View.{view}

@@ -11,11 +11,11 @@ use Rattle.rewriting.specs.Rules as rules_of
 use Rattle.rewriting.specs.Rules.{Condition, System, rule_at}
 use Rattle.rule_index.specs.Roots.{rules_with_root}
 use Rattle.rule_index.proofs.Walks.{listed_rule}
-use Rattle.reach_lists.specs.Matches.{is_same}
+use Rattle.rewriting.specs.Tests.{is_same}
 use Rattle.reach_lists.specs.Sites as lists
 use Rattle.reach_lists.specs.Sites.{rule_site, hypothesis_site}
-use Rattle.reach_lists.proofs.Tests.{same_is, equal_same}
-use Rattle.reach_lists.proofs.Matching.{least_found, none_found}
+use Rattle.rewriting.proofs.Tests.{same_is, equal_same}
+use Rattle.rewriting.proofs.MatchedOnto.{least_found, none_found}
 use Rattle.term_core.specs.RuleView.{rule_view}
 use Rattle.term_core.specs.declared.systems.Rule.{Rule}
 use Rattle.rewriting.specs.Systems.{IsSystem}

@@ -7,7 +7,7 @@ use Rattle.rewriting.specs.Rules.{Condition, Rule, System, rule_at}
 use Rattle.rewriting.specs.Systems.{AreRules, IsSystem}
 use Rattle.rewriting.proofs.Positions.{subterm-append}
 use Rattle.rule_index.specs.Roots.{has_root, numbers_with_root, rules_with_root}
-use Rattle.reach_lists.specs.Matches.{match_onto, match_all_onto}
+use Rattle.rewriting.specs.Tests.{match_onto, match_all_onto}
 use Rattle.reach_lists.specs.Sites.{rule_site, rule_sites, sites_of_part, sites_at, sites}
 use Rattle.reach_lists.proofs.Each.{flat_map-append}
 use Rattle.reach.specs.Walks.{one_rule, maybe_rule, numbered_rules, sites_in, sites_among}

@@ -4,7 +4,7 @@ ghost use Rattle.rewriting.specs.Positions as position;
 ghost use Rattle.rewriting.specs.Substitutions.{apply, values_of};
 ghost use Rattle.certificates.specs.Derivations.{by_rule, by_hypothesis, derivations_of};
 ghost use Rattle.reach_lists.specs.Lists as lists;
-ghost use Rattle.reach_lists.specs.Matches.{is_covered};
+ghost use Rattle.rewriting.specs.Tests.{is_covered};
 ghost use Rattle.reach_lists.specs.Solutions.{then_step};
 ghost use Rattle.term_core.specs.View.{view};
 ghost use Rattle.term_core.specs.RuleView.{rule_view, condition_view};

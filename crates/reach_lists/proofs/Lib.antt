@@ -1,5 +1,3 @@
-pub mod Tests
-pub mod Matching
 pub mod Each
 pub mod Equations
 pub mod Derived

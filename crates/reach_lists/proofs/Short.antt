@@ -7,7 +7,7 @@ use Rattle.rewriting.specs.Substitutions.{Bindings, apply, values_of}
 use Rattle.rewriting.specs.Rules.{Condition, Rule, System}
 use Rattle.certificates.specs.Derivations.{Derivation, no_steps, first_step, Step, by_rule, by_hypothesis, derivations_of}
 use Rattle.certificates.specs.Sizes.{step_count, AreStepsShort, IsStepShort, AreShort, IsShort}
-use Rattle.reach_lists.specs.Matches.{is_covered, match_onto}
+use Rattle.rewriting.specs.Tests.{is_covered, match_onto}
 use Rattle.reach_lists.specs.Sites.{Site, rule_site, hypothesis_site, sites}
 use Rattle.reach_lists.specs.Solutions.{Reached, then_step, Solution, starts, extended, extensions, solutions}
 use Rattle.reach_lists.specs.Lists.{stepped, by_solution, unconditional, at_site, successors, breadth_first, condition_list}

@@ -1,4 +1,3 @@
-pub mod Matches
 pub mod Sites
 pub mod Solutions
 pub mod Lists

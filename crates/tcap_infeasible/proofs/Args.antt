@@ -17,7 +17,8 @@ use Rattle.tcap_infeasible.specs.declared.Cap.{Cap}
 use Rattle.tcap_infeasible.specs.declared.Cap.TheVariants.{Capped, TooLarge}
 use Rattle.tcap_infeasible.specs.declared.capping.Leaf.{Leaf}
 use Rattle.tcap_infeasible.specs.declared.capping.Leaf.TheVariants.{Hole, Kept}
-use Rattle.tcap_infeasible.specs.Frozen.{leaf_of, standing, HasSymbolsBelow, HaveSymbolsBelow, HasConstant, HasConstants, IsHeld, TopAnswers, FrozenAnswers}
+use Rattle.tcap_infeasible.specs.Frozen.{leaf_of, standing, HasConstant, HasConstants, IsHeld, TopAnswers, FrozenAnswers}
+use Rattle.term_core.specs.SystemView.{HasSymbolsBelow, HaveSymbolsBelow}
 use Rattle.tcap_infeasible.proofs.Sizes.{AreSmall, caps_small}
 use Rattle.tcap_infeasible.proofs.Bases.{IsBased, node_based}
 
@@ -81,9 +82,6 @@ pub record AreCapped (sys : System) (leaf : Leaf) (ts : List Term) (k : ℕ) (us
   pub are : AreCapsOf sys (leaf_of leaf) (views (take k ts)) shapes
   pub shown : views us ≡ all_filled (standing leaf) start shapes
   pub counted : next ≡ start + holes_in shapes
-
-pub capped_none : (sys : System) (leaf : Leaf) (ts : List Term) (start : ℕ) → AreCapped sys leaf ts 0 [] start start
-capped_none sys leaf ts start = record { shapes = no_caps; are = refl; shown = refl; counted = omega arith }
 
 pub capped_next : (sys : System) (leaf : Leaf) (ts : List Term) (k : ℕ) (us : List Term) (start next more : ℕ) (t u : Term) → k < length ts → t ≡ get_or ts k t → AreCapped sys leaf ts k us start next
     → FrozenAnswers sys leaf (view t) next more (Ok (Capped u)) → AreCapped sys leaf ts (k + 1) (us ++ u ∷ []) start more

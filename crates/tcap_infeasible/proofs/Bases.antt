@@ -8,7 +8,8 @@ use Rattle.caps.proofs.Instances.{Keeps, KeepAll}
 use Rattle.caps.proofs.Steps.{cap_keeps, caps_keep}
 use Rattle.tcap_infeasible.specs.declared.capping.Leaf.{Leaf}
 use Rattle.tcap_infeasible.specs.declared.capping.Leaf.TheVariants.{Hole, Kept}
-use Rattle.tcap_infeasible.specs.Frozen.{leaf_of, standing, HasSymbolsBelow, HaveSymbolsBelow, HasConstants}
+use Rattle.tcap_infeasible.specs.Frozen.{leaf_of, standing, HasConstants}
+use Rattle.term_core.specs.SystemView.{HasSymbolsBelow, HaveSymbolsBelow}
 
 mutual
   pub symbols_below : (a b : ℕ) (t : Term) → a ≤ b → HasSymbolsBelow a t → HasSymbolsBelow b t

@@ -9,7 +9,7 @@ use Rattle.rewriting.specs.Lists.{AreDistinct, IsFront}
 use Rattle.unifier_run.proofs.Renamed.{renamed, all_renamed}
 use Rattle.tcap_infeasible.specs.Keys.{IsKey, IsKeyed, AreKeyed}
 use Rattle.tcap_infeasible.proofs.Numbers.{not_lt}
-use Rattle.tcap_infeasible.specs.Frozen.{HasSymbolsBelow, HaveSymbolsBelow}
+use Rattle.term_core.specs.SystemView.{HasSymbolsBelow, HaveSymbolsBelow}
 use Rattle.renumbering.proofs.Filling.{total, filling, filling_within, filling_one}
 
 -- what a symbol past the first n stands for, by its place in a row

@@ -12,7 +12,7 @@ use Rattle.unifier_run.specs.Irreducible.{IsFirstRule, DoRulesClash}
 use Rattle.unifier_run.proofs.Renamed.{renamed, all_renamed}
 use Rattle.caps.specs.Caps.{Cap, Caps, hole, kept, node, no_caps, caps, holes, holes_in, filled, all_filled, past_symbols, past_symbols_of, past, constants, frozen_from, frozen, IsTop, IsCapOf, AreCapsOf, IsCapLarge, AreCapsLarge}
 use Rattle.tcap_infeasible.specs.declared.capping.Leaf.TheVariants.{Kept}
-use Rattle.tcap_infeasible.specs.Frozen.{HasSymbolsBelow, HaveSymbolsBelow}
+use Rattle.term_core.specs.SystemView.{HasSymbolsBelow, HaveSymbolsBelow}
 use Rattle.tcap_infeasible.proofs.Rebased.{HasLike, HasFirstLike, alike_same, clash_like, first_unifier, first_large, forth_like, symbols_stay, names_after, lowered, lifted}
 use Rattle.tcap_infeasible.proofs.Bases.{caps_past}
 use Rattle.tcap_infeasible.proofs.Tried.{rule_of}

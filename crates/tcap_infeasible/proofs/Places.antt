@@ -33,18 +33,6 @@ pub record HavePlaces (n : ℕ) (start_foreign foreign start row : List ℕ) (ts
   pub grown : length row ≤ length start + size_all (views (take k ts))
   pub are : AreKeyed n foreign row (views (take k ts)) (views us)
 
-pub no_places : (n : ℕ) (foreign start : List ℕ) (ts : List Term) → HavePlaces n foreign foreign start start ts 0 []
-no_places n foreign start ts =
-    record {
-      foreign_front = front_refl foreign;
-      front = front_refl start;
-      foreign_distinct = λ d. d;
-      distinct = λ d. d;
-      foreign_grown = omega arith;
-      grown = omega arith;
-      are = refl;
-    }
-
 keyed_with : (n : ℕ) (foreign row : List ℕ) (ts us : Terms) (t u : math.Term) → AreKeyed n foreign row ts us → IsKeyed n foreign row t u → AreKeyed n foreign row (append ts (cons t nil)) (append us (cons u nil))
 keyed_with n foreign row nil us t u e one = subst (λ z. AreKeyed n foreign row (cons t nil) (append z (cons u nil))) (sym e) (u, nil, refl, one, refl)
 keyed_with n foreign row (cons x ts) us t u (v, vs, e, first, rest) one =

@@ -88,9 +88,6 @@ pub record Numbered (cs : List Cond) (k : ℕ) (row : List ℕ) (us : List Term)
   pub few : length row ≤ 10000 * k
   pub are : AreNumbered row (views (take k (rights cs))) (views us)
 
-pub none_numbered : (cs : List Cond) (row : List ℕ) → row ≡ [] → Numbered cs 0 row []
-none_numbered cs row e = subst (λ z. Numbered cs 0 z []) (sym e) (record { distinct = tt; few = omega arith; are = numbered_none [] })
-
 pub one_numbered : (cs : List Cond) (k : ℕ) (row more : List ℕ) (us vs : List Term) (c : Cond) (u : Term) → k < length cs → c ≡ get_or cs k c → DoConditionsFit (map condition_view cs) → Numbered cs k row us
     → more ≡ with_variables row (view c.right) → IsFront row more → AreDistinct more → IsNumbered more (view c.right) (view u) → vs ≡ us ++ u ∷ [] → Numbered cs (k + 1) more vs
 one_numbered cs k row more us vs c u h e fit before grown front distinct one pushed =

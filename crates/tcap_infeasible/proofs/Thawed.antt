@@ -20,7 +20,8 @@ use Rattle.tcap_infeasible.specs.declared.Cap.{Cap}
 use Rattle.tcap_infeasible.specs.declared.Cap.TheVariants.{Capped, TooLarge}
 use Rattle.tcap_infeasible.specs.declared.capping.Leaf.TheVariants.{Hole, Kept}
 use Rattle.tcap_infeasible.specs.Answers.{CapAnswers}
-use Rattle.tcap_infeasible.specs.Frozen.{HasSymbolsBelow, FrozenAnswers}
+use Rattle.tcap_infeasible.specs.Frozen.{FrozenAnswers}
+use Rattle.term_core.specs.SystemView.{HasSymbolsBelow}
 use Rattle.tcap_infeasible.specs.Keys.{HavePlacesFor}
 use Rattle.tcap_infeasible.specs.Reducts.{KeepsReducts, KeepsOwnReducts}
 use Rattle.tcap_infeasible.specs.Thawing.{LiesOn, LieOn, thawed, all_thawed}
@@ -84,16 +85,10 @@ module _ (fresh : ℕ) (ts us : List Term) (k : ℕ) (out : List Term) where
               ∙ (sym (ap₂ (λ x y. append (views out) (all_thawed fresh x y)) (views-drop ts k t h e) (views-drop us k u l d)) ∙ all.value)));
         }
 
-pub none_thawed : (fresh : ℕ) (ts us : List Term) → LieOn fresh (views ts) (views us) → AreThawed fresh ts us 0 []
-none_thawed fresh ts us h = record { lie = h; value = refl }
-
 pub whole_thawed : (fresh : ℕ) (t u : Term) (f g : ℕ) (v w : Vec Term Global) (k : ℕ) (out : Vec Term Global) → t ≡ Fun f v → u ≡ Fun g w → length v.items ≤ k → AreThawed fresh v.items w.items k out.items → view (Fun f out) ≡ thawed fresh (view t) (view u)
 whole_thawed fresh t u f g v w k out is at h all =
     let left : append (views out.items) nil ≡ all_thawed fresh (views v.items) (views w.items) = sym (ap (λ z. append (views out.items) (all_thawed fresh z (views (drop k w.items)))) (views-drop_all v.items k h)) ∙ all.value in
     view-Fun f out ∙ (ap (app f) (sym (append_nil (views out.items)) ∙ left) ∙ sym (ap₂ (thawed fresh) (ap view is ∙ view-Fun f v) (ap view at ∙ view-Fun g w)))
-
-pub args_lie : (fresh : ℕ) (t u : Term) (f g : ℕ) (v w : Vec Term Global) → t ≡ Fun f v → u ≡ Fun g w → LiesOn fresh (view t) (view u) → LieOn fresh (views v.items) (views w.items)
-args_lie fresh t u f g v w is at h = subst₂ (LiesOn fresh) (ap view is ∙ view-Fun f v) (ap view at ∙ view-Fun g w) h
 
 -- the whole cap, thawed
 start : 2 ^ 31 ≡ 2 ^ 31 + 0

@@ -10,6 +10,7 @@ use Rattle.unifier_run.specs.Run.{Binding, unifier, too_large}
 use Rattle.unifier_run.specs.Irreducible.{DoRulesClash, IsFirstRule}
 use Rattle.caps.specs.Caps.{Cap as MathCap, any, kept, holes, filled, past, constants, frozen, IsTop, IsCapOf, IsCapLarge}
 use Rattle.term_core.specs.View.{view}
+use Rattle.term_core.specs.SystemView.{HasSymbolsBelow}
 use Rattle.term_core.specs.declared.terms.NoMemory.{NoMemory}
 use Rattle.tcap_infeasible.specs.declared.Cap.{Cap}
 use Rattle.tcap_infeasible.specs.declared.Cap.TheVariants.{Capped, TooLarge}
@@ -27,16 +28,6 @@ leaf_of (Kept base) = kept
 abbrev pub standing : Leaf → Substitution
 standing Hole = var
 standing (Kept base) = constants base
-
--- every symbol of the term is below n
-abbrev mutual
-  pub HasSymbolsBelow : ℕ → math.Term → Type 0
-  HasSymbolsBelow n (var x) = Unit {0}
-  HasSymbolsBelow n (app f ts) = (f < n) × HaveSymbolsBelow n ts
-
-  pub HaveSymbolsBelow : ℕ → Terms → Type 0
-  HaveSymbolsBelow n nil = Unit {0}
-  HaveSymbolsBelow n (cons t ts) = HasSymbolsBelow n t × HaveSymbolsBelow n ts
 
 -- the constants from the base on are symbols neither of the system nor of the term, and are in 32 bits
 pub record IsBase (sys : System) (base : ℕ) (t : math.Term) : Type 0 where

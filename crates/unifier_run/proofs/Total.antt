@@ -25,8 +25,9 @@ use Rattle.unifier_run.proofs.Values.{apply_all_nothing}
 use Rattle.unifier_run.proofs.General.{settled_empty, most_general}
 use Rattle.unifier_run.proofs.Unique.{runs_same}
 use Rattle.unifier_run.proofs.Terminates.{by_variables, do_both}
-use Rattle.unifier_run.proofs.Triples.{AreInOrder, DoesClash, AreThose, those_append, overlaps_at, overlaps_before}
-use Rattle.unifier_run.proofs.Spots.{all_triples, has_all, order_all}
+use Rattle.unifier_run.proofs.Triples.{AreInOrder, AreThose, those_append, overlaps_at, overlaps_before}
+use Rattle.unifier_run.proofs.Spots.{has_all, order_all}
+use Rattle.unifier_run.specs.Triples.{all_triples, DoesClash}
 
 -- every run between lists of one length has an outcome
 pub outcome_exists : (ts us : Terms) → count ts ≡ count us → (o : Outcome) × IsOutcome ts us o

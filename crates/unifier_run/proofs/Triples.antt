@@ -8,6 +8,7 @@ use Rattle.rewriting.specs.Overlaps.{IsPlace, IsEarlierOverlap}
 use Rattle.rewriting.proofs.Before.{before_not_same, before_not_both}
 use Rattle.unifier_run.specs.Run.{clash}
 use Rattle.rewriting.specs.Lists.{IsAmong, IsBeforeAll, IsSorted}
+use Rattle.unifier_run.specs.Triples.{DoesClash}
 use Rattle.unifier_run.specs.Overlaps.{Triple, Overlap, triple, ComesBefore, IsOutcomeOf, IsOverlapOf, AreOverlapsAt}
 
 -- each triple of the first list is earlier than each of the second
@@ -32,10 +33,6 @@ earlier_not_both (i, (p, j)) (k, (q, l)) (inr (e, inl h)) (inr (f, inl g)) = bef
 earlier_not_both (i, (p, j)) (k, (q, l)) (inr (e, inl h)) (inr (f, inr (s, g))) = before_not_same p (subst (λ z. IsBefore p z) s h)
 earlier_not_both (i, (p, j)) (k, (q, l)) (inr (e, inr (s, h))) (inr (f, inl g)) = before_not_same q (subst (λ z. IsBefore q z) s g)
 earlier_not_both (i, (p, j)) (k, (q, l)) (inr (e, inr (s, h))) (inr (f, inr (r, g))) = omega (arith, h, g)
-
--- a clash at the triple, where it is a place
-abbrev pub DoesClash : System → Triple → Type 0
-DoesClash sys (i, (p, j)) = (inner outer : Rule) (part : Term) → IsPlace sys i p j inner outer part → IsOutcomeOf inner.left part clash
 
 -- os are exactly the overlaps at the triples, in order
 abbrev pub AreThose : System → List Triple → List Overlap → Type 0

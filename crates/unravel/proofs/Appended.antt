@@ -7,9 +7,8 @@ use Rattle.rewriting.specs.Substitutions.{apply, apply_all}
 use Rattle.rewriting.specs.Variables.{with_variables}
 use Rattle.rewriting.specs.Rules as rules
 use Rattle.rewriting.specs.Rules.{sides}
-use Rattle.rewriting.specs.Systems.{Each}
+use Rattle.rewriting.specs.Systems.{Each, DoSidesFit}
 use Rattle.rewriting.specs.Unraveling.{numbered_anew, keeper, unraveled_from}
-use Rattle.interpretations.specs.Size.{DoSidesFit}
 use Rattle.term_core.specs.RuleView.{rule_view, condition_view}
 use Rattle.term_core.specs.View.{view}
 use Rattle.term_core.specs.declared.systems.Cond.{Cond}

@@ -4,10 +4,9 @@ use Rattle.std.proofs.lemmas.List.{length-map}
 use Rattle.std.proofs.lemmas.Option.{slice_get-map, slice_get_read}
 use Rattle.rewriting.specs.Terms.{Fits}
 use Rattle.rewriting.specs.Rules as rules
-use Rattle.rewriting.specs.Systems.{Each, terms_of_rule, condition_count, AreRules}
+use Rattle.rewriting.specs.Systems.{Each, terms_of_rule, condition_count, AreRules, DoSidesFit}
 use Rattle.rewriting.specs.Unraveling.{unraveled_rule, unraveled_rules}
 use Rattle.rewriting.specs.Signatures.{Signature}
-use Rattle.interpretations.specs.Size.{DoSidesFit}
 use Rattle.term_core.specs.RuleView.{rule_view, condition_view}
 use Rattle.term_core.specs.declared.systems.Rule.{Rule}
 use Rattle.unravel.specs.declared.rules.RuleError.TheVariants as cause

@@ -3,11 +3,11 @@ use Rattle.std.proofs.Common.{◌≡◌, ℕ, zero, suc, ◌+◌, ◌^◌, ◌<�
 use Rattle.std.proofs.lemmas.List.{length-append, length-map}
 use Rattle.rewriting.specs.Rules as rules
 use Rattle.rewriting.specs.Rules.{rule_at}
-use Rattle.rewriting.specs.Systems.{condition_count, IsSystem}
+use Rattle.rewriting.specs.Systems.{condition_count, IsSystem, DoSidesFit}
 use Rattle.rewriting.specs.Terms.{Term}
 use Rattle.rewriting.specs.Variables.{with_variables, variables}
 use Rattle.rewriting.specs.Unraveling.{unraveled, heads, unraveled_from, unraveled_rule, unraveled_rules, keeper, keeper_arities, all_keeper_arities}
-use Rattle.interpretations.specs.Size.{DoSidesFit, DoesRuleFit, DoesUnravelingFit, IsFirstTooLarge}
+use Rattle.interpretations.specs.Size.{DoesRuleFit, DoesUnravelingFit, IsFirstTooLarge}
 use Rattle.term_core.specs.RuleView.{rule_view}
 use Rattle.term_core.specs.HeadView.{head_view}
 use Rattle.term_core.specs.declared.systems.Rule.{Rule}

@@ -5,9 +5,9 @@ use std::test::Fail;
 use unravel::unravel;
 
 // An overlap: the inner rule, the position, the outer rule, the conditions of the inner rule, and all.
-type Place = (u32, &'static [u32], u32, u32, usize);
+type Triple = (u32, &'static [u32], u32, u32, usize);
 
-fn is_at(overlap: &Overlap, place: &Place) -> bool {
+fn is_at(overlap: &Overlap, place: &Triple) -> bool {
     overlap.inner == place.0
         && overlap.pos.as_slice() == place.1
         && overlap.outer == place.2
@@ -16,7 +16,7 @@ fn is_at(overlap: &Overlap, place: &Place) -> bool {
 }
 
 // Whether the system that the text spells has just these overlaps, in this order.
-fn has_overlaps(alloc: Global, text: &str, places: &[Place]) -> bool {
+fn has_overlaps(alloc: Global, text: &str, places: &[Triple]) -> bool {
     let Ok((sys, _)) = read_system(alloc, text.as_bytes()) else {
         return false;
     };
@@ -29,7 +29,7 @@ fn has_overlaps(alloc: Global, text: &str, places: &[Place]) -> bool {
 #[test]
 fn overlaps_stand_in_order(rt: HostRuntime) -> Result<(), Fail> {
     let alloc = rt.alloc();
-    let rows: [(&str, &[Place]); 3] = [
+    let rows: [(&str, &[Triple]); 3] = [
         ("(VAR x)(RULES f(f(x)) -> x)", &[(1, &[1], 1, 0, 0)]),
         (
             "(VAR x)(RULES f(g(x)) -> a g(b) -> a f(x) -> b)",

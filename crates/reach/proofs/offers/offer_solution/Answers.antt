@@ -7,9 +7,9 @@ use Rattle.term_core.specs.RuleView.{rule_view}
 use Rattle.reach.specs.ReachedView.{reached_view}
 use Rattle.reach.specs.SolutionView.{solution_view}
 use Rattle.reach_lists.specs.Laws.{IsSettled}
-use Rattle.reach_lists.specs.Matches.{is_covered}
+use Rattle.rewriting.specs.Tests.{is_covered}
 use Rattle.reach_lists.proofs.Each.{each_if}
-use Rattle.reach_lists.proofs.Tests.{covered_all}
+use Rattle.rewriting.proofs.Tests.{covered_all}
 use Rattle.reach.proofs.Offered.{nothing_taken, nothing_when_full, stepped_settled, put_taken, solution_taken, rule_step_view}
 use Rattle.reach.proofs.offers.offer_solution.Goals as goal
 
