@@ -1,7 +1,7 @@
 -- Two systems that are not confluent: one whose overlap does harm, one whose right side has a new variable.
 use Rattle.std.proofs.Common.{◌≡◌, ◌≢◌, ℕ, zero, suc, refl, sym, ap, ◌∙◌, subst, [], ◌∷◌, Some}
 use Rattle.rewriting.specs.Signatures.{IsOver, AreValuesOver}
-use Rattle.rewriting.specs.Confluence.{IsConfluent}
+use Rattle.rewriting.specs.Confluence.{IsConfluent, AreApart}
 use Rattle.rewriting.specs.Examples.{constant, unary, plain}
 use Rattle.rewriting.proofs.Common.{Star, done, more, Term, var, Position, subterm, Substitution, apply, values_of, Rule, System, rule_at, Contraction, Step, Rewrites, Reaches}
 use Rattle.rewriting.proofs.Contexts.{root}
@@ -59,9 +59,19 @@ to_b = root record { rule = plain (constant 0) (constant 1); by = no_value; valu
 to_c : level forked 1 (constant 0) (constant 2)
 to_c = root record { rule = plain (constant 0) (constant 2); by = no_value; values = over_first; is_rule = (2, refl); holds = tt; left = refl; right = refl }
 
+to_b_reached : Reaches forked (constant 0) (constant 1)
+to_b_reached = more (1, step_of_level forked 1 _ _ to_b) done
+
+to_c_reached : Reaches forked (constant 0) (constant 2)
+to_c_reached = more (1, step_of_level forked 1 _ _ to_c) done
+
+-- a reaches b and c, and no term is reached from both
+pub forked_apart : Reaches forked (constant 0) (constant 1) × Reaches forked (constant 0) (constant 2) × AreApart forked (constant 1) (constant 2)
+forked_apart = (to_b_reached, to_c_reached, λ w h k. (let one = stays forked 1 (forked_rule 0) refl h in let other = stays forked 2 (forked_rule 1) refl k in let bad : constant 1 ≡ constant 2 = sym one ∙ other in cc))
+
 pub harmful_overlap : HarmfulOverlap
 harmful_overlap =
-    not_confluent forked (constant 0) 1 2 (λ e. cc) (refl, tt) (refl, tt) (refl, tt) (more (1, step_of_level forked 1 _ _ to_b) done) (more (1, step_of_level forked 1 _ _ to_c) done) (forked_rule 0) (forked_rule 1)
+    not_confluent forked (constant 0) 1 2 (λ e. cc) (refl, tt) (refl, tt) (refl, tt) to_b_reached to_c_reached (forked_rule 0) (forked_rule 1)
 
 over_one : AreValuesOver (1 ∷ 0 ∷ 0 ∷ []) no_value
 unfolding no_value

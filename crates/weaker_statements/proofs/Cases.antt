@@ -1,0 +1,17 @@
+-- The cases in which the weaker statements hold.
+use Rattle.std.proofs.Common.{refl}
+use Rattle.rewriting.specs.Relations.{done}
+use Rattle.rewriting.specs.Examples.{constant}
+use Rattle.measure.proofs.NoRules.{no_rules_bound}
+use Rattle.level_theorem.proofs.Counterexamples.{forked_apart}
+use Rattle.weaker_statements.specs.Peaks.{EndsMatter}
+use Rattle.weaker_statements.specs.Measures.{JudgementsMatter}
+
+pub ends_matter : EndsMatter
+ends_matter = (
+  (constant 1, constant 2, record { one = forked_apart.0; other = forked_apart.1; apart = forked_apart.2 }),
+  λ h. (h.apart (constant 0) (constant 0) (record { first = refl; second = refl })).apart (constant 0) done done,
+)
+
+pub judgements_matter : JudgementsMatter
+judgements_matter = record { bounds = no_rules_bound; is_good = refl; is_bad = refl }
