@@ -1,0 +1,6 @@
+pub mod Entries
+pub mod GrownOnce
+pub mod Ortho
+pub mod Peak
+pub mod PeakOnce
+pub mod Whole

@@ -1,0 +1,11 @@
+use Rattle.search_spaces.proofs.Whole.{ortho_searchable, peak_searchable, whole_searchable}
+use Rattle.search_spaces.proofs.spaces_are_searchable.Goals as goal
+
+pub returns-clause-ortho : goal.returns-clause-ortho
+returns-clause-ortho c = ortho_searchable
+
+pub returns-clause-peak : goal.returns-clause-peak
+returns-clause-peak c = peak_searchable
+
+pub returns-clause-whole : goal.returns-clause-whole
+returns-clause-whole c = whole_searchable

@@ -1,0 +1,26 @@
+-- Laws of the spaces.
+use Rattle.rewriting.specs.Rules.{System}
+use Rattle.certificates.specs.Certificates.{Certificate}
+use Rattle.cops_read.specs.NameTable.{NameTable}
+use Rattle.valid_certificates.specs.Certificates.{IsValid}
+use Rattle.first_found.specs.Spaces.{Space, CostsOnce, HasCost, FindsOnce, HasPrice, IsSearched}
+use Rattle.search_spaces.specs.Ortho.{ortho_space}
+use Rattle.search_spaces.specs.Peak.{peak_space}
+use Rattle.search_spaces.specs.Whole.{whole_space}
+
+-- what the space finds is in it and valid, and where it finds nothing, nothing in it is valid; it finds one certificate at most, at one price; its cost is one number, and it cannot be that it has none
+pub record IsSearchable (sys : System) (S : Space Certificate) : Type 0 where
+  pub searched : IsSearched (IsValid sys) S
+  pub finds_once : FindsOnce S
+  pub costs_once : CostsOnce S
+  pub has_cost : HasCost S
+  pub has_price : HasPrice S
+
+abbrev pub OrthoSpacesAreSearchable : Type 0
+OrthoSpacesAreSearchable = (names : NameTable) (sys : System) → IsSearchable sys (ortho_space names sys)
+
+abbrev pub PeakSpacesAreSearchable : Type 0
+PeakSpacesAreSearchable = (names : NameTable) (sys : System) → IsSearchable sys (peak_space names sys)
+
+abbrev pub WholeSpacesAreSearchable : Type 0
+WholeSpacesAreSearchable = (names : NameTable) (sys : System) → IsSearchable sys (whole_space names sys)

@@ -1,0 +1,12 @@
+pub mod Answers
+pub mod Entries
+pub mod Grown
+pub mod Laws
+pub mod Listings
+pub mod Ortho
+pub mod PairItems
+pub mod Peak
+pub mod PeakItems
+pub mod Refuting
+pub mod Texts
+pub mod Whole
