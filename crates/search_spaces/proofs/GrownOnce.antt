@@ -8,7 +8,7 @@ use Rattle.rewriting.specs.Terms.{Term}
 use Rattle.rewriting.proofs.Before.{before_not_same, before_not_both}
 use Rattle.rewriting.proofs.Lists.{before_one, sorted_once}
 use Rattle.certificates.specs.Evidence.{Transition, Automaton}
-use Rattle.automata.specs.Growth.{IsHeadBefore, IsTransitionBefore, AreLeast, IsGrowthOf, AreTransitionsMany}
+use Rattle.automata.specs.Growth.{IsHeadBefore, IsTransitionBefore, AreLeast, AreTransitionsMany}
 use Rattle.automata.proofs.Asked.{contains_head, contains_tail}
 use Rattle.search_spaces.specs.Grown.{GrowsTo}
 

@@ -1,5 +1,5 @@
 -- What the peak space finds is valid, and where it finds nothing, none of its certificates is; what a search of it may answer.
-use Rattle.std.proofs.Common.{ℕ, ◌≡◌, ◌<◌, ◌⊎◌, inl, inr, List, [], ◌∷◌, ◌++◌, map, refl, sym, ap, ◌∙◌, subst, arith}
+use Rattle.std.proofs.Common.{ℕ, ◌≡◌, ◌<◌, inl, inr, List, [], ◌∷◌, ◌++◌, map, refl, sym, ap, ◌∙◌, subst, arith}
 use Rattle.rewriting.specs.Lists.{IsAmong}
 use Rattle.rewriting.proofs.Lists.{among_middle}
 use Rattle.rewriting.specs.Rules.{System}
