@@ -121,6 +121,20 @@ fn judge_rules(
     Ok(())
 }
 
+/// What [`is_closed`] tells, asked of the automaton's index by the symbols of the system.
+pub(crate) fn judge_closure(
+    alloc: Global,
+    index: &AutomatonIndex<'_>,
+    sys: &System,
+    a: &Automaton,
+) -> Result<(), Refusal>
+    requires { index.now ≡ under sys.now (automaton_view a.now) }
+    ensures { RefutesAnswers (λ o. IsClosureJudged sys.now (automaton_view a.now) o) result }
+{
+    judge_widths(alloc, sys, a)?;
+    judge_rules(alloc, index, sys, a)
+}
+
 /// Whether an automaton is closed under the rules of a system: where a left side reaches a state, so does the
 /// right side. Else `AutoWide` for the first left side with more than 1,000,000 choices of states, or
 /// `AutoNotClosed` for the first rule, choice and state at which the right side is not kept.
@@ -128,6 +142,5 @@ pub fn is_closed(alloc: Global, sys: &System, a: &Automaton) -> Result<(), Refus
     ensures { RefutesAnswers (λ o. IsClosureJudged sys.now (automaton_view a.now) o) result }
 {
     let index = index_under(alloc, sys, a)?;
-    judge_widths(alloc, sys, a)?;
-    judge_rules(alloc, &index, sys, a)
+    judge_closure(alloc, &index, sys, a)
 }

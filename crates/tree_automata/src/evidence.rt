@@ -8,7 +8,7 @@ ghost use Rattle.cert_model.specs.EvidenceView.{automaton_view};
 ghost use Rattle.refuter.specs.Answers.{RefutesAnswers};
 
 use crate::accepts::{accepts_all, is_accepted};
-use crate::closure::{index_under, is_closed};
+use crate::closure::{index_under, judge_closure};
 use crate::exclusion::judge_exclusion;
 use cert_model::{Automaton, EvidenceReason, condition};
 use refuter::{Refusal, Refuter};
@@ -35,7 +35,7 @@ fn judge_condition(alloc: Global, sys: &System, cond: &Cond, a: &Automaton) -> R
     if !is_accepted(alloc, &index, a, &cond.left)? {
         return Err(Refusal::Reason(EvidenceReason::AutoMisses));
     }
-    match is_closed(alloc, sys, a) {
+    match judge_closure(alloc, &index, sys, a) {
         Ok(()) => judge_exclusion(alloc, &index, a, &cond.right),
         Err(why) => Err(why),
     }
