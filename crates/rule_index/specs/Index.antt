@@ -8,6 +8,11 @@ use Rattle.rule_index.specs.Roots.{rules_with_root}
 abbrev pub listed : List (List ℕ) → ℕ → List ℕ
 listed index f = get_or index f []
 
+-- those that stand at the root of a term
+abbrev pub listed_at : List (List ℕ) → Term → List ℕ
+listed_at index (var x) = []
+listed_at index (app f ts) = listed index f
+
 -- at each symbol stand the numbers of the system's rules with that root, in order
 abbrev pub IsIndexOf : System → List (List ℕ) → Type 0
 IsIndexOf sys index = (f : ℕ) → listed index f ≡ rules_with_root sys f

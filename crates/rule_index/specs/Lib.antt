@@ -1,3 +1,6 @@
 pub mod Roots
 pub mod Index
 pub mod IndexView
+pub mod Parts
+pub mod Levels
+pub mod WalkView

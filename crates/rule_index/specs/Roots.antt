@@ -16,3 +16,8 @@ numbers_with_root f n (r ∷ rs) = if has_root f r.left then n ∷ numbers_with_
 -- the numbers of the system's rules, from 1, whose left side has the root f, in order
 abbrev pub rules_with_root : System → ℕ → List ℕ
 rules_with_root sys f = numbers_with_root f 1 sys.rules
+
+-- those whose left side has the root of a term
+abbrev pub rules_at : System → Term → List ℕ
+rules_at sys (var x) = []
+rules_at sys (app f ts) = rules_with_root sys f

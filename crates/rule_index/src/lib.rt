@@ -1,12 +1,15 @@
-//! The rules of a system by the root symbols of their left sides.
+//! The rules of a system by the root symbols of their left sides, and walks over the parts of a term.
 #![tactic(auto)]
+
+mod parts;
 
 ghost use Rattle.std.specs.Prelude.{◌≡◌, ◌<◌, ◌+◌, ◌^◌, ◌++◌, ◌∷◌, ℕ, [], IfOk, OnOk, if◌then◌else◌, map, length};
 ghost use Rattle.rule_index.specs.Roots.{has_root, numbers_with_root};
-ghost use Rattle.rule_index.specs.Index.{listed, IsIndexOf, IsRootBelow, AreRootsBelow};
+ghost use Rattle.rule_index.specs.Index.{listed, listed_at, IsIndexOf, IsRootBelow, AreRootsBelow};
 ghost use Rattle.term_core.specs.View.{view};
 ghost use Rattle.term_core.specs.RuleView.{rule_view};
 
+pub use parts::PartWalk;
 use std::alloc::Global;
 use std::marker::Model;
 use term_core::{NoMemory, Rule, System, Term};
@@ -45,6 +48,16 @@ impl RuleIndex {
         match self.buckets.get(f as usize) {
             Some(bucket) => bucket,
             None => &[],
+        }
+    }
+
+    /// The numbers, from 1, of the rules whose left sides have the root of this term, in order; for a variable there are none.
+    pub fn rules_at(&self, part: &Term) -> &[u32]
+        ensures { result.now ≡ listed_at self.now (view part.now) }
+    {
+        match part {
+            Term::Var(_) => &[],
+            Term::Fun(f, _) => self.with_root(*f),
         }
     }
 }
