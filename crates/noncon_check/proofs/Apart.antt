@@ -1,11 +1,11 @@
 -- From the redexes of both ends to the answer.
-use Rattle.std.proofs.Common.{◌≡◌, ◌≢◌, ◌⊎◌, inl, inr, ℕ, zero, suc, ◌+◌, ◌<◌, ◌≤◌, if◌then◌else◌, List, [], ◌∷◌, ◌++◌, map, length, drop, get_or, slice_get, Option, None, Some, Result, Ok, Err, OnOk, refl, sym, ap, ap₂, ◌∙◌, subst, arith}
+use Rattle.std.proofs.Common.{◌≡◌, ◌≢◌, ◌⊎◌, inl, inr, ℕ, zero, suc, ◌+◌, ◌<◌, ◌≤◌, List, [], ◌∷◌, ◌++◌, map, length, drop, get_or, slice_get, Option, None, Some, Result, Ok, Err, OnOk, refl, sym, ap, ap₂, ◌∙◌, subst, arith}
 use Rattle.std.proofs.lemmas.Option.{slice_get_within, get_or_from_slice_get}
 use Rattle.std.proofs.lemmas.List.{drop_more}
 use Rattle.rewriting.specs.Signatures.{IsOver}
 use Rattle.rewriting.specs.Systems.{IsSystem, IsWellFormed, AreRules}
 use Rattle.rewriting.specs.Terms.{size}
-use Rattle.rewriting.proofs.Common.{Term, Position, System, apply, with_variables}
+use Rattle.rewriting.proofs.Common.{Term, System, apply, with_variables}
 use Rattle.rewriting.proofs.Laws.{well_formed}
 use Rattle.certificates.specs.Certificates.{Redex, Peak, by_normal_forms}
 use Rattle.certificates.specs.Evidence.{InfeasibilityEvidence}
@@ -46,19 +46,19 @@ numbered_size t n row is fits = let same = ap size is ∙ size-names (λ m. get_
 
 -- the redexes of an end, judged by those of the numbered end
 module _ (sys : System) (good : IsSystem sys) (row : List ℕ) (own : ℕ) (long : own ≡ length row) (distinct : AreDistinct row) (t n : Term) (is : t ≡ apply (naming row) n) (below : AreBelow (length row) n) where
-  judged_from : (w at : ℕ) (p : Position) (none : p ≡ []) (es : List Redex) (a : Result ℕ CheckError) → PlacesAnswer (IsJudgedAt sys own n) p es at (redexes sys w n) a → AreJudgedFrom sys w t es at a
-  judged_from w at p none es a h =
+  judged_from : (w at : ℕ) (es : List Redex) (a : Result ℕ CheckError) → PlacesAnswer (IsJudgedAt sys own n) es at (redexes sys w n) a → AreJudgedFrom sys w t es at a
+  judged_from w at es a h =
       record {
         places = redexes sys w n;
         are = same_redexes row distinct t n is below sys w (redexes sys w n) (redexes_are sys w n (well_formed sys good));
-        answer = answers_to (IsJudgedAt sys (length row) n) (IsRedexJudged sys t) [] es at (redexes sys w n) a (λ r l e o j. redex_judged row distinct t n is below sys r e o j)
-            (subst (λ q. PlacesAnswer (IsJudgedAt sys (length row) n) q es at (redexes sys w n) a) none (subst (λ k. PlacesAnswer (IsJudgedAt sys k n) p es at (redexes sys w n) a) long h));
+        answer = answers_to (IsJudgedAt sys (length row) n) (IsRedexJudged sys t) es at (redexes sys w n) a (λ r l e o j. redex_judged row distinct t n is below sys r e o j)
+            (subst (λ k. PlacesAnswer (IsJudgedAt sys k n) es at (redexes sys w n) a) long h);
       }
 
-  pub end_answers : (w at : ℕ) (p : Position) → p ≡ [] → (es : List Redex) (a : Result ℕ CheckError) → PlacesAnswer (IsJudgedAt sys own n) p es at (redexes sys w n) a → EndAnswers sys w t es at a
-  end_answers w at p none es (Ok after) h = judged_from w at p none es (Ok after) h
-  end_answers w at p none es (Err (Rejected reason)) h = judged_from w at p none es (Err (Rejected reason)) h
-  end_answers w at p none es (Err NoMemory) h = tt
+  pub end_answers : (w at : ℕ) (es : List Redex) (a : Result ℕ CheckError) → PlacesAnswer (IsJudgedAt sys own n) es at (redexes sys w n) a → EndAnswers sys w t es at a
+  end_answers w at es (Ok after) h = judged_from w at es (Ok after) h
+  end_answers w at es (Err (Rejected reason)) h = judged_from w at es (Err (Rejected reason)) h
+  end_answers w at es (Err NoMemory) h = tt
 
 are_sound : (arities : _) (rs : List program.Rule) → AreRules arities (map rule_view rs) → AreCounted rs → AreSound arities rs
 are_sound arities [] h k = tt
@@ -117,18 +117,18 @@ module _ (sys : System) (u v : Term) where
   second_own : (ss : List RedexPlace) → AreRedexesOf sys 2 v ss → (r : RedexPlace) → IsAmong r ss → (e : InfeasibilityEvidence) (o : Option EvidenceReason) → IsRedexJudged sys v r e o → J r e o
   second_own ss b r l e o h = subst (λ k. IsRedexJudged sys (chosen u v k) r e o) (sym (b.each r l).0) h
 
-  refuted_step : (es : List Redex) (at : ℕ) (r : RedexPlace) (rs : List RedexPlace) → IsEntry J [] es at r None → AreRefuted sys u v rs (drop (suc at) es) → AreRefuted sys u v (r ∷ rs) (drop at es)
+  refuted_step : (es : List Redex) (at : ℕ) (r : RedexPlace) (rs : List RedexPlace) → IsEntry J es at r None → AreRefuted sys u v rs (drop (suc at) es) → AreRefuted sys u v (r ∷ rs) (drop at es)
   refuted_step es at r rs h k = subst (AreRefuted sys u v (r ∷ rs)) (sym (drop_some es at h.entry h.stands)) (h.place, h.judged, k)
 
-  pub all_refuted : (es : List Redex) (at : ℕ) (rs : List RedexPlace) (after : ℕ) → Pass J [] es at rs after → length es ≤ after → AreRefuted sys u v rs (drop at es)
+  pub all_refuted : (es : List Redex) (at : ℕ) (rs : List RedexPlace) (after : ℕ) → Pass J es at rs after → length es ≤ after → AreRefuted sys u v rs (drop at es)
   all_refuted es at [] after h long = subst (AreRefuted sys u v []) (sym (drop_past es at (omega (arith, h, long)))) tt
   all_refuted es at (r ∷ rs) after (e, h) long = refuted_step es at r rs e (all_refuted es (suc at) rs after h long)
 
-  next_fails : (es : List Redex) (at : ℕ) (r : RedexPlace) (rs : List RedexPlace) (reason : Rejection) → IsEntry J [] es at r None → AreNotRefuted sys u v (suc (suc at)) rs (drop (suc at) es) reason
+  next_fails : (es : List Redex) (at : ℕ) (r : RedexPlace) (rs : List RedexPlace) (reason : Rejection) → IsEntry J es at r None → AreNotRefuted sys u v (suc (suc at)) rs (drop (suc at) es) reason
       → AreNotRefuted sys u v (suc at) (r ∷ rs) (drop at es) reason
   next_fails es at r rs reason h k = subst (λ z. AreNotRefuted sys u v (suc at) (r ∷ rs) z reason) (sym (drop_some es at h.entry h.stands)) (inr (inr (h.place, h.judged, k)))
 
-  pub one_extra : (es : List Redex) (at : ℕ) (rs : List RedexPlace) (after : ℕ) → Pass J [] es at rs after → after < length es → AreNotRefuted sys u v (suc at) rs (drop at es) (redex_extra (suc after))
+  pub one_extra : (es : List Redex) (at : ℕ) (rs : List RedexPlace) (after : ℕ) → Pass J es at rs after → after < length es → AreNotRefuted sys u v (suc at) rs (drop at es) (redex_extra (suc after))
   one_extra es at [] after h less = go (slice_get es at) refl
     where
       go : (o : Option Redex) → slice_get es at ≡ o → AreNotRefuted sys u v (suc at) [] (drop at es) (redex_extra (suc after))
@@ -140,7 +140,7 @@ module _ (sys : System) (u v : Term) where
   missed es at r rs reason none h None e = subst (λ z. AreNotRefuted sys u v (suc at) (r ∷ rs) z reason) (sym (drop_past es at (none_past es at e))) h
   missed es at r rs reason none h (Some d) e = subst (λ z. AreNotRefuted sys u v (suc at) (r ∷ rs) z reason) (sym (drop_some es at d e)) (inl (none d e, h))
 
-  pub one_fails : (es : List Redex) (at : ℕ) (rs : List RedexPlace) (reason : Rejection) → Fail J [] es at rs reason → AreNotRefuted sys u v (suc at) rs (drop at es) reason
+  pub one_fails : (es : List Redex) (at : ℕ) (rs : List RedexPlace) (reason : Rejection) → Fail J es at rs reason → AreNotRefuted sys u v (suc at) rs (drop at es) reason
   one_fails es at [] reason h = absurd h
   one_fails es at (r ∷ rs) reason (inl (none, h)) = missed es at r rs reason none h (slice_get es at) refl
   one_fails es at (r ∷ rs) reason (inr (inl (why, h, is))) =
@@ -159,13 +159,13 @@ module _ (sys : System) (u v : Term) where
             h.places ++ ss,
             both h.places ss h.are (redexes_are sys 2 v good),
             one_fails es 0 (h.places ++ ss) (rejected_view reason)
-                (fail_append J [] es 0 h.places ss (rejected_view reason) (fail_to (IsRedexJudged sys u) J [] es 0 h.places (rejected_view reason) (first_own h.places h.are) h.answer)),
+                (fail_append J es 0 h.places ss (rejected_view reason) (fail_to (IsRedexJudged sys u) J es 0 h.places (rejected_view reason) (first_own h.places h.are) h.answer)),
           ),
         )
 
     module _ (mid : ℕ) (a : EndAnswers sys 1 u es 0 (Ok mid)) where
-      first_passes : Pass J [] es 0 a.places mid
-      first_passes = pass_to (IsRedexJudged sys u) J [] es 0 a.places mid (first_own a.places a.are) a.answer
+      first_passes : Pass J es 0 a.places mid
+      first_passes = pass_to (IsRedexJudged sys u) J es 0 a.places mid (first_own a.places a.are) a.answer
 
       pub second_fails_so : (e : CheckError) → EndAnswers sys 2 v es mid (Err e) → ApartAnswers sys u v (by_normal_forms es) (Err e)
       second_fails_so NoMemory h = tt
@@ -176,13 +176,13 @@ module _ (sys : System) (u v : Term) where
               a.places ++ h.places,
               both a.places h.places a.are h.are,
               one_fails es 0 (a.places ++ h.places) (rejected_view reason)
-                  (pass_fail J [] es 0 a.places mid h.places (rejected_view reason) first_passes (fail_to (IsRedexJudged sys v) J [] es mid h.places (rejected_view reason) (second_own h.places h.are) h.answer)),
+                  (pass_fail J es 0 a.places mid h.places (rejected_view reason) first_passes (fail_to (IsRedexJudged sys v) J es mid h.places (rejected_view reason) (second_own h.places h.are) h.answer)),
             ),
           )
 
       module _ (after : ℕ) (b : EndAnswers sys 2 v es mid (Ok after)) where
-        all_pass : Pass J [] es 0 (a.places ++ b.places) after
-        all_pass = pass_append J [] es 0 a.places mid b.places after first_passes (pass_to (IsRedexJudged sys v) J [] es mid b.places after (second_own b.places b.are) b.answer)
+        all_pass : Pass J es 0 (a.places ++ b.places) after
+        all_pass = pass_append J es 0 a.places mid b.places after first_passes (pass_to (IsRedexJudged sys v) J es mid b.places after (second_own b.places b.are) b.answer)
 
         pub extra : (n : ℕ) → n ≡ suc after → after < length es → AreNotShownApart sys u v (by_normal_forms es) (redex_extra n)
         extra n e less = subst (λ k. AreNotShownApart sys u v (by_normal_forms es) (redex_extra k)) (sym e) (inr (differ, (a.places ++ b.places, both a.places b.places a.are b.are, one_extra es 0 (a.places ++ b.places) after all_pass less)))

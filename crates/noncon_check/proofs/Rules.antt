@@ -1,7 +1,6 @@
 -- Rules of a system, and entries of a certificate, by their numbers.
-use Rattle.std.proofs.Common.{◌≡◌, ℕ, zero, suc, ◌-◌, ◌<◌, ◌≤◌, List, [], ◌∷◌, length, get_or, map, Option, None, Some, IsSome, is_some, slice_get, refl, sym, ap, ◌∙◌, subst, arith, option_map, ◌⊎◌, inl, inr, Bool, true, false, if◌then◌else◌, Result}
-use Rattle.std.proofs.lemmas.Option.{slice_get-get_or, slice_get-map, slice_get_past, slice_get_within}
-use Rattle.std.proofs.lemmas.Bool.{cases_lt, false≢true}
+use Rattle.std.proofs.Common.{◌≡◌, ℕ, zero, suc, ◌-◌, ◌<◌, List, [], ◌∷◌, length, get_or, map, Option, Some, IsSome, slice_get, refl, sym, ap, ◌∙◌, subst, arith, inl, inr, Bool, true, false, if◌then◌else◌, Result}
+use Rattle.std.proofs.lemmas.Option.{slice_get_within}
 use Rattle.std.proofs.lemmas.List.{length-map}
 use Rattle.std.specs.FinMap.{empty}
 use Rattle.rewriting.specs.Lists.{IsAmong}
@@ -15,18 +14,18 @@ use Rattle.term_core.specs.declared.systems.Rule as program
 use Rattle.cert_model.specs.CertificateView.{redex_view}
 use Rattle.cert_model.specs.declared.model.Redex as program_redex
 use Rattle.rewriting.proofs.Matched.{instance_matched}
-use Rattle.rule_index.specs.Roots.{rules_with_root}
-use Rattle.rule_index.proofs.Walks.{listed_rule}
+use Rattle.rule_index.specs.Parts.{part}
+use Rattle.rule_index.proofs.Numbers.{number_low}
 use Rattle.rewriting.specs.Positions.{Position}
 use Rattle.rewriting.specs.Overlaps.{conditions_under}
 use Rattle.certificates.specs.Evidence.{InfeasibilityEvidence}
 use Rattle.certificates.specs.Reasons.{EvidenceReason}
 use Rattle.validity.specs.declared.CheckError.{CheckError}
 use Rattle.valid_certificates.specs.Peaks.{RedexPlace}
-use Rattle.noncon_check.specs.Judged.{match_or_new, AreJudged, IsJudgedAt}
+use Rattle.noncon_check.specs.Judged.{match_or_new, AreJudged, IsJudgedOn}
 use Rattle.noncon_check.specs.Walks.{Judgement, Pass, PlacesAnswer}
 use Rattle.noncon_check.proofs.Walks.{answers_to}
-use Rattle.noncon_check.specs.Redexes.{hits, is_hit, at_root}
+use Rattle.noncon_check.specs.Redexes.{hits, is_hit, place, places}
 use Rattle.noncon_check.proofs.Deciding.{match_decided, match_found}
 
 sound_at : (arities : Signature) (rs : List program.Rule) (i : ℕ) (d : program.Rule) → AreSound arities rs → i < length rs → IsSound arities (get_or rs i d)
@@ -34,34 +33,8 @@ sound_at arities [] i d h l = absurd (omega (arith, l))
 sound_at arities (q ∷ rs) zero d h l = h.0
 sound_at arities (q ∷ rs) (suc i) d h l = sound_at arities rs i d h.1 (omega (arith, l))
 
--- a rule's number, from 1
-module _ (sys : System) (rs : List program.Rule) (same : map rule_view rs ≡ sys.rules) where
-  within : (i : ℕ) → IsSome (rule_at sys (suc i)) → i < length rs
-  within i h = go (cases_lt i (length rs))
-    where
-      go : (i < length rs) ⊎ (length rs ≤ i) → i < length rs
-      go (inl l) = l
-      go (inr m) =
-          absurd (let none : rule_at sys (suc i) ≡ None = sym (ap (λ z. slice_get z i) same) ∙ slice_get-map rule_view rs i ∙ ap (option_map rule_view) (slice_get_past rs i m) in false≢true (sym (ap is_some none) ∙ h))
-
-  pub number_low : (n : ℕ) → IsSome (rule_at sys n) → (1 ≤ n) × (n - 1 < length rs)
-  number_low zero h = absurd (false≢true h)
-  number_low (suc i) h = let l = within i h in (omega arith, omega (arith, l))
-
-  pub rule_is : (n : ℕ) → IsSome (rule_at sys n) → (d : program.Rule) → rule_at sys n ≡ Some (rule_view (get_or rs (n - 1) d))
-  rule_is zero h d = absurd (false≢true h)
-  rule_is (suc i) h d =
-      let one : i ≡ suc i - 1 = omega arith in
-      sym (ap (λ z. slice_get z i) same) ∙ slice_get-map rule_view rs i ∙ ap (option_map rule_view) (slice_get-get_or rs i d (within i h)) ∙ ap (λ k. Some (rule_view (get_or rs k d))) one
-
-  pub sound_is : AreSound sys.arities rs → (n : ℕ) → IsSome (rule_at sys n) → (d : program.Rule) → IsSound sys.arities (get_or rs (n - 1) d)
-  sound_is sound n h d = sound_at sys.arities rs (n - 1) d sound (number_low n h).1
-
--- the numbers of rules with a root are numbers of rules
-pub listed_some : (sys : System) (f : ℕ) (ns : List ℕ) (i : ℕ) → ns ≡ rules_with_root sys f → i < length ns → IsSome (rule_at sys (get_or ns i 0))
-listed_some sys f ns i same l =
-    let r = listed_rule sys f i (subst (λ z. i < length z) same l) in
-    subst (λ z. IsSome (rule_at sys (get_or z i 0))) (sym same) (ap is_some r.1)
+pub sound_is : (sys : System) (rs : List program.Rule) → map rule_view rs ≡ sys.rules → AreSound sys.arities rs → (n : ℕ) → IsSome (rule_at sys n) → (d : program.Rule) → IsSound sys.arities (get_or rs (n - 1) d)
+sound_is sys rs same sound n h d = sound_at sys.arities rs (n - 1) d sound (number_low sys rs same n h).1
 
 -- entries
 pub entry_low : (es : List program_redex.Redex) (at : ℕ) (e : math.Redex) → slice_get (map redex_view es) at ≡ Some e → at < length es
@@ -84,19 +57,18 @@ module _ (sys : System) (t : Term) (n : ℕ) (r : Rule) (is : rule_at sys n ≡ 
           absurd (none least.0 least.1.extends least.1.solves)
 
   -- nothing is asked where the rule does not match
-  pub unmatched_pass : (J : Judgement) (p : Position) (es : List math.Redex) (w at : ℕ) → HasNoMatch empty r.left t → Pass J p es at (map (at_root w) (hits sys t (n ∷ []))) at
-  unmatched_pass J p es w at none = subst (λ is. Pass J p es at (map (at_root w) is) at) (sym (hit_no none)) refl
+  pub unmatched_pass : (J : Judgement) (p : Position) (es : List math.Redex) (w at : ℕ) → HasNoMatch empty r.left t → Pass J es at (places sys w (part p t) (n ∷ [])) at
+  unmatched_pass J p es w at none = subst (λ is. Pass J es at (map (place w p) is) at) (sym (hit_no none)) refl
 
-  judged_here : (own w : ℕ) (m : Bindings) → IsLeastMatch empty m r.left t → (q : RedexPlace) → IsAmong q (at_root w n ∷ []) → (e : InfeasibilityEvidence) (o : Option EvidenceReason)
-      → AreJudged sys (conditions_under (match_or_new own m) r.conditions) e o → IsJudgedAt sys own t q e o
-  judged_here own w m h q (inl s) e o j =
-      subst (λ z. IsJudgedAt sys own t z e o) (sym s) (record { rule = r; match = m; matches = record { is_rule = is; redex = t; stands = refl; matches = h }; judged = j })
-  judged_here own w m h q (inr l) e o j = absurd l
+  judged_here : (own w : ℕ) (p : Position) (m : Bindings) → IsLeastMatch empty m r.left t → (q : RedexPlace) → IsAmong q (place w p n ∷ []) → (e : InfeasibilityEvidence) (o : Option EvidenceReason)
+      → AreJudged sys (conditions_under (match_or_new own m) r.conditions) e o → IsJudgedOn sys own t q e o
+  judged_here own w p m h q (inl s) e o j = subst (λ z. IsJudgedOn sys own t z e o) (sym s) (record { rule = r; match = m; is_rule = is; matches = h; judged = j })
+  judged_here own w p m h q (inr l) e o j = absurd l
 
   -- where it matches, the next entry is judged
   pub matched_answers : (p : Position) (es : List math.Redex) (own w at : ℕ) (m : Bindings) (a : Result ℕ CheckError) → IsLeastMatch empty m r.left t
-      → PlacesAnswer (λ q e o. AreJudged sys (conditions_under (match_or_new own m) r.conditions) e o) p es at (at_root w n ∷ []) a
-      → PlacesAnswer (IsJudgedAt sys own t) p es at (map (at_root w) (hits sys t (n ∷ []))) a
+      → PlacesAnswer (λ q e o. AreJudged sys (conditions_under (match_or_new own m) r.conditions) e o) es at (place w p n ∷ []) a
+      → PlacesAnswer (IsJudgedOn sys own t) es at (places sys w (part p t) (n ∷ [])) a
   matched_answers p es own w at m a h k =
-      subst (λ is. PlacesAnswer (IsJudgedAt sys own t) p es at (map (at_root w) is) a) (sym (hit_yes m h))
-      (answers_to (λ q e o. AreJudged sys (conditions_under (match_or_new own m) r.conditions) e o) (IsJudgedAt sys own t) p es at (at_root w n ∷ []) a (judged_here own w m h) k)
+      subst (λ is. PlacesAnswer (IsJudgedOn sys own t) es at (map (place w p) is) a) (sym (hit_yes m h))
+      (answers_to (λ q e o. AreJudged sys (conditions_under (match_or_new own m) r.conditions) e o) (IsJudgedOn sys own t) es at (place w p n ∷ []) a (judged_here own w p m h) k)

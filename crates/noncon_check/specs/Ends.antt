@@ -39,7 +39,7 @@ ApartAnswers sys u v apart (Err NoMemory) = Unit {0}
 pub record AreJudgedFrom (sys : System) (which : ℕ) (t : math.Term) (es : List Redex) (at : ℕ) (result : Result ℕ CheckError) : Type 0 where
   pub places : List RedexPlace
   pub are : AreRedexesOf sys which t places
-  pub answer : PlacesAnswer (IsRedexJudged sys t) [] es at places result
+  pub answer : PlacesAnswer (IsRedexJudged sys t) es at places result
 
 abbrev pub EndAnswers : System → ℕ → math.Term → List Redex → ℕ → Result ℕ CheckError → Type 0
 EndAnswers sys which t es at (Err NoMemory) = Unit {0}

@@ -1,11 +1,12 @@
 -- The evidence for a redex of a term whose variables are 0 to n - 1: a rule's variables k without value become n + k.
 use Rattle.std.specs.Prelude.{ℕ, ◌≡◌, ◌+◌, ◌⊎◌, List, Option, Some, unwrap_or, Result, Ok, Err, map}
-use Rattle.std.specs.FinMap.{get}
+use Rattle.std.specs.FinMap.{get, empty}
 use Rattle.std.specs.Global.{Vec}
 use Rattle.rewriting.specs.Terms as math
 use Rattle.rewriting.specs.Terms.{Term, var}
 use Rattle.rewriting.specs.Substitutions.{Bindings, Substitution}
-use Rattle.rewriting.specs.Rules.{Condition, Rule, System}
+use Rattle.rewriting.specs.Matching.{IsLeastMatch}
+use Rattle.rewriting.specs.Rules.{Condition, Rule, System, rule_at}
 use Rattle.rewriting.specs.Overlaps.{conditions_under}
 use Rattle.certificates.specs.Evidence.{InfeasibilityEvidence}
 use Rattle.certificates.specs.Judging.{RuleMatches}
@@ -29,7 +30,15 @@ match_or_new n match k = value_or_new n k (get match k)
 abbrev pub AreJudged : System → List Condition → InfeasibilityEvidence → Option EvidenceReason → Type 0
 AreJudged sys cs evidence o = (DoConditionsFit cs × IsInfeasibilityJudged sys cs evidence o) ⊎ ((DoConditionsFit cs → ⊥) × (o ≡ Some tcap_large))
 
--- so it is for the conditions of the rule that matches at the place
+-- so it is for the conditions of a place's rule, which matches a part
+pub record IsJudgedOn (sys : System) (n : ℕ) (part : Term) (r : RedexPlace) (evidence : InfeasibilityEvidence) (o : Option EvidenceReason) : Type 0 where
+  pub rule : Rule
+  pub match : Bindings
+  pub is_rule : rule_at sys r.rule ≡ Some rule
+  pub matches : IsLeastMatch empty match rule.left part
+  pub judged : AreJudged sys (conditions_under (match_or_new n match) rule.conditions) evidence o
+
+-- and for those of the rule that matches at the place in a term
 pub record IsJudgedAt (sys : System) (n : ℕ) (t : Term) (r : RedexPlace) (evidence : InfeasibilityEvidence) (o : Option EvidenceReason) : Type 0 where
   pub rule : Rule
   pub match : Bindings

@@ -1,12 +1,13 @@
 -- The redexes of a term, in order.
-use Rattle.std.specs.Prelude.{ℕ, suc, ◌≡◌, Bool, false, if◌then◌else◌, List, [], ◌∷◌, ◌++◌, map, Option, None, Some, is_some}
+use Rattle.std.specs.Prelude.{ℕ, ◌≡◌, Bool, false, if◌then◌else◌, List, [], ◌∷◌, map, flat_map, Option, None, Some, is_some}
 use Rattle.std.specs.FinMap.{empty}
 use Rattle.rewriting.specs.Lists.{IsAmong, IsSorted}
-use Rattle.rewriting.specs.Terms.{Term, Terms, var, app, nil, cons}
+use Rattle.rewriting.specs.Terms.{Term}
 use Rattle.rewriting.specs.Positions.{Position}
 use Rattle.rewriting.specs.Rules.{Rule, System, rule_at}
 use Rattle.rewriting.specs.Tests.{match_onto}
-use Rattle.rule_index.specs.Roots.{rules_with_root}
+use Rattle.rule_index.specs.Roots.{rules_at}
+use Rattle.rule_index.specs.Parts.{Part, parts}
 use Rattle.valid_certificates.specs.Peaks.{RedexPlace, MatchesAt, IsEarlierRedex}
 
 -- whether there is a rule, and its left side matches the term
@@ -19,27 +20,21 @@ abbrev pub hits : System → Term → List ℕ → List ℕ
 hits sys t [] = []
 hits sys t (i ∷ is) = if is_hit (rule_at sys i) t then i ∷ hits sys t is else hits sys t is
 
--- a rule at the root of a term with this number
-abbrev pub at_root : ℕ → ℕ → RedexPlace
-at_root which i = record { which = which; position = []; rule = i }
+-- a rule at a position of a term with this number
+abbrev pub place : ℕ → Position → ℕ → RedexPlace
+place which p i = record { which = which; position = p; rule = i }
 
--- a place of the k-th argument, as one of the whole term
-abbrev pub below : ℕ → RedexPlace → RedexPlace
-below k r = record { which = r.which; position = k ∷ r.position; rule = r.rule }
+-- the places at a part of a term with this number, for those of the rules with some numbers that match the part
+abbrev pub places : System → ℕ → Part → List ℕ → List RedexPlace
+places sys which q is = map (place which q.position) (hits sys q.term is)
 
--- a place of the term at a position, as one of the whole term
-abbrev pub behind : Position → RedexPlace → RedexPlace
-behind p r = record { which = r.which; position = p ++ r.position; rule = r.rule }
+-- those for the rules that have the part's root
+abbrev pub part_redexes : System → ℕ → Part → List RedexPlace
+part_redexes sys which q = places sys which q (rules_at sys q.term)
 
--- the places where rules match in a term with this number, and in its arguments from the k-th on
-abbrev mutual
-  pub redexes : System → ℕ → Term → List RedexPlace
-  redexes sys which (var x) = []
-  redexes sys which (app f ts) = map (at_root which) (hits sys (app f ts) (rules_with_root sys f)) ++ redexes_from sys which 1 ts
-
-  pub redexes_from : System → ℕ → ℕ → Terms → List RedexPlace
-  redexes_from sys which k nil = []
-  redexes_from sys which k (cons t ts) = map (below k) (redexes sys which t) ++ redexes_from sys which (suc k) ts
+-- the places where rules match in a term with this number, part by part
+abbrev pub redexes : System → ℕ → Term → List RedexPlace
+redexes sys which t = flat_map (part_redexes sys which) (parts t)
 
 -- the list has exactly the places where rules match in a term with this number, in order
 pub record AreRedexesOf (sys : System) (which : ℕ) (t : Term) (rs : List RedexPlace) : Type 0 where

@@ -25,7 +25,7 @@ fn judge_end(alloc: Global, judge: &Judge, end: &Term, at: usize) -> Result<usiz
     let numbered = numbering.numbered(alloc, end)?;
     let own = numbering.len() as u32;
     let judge = Judge { own, ..*judge };
-    judge.judge_part(alloc, &numbered, &mut Vec::new(alloc), at)
+    judge.judge_parts(alloc, &numbered, at)
 }
 
 // That the ends differ, and that there is an entry with valid evidence for each redex of theirs, and no other.

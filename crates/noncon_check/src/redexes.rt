@@ -1,15 +1,15 @@
-ghost use Rattle.std.specs.Prelude.{◌≡◌, ◌≢◌, ◌≤◌, ◌<◌, ◌++◌, ◌∷◌, ◌↔◌, [], Some, OnOk, IsTrue, MatchOption, IsSome, map, slice_get};
+ghost use Rattle.std.specs.Prelude.{◌≡◌, ◌≤◌, ◌∷◌, ◌↔◌, [], Some, IsTrue, MatchOption, IsSome, map, slice_get};
 ghost use Rattle.rewriting.specs.Terms.{size};
 ghost use Rattle.rewriting.specs.Rules.{rule_at};
 ghost use Rattle.rewriting.specs.Overlaps.{conditions_under};
-ghost use Rattle.rule_index.specs.Roots.{rules_with_root};
+ghost use Rattle.rule_index.specs.Parts as parts;
 ghost use Rattle.term_core.specs.View.{view};
 ghost use Rattle.term_core.specs.RuleView.{rule_view, condition_view};
 ghost use Rattle.term_core.specs.SystemView.{IsSound};
 ghost use Rattle.cert_model.specs.CertificateView.{redex_view};
 ghost use Rattle.valid_certificates.specs.Peaks.{entry_place};
-ghost use Rattle.noncon_check.specs.Redexes.{hits, at_root, behind, redexes};
-ghost use Rattle.noncon_check.specs.Judged.{match_or_new, AreJudged, IsJudgedAt};
+ghost use Rattle.noncon_check.specs.Redexes.{place, places, part_redexes, redexes};
+ghost use Rattle.noncon_check.specs.Judged.{match_or_new, AreJudged, IsJudgedOn, IsJudgedAt};
 ghost use Rattle.noncon_check.specs.Walks.{IsAbsent, PlacesAnswer, MissedAnswers};
 ghost use Rattle.noncon_check.specs.Judges.{IsReady};
 
@@ -17,9 +17,9 @@ use crate::conditions::judge_conditions;
 use cert_model::{Redex, Rejected, copy_numbers};
 use infeasible::Refusal;
 use matching::{Match, match_term};
-use rule_index::RuleIndex;
+use rule_index::{PartWalk, RuleIndex};
 use std::alloc::Global;
-use term_core::{NoMemory, Rule, Subst, System, Term};
+use term_core::{Rule, Subst, System, Term};
 use validity::CheckError;
 
 /// What the redexes of an end are judged by: the end's number, the certificate's entries, and how many variables the
@@ -34,17 +34,9 @@ pub(crate) struct Judge<'a> {
     pub(crate) own: u32,
 }
 
-// The path to an argument.
-fn enter(path: &mut Vec<u32>, k: u32) -> Result<(), NoMemory>
-    ensures { OnOk result (path.new.items ≡ path.old.items ++ k ∷ []) }
-{
-    path.push(k)?;
-    Ok(())
-}
-
 // A redex that has no entry where one should stand.
 fn missed(alloc: Global, which: u32, path: &[u32], rule: u32) -> CheckError
-    ensures { MissedAnswers (behind path.now (at_root which rule)) result }
+    ensures { MissedAnswers (place which path.now rule) result }
 {
     match copy_numbers(alloc, path) {
         Ok(pos) => CheckError::Rejected(Rejected::NotNormal { which, pos, rule }),
@@ -54,7 +46,7 @@ fn missed(alloc: Global, which: u32, path: &[u32], rule: u32) -> CheckError
 
 // Whether the entry is for this redex.
 fn is_for(entry: &Redex, which: u32, path: &[u32], rule: u32) -> bool
-    ensures { IsTrue result ↔ (entry_place (redex_view entry.now) ≡ behind path.now (at_root which rule)) }
+    ensures { IsTrue result ↔ (entry_place (redex_view entry.now) ≡ place which path.now rule) }
 {
     entry.which == which && entry.rule == rule && entry.pos.as_slice() == path
 }
@@ -62,7 +54,7 @@ fn is_for(entry: &Redex, which: u32, path: &[u32], rule: u32) -> bool
 impl<'a> Judge<'a> {
     // The entry with this number, from 0, where it is for the redex.
     fn entry_for(&self, at: usize, path: &[u32], rule: u32) -> Option<&'a Redex>
-        ensures { MatchOption result (IsAbsent (map redex_view self.now.entries.now) at (behind path.now (at_root self.now.which rule))) (λ e. (slice_get (map redex_view self.now.entries.now) at ≡ Some (redex_view e.now)) × (entry_place (redex_view e.now) ≡ behind path.now (at_root self.now.which rule))) }
+        ensures { MatchOption result (IsAbsent (map redex_view self.now.entries.now) at (place self.now.which path.now rule)) (λ e. (slice_get (map redex_view self.now.entries.now) at ≡ Some (redex_view e.now)) × (entry_place (redex_view e.now) ≡ place self.now.which path.now rule)) }
     {
         let entry = self.entries.get(at)?;
         if is_for(entry, self.which, path, rule) {
@@ -84,7 +76,7 @@ impl<'a> Judge<'a> {
     ) -> Result<usize, CheckError>
         requires ready { IsReady self.now.sys.now self.now.rules.now self.now.index.now self.now.entries.now self.now.own }
         requires sound { IsSound self.now.sys.now.arities rule.now }
-        ensures { PlacesAnswer (λ r evidence o. AreJudged self.now.sys.now (conditions_under (match_or_new self.now.own values) (map condition_view rule.now.conds.items)) evidence o) path.now (map redex_view self.now.entries.now) at (at_root self.now.which number ∷ []) result }
+        ensures { PlacesAnswer (λ r evidence o. AreJudged self.now.sys.now (conditions_under (match_or_new self.now.own values) (map condition_view rule.now.conds.items)) evidence o) (map redex_view self.now.entries.now) at (place self.now.which path.now number ∷ []) result }
     {
         let Some(entry) = self.entry_for(at, path, number) else {
             return Err(missed(alloc, self.which, path, number));
@@ -110,7 +102,7 @@ impl<'a> Judge<'a> {
     ) -> Result<usize, CheckError>
         requires ready { IsReady self.now.sys.now self.now.rules.now self.now.index.now self.now.entries.now self.now.own }
         requires number { IsSome (rule_at self.now.sys.now number) }
-        ensures { PlacesAnswer (IsJudgedAt self.now.sys.now self.now.own (view part.now)) path.now (map redex_view self.now.entries.now) at (map (at_root self.now.which) (hits self.now.sys.now (view part.now) (number ∷ []))) result }
+        ensures { PlacesAnswer (IsJudgedOn self.now.sys.now self.now.own (view part.now)) (map redex_view self.now.entries.now) at (places self.now.sys.now self.now.which (parts.part path.now (view part.now)) (number ∷ [])) result }
     {
         let rule = &self.rules[number as usize - 1];
         match match_term(alloc, &rule.left, part)? {
@@ -119,48 +111,41 @@ impl<'a> Judge<'a> {
         }
     }
 
-    // Judges the entries for the rules that match the part, whose root is `f`.
-    fn judge_root(
+    // Judges the next entries for the rules that match the part at a position.
+    fn judge_part(
         &self,
         alloc: Global,
-        f: u32,
         part: &Term,
         path: &[u32],
         at: usize,
     ) -> Result<usize, CheckError>
         requires ready { IsReady self.now.sys.now self.now.rules.now self.now.index.now self.now.entries.now self.now.own }
-        ensures { PlacesAnswer (IsJudgedAt self.now.sys.now self.now.own (view part.now)) path.now (map redex_view self.now.entries.now) at (map (at_root self.now.which) (hits self.now.sys.now (view part.now) (rules_with_root self.now.sys.now f))) result }
+        ensures { PlacesAnswer (IsJudgedOn self.now.sys.now self.now.own (view part.now)) (map redex_view self.now.entries.now) at (part_redexes self.now.sys.now self.now.which (parts.part path.now (view part.now))) result }
     {
         let mut next = at;
-        let numbers = self.index.with_root(f);
+        let numbers = self.index.rules_at(part);
         for number in numbers {
             next = self.judge_rule(alloc, part, *number, path, next)?;
         }
         Ok(next)
     }
 
-    /// Judges the entries from a number, from 0, on, for the redexes of a part of the end at a position; the number
-    /// behind them. The first that is wrong or missing ends the walk.
-    pub(crate) fn judge_part(
+    /// Judges the entries from a number, from 0, on, for the redexes of the end; the number behind them. The first that
+    /// is wrong or missing ends the walk.
+    pub(crate) fn judge_parts(
         &self,
         alloc: Global,
-        part: &Term,
-        path: &mut Vec<u32>,
+        end: &Term,
         at: usize,
     ) -> Result<usize, CheckError>
         requires ready { IsReady self.now.sys.now self.now.rules.now self.now.index.now self.now.entries.now self.now.own }
-        requires size { size (view part.now) ≤ 10000 }
-        ensures answer { PlacesAnswer (IsJudgedAt self.now.sys.now self.now.own (view part.now)) path.old.items (map redex_view self.now.entries.now) at (redexes self.now.sys.now self.now.which (view part.now)) result }
-        ensures path { OnOk result (path.new.items ≡ path.old.items) }
+        requires size { size (view end.now) ≤ 10000 }
+        ensures { PlacesAnswer (IsJudgedAt self.now.sys.now self.now.own (view end.now)) (map redex_view self.now.entries.now) at (redexes self.now.sys.now self.now.which (view end.now)) result }
     {
-        let Term::Fun(f, args) = part else {
-            return Ok(at);
-        };
-        let mut next = self.judge_root(alloc, *f, part, path, at)?;
-        for (i, arg) in args.iter().enumerate() {
-            enter(path, i as u32 + 1)?;
-            next = self.judge_part(alloc, arg, path, next)?;
-            path.pop();
+        let mut next = at;
+        let mut walk = PartWalk::new(alloc, end);
+        'parts: while let Some(part) = walk.next()? {
+            next = self.judge_part(alloc, part, walk.position(), next)?;
         }
         Ok(next)
     }

@@ -5,8 +5,8 @@ use Rattle.noncon_check.proofs.ends.judge_end.Goals as goal
 pub overflow_cast-own : goal.overflow_cast-own
 overflow_cast-own c = let few = few_names _ _ _ c.len-own.result c.new-numbering.ensures c.in_ok-numbered.ensures.row c.requires.fits.nodes c.len-own.ensures.len in omega (arith, few)
 
-pub judge_part-requires-clause-ready : goal.judge_part-requires-clause-ready
-judge_part-requires-clause-ready c =
+pub judge_parts-requires-clause-ready : goal.judge_parts-requires-clause-ready
+judge_parts-requires-clause-ready c =
     record {
       system = c.requires.ready.system;
       rules = c.requires.ready.rules;
@@ -16,10 +16,10 @@ judge_part-requires-clause-ready c =
       own = few_names _ _ _ _ c.new-numbering.ensures c.in_ok-numbered.ensures.row c.requires.fits.nodes c.len-own.ensures.len;
     }
 
-pub judge_part-requires-clause-size : goal.judge_part-requires-clause-size
-judge_part-requires-clause-size c = numbered_size _ _ _ c.in_ok-numbered.ensures.names c.requires.fits.nodes
+pub judge_parts-requires-clause-size : goal.judge_parts-requires-clause-size
+judge_parts-requires-clause-size c = numbered_size _ _ _ c.in_ok-numbered.ensures.names c.requires.fits.nodes
 
 pub returns : goal.returns
 returns c =
     end_answers c.args.judge.now.sys.now c.requires.ready.system _ _ c.len-own.ensures.len c.in_ok-numbered.ensures.distinct _ _ c.in_ok-numbered.ensures.names c.in_ok-numbered.ensures.below
-    _ _ _ c.new.ensures.items _ _ c.judge_part.ensures.answer
+    _ _ _ _ c.judge_parts.ensures
