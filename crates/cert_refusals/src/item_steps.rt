@@ -18,6 +18,48 @@ use crate::term_steps::term_step;
 use cops_read::Names;
 use std::alloc::Global;
 
+// A step at a part that is none of the start's.
+fn plain_step<'a>(
+    alloc: Global,
+    names: &Names,
+    stack: &mut Vec<Item<'a>>,
+    item: &Item<'a>,
+    left: &'a [u8],
+    at: usize,
+) -> Result<&'a [u8], CertError>
+    requires { at + length left.now ≤ usize.MAX }
+    ensures { StepAnswers (step_at names.now at (item_view item.now) stack.old.items left.now) at left.now stack.new.items (λ rest. rest.now) result }
+{
+    match item {
+        Item::Opening => opening(stack, left, at),
+        Item::Heading(given) => line(stack, left, at, Word::First, Item::Body(*given)),
+        Item::Body(given) => body(stack, left, at, *given),
+        Item::Between(bytes) => between(left, at, *bytes),
+        Item::AnyNumber(bytes) => any_number(stack, left, at, *bytes),
+        Item::AnyPosition(bytes) => any_position(stack, left, at, *bytes),
+        Item::PairsFrom(number) => pairs(stack, left, at, *number),
+        Item::EntriesFrom(number) => entries(stack, left, at, *number),
+        Item::RedexesFrom(number) => redexes(stack, left, at, *number),
+        Item::LastLine => fixed(left, at, Word::End),
+        Item::Measure => line(stack, left, at, Word::Linear, Item::EntriesFrom(1)),
+        Item::MeasuredName => measured_name(names, stack, left, at),
+        Item::MeasuredCondition => measured_condition(stack, left, at),
+        Item::CoefficientsBehind(count) => coefficients(stack, left, at, *count),
+        Item::Coefficient(count) => coefficient(stack, left, at, *count),
+        Item::Evidence => evidence(stack, left, at),
+        Item::Infeasibility => infeasibility(stack, left, at),
+        Item::Automaton(part) => automaton_step(names, stack, *part, left, at),
+        Item::DerivationsLeft(level, more) => derivations(stack, left, at, *level, *more),
+        Item::StepCount(level) => step_count(stack, left, at, *level),
+        Item::StepsLeft(level, more) => steps(stack, left, at, *level, *more),
+        Item::ConditionCount(level) => condition_count(stack, left, at, *level),
+        Item::StartLine => start_line(alloc, stack, left, at),
+        // (none is handed in)
+        Item::Term(_) => Err(CertError::NoMemory),
+        Item::Apart => apart(stack, left, at),
+    }
+}
+
 /// A step at the part that is next.
 pub fn step<'a>(
     alloc: Global,
@@ -31,30 +73,7 @@ pub fn step<'a>(
     ensures { StepAnswers (step_at names.now at (item_view item.entry) stack.old.items left.now) at left.now stack.new.items (λ rest. rest.now) result }
 {
     match item {
-        Item::Opening => opening(stack, left, at),
-        Item::Heading(given) => line(stack, left, at, Word::First, Item::Body(given)),
-        Item::Body(given) => body(stack, left, at, given),
-        Item::Between(bytes) => between(left, at, bytes),
-        Item::AnyNumber(bytes) => any_number(stack, left, at, bytes),
-        Item::AnyPosition(bytes) => any_position(stack, left, at, bytes),
-        Item::PairsFrom(number) => pairs(stack, left, at, number),
-        Item::EntriesFrom(number) => entries(stack, left, at, number),
-        Item::RedexesFrom(number) => redexes(stack, left, at, number),
-        Item::LastLine => fixed(left, at, Word::End),
-        Item::Measure => line(stack, left, at, Word::Linear, Item::EntriesFrom(1)),
-        Item::MeasuredName => measured_name(names, stack, left, at),
-        Item::MeasuredCondition => measured_condition(stack, left, at),
-        Item::CoefficientsBehind(count) => coefficients(stack, left, at, count),
-        Item::Coefficient(count) => coefficient(stack, left, at, count),
-        Item::Evidence => evidence(stack, left, at),
-        Item::Infeasibility => infeasibility(stack, left, at),
-        Item::Automaton(part) => automaton_step(names, stack, part, left, at),
-        Item::DerivationsLeft(level, more) => derivations(stack, left, at, level, more),
-        Item::StepCount(level) => step_count(stack, left, at, level),
-        Item::StepsLeft(level, more) => steps(stack, left, at, level, more),
-        Item::ConditionCount(level) => condition_count(stack, left, at, level),
-        Item::StartLine => start_line(stack, left, at, Vec::new(alloc)),
         Item::Term(part) => term_step(names, stack, part, left, at),
-        Item::Apart => apart(stack, left, at),
+        other => plain_step(alloc, names, stack, &other, left, at),
     }
 }

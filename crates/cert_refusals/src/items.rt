@@ -8,7 +8,7 @@ use crate::scans::{Mode, is_word, scan};
 use cops_lex::is_id;
 
 /// Bytes of the grammar in which nothing is left open.
-#[derive(Clone, Copy, Debug, Drop)]
+#[derive(Clone, Copy, Drop)]
 pub enum Word {
     Space,
     Line,
@@ -87,7 +87,7 @@ pub fn text_of(word: Word) -> &'static [u8]
 }
 
 /// What can stand first of a part.
-#[derive(Clone, Copy, Debug, Drop)]
+#[derive(Clone, Copy, Drop)]
 pub enum Lead {
     /// These bytes.
     Text(Word),
@@ -165,21 +165,21 @@ pub fn longest(leads: &[Lead], left: &[u8]) -> usize
 }
 
 /// What stands between words.
-#[derive(Clone, Copy, Debug, Drop)]
+#[derive(Clone, Copy, Drop)]
 pub enum Between {
     Space,
     Line,
 }
 
 /// A symbol of a term or a transition, and which of its arguments is read.
-#[derive(Clone, Copy, Debug, Drop)]
+#[derive(Clone, Copy, Drop)]
 pub struct Frame<'a> {
     pub name: &'a str,
     pub argument: usize,
 }
 
 /// A part of an automaton. The number of its states is told.
-#[derive(Clone, Copy, Debug, Drop)]
+#[derive(Clone, Copy, Drop)]
 pub enum AutomatonItem<'a> {
     StatesLine,
     StateCount,
@@ -200,7 +200,7 @@ pub enum AutomatonItem<'a> {
 }
 
 /// The start from the node with this number on, within open symbols.
-#[derive(Debug, Drop)]
+#[derive(Drop)]
 pub enum TermItem<'a> {
     Node(usize, Vec<Frame<'a>>),
     /// Behind a symbol's name.
@@ -215,7 +215,7 @@ pub enum TermItem<'a> {
 }
 
 /// A part that is still to be read.
-#[derive(Debug, Drop)]
+#[derive(Drop)]
 pub enum Item<'a> {
     /// An answer line, or the first line.
     Opening,

@@ -1,9 +1,10 @@
 //! Steps at lines, at words of the grammar, and at lists.
 
-ghost use Rattle.std.specs.Prelude.{◌≡◌, ◌≤◌, ◌+◌, ◌∷◌, ◌++◌, [], ℕ, List, suc, length, map, Some, OnOk, IfErr};
+ghost use Rattle.std.specs.Prelude.{◌≡◌, ◌≤◌, ◌+◌, ◌∷◌, ◌++◌, [], ℕ, List, suc, length, map, true, false, None, Some, OnOk, IfErr};
 ghost use Rattle.cops_read.specs.NameTable.{NameTable};
 ghost use Rattle.cert_grammar.specs.Items as spec;
 ghost use Rattle.cert_grammar.specs.Items.{between_text};
+ghost use Rattle.cert_grammar.specs.Marks as marks;
 ghost use Rattle.cert_grammar.specs.Marks.{syntax, is_few, pairs, entries};
 ghost use Rattle.cert_refusals.specs.declared.items.Item as items;
 ghost use Rattle.cert_grammar.specs.FirstRefusal.{longest};
@@ -12,7 +13,8 @@ ghost use Rattle.cert_refusals.specs.declared.error.CertError.TheVariants.{NoMem
 
 use crate::demands::{few, fits_answer, one_more, shallow};
 use crate::error::{CertCount, CertError};
-use crate::items::{AutomatonItem, Between, Frame, Item, Lead, TermItem, Word, front, longest};
+use crate::items::{AutomatonItem, Between, Item, Lead, TermItem, Word, front, longest};
+use std::alloc::Global;
 
 /// The place of the first byte that goes on with none of the leads.
 pub fn stuck(leads: &[Lead], left: &[u8], at: usize) -> CertError
@@ -54,6 +56,22 @@ pub fn push<'a>(stack: &mut Vec<Item<'a>>, part: Item<'a>) -> Result<(), CertErr
     Ok(())
 }
 
+// the first line behind an answer
+fn push_heading(stack: &mut Vec<Item>, given: bool) -> Result<(), CertError>
+    ensures pushed { OnOk result (items_view stack.new.items ≡ spec.heading (Some given) ∷ items_view stack.old.items) }
+    ensures refused { IfErr result (λ e. e ≡ NoMemory) }
+{
+    push(stack, Item::Heading(Some(given)))
+}
+
+// what stands behind a first line without an answer
+fn push_body(stack: &mut Vec<Item>) -> Result<(), CertError>
+    ensures pushed { OnOk result (items_view stack.new.items ≡ spec.body None ∷ items_view stack.old.items) }
+    ensures refused { IfErr result (λ e. e ≡ NoMemory) }
+{
+    push(stack, Item::Body(None))
+}
+
 pub fn opening<'a>(
     stack: &mut Vec<Item<'a>>,
     left: &'a [u8],
@@ -63,15 +81,15 @@ pub fn opening<'a>(
     ensures { (names : NameTable) → StepAnswers (step_at names at (spec.opening) stack.old.items left.now) at left.now stack.new.items (λ rest. rest.now) result }
 {
     if let Some((_, rest)) = front(Lead::Text(Word::Yes), left) {
-        push(stack, Item::Heading(Some(true)))?;
+        push_heading(stack, true)?;
         return Ok(rest);
     }
     if let Some((_, rest)) = front(Lead::Text(Word::No), left) {
-        push(stack, Item::Heading(Some(false)))?;
+        push_heading(stack, false)?;
         return Ok(rest);
     }
     if let Some((_, rest)) = front(Lead::Text(Word::First), left) {
-        push(stack, Item::Body(None))?;
+        push_body(stack)?;
         return Ok(rest);
     }
     let leads = [
@@ -99,6 +117,37 @@ pub fn line<'a>(
     Ok(rest)
 }
 
+// what stands behind the word of each kind, and that its answer fits
+fn ortho_body(stack: &mut Vec<Item>, given: Option<bool>) -> Result<(), CertError>
+    ensures judged { (at : ℕ) → Demands at (marks.fits_answer true given ∷ []) result }
+    ensures pushed { OnOk result (items_view stack.new.items ≡ spec.between spec.line ∷ spec.pairs_from 1 ∷ items_view stack.old.items) }
+{
+    fits_answer(true, given)?;
+    push(stack, Item::PairsFrom(1))?;
+    push(stack, Item::Between(Between::Line))?;
+    Ok(())
+}
+
+fn quasi_body(stack: &mut Vec<Item>, given: Option<bool>) -> Result<(), CertError>
+    ensures judged { (at : ℕ) → Demands at (marks.fits_answer true given ∷ []) result }
+    ensures pushed { OnOk result (items_view stack.new.items ≡ spec.between spec.line ∷ spec.measure ∷ items_view stack.old.items) }
+{
+    fits_answer(true, given)?;
+    push(stack, Item::Measure)?;
+    push(stack, Item::Between(Between::Line))?;
+    Ok(())
+}
+
+fn peak_body(stack: &mut Vec<Item>, given: Option<bool>) -> Result<(), CertError>
+    ensures judged { (at : ℕ) → Demands at (marks.fits_answer false given ∷ []) result }
+    ensures pushed { OnOk result (items_view stack.new.items ≡ spec.between spec.line ∷ spec.start_line ∷ items_view stack.old.items) }
+{
+    fits_answer(false, given)?;
+    push(stack, Item::StartLine)?;
+    push(stack, Item::Between(Between::Line))?;
+    Ok(())
+}
+
 pub fn body<'a>(
     stack: &mut Vec<Item<'a>>,
     left: &'a [u8],
@@ -109,21 +158,15 @@ pub fn body<'a>(
     ensures { (names : NameTable) → StepAnswers (step_at names at (spec.body given) stack.old.items left.now) at left.now stack.new.items (λ rest. rest.now) result }
 {
     if let Some((_, rest)) = front(Lead::Keyword(Word::Ortho), left) {
-        fits_answer(true, given)?;
-        push(stack, Item::PairsFrom(1))?;
-        push(stack, Item::Between(Between::Line))?;
+        ortho_body(stack, given)?;
         return Ok(rest);
     }
     if let Some((_, rest)) = front(Lead::Keyword(Word::Quasi), left) {
-        fits_answer(true, given)?;
-        push(stack, Item::Measure)?;
-        push(stack, Item::Between(Between::Line))?;
+        quasi_body(stack, given)?;
         return Ok(rest);
     }
     if let Some((_, rest)) = front(Lead::Keyword(Word::Peak), left) {
-        fits_answer(false, given)?;
-        push(stack, Item::StartLine)?;
-        push(stack, Item::Between(Between::Line))?;
+        peak_body(stack, given)?;
         return Ok(rest);
     }
     let leads = [
@@ -134,17 +177,11 @@ pub fn body<'a>(
     Err(stuck(&leads, left, at))
 }
 
-// a number, a position and a number between spaces, evidence, and the others of the list
-fn push_place<'a>(
-    stack: &mut Vec<Item<'a>>,
-    evidence: Item<'a>,
-    others: Item<'a>,
-) -> Result<(), CertError>
-    ensures pushed { OnOk result (items_view stack.new.items ≡ spec.between spec.space ∷ spec.any_number spec.space ∷ spec.any_position spec.space ∷ spec.any_number spec.space ∷ item_view evidence.entry ∷ item_view others.entry ∷ items_view stack.old.items) }
+// a number, a position and a number between spaces
+fn push_place(stack: &mut Vec<Item>) -> Result<(), CertError>
+    ensures pushed { OnOk result (items_view stack.new.items ≡ spec.between spec.space ∷ spec.any_number spec.space ∷ spec.any_position spec.space ∷ spec.any_number spec.space ∷ items_view stack.old.items) }
     ensures refused { IfErr result (λ e. e ≡ NoMemory) }
 {
-    push(stack, others)?;
-    push(stack, evidence)?;
     push(stack, Item::AnyNumber(Between::Space))?;
     push(stack, Item::AnyPosition(Between::Space))?;
     push(stack, Item::AnyNumber(Between::Space))?;
@@ -158,7 +195,10 @@ fn pair(stack: &mut Vec<Item>, at: usize, number: u32) -> Result<(), CertError>
     ensures pushed { OnOk result (items_view stack.new.items ≡ spec.between spec.space ∷ spec.any_number spec.space ∷ spec.any_position spec.space ∷ spec.any_number spec.space ∷ spec.evidence ∷ spec.pairs_from (suc number) ∷ items_view stack.old.items) }
 {
     few(CertCount::Pairs, number as usize, at)?;
-    push_place(stack, Item::Evidence, Item::PairsFrom(number + 1))
+    push(stack, Item::PairsFrom(number + 1))?;
+    push(stack, Item::Evidence)?;
+    push_place(stack)?;
+    Ok(())
 }
 
 pub fn pairs<'a>(
@@ -239,6 +279,18 @@ pub fn entries<'a>(
     Err(stuck(&leads, left, at))
 }
 
+// a redex, the one with this number
+fn redex(stack: &mut Vec<Item>, at: usize, number: u32) -> Result<(), CertError>
+    ensures judged { Demands at (is_few marks.redexes number ∷ []) result }
+    ensures pushed { OnOk result (items_view stack.new.items ≡ spec.between spec.space ∷ spec.any_number spec.space ∷ spec.any_position spec.space ∷ spec.any_number spec.space ∷ spec.infeasibility ∷ spec.redexes_from (suc number) ∷ items_view stack.old.items) }
+{
+    few(CertCount::Redexes, number as usize, at)?;
+    push(stack, Item::RedexesFrom(number + 1))?;
+    push(stack, Item::Infeasibility)?;
+    push_place(stack)?;
+    Ok(())
+}
+
 pub fn redexes<'a>(
     stack: &mut Vec<Item<'a>>,
     left: &'a [u8],
@@ -249,8 +301,7 @@ pub fn redexes<'a>(
     ensures { (names : NameTable) → StepAnswers (step_at names at (spec.redexes_from number) stack.old.items left.now) at left.now stack.new.items (λ rest. rest.now) result }
 {
     if let Some((_, rest)) = front(Lead::Keyword(Word::Redex), left) {
-        few(CertCount::Redexes, number as usize, at)?;
-        push_place(stack, Item::Infeasibility, Item::RedexesFrom(number + 1))?;
+        redex(stack, at, number)?;
         return Ok(rest);
     }
     if let Some((_, rest)) = front(Lead::Text(Word::End), left) {
@@ -291,6 +342,26 @@ fn push_two(stack: &mut Vec<Item>) -> Result<(), CertError>
     Ok(())
 }
 
+// two numbers
+fn push_numbers(stack: &mut Vec<Item>) -> Result<(), CertError>
+    ensures pushed { OnOk result (items_view stack.new.items ≡ spec.any_number spec.space ∷ spec.any_number spec.line ∷ items_view stack.old.items) }
+    ensures refused { IfErr result (λ e. e ≡ NoMemory) }
+{
+    push(stack, Item::AnyNumber(Between::Line))?;
+    push(stack, Item::AnyNumber(Between::Space))?;
+    Ok(())
+}
+
+// the number of a condition, and two derivations
+fn push_unfeasible(stack: &mut Vec<Item>) -> Result<(), CertError>
+    ensures pushed { OnOk result (items_view stack.new.items ≡ spec.any_number spec.line ∷ spec.derivations_left 1 0 ∷ spec.derivations_left 1 0 ∷ items_view stack.old.items) }
+    ensures refused { IfErr result (λ e. e ≡ NoMemory) }
+{
+    push_two(stack)?;
+    push(stack, Item::AnyNumber(Between::Line))?;
+    Ok(())
+}
+
 pub fn evidence<'a>(
     stack: &mut Vec<Item<'a>>,
     left: &'a [u8],
@@ -303,8 +374,7 @@ pub fn evidence<'a>(
         return Ok(rest);
     }
     if let Some((_, rest)) = front(Lead::Text(Word::Conflict), left) {
-        push(stack, Item::AnyNumber(Between::Line))?;
-        push(stack, Item::AnyNumber(Between::Space))?;
+        push_numbers(stack)?;
         return Ok(rest);
     }
     if let Some((_, rest)) = front(Lead::Text(Word::Join), left) {
@@ -312,8 +382,7 @@ pub fn evidence<'a>(
         return Ok(rest);
     }
     if let Some((_, rest)) = front(Lead::Text(Word::Unfeasible), left) {
-        push_two(stack)?;
-        push(stack, Item::AnyNumber(Between::Line))?;
+        push_unfeasible(stack)?;
         return Ok(rest);
     }
     if let Some((_, rest)) = front(Lead::Text(Word::Tcap), left) {
@@ -363,22 +432,29 @@ pub fn infeasibility<'a>(
     Err(stuck(&leads, left, at))
 }
 
-/// The line with the start, the two derivations, and why their ends have no common reduct. No symbol is
-/// open.
+// the start, where no symbol is open, the two derivations, and why their ends have no common reduct
+fn push_start(alloc: Global, stack: &mut Vec<Item>) -> Result<(), CertError>
+    ensures pushed { OnOk result (items_view stack.new.items ≡ spec.node 1 [] ∷ spec.derivations_left 1 0 ∷ spec.derivations_left 1 0 ∷ spec.apart ∷ items_view stack.old.items) }
+    ensures refused { IfErr result (λ e. e ≡ NoMemory) }
+{
+    push(stack, Item::Apart)?;
+    push_two(stack)?;
+    push(stack, Item::Term(TermItem::Node(1, Vec::new(alloc))))?;
+    Ok(())
+}
+
+/// The line with the start, the two derivations, and why their ends have no common reduct.
 pub fn start_line<'a>(
+    alloc: Global,
     stack: &mut Vec<Item<'a>>,
     left: &'a [u8],
     at: usize,
-    within: Vec<Frame<'a>>,
 ) -> Result<&'a [u8], CertError>
-    requires fits { at + length left.now ≤ usize.MAX }
-    requires none { within.items ≡ [] }
+    requires { at + length left.now ≤ usize.MAX }
     ensures { (names : NameTable) → StepAnswers (step_at names at spec.start_line stack.old.items left.now) at left.now stack.new.items (λ rest. rest.now) result }
 {
     let rest = fixed(left, at, Word::Start)?;
-    push(stack, Item::Apart)?;
-    push_two(stack)?;
-    push(stack, Item::Term(TermItem::Node(1, within)))?;
+    push_start(alloc, stack)?;
     Ok(rest)
 }
 
@@ -424,6 +500,18 @@ pub fn push_steps(stack: &mut Vec<Item>, level: usize, count: u32) -> Result<(),
     Ok(())
 }
 
+// what stands behind the word of a derivation, and that its nesting is not too deep
+fn derivation(stack: &mut Vec<Item>, at: usize, level: usize, more: u32) -> Result<(), CertError>
+    ensures judged { Demands at (marks.is_shallow 50 level ∷ []) result }
+    ensures pushed { OnOk result (items_view stack.new.items ≡ spec.between spec.space ∷ spec.nesting_count level ∷ spec.derivations level more ++ items_view stack.old.items) }
+{
+    shallow(level, at)?;
+    push_derivations(stack, level, more)?;
+    push(stack, Item::StepCount(level))?;
+    push(stack, Item::Between(Between::Space))?;
+    Ok(())
+}
+
 /// A derivation in a nesting, and so many more.
 pub fn derivations<'a>(
     stack: &mut Vec<Item<'a>>,
@@ -438,11 +526,31 @@ pub fn derivations<'a>(
     let Some((_, rest)) = front(Lead::Keyword(Word::Steps), left) else {
         return Err(stuck(&[Lead::Keyword(Word::Steps)], left, at));
     };
-    shallow(level, at)?;
-    push_derivations(stack, level, more)?;
-    push(stack, Item::StepCount(level))?;
-    push(stack, Item::Between(Between::Space))?;
+    derivation(stack, at, level, more)?;
     Ok(rest)
+}
+
+// the step with a rule, and so many more
+fn push_rule(stack: &mut Vec<Item>, level: usize, more: u32) -> Result<(), CertError>
+    ensures pushed { OnOk result (items_view stack.new.items ≡ spec.any_number spec.space ∷ spec.any_position spec.space ∷ spec.condition_count level ∷ spec.steps_of level more ++ items_view stack.old.items) }
+    ensures refused { IfErr result (λ e. e ≡ NoMemory) }
+{
+    push_steps(stack, level, more)?;
+    push(stack, Item::ConditionCount(level))?;
+    push(stack, Item::AnyPosition(Between::Space))?;
+    push(stack, Item::AnyNumber(Between::Space))?;
+    Ok(())
+}
+
+// the step with a hypothesis, and so many more
+fn push_hypothesis(stack: &mut Vec<Item>, level: usize, more: u32) -> Result<(), CertError>
+    ensures pushed { OnOk result (items_view stack.new.items ≡ spec.any_number spec.space ∷ spec.any_position spec.line ∷ spec.steps_of level more ++ items_view stack.old.items) }
+    ensures refused { IfErr result (λ e. e ≡ NoMemory) }
+{
+    push_steps(stack, level, more)?;
+    push(stack, Item::AnyPosition(Between::Line))?;
+    push(stack, Item::AnyNumber(Between::Space))?;
+    Ok(())
 }
 
 /// A step in a nesting, and so many more.
@@ -457,16 +565,11 @@ pub fn steps<'a>(
     ensures { (names : NameTable) → StepAnswers (step_at names at (spec.steps_left level more) stack.old.items left.now) at left.now stack.new.items (λ rest. rest.now) result }
 {
     if let Some((_, rest)) = front(Lead::Text(Word::Rule), left) {
-        push_steps(stack, level, more)?;
-        push(stack, Item::ConditionCount(level))?;
-        push(stack, Item::AnyPosition(Between::Space))?;
-        push(stack, Item::AnyNumber(Between::Space))?;
+        push_rule(stack, level, more)?;
         return Ok(rest);
     }
     if let Some((_, rest)) = front(Lead::Text(Word::Hyp), left) {
-        push_steps(stack, level, more)?;
-        push(stack, Item::AnyPosition(Between::Line))?;
-        push(stack, Item::AnyNumber(Between::Space))?;
+        push_hypothesis(stack, level, more)?;
         return Ok(rest);
     }
     let leads = [Lead::Text(Word::Rule), Lead::Text(Word::Hyp)];

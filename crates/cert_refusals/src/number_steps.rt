@@ -108,6 +108,16 @@ pub fn coefficient<'a>(
     Ok(rest)
 }
 
+// the end of the line, and so many steps
+fn push_counted_steps(stack: &mut Vec<Item>, level: usize, count: u32) -> Result<(), CertError>
+    ensures pushed { OnOk result (items_view stack.new.items ≡ spec.between spec.line ∷ spec.steps_of level count ++ items_view stack.old.items) }
+    ensures refused { IfErr result (λ e. e ≡ NoMemory) }
+{
+    push_steps(stack, level, count)?;
+    push(stack, Item::Between(Between::Line))?;
+    Ok(())
+}
+
 pub fn step_count<'a>(
     stack: &mut Vec<Item<'a>>,
     left: &'a [u8],
@@ -120,9 +130,18 @@ pub fn step_count<'a>(
     let (word, rest) = number(left, at)?;
     let count = short(word, at)?;
     few(CertCount::Steps, count as usize, at)?;
-    push_steps(stack, level, count)?;
-    push(stack, Item::Between(Between::Line))?;
+    push_counted_steps(stack, level, count)?;
     Ok(rest)
+}
+
+// the end of the line, and so many derivations one level deeper
+fn push_deeper(stack: &mut Vec<Item>, level: usize, count: u32) -> Result<(), CertError>
+    ensures pushed { OnOk result (items_view stack.new.items ≡ spec.between spec.line ∷ spec.derivations (suc level) count ++ items_view stack.old.items) }
+    ensures refused { IfErr result (λ e. e ≡ NoMemory) }
+{
+    push_derivations(stack, one_more(level)?, count)?;
+    push(stack, Item::Between(Between::Line))?;
+    Ok(())
 }
 
 /// The number of derivations behind a step in this nesting.
@@ -137,7 +156,6 @@ pub fn condition_count<'a>(
 {
     let (word, rest) = number(left, at)?;
     let count = short(word, at)?;
-    push_derivations(stack, one_more(level)?, count)?;
-    push(stack, Item::Between(Between::Line))?;
+    push_deeper(stack, level, count)?;
     Ok(rest)
 }

@@ -7,7 +7,7 @@ ghost use Rattle.cert_refusals.specs.ReaderView.{mode_view};
 use cops_lex::is_id;
 
 /// How far a word has been read.
-#[derive(Clone, Copy, Debug, Drop)]
+#[derive(Clone, Copy, Drop)]
 pub enum Mode {
     /// These bytes are left of it.
     Spelling(&'static [u8]),
