@@ -11,7 +11,7 @@ use Rattle.rule_index.proofs.Walks.{ascending, listed_rule}
 use Rattle.unifier_run.specs.Overlaps.{Triple}
 use Rattle.unifier_run.specs.Triples.{triples_at, counted, triples_from, all_triples}
 use Rattle.critical_pairs.specs.Offers.{DoesPass}
-use Rattle.critical_pairs.specs.Places.{RootAt, place_view, places_below, triples_of, IsRootAt}
+use Rattle.critical_pairs.specs.Places.{RootAt, place_view, places_of, triples_of, IsRootAt}
 use Rattle.critical_pairs.specs.Cursors.{rest_of_places, rest_of, IsCursor, StandsBefore, CandidateAnswers, IsEntered}
 use Rattle.critical_pairs.specs.Sides.{IsSpotOf}
 use Rattle.critical_pairs.specs.declared.cursor.Cursor.{Cursor}
@@ -21,7 +21,7 @@ use Rattle.term_core.specs.declared.systems.Rule as Looked
 use Rattle.critical_pairs.proofs.Spot.{numbered_rule}
 use Rattle.critical_pairs.proofs.Passing.{pass_before, pass_all}
 use Rattle.critical_pairs.proofs.Candidates.{to_candidate, past_candidates, get_there, listed_within}
-use Rattle.critical_pairs.proofs.Roots.{below_triples, root_at}
+use Rattle.critical_pairs.proofs.Roots.{places_triples, is_root}
 
 -- elements of a list
 pub drop_at : {A : Type 0} (xs : List A) (k : ℕ) (x : A) → slice_get xs k ≡ Some x → drop k xs ≡ x ∷ drop (suc k) xs
@@ -95,13 +95,13 @@ entered sys c d r is past e n =
     let ends = triples_from (length sys.rules) c.outer (drop c.outer sys.rules) in
     ap (λ z. rest_of_places sys c.outer z c.candidate ++ ends) (drop_end (map place_view c.places.items) c.place (subst (λ z. z ≤ c.place) (sym (length_map c.places.items)) past))
     ∙ (ap (λ z. triples_from (length sys.rules) c.outer z) (drop_at sys.rules c.outer r e)
-    ∙ (ap (λ z. z ++ triples_from (length sys.rules) (suc c.outer) (drop (suc c.outer) sys.rules)) (sym (none_done sys (suc c.outer) (places_below [] r.left) ∙ below_triples c.outer (length sys.rules) [] r.left)) ∙ sym there))
+    ∙ (ap (λ z. z ++ triples_from (length sys.rules) (suc c.outer) (drop (suc c.outer) sys.rules)) (sym (none_done sys (suc c.outer) (places_of r.left) ∙ places_triples c.outer (length sys.rules) r.left)) ∙ sym there))
   where
     length_map : (ps : List _) → length (map place_view ps) ≡ length ps
     length_map [] = refl
     length_map (p ∷ ps) = ap suc (length_map ps)
 
-    there : rest_of sys d ≡ rest_of_places sys (suc c.outer) (places_below [] r.left) 0 ++ triples_from (length sys.rules) (suc c.outer) (drop (suc c.outer) sys.rules)
+    there : rest_of sys d ≡ rest_of_places sys (suc c.outer) (places_of r.left) 0 ++ triples_from (length sys.rules) (suc c.outer) (drop (suc c.outer) sys.rules)
     there =
         ap₂ (λ x y. rest_of_places sys x (drop d.place (map place_view d.places.items)) y ++ triples_from (length sys.rules) x (drop x sys.rules)) n.outer n.candidate
         ∙ ap₂ (λ x y. rest_of_places sys (suc c.outer) (drop x y) 0 ++ triples_from (length sys.rules) (suc c.outer) (drop (suc c.outer) sys.rules)) n.place n.places
@@ -110,7 +110,7 @@ pub entered_cursor : (sys : System) (c d : Cursor) (r : Rule) → slice_get sys.
 entered_cursor sys c d r e n =
     record {
       within = subst (λ z. z ≤ length sys.rules) (sym n.outer) (slice_get_within sys.rules c.outer r e);
-      places = λ q m. subst (λ z. IsRootAt sys z q) (sym n.outer) (root_at sys (suc c.outer) r q e (subst (IsAmong q) n.places m));
+      places = λ q m. subst (λ z. IsRootAt sys z q) (sym n.outer) (is_root sys (suc c.outer) r q e (subst (IsAmong q) n.places m));
     }
 
 pub all_done : (sys : System) (c : Cursor) → length (map place_view c.places.items) ≤ c.place → length sys.rules ≤ c.outer → rest_of sys c ≡ []

@@ -7,7 +7,7 @@ use Rattle.rewriting.specs.Rules.{System}
 use Rattle.rule_index.specs.Roots.{rules_with_root}
 use Rattle.unifier_run.specs.Overlaps.{Triple}
 use Rattle.unifier_run.specs.Triples.{triples_at, counted, triples_from}
-use Rattle.critical_pairs.specs.Places.{RootAt, place_view, places_below, triples_of, IsRootAt}
+use Rattle.critical_pairs.specs.Places.{RootAt, place_view, places_of, triples_of, IsRootAt}
 use Rattle.critical_pairs.specs.declared.cursor.Cursor.{Cursor}
 use Rattle.term_core.specs.declared.terms.NoMemory.{NoMemory}
 
@@ -61,7 +61,7 @@ SettleAnswers sys c (Err e) = Unit {0}
 -- it stands before the first place of the next outer rule, which has this left side
 pub record IsEntered (before : Cursor) (left : Term) (after : Cursor) : Type 0 where
   pub outer : after.outer ≡ suc before.outer
-  pub places : map place_view after.places.items ≡ places_below [] left
+  pub places : map place_view after.places.items ≡ places_of left
   pub place : after.place ≡ 0
   pub candidate : after.candidate ≡ 0
 

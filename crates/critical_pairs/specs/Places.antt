@@ -1,8 +1,9 @@
 -- The places of a left side: its positions where no variable stands, in preorder, each with the root of the subterm there.
-use Rattle.std.specs.Prelude.{ℕ, suc, ◌≡◌, ◌-◌, List, [], ◌∷◌, ◌++◌, Some}
-use Rattle.rewriting.specs.Terms.{Term, Terms, var, app, nil, cons}
+use Rattle.std.specs.Prelude.{ℕ, ◌≡◌, ◌-◌, List, [], ◌∷◌, ◌++◌, flat_map, Some}
+use Rattle.rewriting.specs.Terms.{Term, Terms, var, app}
 use Rattle.rewriting.specs.Positions.{Position, subterm}
 use Rattle.rewriting.specs.Rules.{Rule, System, rule_at}
+use Rattle.rule_index.specs.Parts.{Part, parts}
 use Rattle.unifier_run.specs.Overlaps.{Triple}
 use Rattle.unifier_run.specs.Triples.{triples_at, counted}
 use Rattle.critical_pairs.specs.declared.places.Place.{Place}
@@ -14,15 +15,17 @@ RootAt = Position × ℕ
 abbrev pub place_view : Place → RootAt
 place_view q = (q.pos.items, q.root)
 
--- the places of a term that stands at the position p
-abbrev mutual
-  pub places_below : Position → Term → List RootAt
-  places_below p (var x) = []
-  places_below p (app f ts) = (p, f) ∷ places_beside p 1 ts
+-- the place of a term that stands at a position, unless it is a variable
+abbrev pub root_at : Position → Term → List RootAt
+root_at p (var x) = []
+root_at p (app f ts) = (p, f) ∷ []
 
-  pub places_beside : Position → ℕ → Terms → List RootAt
-  places_beside p k nil = []
-  places_beside p k (cons t ts) = places_below (p ++ k ∷ []) t ++ places_beside p (suc k) ts
+abbrev pub part_places : Part → List RootAt
+part_places q = root_at q.position q.term
+
+-- the places of a term, part by part
+abbrev pub places_of : Term → List RootAt
+places_of t = flat_map part_places (parts t)
 
 -- the triples at places of the outer rule number j, in a system of n rules
 abbrev pub triples_of : ℕ → ℕ → List RootAt → List Triple

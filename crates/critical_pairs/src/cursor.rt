@@ -4,7 +4,7 @@ ghost use Rattle.rewriting.specs.Terms.{Fits};
 ghost use Rattle.rule_index.specs.Index.{listed};
 ghost use Rattle.term_core.specs.View.{view};
 ghost use Rattle.critical_pairs.specs.Offers.{DoesPass};
-ghost use Rattle.critical_pairs.specs.Places.{place_view, places_below};
+ghost use Rattle.critical_pairs.specs.Places.{place_view, places_of};
 ghost use Rattle.critical_pairs.specs.Cursors.{rest_of, IsCursor, CandidateAnswers, StandAnswers, EnterAnswers, SettleAnswers};
 ghost use Rattle.critical_pairs.specs.Sides.{AreSides};
 
