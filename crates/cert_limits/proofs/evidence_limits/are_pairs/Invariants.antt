@@ -1,0 +1,7 @@
+use Rattle.std.proofs.Common.{drop, map, ◌↔◌}
+use Rattle.cert_model.specs.CertificateView.{pair_entry_view}
+use Rattle.cert_grammar.specs.EvidenceText.{ArePairs}
+use Rattle.cert_limits.proofs.evidence_limits.are_pairs.Given as goal
+
+abbrev pub invariant-pairs : goal.invariant-pairs
+invariant-pairs l = ArePairs l.names (map pair_entry_view l.pairs) ↔ ArePairs l.names (map pair_entry_view (drop l.pair-index l.pairs))

@@ -1,0 +1,7 @@
+use Rattle.std.proofs.Common.{drop, map, ◌↔◌}
+use Rattle.cert_model.specs.EvidenceView.{transition_view}
+use Rattle.cert_grammar.specs.EvidenceText.{AreTransitions}
+use Rattle.cert_limits.proofs.evidence_limits.are_transitions.Given as goal
+
+abbrev pub invariant-transitions : goal.invariant-transitions
+invariant-transitions l = AreTransitions l.names l.states (map transition_view l.transitions) ↔ AreTransitions l.names l.states (map transition_view (drop l.transition-index l.transitions))

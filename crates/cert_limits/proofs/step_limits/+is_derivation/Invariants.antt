@@ -1,0 +1,11 @@
+use Rattle.std.proofs.Common.{drop, map, ◌↔◌}
+use Rattle.certificates.specs.Derivations.{derivation_of, derivations_of}
+use Rattle.cert_model.specs.DerivationView.{derivation_view, step_view}
+use Rattle.cert_grammar.specs.Limits.{AreSteps, AreDerivations}
+use Rattle.cert_limits.proofs.step_limits.+is_derivation.Given as goal
+
+abbrev pub invariant-are_steps-each : goal.invariant-are_steps-each
+invariant-are_steps-each l = AreSteps l.levels (derivation_of (map step_view l.steps)) ↔ AreSteps l.levels (derivation_of (map step_view (drop l.step-index l.steps)))
+
+abbrev pub invariant-are_derivations-derivations : goal.invariant-are_derivations-derivations
+invariant-are_derivations-derivations l = AreDerivations l.levels (derivations_of (map derivation_view l.conds)) ↔ AreDerivations l.levels (derivations_of (map derivation_view (drop l.cond-index l.conds)))

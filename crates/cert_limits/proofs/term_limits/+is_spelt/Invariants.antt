@@ -1,0 +1,7 @@
+use Rattle.std.proofs.Common.{drop, ◌↔◌}
+use Rattle.term_core.specs.View.{views}
+use Rattle.cert_grammar.specs.Words.{AreSpelt}
+use Rattle.cert_limits.proofs.term_limits.+is_spelt.Given as goal
+
+abbrev pub invariant-are_spelt-arguments : goal.invariant-are_spelt-arguments
+invariant-are_spelt-arguments l = AreSpelt l.names (views l.args) ↔ AreSpelt l.names (views (drop l.arg-index l.args))

@@ -1,0 +1,7 @@
+use Rattle.std.proofs.Common.{drop, ◌↔◌}
+use Rattle.cert_grammar.specs.Words.{largest}
+use Rattle.cert_grammar.specs.EvidenceText.{AreAtMost}
+use Rattle.cert_limits.proofs.term_limits.are_numbers.Given as goal
+
+abbrev pub invariant-numbers : goal.invariant-numbers
+invariant-numbers l = AreAtMost largest l.numbers ↔ AreAtMost largest (drop l.number-index l.numbers)

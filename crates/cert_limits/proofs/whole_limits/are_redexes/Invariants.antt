@@ -1,0 +1,7 @@
+use Rattle.std.proofs.Common.{drop, map, ◌↔◌}
+use Rattle.cert_model.specs.CertificateView.{redex_view}
+use Rattle.cert_grammar.specs.CertificateText.{AreRedexEntries}
+use Rattle.cert_limits.proofs.whole_limits.are_redexes.Given as goal
+
+abbrev pub invariant-redexes : goal.invariant-redexes
+invariant-redexes l = AreRedexEntries l.names (map redex_view l.redexes) ↔ AreRedexEntries l.names (map redex_view (drop l.redex-index l.redexes))

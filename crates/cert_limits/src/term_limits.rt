@@ -1,0 +1,109 @@
+// Names, positions and terms.
+ghost use Rattle.std.specs.Prelude.{◌≡◌, ◌≤◌, ◌↔◌, ℕ, List, IsTrue};
+ghost use Rattle.term_core.specs.View.{view, views};
+ghost use Rattle.cert_grammar.specs.Words.{largest, IsIdentifier, IsNamed, IsSpelt, AreSpelt, ArePlaces};
+ghost use Rattle.cert_grammar.specs.EvidenceText.{IsName, AreAtMost};
+ghost use Rattle.cert_grammar.specs.ReadingTerms as spec;
+
+use cops_lex::is_id;
+use cops_read::Names;
+use term_core::Term;
+
+// Whether an identifier goes on with the first byte.
+fn goes_on(bytes: &[u8]) -> bool
+    ensures { result ≡ spec.goes_on bytes.now }
+{
+    match bytes {
+        [] => false,
+        [b'-', b'>', ..] | [b'=', b'=', ..] => false,
+        [b, ..] => is_id(*b),
+    }
+}
+
+// Whether the bytes are one identifier.
+fn is_identifier(name: &[u8]) -> bool
+    ensures { IsTrue result ↔ IsIdentifier name.now }
+{
+    'bytes: for at in 0..name.len() {
+        let (_, left) = name.split_at(at);
+        if !goes_on(left) {
+            return false;
+        }
+    }
+    !name.is_empty()
+}
+
+/// Whether the number is at most the greatest one, as each of 32 bits is.
+pub fn is_number(number: u32) -> bool
+    ensures { IsTrue result ↔ (number ≤ largest) }
+{
+    number <= u32::MAX
+}
+
+/// Whether all numbers are.
+pub fn are_numbers(numbers: &[u32]) -> bool
+    ensures { IsTrue result ↔ AreAtMost largest numbers.now }
+{
+    'numbers: for number in numbers {
+        if !is_number(*number) {
+            return false;
+        }
+    }
+    true
+}
+
+/// Whether the symbol has a name, by which it is found.
+pub fn has_name(names: &Names, symbol: u32) -> bool
+    ensures { IsTrue result ↔ ((name : List ℕ) × IsName names.now symbol name) }
+{
+    match names.symbol_name(symbol) {
+        Some(name) => is_identifier(name.as_bytes()) && names.symbol_number(name) == Some(symbol),
+        None => false,
+    }
+}
+
+/// The same, with so many arguments.
+pub fn has_name_for(names: &Names, symbol: u32, count: usize) -> bool
+    ensures { IsTrue result ↔ ((name : List ℕ) × IsNamed names.now symbol name count) }
+{
+    match names.arity(symbol) {
+        Some(arity) => arity as usize == count && has_name(names, symbol),
+        None => false,
+    }
+}
+
+/// Whether the symbols of the term have names. The recursion goes as deep as the term.
+#[cycle(is_spelt)]
+#[tactic(auto, using(crate::proofs::Spelt::variable_from, crate::proofs::Spelt::variable_to, crate::proofs::Spelt::spelt_from, crate::proofs::Spelt::spelt_name, crate::proofs::Spelt::spelt_arguments))]
+pub fn is_spelt(names: &Names, term: &Term) -> bool
+    ensures { IsTrue result ↔ IsSpelt names.now (view term.now) }
+{
+    match term {
+        Term::Var(x) => is_number(*x),
+        Term::Fun(f, args) => has_name_for(names, *f, args.len()) && are_spelt(names, args),
+    }
+}
+
+#[cycle(is_spelt)]
+fn are_spelt(names: &Names, args: &[Term]) -> bool
+    ensures { IsTrue result ↔ AreSpelt names.now (views args.now) }
+{
+    'arguments: for arg in args {
+        if !is_spelt(names, arg) {
+            return false;
+        }
+    }
+    true
+}
+
+/// Whether the numbers of a position count from 1.
+pub fn are_places(pos: &[u32]) -> bool
+    ensures { IsTrue result ↔ ArePlaces pos.now }
+{
+    'places: for place in pos {
+        if *place == 0 {
+            return false;
+        }
+    }
+    true
+}
