@@ -3,7 +3,9 @@ use cert_model::{EvidenceReason, PairEvidence};
 use cops_read::read_system;
 use critical_pairs::overlaps;
 use infeasible::JudgeByKind;
+use irreducible::LeftSides;
 use pair_check::{CertKind, Refusal, judge_evidence};
+use rule_index::IndexedSystem;
 use std::alloc::Global;
 use std::test::Fail;
 
@@ -15,7 +17,13 @@ fn do_caps_unify(alloc: Global, text: &str) -> bool {
     let Ok((sys, _)) = read_system(alloc, text.as_bytes()) else {
         return false;
     };
-    let Ok(found) = overlaps(alloc, &sys) else {
+    let Ok(sys) = IndexedSystem::new(alloc, &sys) else {
+        return false;
+    };
+    let Ok(sys) = LeftSides::new(alloc, &sys) else {
+        return false;
+    };
+    let Ok(found) = overlaps(alloc, sys.system()) else {
         return false;
     };
     let [overlap] = found.as_slice() else {

@@ -5,15 +5,15 @@ use Rattle.std.proofs.lemmas.Option.{slice_get_within}
 use Rattle.rewriting.specs.Lists.{IsAmong}
 use Rattle.rewriting.specs.Terms.{Term, Terms, var, app, IsVariable, Fits}
 use Rattle.rewriting.specs.Positions.{Position, subterm}
-use Rattle.rewriting.specs.Substitutions.{apply}
+use Rattle.rewriting.specs.Substitutions.{apply_all}
 use Rattle.rewriting.specs.Unifiers.{even, odd}
 use Rattle.rewriting.specs.Rules.{Rule, System, rule_at}
 use Rattle.rewriting.specs.Systems.{IsSystem}
 use Rattle.rule_index.specs.Roots.{has_root, rules_with_root}
 use Rattle.rule_index.proofs.Walks.{ascending, is_listed, listed_rule, Stands}
-use Rattle.unifier_run.specs.Run.{clash, roots_differ, last_equation}
+use Rattle.unifier_run.specs.Run.{clash}
 use Rattle.unifier_run.specs.Overlaps.{Triple, IsOutcomeOf}
-use Rattle.unifier_run.proofs.Values.{apply_nothing}
+use Rattle.unifier_run.proofs.Heads.{heads_clash}
 use Rattle.unifier_run.proofs.Spots.{at_place}
 use Rattle.unifier_run.specs.Triples.{triples_at, counted, DoesClash}
 use Rattle.critical_pairs.specs.Offers.{DoesPass}
@@ -140,7 +140,7 @@ roots_clash sys j p f i h at other inner outer part place =
   where
     run : (g : ℕ) (ts : Terms) → f ≢ g → Fits (app g ts) → Fits (app f at.arguments) → IsOutcomeOf (app g ts) (app f at.arguments) clash
     run g ts d a b =
-        last_equation (roots_differ (subst Fits (sym (apply_nothing (apply even (app g ts)))) (renamed_fits even (λ x. (refl, refl)) (app g ts) a), subst Fits (sym (apply_nothing (apply odd (app f at.arguments)))) (renamed_fits odd (λ x. (refl, refl)) (app f at.arguments) b)) (inl (λ e. d (sym e))))
+        heads_clash g f (apply_all even ts) (apply_all odd at.arguments) (λ e. d (sym e)) (renamed_fits even (λ x. (refl, refl)) (app g ts) a) (renamed_fits odd (λ x. (refl, refl)) (app f at.arguments) b)
 
     differ : (g : ℕ) × (ts : Terms) × (inner.left ≡ app g ts) × (f ≢ g) → app f at.arguments ≡ part → Fits inner.left → Fits part → IsOutcomeOf inner.left part clash
     differ (g, ts, e, d) s a b = subst₂ (λ x y. IsOutcomeOf x y clash) (sym e) s (run g ts d (subst Fits e a) (subst Fits (sym s) b))

@@ -1,8 +1,8 @@
 -- Terms that do not fit, whose first run passes the size, and how many variables a term that fits has.
-use Rattle.std.proofs.Common.{ℕ, zero, suc, ◌≡◌, ◌+◌, ◌<◌, ◌≤◌, ◌^◌, ◌⊎◌, inl, inr, Bool, true, false, List, [], ◌∷◌, length, max, refl, sym, ap, ap₂, ◌∙◌, subst, arith, slice_get, ◌==◌, map, Vec, Global}
-use Rattle.rewriting.specs.Terms.{Term, Terms, var, app, nil, cons, IsVariable, Fits, size, size_all, depth, depth_all}
+use Rattle.std.proofs.Common.{ℕ, zero, suc, ◌≡◌, ◌+◌, ◌*◌, ◌<◌, ◌^◌, ◌⊎◌, inl, inr, Bool, true, false, List, [], ◌∷◌, length, refl, sym, ap, ◌∙◌, subst, arith, slice_get, ◌==◌, map, Vec, Global}
+use Rattle.rewriting.specs.Terms.{Term, IsVariable, Fits}
 use Rattle.rewriting.specs.Positions.{Position, IsBefore}
-use Rattle.rewriting.specs.Substitutions.{apply, apply_all}
+use Rattle.rewriting.specs.Substitutions.{apply}
 use Rattle.rewriting.specs.Variables.{with_variables}
 use Rattle.term_core.specs.View.{view}
 use Rattle.term_core.specs.RuleView.{rule_view}
@@ -17,18 +17,7 @@ use Rattle.unifier_run.specs.Run.{clash, too_large, side_too_large, last_equatio
 use Rattle.unifier_run.specs.Overlaps.{IsOutcomeOf}
 use Rattle.unifier_run.specs.Irreducible.{IsTrial, IsFirstOutcome}
 use Rattle.unifier_run.proofs.Values.{apply_nothing}
-
-mutual
-  odd_size : (t : Term) → (size (apply odd t) ≡ size t) × (depth (apply odd t) ≡ depth t)
-  odd_size (var x) = (refl, refl)
-  odd_size (app f ts) = let r = odd_sizes ts in (ap suc r.0, ap suc r.1)
-
-  odd_sizes : (ts : Terms) → (size_all (apply_all odd ts) ≡ size_all ts) × (depth_all (apply_all odd ts) ≡ depth_all ts)
-  odd_sizes nil = (refl, refl)
-  odd_sizes (cons t ts) = let p = odd_size t in let q = odd_sizes ts in (ap₂ (λ x y. x + y) p.0 q.0, ap₂ max p.1 q.1)
-
-fits_back : (t : Term) → Fits (apply odd t) → Fits t
-fits_back t f = let r = odd_size t in record { nodes = subst (λ z. z ≤ 10000) r.0 f.nodes; levels = subst (λ z. z ≤ 400) r.1 f.levels }
+use Rattle.unifier_run.proofs.Renamed.{fits_without_names}
 
 -- the first rule is tried on the whole term, and its run passes the size
 pub judged_large : (sys : System) (t : Term) → (Fits t → ⊥) → (IsVariable t → ⊥) → 0 < length sys.rules → IsFirstOutcome sys t too_large
@@ -43,7 +32,7 @@ judged_large sys t n v some = go sys.rules refl
           part = t;
           rule = r;
           trial = record { is_part = refl; no_variable = v; is_rule = ap (λ z. slice_get z 0) e };
-          outcome = last_equation (side_too_large (λ f. n (fits_back t (subst Fits (apply_nothing (apply odd t)) f.1))));
+          outcome = last_equation (side_too_large (λ f. n (fits_without_names (λ k. 2 * k + 1) t (subst Fits (apply_nothing (apply odd t)) f.1))));
           before = before;
         }
       where

@@ -54,13 +54,6 @@ left_at (q ∷ rs) [] i t r e h k = absurd (cc)
 left_at (q ∷ rs) (x ∷ ts) zero t r e h k = (let same : q ≡ r = cc in let first : view x ≡ apply even q.left = cc in ap view h ∙ (first ∙ ap (λ z. apply even z.left) same))
 left_at (q ∷ rs) (x ∷ ts) (suc i) t r e h k = (let rest : map view ts ≡ lefts_under even rs = cc in left_at rs ts i t r rest h k)
 
-pub rule_there : (rs : List math.Rule) (ts : List T.Term) (i : ℕ) → map view ts ≡ lefts_under even rs → i < length ts → (r : math.Rule) × (slice_get rs i ≡ Some r)
-rule_there [] [] i e h = absurd (omega arith)
-rule_there [] (x ∷ ts) i e h = absurd (cc)
-rule_there (q ∷ rs) [] i e h = absurd (omega arith)
-rule_there (q ∷ rs) (x ∷ ts) zero e h = (q, refl)
-rule_there (q ∷ rs) (x ∷ ts) (suc i) e h = (let rest : map view ts ≡ lefts_under even rs = cc in rule_there rs ts i rest (omega arith))
-
 pub rule_within : (rs : List math.Rule) (ts : List T.Term) (i : ℕ) (r : math.Rule) → map view ts ≡ lefts_under even rs → slice_get rs i ≡ Some r → i < length ts
 rule_within [] ts i r e h = absurd (cc)
 rule_within (q ∷ rs) [] i r e h = absurd (cc)

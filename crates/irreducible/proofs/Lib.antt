@@ -1,6 +1,7 @@
 pub mod Lefts
 pub mod Judge
 pub mod Parts
+pub mod Tried
 pub mod Large
 pub mod Renumbered
 pub mod Clashes

@@ -1,14 +1,13 @@
 -- Parts of a term of the program, and the answers for it.
-use Rattle.std.proofs.Common.{ℕ, zero, suc, ◌≡◌, ◌+◌, ◌<◌, ◌≤◌, ◌⊎◌, inl, inr, List, [], ◌∷◌, map, length, get_or, Some, Vec, Global, Result, Ok, Err, refl, sym, ap, ◌∙◌, subst, subst₂, arith, add-one}
+use Rattle.std.proofs.Common.{ℕ, zero, suc, ◌≡◌, ◌+◌, ◌<◌, ◌≤◌, ◌⊎◌, inl, inr, List, [], ◌∷◌, length, get_or, Some, Vec, Global, Result, Ok, Err, refl, sym, ap, ◌∙◌, subst, arith, add-one}
 use Rattle.rewriting.specs.Terms as math
-use Rattle.rewriting.specs.Terms.{Terms, var, app, nil, cons}
+use Rattle.rewriting.specs.Terms.{Terms, var, app, nil, cons, size_all, depth_all, Fits}
 use Rattle.rewriting.specs.Positions.{argument}
 use Rattle.rewriting.specs.Substitutions.{apply, apply_all}
 use Rattle.rewriting.specs.Unifiers.{odd}
-use Rattle.rewriting.specs.Rules.{Rule, System, rule_at}
+use Rattle.rewriting.specs.Rules.{System}
 use Rattle.rewriting.specs.NormalForms.{IsAbsolutelyIrreducible}
-use Rattle.unifier_run.specs.Run.{Binding, value, Outcome, unifier, clash, too_large, IsOutcome}
-use Rattle.unifier_run.specs.Overlaps.{IsOutcomeOf}
+use Rattle.unifier_run.specs.Run.{Binding, value, unifier, too_large}
 use Rattle.unifier_run.specs.Irreducible.{DoAllClash, IsFirstOutcome, DoRulesClash, IsFirstRule}
 use Rattle.unifier_run.proofs.General.{most_general, no_unifier}
 use Rattle.term_core.specs.View.{view, views}
@@ -18,8 +17,7 @@ use Rattle.term_core.proofs.Views.{view-Fun, view-Var}
 use Rattle.irreducible.specs.declared.Irreducible.{Irreducible}
 use Rattle.irreducible.specs.declared.Irreducible.TheVariants.{Yes, No, TooLarge}
 use Rattle.irreducible.specs.Answers.{IrreducibleAnswers}
-use Rattle.irreducible.specs.Judging.{AreLefts, RootAnswers, JudgeAnswers}
-use Rattle.irreducible.proofs.Lefts.{left_at, rule_there, rule_within}
+use Rattle.irreducible.specs.Judging.{RootAnswers, JudgeAnswers}
 use Rattle.irreducible.proofs.Judge.{DoArgumentsClash, variable_clash, whole_clash, first_root, first_part}
 
 -- the arguments of an instance by odd variables
@@ -46,6 +44,16 @@ argument_exists us [] k e h = absurd (omega arith)
 argument_exists nil (x ∷ ts) k e h = absurd (cc)
 argument_exists (cons u us) (x ∷ ts) zero e h = (u, refl)
 argument_exists (cons u us) (x ∷ ts) (suc k) e h = (let rest : apply_all odd us ≡ views ts = cc in argument_exists us ts k rest (omega arith))
+
+pub argument_fits : (t : Term) (f : ℕ) (v : Vec Term Global) (k : ℕ) (u : Term) → t ≡ Fun f v → k < length v.items → u ≡ get_or v.items k u → Fits (view t) → Fits (view u)
+argument_fits t f v k u is h at fit =
+    let whole = subst Fits (ap view is ∙ view-Fun f v) fit in
+    go v.items k h at (omega (arith, whole.nodes)) (omega (arith, whole.levels))
+  where
+    go : (ts : List Term) (k : ℕ) → k < length ts → u ≡ get_or ts k u → size_all (views ts) ≤ 10000 → depth_all (views ts) ≤ 400 → Fits (view u)
+    go [] k h e a b = absurd (omega arith)
+    go (x ∷ ts) zero h e a b = subst (λ z. Fits (view z)) (sym e) (record { nodes = omega (arith, a); levels = omega (arith, b) })
+    go (x ∷ ts) (suc k) h e a b = go ts k (omega arith) e (omega (arith, a)) (omega (arith, b))
 
 argument_number : (us : Terms) (ts : List Term) (k : ℕ) (s : math.Term) → apply_all odd us ≡ views ts → argument us k ≡ Some s → k ≤ length ts
 argument_number nil ts k s e h = absurd (cc)
@@ -115,36 +123,6 @@ judge_part_other sys t f v n u TooLarge is l at other root parts h s e =
     let q = argument_exists p.arguments v.items n p.renamed l in
     let r = h q.0 (argument_renamed p.arguments v.items n u q.0 p.renamed at q.1) in
     subst (λ z. IsFirstOutcome sys z too_large) (sym p.whole) (first_part sys f p.arguments n q.0 too_large (subst (DoRulesClash sys) p.whole (root s e)) (parts p.arguments p.renamed) q.1 r)
-
--- the rules tried so far
-abbrev pub Tried : System → math.Term → ℕ → Type 0
-Tried sys part n = (s : math.Term) → part ≡ apply odd s → (i : ℕ) (r : Rule) → rule_at sys i ≡ Some r → i ≤ n → IsOutcomeOf r.left s clash
-
-no_rule : (sys : System) (r : Rule) → rule_at sys 0 ≡ Some r → ⊥
-no_rule sys r e = cc
-
-pub tried_next : (sys : System) (lefts : List Term) (part : math.Term) (n : ℕ) (left : Term) → AreLefts sys (map view lefts) → left ≡ get_or lefts n left → Tried sys part n → IsOutcome (cons (view left) nil) (cons part nil) clash → Tried sys part (n + 1)
-tried_next sys lefts part n left are at h run s e i r q l = go (split_le i n (subst (λ z. i ≤ z) (add-one n) l))
-  where
-    go : (i ≤ n) ⊎ (i ≡ suc n) → IsOutcomeOf r.left s clash
-    go (inl a) = h s e i r q a
-    go (inr k) = subst₂ (λ x y. IsOutcome (cons x nil) (cons y nil) clash) (left_at sys.rules lefts n left r are at (subst (λ z. rule_at sys z ≡ Some r) k q)) e run
-
-pub tried_all : (sys : System) (lefts : List Term) (part : math.Term) (n : ℕ) → AreLefts sys (map view lefts) → length lefts ≤ n → Tried sys part n → (s : math.Term) → part ≡ apply odd s → DoRulesClash sys s
-tried_all sys lefts part n are h tried s e zero r q = absurd (no_rule sys r q)
-tried_all sys lefts part n are h tried s e (suc i) r q = tried s e (suc i) r q (let l = rule_within sys.rules lefts i r are q in omega (arith, l, h))
-
-pub first_tried : (sys : System) (lefts : List Term) (part : math.Term) (n : ℕ) (left : Term) (o : Outcome) → AreLefts sys (map view lefts) → n < length lefts → left ≡ get_or lefts n left → Tried sys part n → IsOutcome (cons (view left) nil) (cons part nil) o
-    → (s : math.Term) → part ≡ apply odd s → IsFirstRule sys s o
-first_tried sys lefts part n left o are l at tried run s e =
-    let r = rule_there sys.rules lefts n are l in
-    record {
-      number = suc n;
-      rule = r.0;
-      is_rule = r.1;
-      outcome = subst₂ (λ x y. IsOutcome (cons x nil) (cons y nil) o) (left_at sys.rules lefts n left r.0 are at r.1) e run;
-      before = λ i q h k. tried s e i q h (omega (arith, k));
-    }
 
 -- from the runs to irreducible terms
 none_unifies : (sys : System) (t : math.Term) → DoAllClash sys t → IsAbsolutelyIrreducible sys t

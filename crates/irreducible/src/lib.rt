@@ -11,11 +11,13 @@ ghost use Rattle.irreducible.specs.Judging.{JudgeAnswers};
 ghost use Rattle.irreducible.specs.Answers.{IrreducibleAnswers};
 
 mod judging;
+mod left_sides;
 
-use crate::judging::{judge, rename_lefts};
+use crate::judging::judge;
+pub use left_sides::LeftSides;
 use renumbering::Numbering;
 use std::alloc::Global;
-use term_core::{NoMemory, System, Term, fits};
+use term_core::{NoMemory, Term, fits};
 use unification::renamed;
 
 /// What the test answers.
@@ -30,14 +32,14 @@ pub enum Irreducible {
 }
 
 // A term that does not fit: the first run on it passes the size.
-fn judge_large(sys: &System, t: &Term) -> Irreducible
+fn judge_large(lefts: &LeftSides<'_>, t: &Term) -> Irreducible
     requires { math.Fits (view t.now) → ⊥ }
-    ensures { JudgeAnswers sys.now (view t.now) (Answered result) }
+    ensures { JudgeAnswers lefts.now (view t.now) (Answered result) }
 {
     match t {
         Term::Var(_) => Irreducible::Yes,
         Term::Fun(_, _) => {
-            if sys.rules().is_empty() {
+            if lefts.rules().is_empty() {
                 Irreducible::Yes
             } else {
                 Irreducible::TooLarge
@@ -47,33 +49,33 @@ fn judge_large(sys: &System, t: &Term) -> Irreducible
 }
 
 // A term whose variables have renamed numbers in 32 bits.
-fn judge_small(alloc: Global, sys: &System, t: &Term) -> Result<Irreducible, NoMemory>
-    requires { (k : ℕ) → occurs k (view t.now) ≡ true → k < 2 ^ 31 }
-    ensures { JudgeAnswers sys.now (view t.now) result }
+fn judge_small(alloc: Global, lefts: &LeftSides<'_>, t: &Term) -> Result<Irreducible, NoMemory>
+    requires fits { math.Fits (view t.now) }
+    requires small { (k : ℕ) → occurs k (view t.now) ≡ true → k < 2 ^ 31 }
+    ensures { JudgeAnswers lefts.now (view t.now) result }
 {
     let apart = renamed(alloc, t, 2, 1)?;
-    let lefts = rename_lefts(alloc, sys.arities(), sys.rules())?;
-    judge(alloc, sys, &lefts, &apart)
+    judge(alloc, lefts, &apart)
 }
 
 // A term that fits, judged by one with small numbers for its variables.
-fn judge_numbered(alloc: Global, sys: &System, t: &Term) -> Result<Irreducible, NoMemory>
+fn judge_numbered(alloc: Global, lefts: &LeftSides<'_>, t: &Term) -> Result<Irreducible, NoMemory>
     requires { math.Fits (view t.now) }
-    ensures { JudgeAnswers sys.now (view t.now) result }
+    ensures { JudgeAnswers lefts.now (view t.now) result }
 {
     let mut numbering = Numbering::new(alloc);
     let small = numbering.numbered(alloc, t)?;
-    judge_small(alloc, sys, &small)
+    judge_small(alloc, lefts, &small)
 }
 
 // Whether it fits or not.
-fn judge_any(alloc: Global, sys: &System, t: &Term) -> Result<Irreducible, NoMemory>
-    ensures { JudgeAnswers sys.now (view t.now) result }
+fn judge_any(alloc: Global, lefts: &LeftSides<'_>, t: &Term) -> Result<Irreducible, NoMemory>
+    ensures { JudgeAnswers lefts.now (view t.now) result }
 {
     if !fits(t) {
-        return Ok(judge_large(sys, t));
+        return Ok(judge_large(lefts, t));
     }
-    judge_numbered(alloc, sys, t)
+    judge_numbered(alloc, lefts, t)
 }
 
 /// Judges the subterms that are no variables in preorder, each with the rules in order; the first
@@ -81,19 +83,19 @@ fn judge_any(alloc: Global, sys: &System, t: &Term) -> Result<Irreducible, NoMem
 #[tactic(auto, using(crate::proofs::Parts::judged_whole))]
 pub fn is_absolutely_irreducible(
     alloc: Global,
-    sys: &System,
+    lefts: &LeftSides<'_>,
     t: &Term,
 ) -> Result<Irreducible, NoMemory>
-    ensures { IrreducibleAnswers sys.now (view t.now) result }
+    ensures { IrreducibleAnswers lefts.now (view t.now) result }
 {
-    judge_any(alloc, sys, t)
+    judge_any(alloc, lefts, t)
 }
 
 /// Whether every run for the term ends in a clash; a run that passes the size does not.
-pub fn do_all_clash(alloc: Global, sys: &System, t: &Term) -> Result<bool, NoMemory>
-    ensures { IfOk result (λ b. IsTrue b ↔ DoAllClash sys.now (view t.now)) }
+pub fn do_all_clash(alloc: Global, lefts: &LeftSides<'_>, t: &Term) -> Result<bool, NoMemory>
+    ensures { IfOk result (λ b. IsTrue b ↔ DoAllClash lefts.now (view t.now)) }
 {
-    match is_absolutely_irreducible(alloc, sys, t)? {
+    match is_absolutely_irreducible(alloc, lefts, t)? {
         Irreducible::Yes => Ok(true),
         Irreducible::No | Irreducible::TooLarge => Ok(false),
     }

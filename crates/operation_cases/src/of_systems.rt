@@ -4,8 +4,8 @@ use crate::of_numbers::unary;
 use cert_model::Class;
 use critical_pairs::{OverlapSearch, overlaps};
 use ctrs_classes::why_not;
-use irreducible::{do_all_clash, is_absolutely_irreducible};
-use rule_index::RuleIndex;
+use irreducible::{LeftSides, do_all_clash, is_absolutely_irreducible};
+use rule_index::{IndexedSystem, RuleIndex};
 use std::io;
 use term_core::{System, Term};
 use unravel::unravel;
@@ -61,19 +61,25 @@ pub fn print_classes(rt: &HostRuntime, sys: &System) -> io::Result<()> {
     Ok(())
 }
 
-fn print_judged(rt: &HostRuntime, sys: &System, t: &Term) -> io::Result<()> {
-    let judged = is_absolutely_irreducible(rt.alloc(), sys, t);
-    let clash = do_all_clash(rt.alloc(), sys, t);
+fn print_judged(rt: &HostRuntime, lefts: &LeftSides<'_>, t: &Term) -> io::Result<()> {
+    let judged = is_absolutely_irreducible(rt.alloc(), lefts, t);
+    let clash = do_all_clash(rt.alloc(), lefts, t);
     println!(rt; "{judged:?} {clash:?}")
 }
 
 /// Whether each term, and then symbol 0 over the greatest variable, is absolutely irreducible, and whether all runs for it clash.
 pub fn print_irreducible(rt: &HostRuntime, sys: &System, terms: &[Term]) -> io::Result<()> {
+    let Ok(indexed) = IndexedSystem::new(rt.alloc(), sys) else {
+        return println!(rt; "no memory");
+    };
+    let Ok(lefts) = LeftSides::new(rt.alloc(), &indexed) else {
+        return println!(rt; "no memory");
+    };
     for t in terms {
-        print_judged(rt, sys, t)?;
+        print_judged(rt, &lefts, t)?;
     }
     match unary(rt.alloc(), 4294967295) {
-        Ok(t) => print_judged(rt, sys, &t),
+        Ok(t) => print_judged(rt, &lefts, &t),
         Err(e) => println!(rt; "{e:?}"),
     }
 }

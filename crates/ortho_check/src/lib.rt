@@ -13,8 +13,10 @@ ghost use Rattle.ortho_check.specs.Answers.{ClassAnswers, ClassesAnswer};
 use cert_model::{Class, PairEntry, Rejected};
 use ctrs_classes::why_not;
 use infeasible::JudgeByKind;
+use irreducible::LeftSides;
 use level_theorem::levels_commute;
 use pair_check::check_pairs;
+use rule_index::IndexedSystem;
 use std::alloc::Global;
 use term_core::System;
 use validity::CertKind;
@@ -46,7 +48,9 @@ fn judge_ortho(alloc: Global, sys: &System, pairs: &[PairEntry]) -> Result<(), C
     ensures { OrthoAnswers sys.now (map pair_entry_view pairs.now) result }
 {
     check_classes(sys)?;
-    check_pairs::<JudgeByKind>(alloc, sys, CertKind::Ortho, pairs)
+    let indexed = IndexedSystem::new(alloc, sys)?;
+    let lefts = LeftSides::new(alloc, &indexed)?;
+    check_pairs::<JudgeByKind>(alloc, &lefts, CertKind::Ortho, pairs)
 }
 
 /// Whether entries for the overlaps show that the levels of the system commute, and so that it is confluent: it is

@@ -14,7 +14,7 @@ ghost use Rattle.pair_check.specs.Judges.{EndAnswers, AreIrreducibleApart};
 use cert_model::{Derivation, EvidenceReason, condition};
 use critical_pairs::Overlap;
 use derivation::{ReplayError, replay};
-use irreducible::do_all_clash;
+use irreducible::{LeftSides, do_all_clash};
 use refuter::Refusal;
 use std::alloc::Global;
 use term_core::{System, Term, equal};
@@ -80,7 +80,7 @@ pub fn judge_join(
 // The end of the first derivation from a condition's left side.
 fn first_end(
     alloc: Global,
-    sys: &System,
+    sys: &LeftSides<'_>,
     overlap: &Overlap,
     start: &Term,
     d: &Derivation,
@@ -90,7 +90,7 @@ fn first_end(
     requires short { IsShort (derivation_view d.now) }
     ensures { EndAnswers sys.now (map condition_view overlap.now.conds.items) (view start.now) (derivation_view d.now) unfeasible_first result }
 {
-    match replay(alloc, sys, &overlap.conds, start, d) {
+    match replay(alloc, sys.system(), &overlap.conds, start, d) {
         Ok(end) => Ok(end),
         Err(ReplayError::Bad(bad)) => Err(Refusal::Reason(EvidenceReason::UnfeasibleFirst(bad))),
         Err(ReplayError::NoMemory) => Err(Refusal::NoMemory),
@@ -100,7 +100,7 @@ fn first_end(
 // The end of the second one.
 fn second_end(
     alloc: Global,
-    sys: &System,
+    sys: &LeftSides<'_>,
     overlap: &Overlap,
     start: &Term,
     d: &Derivation,
@@ -110,7 +110,7 @@ fn second_end(
     requires short { IsShort (derivation_view d.now) }
     ensures { EndAnswers sys.now (map condition_view overlap.now.conds.items) (view start.now) (derivation_view d.now) unfeasible_second result }
 {
-    match replay(alloc, sys, &overlap.conds, start, d) {
+    match replay(alloc, sys.system(), &overlap.conds, start, d) {
         Ok(end) => Ok(end),
         Err(ReplayError::Bad(bad)) => Err(Refusal::Reason(EvidenceReason::UnfeasibleSecond(bad))),
         Err(ReplayError::NoMemory) => Err(Refusal::NoMemory),
@@ -118,7 +118,7 @@ fn second_end(
 }
 
 // That two terms are absolutely irreducible and do not unify.
-fn judge_ends(alloc: Global, sys: &System, u: &Term, v: &Term) -> Result<(), Refusal>
+fn judge_ends(alloc: Global, sys: &LeftSides<'_>, u: &Term, v: &Term) -> Result<(), Refusal>
     ensures { RefutesAnswers (AreIrreducibleApart sys.now (view u.now) (view v.now)) result }
 {
     if !do_all_clash(alloc, sys, u)? {
@@ -137,7 +137,7 @@ fn judge_ends(alloc: Global, sys: &System, u: &Term, v: &Term) -> Result<(), Ref
 /// Judges that the left side of a condition, numbered from 1, derives two irreducible terms that do not unify.
 pub fn judge_unfeasible(
     alloc: Global,
-    sys: &System,
+    sys: &LeftSides<'_>,
     overlap: &Overlap,
     number: u32,
     first: &Derivation,

@@ -11,9 +11,9 @@ ghost use Rattle.pair_check.specs.Walk.{EachIsOverlap, MissingAnswers, RefusedAn
 use crate::evidence::judge_evidence;
 use cert_model::{PairEntry, Rejected, copy_numbers};
 use critical_pairs::{Overlap, OverlapError, overlaps};
+use irreducible::LeftSides;
 use refuter::Refusal;
 use std::alloc::Global;
-use term_core::System;
 use validity::{CertKind, CheckError, InfeasibilityJudge};
 
 // An overlap that has no entry where one should stand.
@@ -60,7 +60,7 @@ fn is_for(entry: &PairEntry, overlap: &Overlap) -> bool
 // Judges the entry with a number, from 0, for an overlap.
 fn judge_entry<J: InfeasibilityJudge>(
     alloc: Global,
-    sys: &System,
+    sys: &LeftSides<'_>,
     kind: CertKind,
     overlap: &Overlap,
     pairs: &[PairEntry],
@@ -90,7 +90,7 @@ fn judge_entry<J: InfeasibilityJudge>(
 // Judges the entries for all overlaps; there may be no other.
 fn settle<J: InfeasibilityJudge>(
     alloc: Global,
-    sys: &System,
+    sys: &LeftSides<'_>,
     kind: CertKind,
     overlaps: &[Overlap],
     pairs: &[PairEntry],
@@ -112,7 +112,8 @@ fn settle<J: InfeasibilityJudge>(
 }
 
 /// Judges the entries of a certificate of a kind: there is one for each overlap of the system, in order, with valid
-/// evidence, and no other. Entries are numbered from 1. `J` judges the evidence that conditions are never met.
+/// evidence, and no other. Entries are numbered from 1. `J` judges the evidence that conditions are never met. The system
+/// comes with its index and its renamed left sides, so that no entry makes any.
 ///
 /// # Errors
 ///
@@ -120,14 +121,14 @@ fn settle<J: InfeasibilityJudge>(
 /// stand, its evidence is not valid, or an entry stands behind the last overlap.
 pub fn check_pairs<J: InfeasibilityJudge>(
     alloc: Global,
-    sys: &System,
+    sys: &LeftSides<'_>,
     kind: CertKind,
     pairs: &[PairEntry],
 ) -> Result<(), CheckError>
     requires short { ArePairsShort (map pair_entry_view pairs.now) }
     ensures { SettleAnswers (kind_view kind) sys.now (map pair_entry_view pairs.now) result }
 {
-    match overlaps(alloc, sys) {
+    match overlaps(alloc, sys.system()) {
         Ok(found) => settle::<J>(alloc, sys, kind, &found, pairs),
         Err(e) => Err(refused(alloc, &e)),
     }

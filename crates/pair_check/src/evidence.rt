@@ -12,9 +12,10 @@ use crate::conflict::judge_conflict;
 use crate::derived::{judge_join, judge_unfeasible};
 use cert_model::{EvidenceReason, PairEvidence};
 use critical_pairs::Overlap;
+use irreducible::LeftSides;
 use refuter::Refusal;
 use std::alloc::Global;
-use term_core::{System, equal};
+use term_core::equal;
 use validity::{CertKind, InfeasibilityJudge, allowed};
 
 // That both sides are equal, at the root.
@@ -33,7 +34,7 @@ fn judge_trivial(overlap: &Overlap) -> Result<(), Refusal>
 // The same whatever the kind of the certificate.
 fn judge<J: InfeasibilityJudge>(
     alloc: Global,
-    sys: &System,
+    sys: &LeftSides<'_>,
     overlap: &Overlap,
     evidence: &PairEvidence,
 ) -> Result<(), Refusal>
@@ -43,11 +44,11 @@ fn judge<J: InfeasibilityJudge>(
 {
     match evidence {
         PairEvidence::Trivial => judge_trivial(overlap),
-        PairEvidence::Infeasible(inner) => J::judge(alloc, sys, &overlap.conds, inner),
+        PairEvidence::Infeasible(inner) => J::judge(alloc, sys.system(), &overlap.conds, inner),
         PairEvidence::Conflict { inner, outer } => {
-            judge_conflict(alloc, sys, overlap, *inner, *outer)
+            judge_conflict(alloc, sys.system(), overlap, *inner, *outer)
         }
-        PairEvidence::Join { left, right } => judge_join(alloc, sys, overlap, left, right),
+        PairEvidence::Join { left, right } => judge_join(alloc, sys.system(), overlap, left, right),
         PairEvidence::Unfeasible {
             cond,
             first,
@@ -60,7 +61,7 @@ fn judge<J: InfeasibilityJudge>(
 /// the kind may not give is not looked at; evidence that the conditions are never met is left to `J`.
 pub fn judge_evidence<J: InfeasibilityJudge>(
     alloc: Global,
-    sys: &System,
+    sys: &LeftSides<'_>,
     kind: CertKind,
     overlap: &Overlap,
     evidence: &PairEvidence,

@@ -10,17 +10,19 @@ use cert_model::{Class, PairEntry, Rejected};
 use ctrs_classes::why_not;
 use descent_theorem::bounded_descents_are_confluent;
 use infeasible::JudgeByKind;
+use irreducible::LeftSides;
 use measure::{Measure, MeasureError};
 use pair_check::check_pairs;
+use rule_index::IndexedSystem;
 use std::alloc::Global;
 use term_core::System;
 use validity::{CertKind, CheckError};
 
 // Whether the system is deterministic and the right side of each condition is absolutely irreducible.
-fn check_rules(alloc: Global, sys: &System) -> Result<(), CheckError>
+fn check_rules(alloc: Global, sys: &LeftSides<'_>) -> Result<(), CheckError>
     ensures { RulesAnswers sys.now result }
 {
-    if let Some(blame) = why_not(sys, Class::Deterministic) {
+    if let Some(blame) = why_not(sys.system(), Class::Deterministic) {
         return Err(CheckError::Rejected(Rejected::ClassFails(blame)));
     }
     match first_reducible(alloc, sys)? {
@@ -58,9 +60,11 @@ fn judge_quasi<M: Measure>(
     requires short { ArePairsShort (map pair_entry_view pairs.now) }
     ensures { QuasiAnswers (M.judged measure.now sys.now) sys.now (map pair_entry_view pairs.now) result }
 {
-    check_rules(alloc, sys)?;
+    let indexed = IndexedSystem::new(alloc, sys)?;
+    let lefts = LeftSides::new(alloc, &indexed)?;
+    check_rules(alloc, &lefts)?;
     check_measure(alloc, sys, measure)?;
-    check_pairs::<JudgeByKind>(alloc, sys, CertKind::Quasi, pairs)
+    check_pairs::<JudgeByKind>(alloc, &lefts, CertKind::Quasi, pairs)
 }
 
 /// Judges a certificate that a system is confluent, by a measure and the evidence for each overlap (after Avenhaus and

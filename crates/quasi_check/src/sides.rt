@@ -3,9 +3,9 @@ ghost use Rattle.std.specs.Prelude.{◌≤◌, IfOk, length, map};
 ghost use Rattle.term_core.specs.RuleView.{condition_view};
 ghost use Rattle.quasi_check.specs.Sides.{ConditionAnswers, SideAnswers};
 
-use irreducible::do_all_clash;
+use irreducible::{LeftSides, do_all_clash};
 use std::alloc::Global;
-use term_core::{Cond, NoMemory, System};
+use term_core::{Cond, NoMemory};
 
 /// A condition of a rule; both are numbered from 1.
 #[derive(Clone, Copy)]
@@ -15,7 +15,11 @@ pub(crate) struct SidePlace {
 }
 
 // The first condition, from 1, whose right side is not absolutely irreducible.
-fn first_condition(alloc: Global, sys: &System, conds: &[Cond]) -> Result<Option<u32>, NoMemory>
+fn first_condition(
+    alloc: Global,
+    sys: &LeftSides<'_>,
+    conds: &[Cond],
+) -> Result<Option<u32>, NoMemory>
     requires { length conds.now ≤ 100 }
     ensures { IfOk result (λ first. ConditionAnswers sys.now (map condition_view conds.now) first) }
 {
@@ -28,7 +32,10 @@ fn first_condition(alloc: Global, sys: &System, conds: &[Cond]) -> Result<Option
 }
 
 // The first such condition of the first rule that has one.
-pub(crate) fn first_reducible(alloc: Global, sys: &System) -> Result<Option<SidePlace>, NoMemory>
+pub(crate) fn first_reducible(
+    alloc: Global,
+    sys: &LeftSides<'_>,
+) -> Result<Option<SidePlace>, NoMemory>
     ensures { IfOk result (λ first. SideAnswers sys.now first) }
 {
     for (i, rule) in sys.rules().iter().enumerate() {

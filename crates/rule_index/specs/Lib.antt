@@ -4,3 +4,4 @@ pub mod IndexView
 pub mod Parts
 pub mod Levels
 pub mod WalkView
+pub mod IndexedView

@@ -1,6 +1,7 @@
 //! The rules of a system by the root symbols of their left sides, and walks over the parts of a term.
 #![tactic(auto)]
 
+mod indexed;
 mod parts;
 
 ghost use Rattle.std.specs.Prelude.{◌≡◌, ◌<◌, ◌+◌, ◌^◌, ◌++◌, ◌∷◌, ℕ, [], IfOk, OnOk, if◌then◌else◌, map, length};
@@ -9,6 +10,7 @@ ghost use Rattle.rule_index.specs.Index.{listed, listed_at, IsIndexOf, IsRootBel
 ghost use Rattle.term_core.specs.View.{view};
 ghost use Rattle.term_core.specs.RuleView.{rule_view};
 
+pub use indexed::IndexedSystem;
 pub use parts::PartWalk;
 use std::alloc::Global;
 use std::marker::Model;

@@ -1,4 +1,5 @@
 pub mod Values
+pub mod Heads
 pub mod Lists
 pub mod Agree
 pub mod General

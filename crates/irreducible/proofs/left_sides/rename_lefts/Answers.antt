@@ -2,7 +2,7 @@ use Rattle.std.proofs.Common.{◌∙◌, ◌++◌, ◌∷◌, [], sym, ap, ap₂
 use Rattle.term_core.specs.View.{view}
 use Rattle.unification.specs.Answers.{renaming}
 use Rattle.irreducible.proofs.Lefts.{room_at, lefts_take, map-append}
-use Rattle.irreducible.proofs.judging.rename_lefts.Goals as goal
+use Rattle.irreducible.proofs.left_sides.rename_lefts.Goals as goal
 
 pub renamed-requires : goal.renamed-requires
 renamed-requires c = record { below = room_at _ _ c.loop-rule.rule-index _ c.loop-rule-test.true c.rule-item.is c.requires }

@@ -1,0 +1,11 @@
+-- The system that an `IndexedSystem` stands for, and what it keeps.
+use Rattle.rewriting.specs.Rules as math
+use Rattle.rule_index.specs.Index.{IsIndexOf}
+use Rattle.rule_index.specs.declared.indexed.IndexedSystem.TheInside.{Inside}
+
+abbrev pub indexed_view : Inside → math.System
+indexed_view i = i.system.now
+
+-- the index is the system's
+abbrev pub IsIndexed : Inside → Type 0
+IsIndexed i = IsIndexOf i.system.now i.index

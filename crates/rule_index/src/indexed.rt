@@ -1,0 +1,65 @@
+// A system and the index of its rules in one value, so that no question about the system makes an index of its own.
+ghost use Rattle.std.specs.Prelude.{◌≡◌, IfOk, map};
+ghost use Rattle.rewriting.specs.Systems.{IsSystem};
+ghost use Rattle.rule_index.specs.Roots.{rules_with_root};
+ghost use Rattle.term_core.specs.RuleView.{rule_view, AreCounted};
+
+use crate::RuleIndex;
+use std::alloc::Global;
+use std::marker::Model;
+use term_core::{NoMemory, Rule, System};
+
+/// A system with the index of its rules: prepared once, asked often. In contracts it is the system.
+#[derive(Debug, Drop)]
+pub struct IndexedSystem<'a> {
+    system: &'a System,
+    index: RuleIndex,
+}
+
+impl<'a> Model for IndexedSystem<'a> {
+    ghost use Rattle.rewriting.specs.Codes.{coded_system};
+    ghost use Rattle.rewriting.specs.Rules as math;
+    ghost use Rattle.rule_index.specs.IndexedView.{indexed_view, IsIndexed};
+
+    ghost Value = { math.System };
+
+    ghost coded = { coded_system };
+
+    ghost view = { indexed_view };
+
+    ghost invariant = { IsIndexed };
+}
+
+impl<'a> IndexedSystem<'a> {
+    /// The system with its index, in time linear in the numbers of its rules and symbols.
+    pub fn new(alloc: Global, system: &'a System) -> Result<IndexedSystem<'a>, NoMemory>
+        ensures { IfOk result (λ s. s ≡ system.now) }
+    {
+        let index = RuleIndex::new(alloc, system)?;
+        Ok(IndexedSystem { system, index })
+    }
+
+    /// The system itself.
+    pub fn system(&self) -> &System
+        ensures { result.now ≡ self.now }
+    {
+        self.system
+    }
+
+    /// The rules in order.
+    pub fn rules(&self) -> &[Rule]
+        ensures rules { map rule_view result.now ≡ self.now.rules }
+        ensures counted { AreCounted result.now }
+        ensures sound { IsSystem self.now }
+    {
+        self.system.rules()
+    }
+
+    /// The numbers, from 1, of the rules whose left sides have this root symbol, in order; for a number
+    /// that is no symbol of the system there are none.
+    pub fn with_root(&self, f: u32) -> &[u32]
+        ensures { result.now ≡ rules_with_root self.now f }
+    {
+        self.index.with_root(f)
+    }
+}
