@@ -4,10 +4,11 @@ ghost use Rattle.rewriting.specs.Variables.{occurs};
 ghost use Rattle.term_core.specs.View.{view};
 
 use cops_read::read_system;
+use rule_index::IndexedSystem;
 use std::alloc::Global;
 use std::test::Fail;
 use tcap_infeasible::{Cap, ComparedCaps, compare_rigid_caps, rigid_cap};
-use term_core::{System, Term, equal, fits, size};
+use term_core::{Term, equal, fits, size};
 
 fn constant(alloc: Global, f: u32) -> Term {
     Term::Fun(f, Vec::new(alloc))
@@ -21,7 +22,12 @@ fn binary(alloc: Global, f: u32, s: Term, t: Term) -> Result<Term, Fail> {
     Ok(Term::Fun(f, Vec::from_array(alloc, [s, t])?))
 }
 
-fn compared(alloc: Global, system: &System, u: &Term, v: &Term) -> Result<ComparedCaps, Fail> {
+fn compared(
+    alloc: Global,
+    system: &IndexedSystem,
+    u: &Term,
+    v: &Term,
+) -> Result<ComparedCaps, Fail> {
     if !fits(u) || !fits(v) {
         return Err(Fail::from("too large"));
     }
@@ -37,6 +43,7 @@ fn variables_are_no_foreign_symbols(rt: HostRuntime) -> Result<(), Fail> {
     let Ok((system, _)) = read_system(alloc, b"(RULES a -> f(a) g(b) -> b)") else {
         return Err(Fail::from("no system"));
     };
+    let system = IndexedSystem::new(alloc, &system)?;
     for &(x, f) in PAIRS {
         let variable = unary(alloc, 1, Term::Var(x))?;
         let foreign = unary(alloc, 1, constant(alloc, f))?;
@@ -76,7 +83,7 @@ fn is_below(t: &Term, fresh: u32) -> bool
     }
 }
 
-fn rigid(alloc: Global, system: &System, t: &Term, fresh: u32) -> Result<Term, Fail> {
+fn rigid(alloc: Global, system: &IndexedSystem, t: &Term, fresh: u32) -> Result<Term, Fail> {
     if !fits(t) || u64::from(fresh) + u64::from(size(t)) > 4294967296 || !is_below(t, fresh) {
         return Err(Fail::from("no numbers"));
     }
@@ -93,6 +100,7 @@ fn variables_that_stay_are_no_foreign_symbols(rt: HostRuntime) -> Result<(), Fai
     let Ok((system, _)) = read_system(alloc, b"(VAR x)(RULES f(x,g(x,x)) -> c)") else {
         return Err(Fail::from("no system"));
     };
+    let system = IndexedSystem::new(alloc, &system)?;
     let twice = binary(alloc, 1, constant(alloc, 3), constant(alloc, 3))?;
     let stays = binary(alloc, 0, Term::Var(0), twice)?;
     assert!(rt; equal(&rigid(alloc, &system, &stays, 1)?, &stays));

@@ -1,11 +1,15 @@
-//! Caps of a term, and how those of its two arguments compare.
+//! Caps of a term, and how those of its two arguments compare, with the evidence by them that the first never reaches the second.
 ghost use Rattle.std.specs.Prelude.{◌≡◌, ◌<◌, ℕ, true, IsTrue};
 ghost use Rattle.rewriting.specs.Variables.{occurs};
 ghost use Rattle.term_core.specs.View.{view};
 
+use refuter::Refuter;
+use rule_index::IndexedSystem;
 use std::io;
-use tcap_infeasible::{compare_caps, compare_rigid_caps, rigid_cap, tcap};
-use term_core::{System, Term, fits, size};
+use tcap_infeasible::{
+    IndexedTcap, TcapEvidence, compare_caps, compare_rigid_caps, rigid_cap, tcap,
+};
+use term_core::{Cond, System, Term, fits, size, try_clone};
 
 // Whether the variables of a term are below a number.
 fn is_below(t: &Term, fresh: u32) -> bool
@@ -32,14 +36,32 @@ pub fn print_caps(rt: &HostRuntime, title: &str, sys: &System, t: &Term) -> io::
     if !fits(t) || u64::from(fresh) + u64::from(size(t)) > 4294967296 {
         return println!(rt; "no numbers for holes");
     }
-    println!(rt; "cap: {:?}", tcap(rt.alloc(), sys, t, fresh))?;
+    let Ok(sys) = IndexedSystem::new(rt.alloc(), sys) else {
+        return println!(rt; "no memory");
+    };
+    println!(rt; "cap: {:?}", tcap(rt.alloc(), &sys, t, fresh))?;
     if is_below(t, fresh) {
-        println!(rt; "rigid cap: {:?}", rigid_cap(rt.alloc(), sys, t, fresh))?;
+        println!(rt; "rigid cap: {:?}", rigid_cap(rt.alloc(), &sys, t, fresh))?;
     }
-    print_compared(rt, sys, t)
+    print_compared(rt, &sys, t)
 }
 
-fn print_compared(rt: &HostRuntime, sys: &System, t: &Term) -> io::Result<()> {
+// What the evidence by caps is judged to be with the system's index, and with one of its own.
+fn print_evidence(rt: &HostRuntime, sys: &IndexedSystem, u: &Term, v: &Term) -> io::Result<()> {
+    let alloc = rt.alloc();
+    let (Ok(left), Ok(right)) = (try_clone(alloc, u), try_clone(alloc, v)) else {
+        return println!(rt; "no memory");
+    };
+    if !fits(&left) || !fits(&right) {
+        return println!(rt; "the copies do not fit");
+    }
+    let conds = [Cond { left, right }];
+    let indexed = IndexedTcap { sys }.refutes(alloc, &conds);
+    let alone = TcapEvidence.refutes(alloc, sys.system(), &conds);
+    println!(rt; "evidence by caps: {indexed:?}, with an index of its own: {alone:?}")
+}
+
+fn print_compared(rt: &HostRuntime, sys: &IndexedSystem, t: &Term) -> io::Result<()> {
     let Term::Fun(_, args) = t else {
         return Ok(());
     };
@@ -56,5 +78,6 @@ fn print_compared(rt: &HostRuntime, sys: &System, t: &Term) -> io::Result<()> {
     println!(rt;
         "rigid caps of the arguments: {:?}",
         compare_rigid_caps(rt.alloc(), sys, u, v)
-    )
+    )?;
+    print_evidence(rt, sys, u, v)
 }

@@ -12,16 +12,17 @@ ghost use Rattle.valid_certificates.specs.Evidence.{IsInfeasibilityJudged};
 use cert_model::InfEvidence;
 pub use refuter::Refusal;
 use refuter::Refuter;
+use rule_index::IndexedSystem;
 use std::alloc::Global;
-use tcap_infeasible::TcapEvidence;
-use term_core::{Cond, System};
+use tcap_infeasible::IndexedTcap;
+use term_core::Cond;
 use tree_automata::AutoEvidence;
 use validity::InfeasibilityJudge;
 
 // What a refuter answers; where that is Ok, the conditions are never met.
 fn refuted<R: Refuter>(
     alloc: Global,
-    sys: &System,
+    sys: &IndexedSystem,
     conds: &[Cond],
     refuter: &R,
 ) -> Result<(), Refusal>
@@ -31,13 +32,13 @@ fn refuted<R: Refuter>(
     ensures sound { OnOk result (IsInfeasible sys.now (map condition_view conds.now)) }
 {
     let _rules = sys.rules();
-    refuter.refutes(alloc, sys, conds)
+    refuter.refutes(alloc, sys.system(), conds)
 }
 
-/// Judges evidence for conditions of a system, by caps or by an automaton. Where it is valid, no level and no substitution meet all of them.
+/// Judges evidence for conditions of a system that has its index, by caps or by an automaton. Where it is valid, no level and no substitution meet all of them.
 pub fn check_infeasible(
     alloc: Global,
-    sys: &System,
+    sys: &IndexedSystem,
     conds: &[Cond],
     evidence: &InfEvidence,
 ) -> Result<(), Refusal>
@@ -47,7 +48,7 @@ pub fn check_infeasible(
     ensures sound { OnOk result (IsInfeasible sys.now (map condition_view conds.now)) }
 {
     match evidence {
-        InfEvidence::Tcap => refuted(alloc, sys, conds, &TcapEvidence),
+        InfEvidence::Tcap => IndexedTcap { sys }.refutes(alloc, conds),
         InfEvidence::Auto { cond, automaton } => {
             let evidence = AutoEvidence {
                 cond: *cond,
@@ -65,7 +66,7 @@ pub struct JudgeByKind;
 impl InfeasibilityJudge for JudgeByKind {
     fn judge(
         alloc: Global,
-        sys: &System,
+        sys: &IndexedSystem,
         conds: &[Cond],
         evidence: &InfEvidence,
     ) -> Result<(), Refusal> {

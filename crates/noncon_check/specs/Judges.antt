@@ -2,19 +2,17 @@
 use Rattle.std.specs.Prelude.{ℕ, ◌≡◌, ◌<◌, ◌≤◌, ◌^◌, List, length, map}
 use Rattle.rewriting.specs.Rules.{System}
 use Rattle.rewriting.specs.Systems.{IsSystem}
-use Rattle.rule_index.specs.Index.{IsIndexOf}
 use Rattle.term_core.specs.RuleView.{rule_view}
 use Rattle.term_core.specs.SystemView.{AreSound}
 use Rattle.term_core.specs.declared.systems.Rule.{Rule}
 use Rattle.certificates.specs.Certificates.{Apartness, by_normal_forms, by_rigid_caps}
 use Rattle.cert_model.specs.declared.model.Redex.{Redex}
 
--- the rules are the system's, the index is its, the entries are few, and the end has few variables
-pub record IsReady (sys : System) (rs : List Rule) (index : List (List ℕ)) (es : List Redex) (n : ℕ) : Type 0 where
+-- the rules are the system's, the entries are few, and the end has few variables
+pub record IsReady (sys : System) (rs : List Rule) (es : List Redex) (n : ℕ) : Type 0 where
   pub system : IsSystem sys
   pub rules : map rule_view rs ≡ sys.rules
   pub sound : AreSound sys.arities rs
-  pub by_root : IsIndexOf sys index
   pub few : length es < 2 ^ 32
   pub own : n ≤ 10000
 

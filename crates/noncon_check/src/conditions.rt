@@ -13,8 +13,9 @@ ghost use Rattle.noncon_check.specs.Judged.{value_or_new, match_or_new, AreJudge
 
 use cert_model::{EvidenceReason, InfEvidence};
 use infeasible::{Refusal, check_infeasible};
+use rule_index::IndexedSystem;
 use std::alloc::Global;
-use term_core::{Cond, NoMemory, Rule, Subst, System, Term, TermError};
+use term_core::{Cond, NoMemory, Rule, Subst, Term, TermError};
 
 // Gives a variable that has no value the number `own + k`.
 fn complete_one(values: &mut Subst, own: u32, k: u32) -> Result<(), NoMemory>
@@ -64,7 +65,7 @@ fn instances(alloc: Global, values: &Subst, conds: &[Cond]) -> Result<Vec<Cond>,
 /// Judges evidence for the conditions of a rule under the values of a match, with new variables from `own` on.
 pub(crate) fn judge_conditions(
     alloc: Global,
-    sys: &System,
+    sys: &IndexedSystem,
     rule: &Rule,
     mut values: Subst,
     own: u32,

@@ -9,7 +9,7 @@ ghost use Rattle.noncon_check.specs.Judges.{IsReady, AreFew};
 use crate::redexes::Judge;
 use cert_model::{NonJoin, Redex, Rejected};
 use renumbering::Numbering;
-use rule_index::RuleIndex;
+use rule_index::IndexedSystem;
 use std::alloc::Global;
 use tcap_infeasible::{ComparedCaps, compare_rigid_caps};
 use term_core::{System, Term, equal};
@@ -17,7 +17,7 @@ use validity::CheckError;
 
 // Judges the entries from a number, from 0, on, for the redexes of an end; the number behind them.
 fn judge_end(alloc: Global, judge: &Judge, end: &Term, at: usize) -> Result<usize, CheckError>
-    requires ready { IsReady judge.now.sys.now judge.now.rules.now judge.now.index.now judge.now.entries.now judge.now.own }
+    requires ready { IsReady judge.now.sys.now judge.now.rules.now judge.now.entries.now judge.now.own }
     requires fits { math.Fits (view end.now) }
     ensures { EndAnswers judge.now.sys.now judge.now.which (view end.now) (map redex_view judge.now.entries.now) at result }
 {
@@ -31,7 +31,7 @@ fn judge_end(alloc: Global, judge: &Judge, end: &Term, at: usize) -> Result<usiz
 // That the ends differ, and that there is an entry with valid evidence for each redex of theirs, and no other.
 fn check_normal(
     alloc: Global,
-    sys: &System,
+    sys: &IndexedSystem,
     first: &Term,
     second: &Term,
     entries: &[Redex],
@@ -44,11 +44,9 @@ fn check_normal(
     if equal(first, second) {
         return Err(CheckError::Rejected(Rejected::SameTerm));
     }
-    let index = RuleIndex::new(alloc, sys)?;
     let judge = Judge {
         sys,
         rules: sys.rules(),
-        index: &index,
         entries,
         which: 1,
         own: 0,
@@ -64,7 +62,12 @@ fn check_normal(
 }
 
 // That the rigid caps of the ends do not unify.
-fn check_caps(alloc: Global, sys: &System, first: &Term, second: &Term) -> Result<(), CheckError>
+fn check_caps(
+    alloc: Global,
+    sys: &IndexedSystem,
+    first: &Term,
+    second: &Term,
+) -> Result<(), CheckError>
     requires first { math.Fits (view first.now) }
     requires second { math.Fits (view second.now) }
     ensures { ApartAnswers sys.now (view first.now) (view second.now) by_rigid_caps result }
@@ -89,8 +92,9 @@ pub(crate) fn check_apart(
     requires few { AreFew (apart_view apart.now) }
     ensures { ApartAnswers sys.now (view first.now) (view second.now) (apart_view apart.now) result }
 {
+    let indexed = IndexedSystem::new(alloc, sys)?;
     match apart {
-        NonJoin::Normal(entries) => check_normal(alloc, sys, first, second, entries),
-        NonJoin::Caps => check_caps(alloc, sys, first, second),
+        NonJoin::Normal(entries) => check_normal(alloc, &indexed, first, second, entries),
+        NonJoin::Caps => check_caps(alloc, &indexed, first, second),
     }
 }

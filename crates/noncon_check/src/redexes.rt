@@ -17,18 +17,17 @@ use crate::conditions::judge_conditions;
 use cert_model::{Redex, Rejected, copy_numbers};
 use infeasible::Refusal;
 use matching::{Match, match_term};
-use rule_index::{PartWalk, RuleIndex};
+use rule_index::{IndexedSystem, PartWalk};
 use std::alloc::Global;
-use term_core::{Rule, Subst, System, Term};
+use term_core::{Rule, Subst, Term};
 use validity::CheckError;
 
 /// What the redexes of an end are judged by: the end's number, the certificate's entries, and how many variables the
 /// end has, which are the least numbers.
 #[derive(Clone, Copy)]
 pub(crate) struct Judge<'a> {
-    pub(crate) sys: &'a System,
+    pub(crate) sys: &'a IndexedSystem<'a>,
     pub(crate) rules: &'a [Rule],
-    pub(crate) index: &'a RuleIndex,
     pub(crate) entries: &'a [Redex],
     pub(crate) which: u32,
     pub(crate) own: u32,
@@ -74,7 +73,7 @@ impl<'a> Judge<'a> {
         path: &[u32],
         at: usize,
     ) -> Result<usize, CheckError>
-        requires ready { IsReady self.now.sys.now self.now.rules.now self.now.index.now self.now.entries.now self.now.own }
+        requires ready { IsReady self.now.sys.now self.now.rules.now self.now.entries.now self.now.own }
         requires sound { IsSound self.now.sys.now.arities rule.now }
         ensures { PlacesAnswer (λ r evidence o. AreJudged self.now.sys.now (conditions_under (match_or_new self.now.own values) (map condition_view rule.now.conds.items)) evidence o) (map redex_view self.now.entries.now) at (place self.now.which path.now number ∷ []) result }
     {
@@ -100,7 +99,7 @@ impl<'a> Judge<'a> {
         path: &[u32],
         at: usize,
     ) -> Result<usize, CheckError>
-        requires ready { IsReady self.now.sys.now self.now.rules.now self.now.index.now self.now.entries.now self.now.own }
+        requires ready { IsReady self.now.sys.now self.now.rules.now self.now.entries.now self.now.own }
         requires number { IsSome (rule_at self.now.sys.now number) }
         ensures { PlacesAnswer (IsJudgedOn self.now.sys.now self.now.own (view part.now)) (map redex_view self.now.entries.now) at (places self.now.sys.now self.now.which (parts.part path.now (view part.now)) (number ∷ [])) result }
     {
@@ -119,11 +118,11 @@ impl<'a> Judge<'a> {
         path: &[u32],
         at: usize,
     ) -> Result<usize, CheckError>
-        requires ready { IsReady self.now.sys.now self.now.rules.now self.now.index.now self.now.entries.now self.now.own }
+        requires ready { IsReady self.now.sys.now self.now.rules.now self.now.entries.now self.now.own }
         ensures { PlacesAnswer (IsJudgedOn self.now.sys.now self.now.own (view part.now)) (map redex_view self.now.entries.now) at (part_redexes self.now.sys.now self.now.which (parts.part path.now (view part.now))) result }
     {
         let mut next = at;
-        let numbers = self.index.rules_at(part);
+        let numbers = self.sys.rules_at(part);
         for number in numbers {
             next = self.judge_rule(alloc, part, *number, path, next)?;
         }
@@ -138,7 +137,7 @@ impl<'a> Judge<'a> {
         end: &Term,
         at: usize,
     ) -> Result<usize, CheckError>
-        requires ready { IsReady self.now.sys.now self.now.rules.now self.now.index.now self.now.entries.now self.now.own }
+        requires ready { IsReady self.now.sys.now self.now.rules.now self.now.entries.now self.now.own }
         requires size { size (view end.now) ≤ 10000 }
         ensures { PlacesAnswer (IsJudgedAt self.now.sys.now self.now.own (view end.now)) (map redex_view self.now.entries.now) at (redexes self.now.sys.now self.now.which (view end.now)) result }
     {

@@ -12,12 +12,18 @@ ghost use Rattle.pair_check.specs.Judges.{IsConflictOf};
 use cert_model::{EvidenceReason, condition};
 use critical_pairs::Overlap;
 use refuter::Refusal;
+use rule_index::IndexedSystem;
 use std::alloc::Global;
 use tcap_infeasible::{ComparedCaps, compare_caps};
-use term_core::{Cond, System, equal};
+use term_core::{Cond, equal};
 
 // That two conditions have one left side, and right sides whose caps clash.
-fn judge_conditions(alloc: Global, sys: &System, first: &Cond, second: &Cond) -> Result<(), Refusal>
+fn judge_conditions(
+    alloc: Global,
+    sys: &IndexedSystem,
+    first: &Cond,
+    second: &Cond,
+) -> Result<(), Refusal>
     requires first { math.Fits (view first.now.right) }
     requires second { math.Fits (view second.now.right) }
     ensures { RefutesAnswers (IsConflictOf sys.now (condition_view first.now) (condition_view second.now)) result }
@@ -35,7 +41,7 @@ fn judge_conditions(alloc: Global, sys: &System, first: &Cond, second: &Cond) ->
 /// Judges that a condition of the inner and one of the outer rule, both numbered from 1, ask for two results of one term.
 pub fn judge_conflict(
     alloc: Global,
-    sys: &System,
+    sys: &IndexedSystem,
     overlap: &Overlap,
     inner: u32,
     outer: u32,

@@ -44,9 +44,9 @@ fn judge<J: InfeasibilityJudge>(
 {
     match evidence {
         PairEvidence::Trivial => judge_trivial(overlap),
-        PairEvidence::Infeasible(inner) => J::judge(alloc, sys.system(), &overlap.conds, inner),
+        PairEvidence::Infeasible(inner) => J::judge(alloc, sys.indexed(), &overlap.conds, inner),
         PairEvidence::Conflict { inner, outer } => {
-            judge_conflict(alloc, sys.system(), overlap, *inner, *outer)
+            judge_conflict(alloc, sys.indexed(), overlap, *inner, *outer)
         }
         PairEvidence::Join { left, right } => judge_join(alloc, sys.system(), overlap, left, right),
         PairEvidence::Unfeasible {

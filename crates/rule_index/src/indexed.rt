@@ -1,13 +1,14 @@
 // A system and the index of its rules in one value, so that no question about the system makes an index of its own.
 ghost use Rattle.std.specs.Prelude.{◌≡◌, IfOk, map};
 ghost use Rattle.rewriting.specs.Systems.{IsSystem};
-ghost use Rattle.rule_index.specs.Roots.{rules_with_root};
+ghost use Rattle.rule_index.specs.Roots.{rules_with_root, rules_at};
+ghost use Rattle.term_core.specs.View.{view};
 ghost use Rattle.term_core.specs.RuleView.{rule_view, AreCounted};
 
 use crate::RuleIndex;
 use std::alloc::Global;
 use std::marker::Model;
-use term_core::{NoMemory, Rule, System};
+use term_core::{NoMemory, Rule, System, Term};
 
 /// A system with the index of its rules: prepared once, asked often. In contracts it is the system.
 #[derive(Debug, Drop)]
@@ -61,5 +62,12 @@ impl<'a> IndexedSystem<'a> {
         ensures { result.now ≡ rules_with_root self.now f }
     {
         self.index.with_root(f)
+    }
+
+    /// The numbers, from 1, of the rules whose left sides have the root of this term, in order; for a variable there are none.
+    pub fn rules_at(&self, part: &Term) -> &[u32]
+        ensures { result.now ≡ rules_at self.now (view part.now) }
+    {
+        self.index.rules_at(part)
     }
 }

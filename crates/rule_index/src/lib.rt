@@ -1,4 +1,4 @@
-//! The rules of a system by the root symbols of their left sides, and walks over the parts of a term.
+//! The rules of a system by the root symbols of their left sides, a system with that index, and walks over the parts of a term.
 #![tactic(auto)]
 
 mod indexed;

@@ -3,14 +3,13 @@ ghost use Rattle.std.specs.Prelude.{◌≡◌, ◌≤◌, ◌<◌, ◌+◌, ◌^
 ghost use Rattle.rewriting.specs.Terms as math;
 ghost use Rattle.rewriting.specs.Substitutions.{Substitution};
 ghost use Rattle.caps.specs.Caps.{Cap as MathCap, holes, filled, frozen};
-ghost use Rattle.rule_index.specs.Index.{IsIndexOf};
 ghost use Rattle.term_core.specs.View.{view, views};
 ghost use Rattle.tcap_infeasible.specs.Frozen.{leaf_of, standing, HasConstant, HasConstants, IsHeld, RootAnswers, TopAnswers, FrozenAnswers};
 
 use crate::Cap;
-use rule_index::RuleIndex;
+use rule_index::IndexedSystem;
 use std::alloc::Global;
-use term_core::{NoMemory, System, Term};
+use term_core::{NoMemory, Term};
 use unification::{Unified, unify_terms};
 
 /// The number of the first hole: the variables of rules are below.
@@ -33,18 +32,11 @@ pub enum Top {
 }
 
 // The rules with the root symbol in order, tried on the whole term; the runs of all others clash at once.
-fn judge_root(
-    alloc: Global,
-    sys: &System,
-    index: &RuleIndex,
-    f: u32,
-    part: &Term,
-) -> Result<Top, NoMemory>
-    requires { IsIndexOf sys.now index.now }
+fn judge_root(alloc: Global, sys: &IndexedSystem, f: u32, part: &Term) -> Result<Top, NoMemory>
     ensures { (n : ℕ) (c : MathCap) → IsHeld sys.now f (view part.now) n c → RootAnswers sys.now (frozen sys.now c) result }
 {
     let rules = sys.rules();
-    for number in index.with_root(f) {
+    for number in sys.with_root(f) {
         match unify_terms(alloc, &rules[*number as usize - 1].left, part)? {
             Unified::Clash => {}
             Unified::Mgu(_) => return Ok(Top::Opens),
@@ -57,19 +49,17 @@ fn judge_root(
 // The cap of a symbol over capped arguments, whose holes are numbered from `first` on.
 fn topped(
     alloc: Global,
-    sys: &System,
-    index: &RuleIndex,
+    sys: &IndexedSystem,
     f: u32,
     args: Vec<Term>,
     first: u32,
     next: &mut u32,
 ) -> Result<Cap, NoMemory>
-    requires index { IsIndexOf sys.now index.now }
     requires room { first + 1 < 2 ^ 32 }
     ensures { (s : Substitution) (c : MathCap) → IsHeld sys.now f (math.app f (views args.items)) first c → math.app f (views args.items) ≡ filled s first c → next.old ≡ first + holes c → TopAnswers sys.now s c first next.new result }
 {
     let whole = Term::Fun(f, args);
-    match judge_root(alloc, sys, index, f, &whole)? {
+    match judge_root(alloc, sys, f, &whole)? {
         Top::Stays => Ok(Cap::Capped(whole)),
         Top::Opens => {
             *next = first + 1;
@@ -100,13 +90,11 @@ fn frozen_leaf(alloc: Global, x: u32, leaf: Leaf, next: &mut u32) -> Term
 /// the number after its last hole.
 pub fn frozen_cap(
     alloc: Global,
-    sys: &System,
-    index: &RuleIndex,
+    sys: &IndexedSystem,
     t: &Term,
     leaf: Leaf,
     next: &mut u32,
 ) -> Result<Cap, NoMemory>
-    requires index { IsIndexOf sys.now index.now }
     requires fit { math.Fits (view t.now) }
     requires low { 2 ^ 31 ≤ next.old }
     requires room { next.old + math.size (view t.now) < 2 ^ 32 }
@@ -119,12 +107,12 @@ pub fn frozen_cap(
             let first = *next;
             let mut capped = Vec::with_capacity(alloc, args.len())?;
             for arg in args {
-                match frozen_cap(alloc, sys, index, arg, leaf, next)? {
+                match frozen_cap(alloc, sys, arg, leaf, next)? {
                     Cap::Capped(u) => capped.push(u)?,
                     Cap::TooLarge => return Ok(Cap::TooLarge),
                 }
             }
-            topped(alloc, sys, index, *f, capped, first, next)
+            topped(alloc, sys, *f, capped, first, next)
         }
     }
 }

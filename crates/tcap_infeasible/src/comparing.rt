@@ -2,7 +2,6 @@
 ghost use Rattle.std.specs.Prelude.{◌≡◌, length};
 ghost use Rattle.rewriting.specs.Terms as math;
 ghost use Rattle.rewriting.specs.Systems.{IsSystem};
-ghost use Rattle.rule_index.specs.Index.{IsIndexOf};
 ghost use Rattle.caps.specs.Caps.{any, kept};
 ghost use Rattle.term_core.specs.View.{view};
 ghost use Rattle.tcap_infeasible.specs.Frozen.{HasConstants};
@@ -12,9 +11,9 @@ use crate::Cap;
 use crate::capping::{FIRST_HOLE, Leaf, frozen_cap};
 use crate::keys::keyed;
 use renumbering::Numbering;
-use rule_index::RuleIndex;
+use rule_index::IndexedSystem;
 use std::alloc::Global;
-use term_core::{NoMemory, System, Term};
+use term_core::{NoMemory, Term};
 use unification::{Unified, unify_terms};
 
 /// What comparing the caps of two terms tells.
@@ -30,13 +29,11 @@ pub enum ComparedCaps {
 // The same for terms whose variables that stay have constants.
 fn compare_frozen(
     alloc: Global,
-    sys: &System,
-    index: &RuleIndex,
+    sys: &IndexedSystem,
     u: &Term,
     v: &Term,
     leaf: Leaf,
 ) -> Result<ComparedCaps, NoMemory>
-    requires index { IsIndexOf sys.now index.now }
     requires first { math.Fits (view u.now) }
     requires second { math.Fits (view v.now) }
     requires first_constants { HasConstants sys.now leaf (view u.now) }
@@ -44,10 +41,10 @@ fn compare_frozen(
     ensures { FrozenPairAnswers sys.now leaf (view u.now) (view v.now) result }
 {
     let mut next = FIRST_HOLE;
-    let Cap::Capped(first) = frozen_cap(alloc, sys, index, u, leaf, &mut next)? else {
+    let Cap::Capped(first) = frozen_cap(alloc, sys, u, leaf, &mut next)? else {
         return Ok(ComparedCaps::TooLarge);
     };
-    let Cap::Capped(second) = frozen_cap(alloc, sys, index, v, leaf, &mut next)? else {
+    let Cap::Capped(second) = frozen_cap(alloc, sys, v, leaf, &mut next)? else {
         return Ok(ComparedCaps::TooLarge);
     };
     match unify_terms(alloc, &first, &second)? {
@@ -58,19 +55,19 @@ fn compare_frozen(
 }
 
 /// How many symbols a system has.
-pub fn symbol_count(sys: &System) -> u32
+pub fn symbol_count(sys: &IndexedSystem) -> u32
     ensures count { result ≡ length sys.now.arities }
     ensures sound { IsSystem sys.now }
 {
     // The rules of a system tell that its symbols are few.
     let _rules = sys.rules();
-    sys.arities().len() as u32
+    sys.system().arities().len() as u32
 }
 
 /// Compares the caps of two terms, in which each variable is a hole: no hole of the one is a hole of the other.
 pub fn compare_caps(
     alloc: Global,
-    sys: &System,
+    sys: &IndexedSystem,
     u: &Term,
     v: &Term,
 ) -> Result<ComparedCaps, NoMemory>
@@ -79,15 +76,14 @@ pub fn compare_caps(
     ensures answer { PairAnswers sys.now any (view u.now) (view v.now) result }
     ensures apart { KeepsInstancesApart sys.now (view u.now) (view v.now) result }
 {
-    let index = RuleIndex::new(alloc, sys)?;
-    compare_frozen(alloc, sys, &index, u, v, Leaf::Hole)
+    compare_frozen(alloc, sys, u, v, Leaf::Hole)
 }
 
 /// Compares the rigid caps of two terms: their variables are the same constants in both, and no hole of the one is a hole
 /// of the other.
 pub fn compare_rigid_caps(
     alloc: Global,
-    sys: &System,
+    sys: &IndexedSystem,
     u: &Term,
     v: &Term,
 ) -> Result<ComparedCaps, NoMemory>
@@ -102,6 +98,5 @@ pub fn compare_rigid_caps(
     let first = keyed(alloc, symbols, &mut foreign, &mut variables, u)?;
     let second = keyed(alloc, symbols, &mut foreign, &mut variables, v)?;
     let base = symbols + foreign.len() as u32;
-    let index = RuleIndex::new(alloc, sys)?;
-    compare_frozen(alloc, sys, &index, &first, &second, Leaf::Kept(base))
+    compare_frozen(alloc, sys, &first, &second, Leaf::Kept(base))
 }

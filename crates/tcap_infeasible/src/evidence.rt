@@ -1,9 +1,12 @@
 // Conditions judged by the caps of their left sides.
-ghost use Rattle.std.specs.Prelude.{◌≡◌, ◌≤◌, ◌<◌, ◌+◌, ◌^◌, IfOk, length, map};
+ghost use Rattle.std.specs.Prelude.{◌≡◌, ◌≤◌, ◌<◌, ◌+◌, ◌^◌, IfOk, OnOk, length, map};
 ghost use Rattle.rewriting.specs.Rules.{right_sides};
+ghost use Rattle.rewriting.specs.Infeasibility.{IsInfeasible};
+ghost use Rattle.caps.specs.Evidence.{JudgedByCaps};
 ghost use Rattle.certificates.specs.Sizes.{DoConditionsFit};
 ghost use Rattle.term_core.specs.View.{view, views};
 ghost use Rattle.term_core.specs.RuleView.{condition_view};
+ghost use Rattle.refuter.specs.Answers.{RefutesAnswers};
 ghost use Rattle.tcap_infeasible.specs.Comparing.{LeftsAnswer, HaveRow};
 
 use crate::Cap;
@@ -11,26 +14,25 @@ use crate::capping::{FIRST_HOLE, Leaf, frozen_cap};
 use cert_model::EvidenceReason;
 use refuter::{Refusal, Refuter};
 use renumbering::Numbering;
-use rule_index::RuleIndex;
+use rule_index::IndexedSystem;
 use std::alloc::Global;
 use term_core::{Cond, NoMemory, System, Term};
 use unification::{Unified, unify};
 
-/// Evidence that conditions are never met: the caps of their left sides do not unify with their right sides.
-#[derive(Clone, Copy, Debug)]
-pub struct TcapEvidence;
-
 // The caps of the left sides, whose holes are numbered one after the other.
-fn left_caps(alloc: Global, sys: &System, conds: &[Cond]) -> Result<Option<Vec<Term>>, NoMemory>
+fn left_caps(
+    alloc: Global,
+    sys: &IndexedSystem,
+    conds: &[Cond],
+) -> Result<Option<Vec<Term>>, NoMemory>
     requires few { length conds.now ≤ 200 }
     requires fit { DoConditionsFit (map condition_view conds.now) }
     ensures { LeftsAnswer sys.now (map condition_view conds.now) result }
 {
-    let index = RuleIndex::new(alloc, sys)?;
     let mut next = FIRST_HOLE;
     let mut lefts = Vec::with_capacity(alloc, conds.len())?;
     for cond in conds {
-        match frozen_cap(alloc, sys, &index, &cond.left, Leaf::Hole, &mut next)? {
+        match frozen_cap(alloc, sys, &cond.left, Leaf::Hole, &mut next)? {
             Cap::Capped(u) => lefts.push(u)?,
             Cap::TooLarge => return Ok(None),
         }
@@ -52,14 +54,22 @@ fn numbered_rights(alloc: Global, conds: &[Cond]) -> Result<Vec<Term>, NoMemory>
     Ok(rights)
 }
 
-impl Refuter for TcapEvidence {
-    ghost use Rattle.caps.specs.Evidence.{JudgedByCaps};
-    ghost use Rattle.caps.proofs.Reducts.{never_met};
+/// Evidence that conditions are never met, for a system with its index: the caps of their left sides do not unify with their
+/// right sides.
+#[derive(Clone, Copy, Debug)]
+pub struct IndexedTcap<'a> {
+    pub sys: &'a IndexedSystem<'a>,
+}
 
-    ghost judged = { λ _ s cs. JudgedByCaps s cs };
-
-    fn refutes(&self, alloc: Global, sys: &System, conds: &[Cond]) -> Result<(), Refusal> {
-        let Some(lefts) = left_caps(alloc, sys, conds)? else {
+impl IndexedTcap<'_> {
+    /// Judges the evidence for conditions of the system. Where it is valid, no level and no substitution meet all of them.
+    pub fn refutes(&self, alloc: Global, conds: &[Cond]) -> Result<(), Refusal>
+        requires few { length conds.now ≤ 200 }
+        requires fit { DoConditionsFit (map condition_view conds.now) }
+        ensures judged { RefutesAnswers (JudgedByCaps self.now.sys.now (map condition_view conds.now)) result }
+        ensures sound { OnOk result (IsInfeasible self.now.sys.now (map condition_view conds.now)) }
+    {
+        let Some(lefts) = left_caps(alloc, self.sys, conds)? else {
             return Err(Refusal::Reason(EvidenceReason::TcapLarge));
         };
         let rights = numbered_rights(alloc, conds)?;
@@ -68,6 +78,21 @@ impl Refuter for TcapEvidence {
             Unified::Mgu(_) => Err(Refusal::Reason(EvidenceReason::TcapUnifies)),
             Unified::TooLarge => Err(Refusal::Reason(EvidenceReason::TcapLarge)),
         }
+    }
+}
+
+/// The same for any system, with an index made for one question.
+#[derive(Clone, Copy, Debug)]
+pub struct TcapEvidence;
+
+impl Refuter for TcapEvidence {
+    ghost use Rattle.caps.proofs.Reducts.{never_met};
+
+    ghost judged = { λ _ s cs. JudgedByCaps s cs };
+
+    fn refutes(&self, alloc: Global, sys: &System, conds: &[Cond]) -> Result<(), Refusal> {
+        let sys = IndexedSystem::new(alloc, sys)?;
+        IndexedTcap { sys: &sys }.refutes(alloc, conds)
     }
 
     ghost law = { λ _ s cs well h. never_met s cs h };

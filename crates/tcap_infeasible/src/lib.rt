@@ -8,7 +8,7 @@ mod keys;
 mod thawing;
 
 pub use comparing::{ComparedCaps, compare_caps, compare_rigid_caps};
-pub use evidence::TcapEvidence;
+pub use evidence::{IndexedTcap, TcapEvidence};
 use term_core::Term;
 pub use thawing::{rigid_cap, tcap};
 

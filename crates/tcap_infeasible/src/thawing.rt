@@ -17,9 +17,9 @@ use crate::capping::{FIRST_HOLE, Leaf, frozen_cap};
 use crate::comparing::symbol_count;
 use crate::keys::keyed;
 use renumbering::Numbering;
-use rule_index::RuleIndex;
+use rule_index::IndexedSystem;
 use std::alloc::Global;
-use term_core::{NoMemory, System, Term};
+use term_core::{NoMemory, Term};
 
 // A frozen cap of a term, in the variables and symbols of the term, with holes from `fresh` on.
 fn thawed(alloc: Global, t: &Term, cap: &Term, fresh: u32) -> Result<Term, NoMemory>
@@ -41,15 +41,14 @@ fn thawed(alloc: Global, t: &Term, cap: &Term, fresh: u32) -> Result<Term, NoMem
 
 /// The cap of a term: each variable is a hole, and so is each symbol that, over capped arguments, unifies with a left side
 /// (after Giesl, Thiemann and Schneider-Kamp 2005). The holes are the variables from `fresh` on, in preorder.
-pub fn tcap(alloc: Global, sys: &System, t: &Term, fresh: u32) -> Result<Cap, NoMemory>
+pub fn tcap(alloc: Global, sys: &IndexedSystem, t: &Term, fresh: u32) -> Result<Cap, NoMemory>
     requires fit { math.Fits (view t.now) }
     requires room { fresh + math.size (view t.now) ≤ 2 ^ 32 }
     ensures answer { CapAnswers sys.now any var (view t.now) fresh result }
     ensures reducts { KeepsReducts sys.now (view t.now) result }
 {
-    let index = RuleIndex::new(alloc, sys)?;
     let mut next = FIRST_HOLE;
-    match frozen_cap(alloc, sys, &index, t, Leaf::Hole, &mut next)? {
+    match frozen_cap(alloc, sys, t, Leaf::Hole, &mut next)? {
         Cap::Capped(u) => Ok(Cap::Capped(thawed(alloc, t, &u, fresh)?)),
         Cap::TooLarge => Ok(Cap::TooLarge),
     }
@@ -58,7 +57,7 @@ pub fn tcap(alloc: Global, sys: &System, t: &Term, fresh: u32) -> Result<Cap, No
 // The rigid cap of the term with places of rows, which has constants from the base on.
 fn thawed_rigid(
     alloc: Global,
-    sys: &System,
+    sys: &IndexedSystem,
     t: &Term,
     places: &Term,
     base: u32,
@@ -70,16 +69,15 @@ fn thawed_rigid(
     requires places { HavePlacesFor sys.now base (view t.now) (view places.now) }
     ensures { CapAnswers sys.now kept var (view t.now) fresh result }
 {
-    let index = RuleIndex::new(alloc, sys)?;
     let mut next = FIRST_HOLE;
-    match frozen_cap(alloc, sys, &index, places, Leaf::Kept(base), &mut next)? {
+    match frozen_cap(alloc, sys, places, Leaf::Kept(base), &mut next)? {
         Cap::Capped(u) => Ok(Cap::Capped(thawed(alloc, t, &u, fresh)?)),
         Cap::TooLarge => Ok(Cap::TooLarge),
     }
 }
 
 /// The same, but that the variables of the term stay.
-pub fn rigid_cap(alloc: Global, sys: &System, t: &Term, fresh: u32) -> Result<Cap, NoMemory>
+pub fn rigid_cap(alloc: Global, sys: &IndexedSystem, t: &Term, fresh: u32) -> Result<Cap, NoMemory>
     requires fit { math.Fits (view t.now) }
     requires room { fresh + math.size (view t.now) ≤ 2 ^ 32 }
     requires below { (x : ℕ) → occurs x (view t.now) ≡ true → x < fresh }

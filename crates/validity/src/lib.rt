@@ -13,8 +13,9 @@ ghost use Rattle.validity.specs.declared.CheckError.TheVariants.{NoMemory as no_
 
 use cert_model::{Certificate, InfEvidence, PairEvidence, Rejected};
 use refuter::Refusal;
+use rule_index::IndexedSystem;
 use std::alloc::Global;
-use term_core::{Cond, NoMemory, System};
+use term_core::{Cond, NoMemory};
 
 /// Why a check does not answer Ok.
 #[derive(Debug, Drop)]
@@ -71,10 +72,10 @@ pub fn allowed(kind: CertKind, e: &PairEvidence) -> bool
 
 /// Who judges evidence, of any kind, that conditions are never met.
 pub trait InfeasibilityJudge {
-    /// Judges the evidence for conditions of a system: valid, or the first reason why not.
+    /// Judges the evidence for conditions of a system that has its index: valid, or the first reason why not.
     fn judge(
         alloc: Global,
-        sys: &System,
+        sys: &IndexedSystem,
         conds: &[Cond],
         evidence: &InfEvidence,
     ) -> Result<(), Refusal>

@@ -16,7 +16,6 @@ judge_end-requires-clause-ready c =
       system = c.rules.ensures.sound;
       rules = c.rules.ensures.rules;
       sound = rules_sound c.args.sys.now _ c.rules.ensures.sound c.rules.ensures.rules c.rules.ensures.counted;
-      by_root = c.in_ok-index.ensures;
       few = c.requires.few;
       own = omega arith;
     }
@@ -27,14 +26,13 @@ judge_end-requires-2-clause-ready c =
       system = c.rules.ensures.sound;
       rules = c.rules.ensures.rules;
       sound = rules_sound c.args.sys.now _ c.rules.ensures.sound c.rules.ensures.rules c.rules.ensures.counted;
-      by_root = c.in_ok-index.ensures;
       few = c.requires.few;
       own = omega arith;
     }
 
 pub returns-in_err-next : goal.returns-in_err-next
 returns-in_err-next c =
-    subst (ApartAnswers c.args.sys.now (view c.args.first.now) (view c.args.second.now) (by_normal_forms (map redex_view c.args.entries.now))) (sym (handed_on _ _ c.from_residual-in_err-next.ensures.1))
+    subst (ApartAnswers c.args.sys.now (view c.args.first.now) (view c.args.second.now) (by_normal_forms (map redex_view c.args.entries.now))) (sym (handed_on _ _ c.from_residual.ensures.1))
     (first_fails_so c.args.sys.now _ _ _ (λ e. false≢true (c.if-equal.ensures.1 e)) (well_formed c.args.sys.now c.rules.ensures.sound) c.in_err-next.field-0.0 c.in_err-next.ensures)
 
 pub returns-in_err-next-2 : goal.returns-in_err-next-2

@@ -11,7 +11,6 @@ judge_parts-requires-clause-ready c =
       system = c.requires.ready.system;
       rules = c.requires.ready.rules;
       sound = c.requires.ready.sound;
-      by_root = c.requires.ready.by_root;
       few = c.requires.ready.few;
       own = few_names _ _ _ _ c.new-numbering.ensures c.in_ok-numbered.ensures.row c.requires.fits.nodes c.len-own.ensures.len;
     }

@@ -17,15 +17,12 @@ frozen_cap-requires t c =
     let at = c.arg-item.is in (
       subst (λ z. size (view c.arg-item.result) < z) c.decreases (size_inside c.args.t.now c.in-Fun.f c.in-Fun.args c.deref-arg-items.result.now c.loop-arg.arg-index c.arg-item.result is same h at),
       (
-        c.requires.index,
+        arg_fits c.args.t.now c.in-Fun.f c.in-Fun.args c.deref-arg-items.result.now c.loop-arg.arg-index c.arg-item.result is same h at c.requires.fit,
         (
-          arg_fits c.args.t.now c.in-Fun.f c.in-Fun.args c.deref-arg-items.result.now c.loop-arg.arg-index c.arg-item.result is same h at c.requires.fit,
+          start_low c.args.sys.now c.args.leaf c.deref-arg-items.result.now c.loop-arg.arg-index c.loop-arg.capped.items c.args.next.now c.loop-arg.next c.loop-arg.invariant c.requires.low,
           (
-            start_low c.args.sys.now c.args.leaf c.deref-arg-items.result.now c.loop-arg.arg-index c.loop-arg.capped.items c.args.next.now c.loop-arg.next c.loop-arg.invariant c.requires.low,
-            (
-              arg_room c.args.t.now c.in-Fun.f c.in-Fun.args c.deref-arg-items.result.now c.loop-arg.arg-index c.arg-item.result is same h at c.args.sys.now c.args.leaf c.loop-arg.capped.items c.args.next.now c.loop-arg.next c.loop-arg.invariant c.requires.room,
-              arg_constants c.args.t.now c.in-Fun.f c.in-Fun.args c.deref-arg-items.result.now c.loop-arg.arg-index c.arg-item.result is same h at c.args.sys.now c.args.leaf c.requires.constants,
-            ),
+            arg_room c.args.t.now c.in-Fun.f c.in-Fun.args c.deref-arg-items.result.now c.loop-arg.arg-index c.arg-item.result is same h at c.args.sys.now c.args.leaf c.loop-arg.capped.items c.args.next.now c.loop-arg.next c.loop-arg.invariant c.requires.room,
+            arg_constants c.args.t.now c.in-Fun.f c.in-Fun.args c.deref-arg-items.result.now c.loop-arg.arg-index c.arg-item.result is same h at c.args.sys.now c.args.leaf c.requires.constants,
           ),
         ),
       ),

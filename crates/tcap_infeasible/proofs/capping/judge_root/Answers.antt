@@ -1,4 +1,4 @@
-use Rattle.std.proofs.Common.{◌∙◌, ◌-◌, get_or, subst, Ok}
+use Rattle.std.proofs.Common.{◌-◌, get_or, subst, Ok}
 use Rattle.std.proofs.Math.ListN.{drop_of_length-le}
 use Rattle.rewriting.specs.Terms.{cons, nil}
 use Rattle.unifier_run.specs.Run.{unifier, too_large}
@@ -11,7 +11,7 @@ use Rattle.tcap_infeasible.proofs.Roots.{number_low, number_high, first_at, one_
 use Rattle.tcap_infeasible.proofs.capping.judge_root.Goals as goal
 
 pub loop-number-init : goal.loop-number-init
-loop-number-init c = tried_none c.args.sys.now c.args.f (view c.args.part.now) _ (c.with_root-number-items.ensures ∙ c.requires c.args.f)
+loop-number-init c = tried_none c.args.sys.now c.args.f (view c.args.part.now) _ c.with_root-number-items.ensures
 
 pub overflow_sub-number : goal.overflow_sub-number
 overflow_sub-number c = number_low c.args.sys.now c.args.f (view c.args.part.now) _ c.loop-number.number-index c.rules-rules.ensures.sound c.loop-number.invariant c.loop-number-test.true

@@ -23,12 +23,12 @@ thawed-requires c =
     let a = subst (λ z. FrozenAnswers c.args.sys.now (Kept c.args.base) (view c.args.places.now) (2 ^ 31) c.frozen_cap.new.next (Ok z)) c.in-Capped.is c.in_ok-u.ensures in
     rigid_thaws c.args.sys.now c.args.base c.args.fresh (view c.args.t.now) (view c.args.places.now) c.requires.sound c.requires.places c.requires.room (2 ^ 31) c.frozen_cap.new.next (view c.in-Capped.u) c.in-Capped.u refl a refl
 
-pub returns-in-Capped : goal.returns-in-Capped
-returns-in-Capped c =
+pub returns-in_ok-thawed-in-Capped : goal.returns-in_ok-thawed-in-Capped
+returns-in_ok-thawed-in-Capped c =
     let a = subst (λ z. FrozenAnswers c.args.sys.now (Kept c.args.base) (view c.args.places.now) (2 ^ 31) c.frozen_cap.new.next (Ok z)) c.in-Capped.is c.in_ok-u.ensures in
     rigid_answers c.args.sys.now c.args.base c.args.fresh (view c.args.t.now) (view c.args.places.now) c.requires.sound c.requires.places c.requires.room (2 ^ 31) c.frozen_cap.new.next c.in-Capped.u c.in_ok-thawed-in-Capped.field-0 refl a c.in_ok-thawed-in-Capped.ensures
 
-pub returns : goal.returns
-returns c =
+pub returns-in-TooLarge : goal.returns-in-TooLarge
+returns-in-TooLarge c =
     rigid_large c.args.sys.now c.args.base c.args.fresh (view c.args.t.now) (view c.args.places.now) c.requires.sound c.requires.places c.requires.room
     (subst (λ z. FrozenAnswers c.args.sys.now (Kept c.args.base) (view c.args.places.now) (2 ^ 31) c.frozen_cap.new.next (Ok z)) c.in-TooLarge.is c.in_ok-u.ensures)

@@ -1,9 +1,9 @@
-use Rattle.std.proofs.Common.{◌∙◌, refl, sym, subst, map, Err, Ok}
+use Rattle.std.proofs.Common.{refl, sym, subst, map, Err, Ok}
 use Rattle.term_core.specs.View.{view}
 use Rattle.term_core.proofs.Rules.{handed_on}
 use Rattle.cert_model.specs.CertificateView.{redex_view}
 use Rattle.rule_index.specs.Parts.{part}
-use Rattle.rule_index.proofs.Numbers.{index_rules, number_some}
+use Rattle.rule_index.proofs.Numbers.{number_some}
 use Rattle.noncon_check.specs.Judged.{IsJudgedOn}
 use Rattle.noncon_check.specs.Redexes.{places, part_redexes}
 use Rattle.noncon_check.specs.Walks.{PlacesAnswer}
@@ -14,14 +14,14 @@ pub judge_rule-requires-clause-number : goal.judge_rule-requires-clause-number
 judge_rule-requires-clause-number c =
     let sys = c.args.self.now.sys.now in
     let u = view c.args.part.now in
-    number_some sys u _ _ (c.rules_at-numbers.ensures ∙ index_rules sys _ c.requires.ready.by_root u) c.loop-number-test.true
+    number_some sys u _ _ c.rules_at-numbers.ensures c.loop-number-test.true
 
 pub loop-number-init : goal.loop-number-init
 loop-number-init c a h =
     let sys = c.args.self.now.sys.now in
     let u = view c.args.part.now in
     subst (λ ns. PlacesAnswer (IsJudgedOn sys c.args.self.now.own u) (map redex_view c.args.self.now.entries.now) c.args.at (places sys c.args.self.now.which (part c.args.path.now u) ns) a)
-    (c.rules_at-numbers.ensures ∙ index_rules sys _ c.requires.ready.by_root u) h
+    c.rules_at-numbers.ensures h
 
 pub returns-in_err-next : goal.returns-in_err-next
 returns-in_err-next c =
