@@ -81,8 +81,13 @@ fn print_reached(rt: &HostRuntime, index: &AutomatonIndex<'_>, t: &Term) -> io::
     Ok(())
 }
 
-// The numbers of each state that has some.
-fn print_rows(rt: &HostRuntime, by: &str, states: u32, found: &NumberRelation) -> io::Result<()> {
+/// The numbers of each state that has some.
+pub fn print_rows(
+    rt: &HostRuntime,
+    by: &str,
+    states: u32,
+    found: &NumberRelation,
+) -> io::Result<()> {
     for state in 0..states {
         if let Some(row) = found.row(state) {
             println!(rt; "{by} at {state}: {:?}", row.numbers(rt.alloc()))?;
