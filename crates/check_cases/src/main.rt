@@ -1,0 +1,55 @@
+//! Prints what is judged of systems and certificates that no run of the program judges: by a measure that is no interpretation,
+//! of an interpretation of a system that is not deterministic, and of a conflict by a right side that rules contract, since a
+//! certificate with it is rejected for its class. The cases of `run_cases` have all else.
+//!
+//! A case is a line `CALL: SYSTEM` of `data/cases.txt`. Other lines are printed as they are.
+#![tactic(auto)]
+
+mod measures;
+
+use cert_model::PairEvidence;
+use cops_read::read_system;
+use critical_pairs::overlaps;
+use infeasible::JudgeByKind;
+use measures::{NoRules, print_linear};
+use pair_check::{CertKind, judge_evidence};
+use quasi_check::check_quasi;
+use std::{fs, io};
+use term_core::System;
+
+// What is said of a conflict of the first conditions at each overlap.
+fn print_conflicts(rt: &HostRuntime, sys: &System) -> io::Result<()> {
+    let alloc = rt.alloc();
+    let evidence = PairEvidence::Conflict { inner: 1, outer: 1 };
+    let Ok(found) = overlaps(alloc, sys) else {
+        return println!(rt; "no list");
+    };
+    for overlap in &found {
+        let answer = judge_evidence::<JudgeByKind>(alloc, sys, CertKind::Ortho, overlap, &evidence);
+        println!(rt; "{answer:?}")?;
+    }
+    Ok(())
+}
+
+fn print_case(rt: &HostRuntime, line: &str) -> io::Result<()> {
+    println!(rt; "{line}")?;
+    let Some((call, text)) = line.split_once(": ") else {
+        return Ok(());
+    };
+    let Ok((sys, _)) = read_system(rt.alloc(), text.as_bytes()) else {
+        return println!(rt; "no system");
+    };
+    match call {
+        "quasi" => println!(rt; "{:?}", check_quasi(rt.alloc(), &sys, &NoRules, &[])),
+        "linear" => print_linear(rt, &sys),
+        _ => print_conflicts(rt, &sys),
+    }
+}
+
+fn main(rt: HostRuntime) -> io::Result<()> {
+    let text = fs::read_to_string(&rt, "cases.txt")?;
+    for line in text.as_str().lines() {
+        print_case(&rt, line)?;
+    }
+    Ok(())
+}
