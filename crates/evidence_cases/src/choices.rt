@@ -31,6 +31,16 @@ fn print_line(rt: &HostRuntime, line: &str) -> io::Result<()> {
     Ok(())
 }
 
+fn print_choice(rt: &HostRuntime, batch: &Batch, k: u32) -> io::Result<()>
+    requires { batch.now.states ^ batch.now.length ≤ 1000000 }
+{
+    if k < batch.len() {
+        println!(rt; "{k}: {:?}", batch.choice(rt.alloc(), k))
+    } else {
+        Ok(())
+    }
+}
+
 // Some of the choices of a batch.
 fn print_batch(rt: &HostRuntime, states: u32, length: usize, number: u32) -> io::Result<()>
     requires { states ^ length ≤ 1000000 }
@@ -39,10 +49,7 @@ fn print_batch(rt: &HostRuntime, states: u32, length: usize, number: u32) -> io:
         return println!(rt; "no memory");
     };
     println!(rt; "{} choices for {}", batch.len(), batch.occurrences())?;
-    for k in [0, 71, batch.len().saturating_sub(1)] {
-        if k < batch.len() {
-            println!(rt; "{k}: {:?}", batch.choice(rt.alloc(), k))?;
-        }
-    }
-    Ok(())
+    print_choice(rt, &batch, 0)?;
+    print_choice(rt, &batch, 71)?;
+    print_choice(rt, &batch, batch.len().saturating_sub(1))
 }

@@ -56,25 +56,38 @@ pub fn print_moves(rt: &HostRuntime, system: &str, automaton: &str) -> io::Resul
     }
 }
 
+// Whether there is the transition, to each of the first two states.
+fn print_known<'a>(
+    rt: &HostRuntime,
+    index: &AutomatonIndex<'a>,
+    known: &'a Transition,
+) -> io::Result<()> {
+    let zero = index.has(known.symbol, &known.args, 0);
+    let one = index.has(known.symbol, &known.args, 1);
+    println!(rt;
+        "{:?} {:?} to 0: {zero}, to 1: {one}",
+        known.symbol, known.args
+    )
+}
+
+// How many transitions have the number.
+fn print_counts(rt: &HostRuntime, index: &AutomatonIndex<'_>, n: u32) -> io::Result<()> {
+    let symbols = index.with_symbol(n).len();
+    let firsts = index.with_first(n).len();
+    let targets = index.with_target(n).len();
+    println!(rt; "with {n}: {symbols} as symbol, {firsts} as first, {targets} as target")
+}
+
 // By the index which transitions there are, and what a term reaches where only its first variable has a name.
 fn print_indexed(rt: &HostRuntime, a: &Automaton, t: &Term) -> io::Result<()> {
     let Ok(index) = AutomatonIndex::new(rt.alloc(), None, a) else {
         return println!(rt; "no memory");
     };
     for known in &a.transitions {
-        let zero = index.has(known.symbol, &known.args, 0);
-        let one = index.has(known.symbol, &known.args, 1);
-        println!(rt;
-            "{:?} {:?} to 0: {zero}, to 1: {one}",
-            known.symbol, known.args
-        )?;
+        print_known(rt, &index, known)?;
     }
-    for n in 0..2 {
-        let symbols = index.with_symbol(n).len();
-        let firsts = index.with_first(n).len();
-        let targets = index.with_target(n).len();
-        println!(rt; "with {n}: {symbols} as symbol, {firsts} as first, {targets} as target")?;
-    }
+    print_counts(rt, &index, 0)?;
+    print_counts(rt, &index, 1)?;
     print_named(rt, &index, t)
 }
 
