@@ -11,9 +11,11 @@ use cert_model::PairEvidence;
 use cops_read::read_system;
 use critical_pairs::overlaps;
 use infeasible::JudgeByKind;
+use irreducible::LeftSides;
 use measures::{NoRules, print_linear};
 use pair_check::{CertKind, judge_evidence};
 use quasi_check::check_quasi;
+use rule_index::IndexedSystem;
 use std::{fs, io};
 use term_core::System;
 
@@ -24,8 +26,20 @@ fn print_conflicts(rt: &HostRuntime, sys: &System) -> io::Result<()> {
     let Ok(found) = overlaps(alloc, sys) else {
         return println!(rt; "no list");
     };
+    let Ok(indexed) = IndexedSystem::new(alloc, sys) else {
+        return println!(rt; "no index");
+    };
+    let Ok(sides) = LeftSides::new(alloc, &indexed) else {
+        return println!(rt; "no left sides");
+    };
     for overlap in &found {
-        let answer = judge_evidence::<JudgeByKind>(alloc, sys, CertKind::Ortho, overlap, &evidence);
+        let answer = judge_evidence::<JudgeByKind>(
+            alloc,
+            &sides,
+            CertKind::Ortho,
+            overlap,
+            &evidence,
+        );
         println!(rt; "{answer:?}")?;
     }
     Ok(())
