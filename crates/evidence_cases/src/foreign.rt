@@ -2,10 +2,11 @@
 
 use crate::of_caps::print_caps;
 use cops_read::read_system;
+use rule_index::IndexedSystem;
 use std::alloc::Global;
 use std::io;
 use tcap_infeasible::{ComparedCaps, compare_rigid_caps};
-use term_core::{NoMemory, System, Term, fits};
+use term_core::{NoMemory, Term, fits};
 
 /// The caps of the last left side of the second system by the rules of the first one.
 pub fn print_foreign(rt: &HostRuntime, title: &str, rules: &str, term: &str) -> io::Result<()> {
@@ -30,7 +31,12 @@ fn over(alloc: Global, t: Term) -> Result<Term, NoMemory> {
 }
 
 // How the rigid caps of symbol 1 over two terms compare.
-fn compared(alloc: Global, sys: &System, t: Term, u: Term) -> Result<ComparedCaps, NoMemory> {
+fn compared(
+    alloc: Global,
+    sys: &IndexedSystem,
+    t: Term,
+    u: Term,
+) -> Result<ComparedCaps, NoMemory> {
     let t = over(alloc, t)?;
     let u = over(alloc, u)?;
     if !fits(&t) || !fits(&u) {
@@ -39,7 +45,7 @@ fn compared(alloc: Global, sys: &System, t: Term, u: Term) -> Result<ComparedCap
     compare_rigid_caps(alloc, sys, &t, &u)
 }
 
-fn print_constant(rt: &HostRuntime, sys: &System, x: u32, f: u32) -> io::Result<()> {
+fn print_constant(rt: &HostRuntime, sys: &IndexedSystem, x: u32, f: u32) -> io::Result<()> {
     let alloc = rt.alloc();
     let variable = compared(alloc, sys, Term::Var(x), constant(alloc, f));
     let same = compared(alloc, sys, constant(alloc, f), constant(alloc, f));
@@ -52,6 +58,9 @@ fn print_constant(rt: &HostRuntime, sys: &System, x: u32, f: u32) -> io::Result<
 pub fn print_constants(rt: &HostRuntime, rules: &str, lines: &str) -> io::Result<()> {
     let Ok((sys, _)) = read_system(rt.alloc(), rules.as_bytes()) else {
         return println!(rt; "no system");
+    };
+    let Ok(sys) = IndexedSystem::new(rt.alloc(), &sys) else {
+        return println!(rt; "no memory");
     };
     for line in lines.lines() {
         let (x, f) = line.split_once(' ').unwrap_or((line, ""));
