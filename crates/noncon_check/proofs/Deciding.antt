@@ -1,5 +1,5 @@
 -- A pattern matches exactly where it is decided to match.
-use Rattle.std.proofs.Common.{◌≡◌, true, Option, None, Some, is_some, refl, ap, ◌∙◌}
+use Rattle.std.proofs.Common.{◌≡◌, true, Option, None, Some, is_some, refl, ap}
 use Rattle.std.proofs.lemmas.Bool.{false≢true}
 use Rattle.std.specs.FinMap.{empty}
 use Rattle.rewriting.specs.Substitutions.{Bindings, Matches, values_of}

@@ -1,16 +1,14 @@
 -- The terms of an overlap fit, and the conditions of two rules of a system are at most 200.
-use Rattle.std.proofs.Common.{ℕ, zero, suc, ◌≡◌, ◌+◌, ◌≤◌, List, [], ◌∷◌, length, Some, ap, ◌∙◌, arith}
+use Rattle.std.proofs.Common.{ℕ, zero, suc, ◌≡◌, ◌+◌, ◌≤◌, length, Some, ap, ◌∙◌, arith}
 use Rattle.std.proofs.lemmas.List.{length-append}
-use Rattle.rewriting.specs.Terms.{Fits}
 use Rattle.rewriting.specs.Substitutions.{compose}
 use Rattle.rewriting.specs.Unifiers.{even, odd}
-use Rattle.rewriting.specs.Rules.{Condition, Rule, System, rule_at, sides}
-use Rattle.rewriting.specs.Systems.{Each, IsSystem}
+use Rattle.rewriting.specs.Rules.{Rule, System, rule_at}
+use Rattle.rewriting.specs.Systems.{IsSystem}
 use Rattle.rewriting.specs.Overlaps.{conditions_under}
 use Rattle.rewriting.proofs.Conditions.{length-conditions_under}
 use Rattle.unifier_run.specs.Run.{value}
 use Rattle.unifier_run.specs.Overlaps.{Overlap, IsOverlapOf}
-use Rattle.certificates.specs.Sizes.{DoConditionsFit}
 use Rattle.rewriting.proofs.Systems.{is_rule_at}
 use Rattle.certificates.proofs.Sizes.{conditions_fit}
 use Rattle.pair_check.specs.Judges.{IsReady}

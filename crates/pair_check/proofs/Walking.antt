@@ -15,7 +15,7 @@ use Rattle.validity.specs.declared.CheckError.TheVariants.{Rejected, NoMemory}
 use Rattle.valid_certificates.specs.Entries.{triple_of, ArePairsShort, IsPairShort, AreNotSettled, pair_is_large, pairs_are_many, entry_fails, DoNotSettle}
 use Rattle.valid_certificates.specs.PairEvidence.{IsPairJudged}
 use Rattle.validity.specs.Answers.{SettleAnswers}
-use Rattle.pair_check.specs.Walk.{EachIsOverlap, MissingAnswers, RefusedAnswers, IsSettled, IsNotSettled, EntryAnswers, SettledAnswers}
+use Rattle.pair_check.specs.Walk.{MissingAnswers, RefusedAnswers, IsSettled, IsNotSettled, EntryAnswers, SettledAnswers}
 
 module _ {A : Type 0} where
   pub drop_some : (xs : List A) (i : ℕ) (x : A) → slice_get xs i ≡ Some x → drop i xs ≡ x ∷ drop (suc i) xs

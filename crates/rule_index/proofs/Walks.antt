@@ -1,5 +1,5 @@
 -- The numbers of the rules with one root, walked in order.
-use Rattle.std.proofs.Common.{◌≡◌, ℕ, zero, suc, ◌+◌, ◌<◌, ◌≤◌, ◌≢◌, ◌⊎◌, Bool, true, false, if◌then◌else◌, eq-eqb, List, [], ◌∷◌, length, get_or, slice_get, Some, refl, ap, subst, ◌∙◌, arith}
+use Rattle.std.proofs.Common.{◌≡◌, ℕ, zero, suc, ◌+◌, ◌<◌, ◌≤◌, Bool, true, false, if◌then◌else◌, eq-eqb, List, [], ◌∷◌, length, get_or, slice_get, Some, refl, ap, subst, ◌∙◌, arith}
 use Rattle.rewriting.specs.Terms.{Term, Terms, app}
 use Rattle.rewriting.specs.Rules.{Rule, System, rule_at}
 use Rattle.rule_index.specs.Roots.{has_root, numbers_with_root, rules_with_root}
