@@ -19,30 +19,24 @@ use rule_index::IndexedSystem;
 use std::{fs, io};
 use term_core::System;
 
-// What is said of a conflict of the first conditions at each overlap.
-fn print_conflicts(rt: &HostRuntime, sys: &System) -> io::Result<()> {
+// What is said of a conflict of the first conditions at the only overlap.
+fn print_conflict(rt: &HostRuntime, sys: &System) -> io::Result<()> {
     let alloc = rt.alloc();
-    let evidence = PairEvidence::Conflict { inner: 1, outer: 1 };
-    let Ok(found) = overlaps(alloc, sys) else {
-        return println!(rt; "no list");
-    };
     let Ok(indexed) = IndexedSystem::new(alloc, sys) else {
         return println!(rt; "no index");
     };
     let Ok(sides) = LeftSides::new(alloc, &indexed) else {
         return println!(rt; "no left sides");
     };
-    for overlap in &found {
-        let answer = judge_evidence::<JudgeByKind>(
-            alloc,
-            &sides,
-            CertKind::Ortho,
-            overlap,
-            &evidence,
-        );
-        println!(rt; "{answer:?}")?;
-    }
-    Ok(())
+    let Ok(found) = overlaps(alloc, sides.system()) else {
+        return println!(rt; "no list");
+    };
+    let [overlap] = found.as_slice() else {
+        return println!(rt; "not one overlap");
+    };
+    let evidence = PairEvidence::Conflict { inner: 1, outer: 1 };
+    let answer = judge_evidence::<JudgeByKind>(alloc, &sides, CertKind::Ortho, overlap, &evidence);
+    println!(rt; "{answer:?}")
 }
 
 fn print_case(rt: &HostRuntime, line: &str) -> io::Result<()> {
@@ -56,7 +50,7 @@ fn print_case(rt: &HostRuntime, line: &str) -> io::Result<()> {
     match call {
         "quasi" => println!(rt; "{:?}", check_quasi(rt.alloc(), &sys, &NoRules, &[])),
         "linear" => print_linear(rt, &sys),
-        _ => print_conflicts(rt, &sys),
+        _ => print_conflict(rt, &sys),
     }
 }
 
