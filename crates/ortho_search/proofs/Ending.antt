@@ -1,0 +1,110 @@
+-- How the search ends.
+use Rattle.std.proofs.Common.{ℕ, ◌≡◌, inl, inr, List, Vec, Global, Result, Ok, Err, refl, subst, arith}
+use Rattle.rewriting.specs.Rules.{System}
+use Rattle.unifier_run.specs.Overlaps.{Overlap, AreOverlaps, IsPairTooLarge, AreTooManyOverlaps}
+use Rattle.rewriting.specs.Positions.{Position}
+use Rattle.certificates.specs.Certificates.{Certificate, PairEntry, ortho_certificate}
+use Rattle.cops_read.specs.NameTable.{NameTable}
+use Rattle.valid_certificates.specs.Certificates.{IsValid}
+use Rattle.valid_certificates.specs.Confluence.{IsInOrthoClasses}
+use Rattle.valid_certificates.specs.Kinds.{ortho}
+use Rattle.valid_certificates.proofs.OneOverlaps.{overlaps_or_large, overlaps_or_many}
+use Rattle.term_core.specs.declared.terms.NoMemory.{NoMemory}
+use Rattle.cert_model.specs.CertificateView.{certificate_view}
+use Rattle.critical_pairs.specs.Answers.{OverlapsAnswers}
+use Rattle.critical_pairs.specs.declared.OverlapError.{OverlapError}
+use Rattle.critical_pairs.specs.declared.OverlapError.TheVariants.{PairTooLarge, TooManyPairs}
+use Rattle.validity.specs.declared.Search.{Search}
+use Rattle.validity.specs.declared.Search.TheVariants.{Found, Nothing, Spent}
+use Rattle.pair_check.specs.Walk.{EachIsOverlap}
+use Rattle.cc_count.specs.Counts.{Counts, Spends}
+use Rattle.first_found.specs.Rows.{AreFirsts, EndsAtRow, StopsInRow}
+use Rattle.first_found.specs.Spaces.{spent, MayEndExactly}
+use Rattle.search_spaces.specs.Answers.{SearchesExactly, IfFound, IfNothing}
+use Rattle.search_spaces.specs.Entries.{overlap_cost, StopsAtOverlap}
+use Rattle.search_spaces.specs.Ortho.{IsOrthoOpen, IsOrthoEntry, IsOrthoPaid, ortho_space}
+use Rattle.search_spaces.specs.PairItems.{ortho_items}
+use Rattle.search_spaces.specs.Texts.{HasText}
+use Rattle.search_spaces.proofs.Ortho.{space_searched, ends_closed, ends_at_row, ends_found, ends_too_long, ends_spent}
+use Rattle.ortho_search.specs.Answers.{EntriesAnswers}
+use Rattle.ortho_search.specs.declared.entries.Entries.{Entries}
+use Rattle.ortho_search.proofs.Turns.{spends_nothing}
+
+pub each_overlap : (sys : System) (os : List Overlap) → AreOverlaps sys os → EachIsOverlap sys os
+each_overlap sys os are o m = (are.are.each o m).0
+
+module _ (names : NameTable) (sys : System) where
+  abbrev Searched : Counts → Counts → Result Search NoMemory → Type 0
+  Searched = SearchesExactly (ortho_space names sys)
+
+  abbrev Paid : Counts → Counts → Type 0
+  Paid before after = (n : ℕ) × Spends before n after × IsOrthoPaid names sys n
+
+  -- what is found is valid, and where nothing is, nothing in the space is
+  pub found_valid : (before after : Counts) (r : Result Search NoMemory) → Searched before after r → IfFound r (IsValid sys)
+  found_valid before after (Ok (Found c)) (n, s, f) = ((space_searched names sys).held (certificate_view c) n f).1
+  found_valid before after (Ok Nothing) h = tt
+  found_valid before after (Ok Spent) h = tt
+  found_valid before after (Err e) h = tt
+
+  pub nothing_valid : (before after : Counts) (r : Result Search NoMemory) → Searched before after r
+      → IfNothing r ((c : Certificate) → (ortho_space names sys).Holds c → IsValid sys c → ⊥)
+  nothing_valid before after (Ok (Found c)) h = tt
+  nothing_valid before after (Ok Nothing) (n, s, (barren, rest)) = (space_searched names sys).barren barren
+  nothing_valid before after (Ok Spent) h = tt
+  nothing_valid before after (Err e) h = tt
+
+  -- where a class fails, or the overlaps are refused
+  module _ (closed : (os : List Overlap) → IsOrthoOpen sys os → ⊥) where
+    pub closed_searched : (b : Counts) → Searched b b (Ok Nothing)
+    closed_searched b = (0, spends_nothing b, ends_closed names sys closed b.left)
+
+    pub closed_paid : (b : Counts) → Paid b b
+    closed_paid b = (0, spends_nothing b, inr (closed, refl))
+
+  pub closed_by_class : (IsInOrthoClasses sys → ⊥) → (os : List Overlap) → IsOrthoOpen sys os → ⊥
+  closed_by_class no_class os h = no_class h.classes
+
+  pub closed_by_large : (i : ℕ) (p : Position) (j : ℕ) → IsPairTooLarge sys i p j → (os : List Overlap) → IsOrthoOpen sys os → ⊥
+  closed_by_large i p j large os h = overlaps_or_large sys os i p j h.overlaps large
+
+  pub closed_by_many : AreTooManyOverlaps sys → (os : List Overlap) → IsOrthoOpen sys os → ⊥
+  closed_by_many many os h = overlaps_or_many sys os h.overlaps many
+
+  module _ (os : List Overlap) (classes : IsInOrthoClasses sys) (overlaps : AreOverlaps sys os) (before after : Counts) where
+    is_open : IsOrthoOpen sys os
+    is_open = record { classes = classes; overlaps = overlaps }
+
+    module _ (es : List PairEntry) (n : ℕ) (spends : Spends before n after) (firsts : AreFirsts (IsOrthoEntry sys) os es n) where
+      pub whole_searched : HasText names (ortho_certificate es) → (n : ℕ) × Spends before n after × (ortho_space names sys).Finds (ortho_certificate es) n
+      whole_searched text = (n, spends, ends_found names sys os is_open before.left n es firsts text)
+
+      pub long_searched : (HasText names (ortho_certificate es) → ⊥) → Searched before after (Ok Nothing)
+      long_searched long = (n, spends, ends_too_long names sys os is_open before.left n es firsts long)
+
+      pub long_paid : (HasText names (ortho_certificate es) → ⊥) → Paid before after
+      long_paid long = (n, spends, inl (os, is_open, inr (es, firsts, long)))
+
+    module _ (n : ℕ) (spends : Spends before n after) (ends : EndsAtRow (IsOrthoEntry sys) (overlap_cost ortho_items) os n) where
+      pub row_searched : Searched before after (Ok Nothing)
+      row_searched = (n, spends, ends_at_row names sys os is_open before.left n ends)
+
+      pub row_paid : Paid before after
+      row_paid = (n, spends, inl (os, is_open, inl ends))
+
+    pub spent_searched : (n : ℕ) → Spends before n after → after.left ≡ 0 → StopsInRow (IsOrthoEntry sys) (StopsAtOverlap ortho sys ortho_items) os n → Searched before after (Ok Spent)
+    spent_searched n spends end stops =
+        let units = spends.left in
+        let all : n ≡ before.left = omega (arith, units, end) in
+        (n, spends, subst (λ left. MayEndExactly (ortho_space names sys) left n spent) all (ends_spent names sys os is_open n stops))
+
+-- why the overlaps have no list
+pub large_told : (sys : System) (e : OverlapError) (i : ℕ) (p : Vec ℕ Global) (j : ℕ) → e ≡ PairTooLarge i p j → OverlapsAnswers sys (Err e) → IsPairTooLarge sys i p.items j
+large_told sys e i p j is h = subst (λ z. OverlapsAnswers sys (Err z)) is h
+
+pub many_told : (sys : System) (e : OverlapError) → e ≡ TooManyPairs → OverlapsAnswers sys (Err e) → AreTooManyOverlaps sys
+many_told sys e is h = subst (λ z. OverlapsAnswers sys (Err z)) is h
+
+-- what the walk over the overlaps told, of what it is known to be
+pub entries_told : (sys : System) (os : List Overlap) (before after : Counts) (f g : Entries) → f ≡ g → EntriesAnswers sys os before after (Ok f) → EntriesAnswers sys os before after (Ok g)
+entries_told sys os before after f g is h = subst (λ z. EntriesAnswers sys os before after (Ok z)) is h

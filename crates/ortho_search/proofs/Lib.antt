@@ -1,0 +1,4 @@
+pub mod Listing
+pub mod Turns
+pub mod Walking
+pub mod Ending

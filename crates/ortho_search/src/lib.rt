@@ -1,0 +1,90 @@
+//! The search for a certificate that a system is almost orthogonal: for each overlap the first valid evidence.
+#![tactic(auto)]
+
+ghost use Rattle.std.specs.Prelude.{ℕ, ◌↔◌, IsTrue, map};
+ghost use Rattle.unifier_run.specs.Overlaps.{AreOverlaps};
+ghost use Rattle.certificates.specs.Certificates as math;
+ghost use Rattle.critical_pairs.specs.View.{overlap_view};
+ghost use Rattle.valid_certificates.specs.Certificates.{IsValid};
+ghost use Rattle.valid_certificates.specs.Confluence.{IsInOrthoClasses};
+ghost use Rattle.cc_count.specs.Counts.{Spends};
+ghost use Rattle.search_spaces.specs.Answers.{SearchesExactly, IfFound, IfNothing};
+ghost use Rattle.search_spaces.specs.Ortho.{ortho_space, IsOrthoPaid};
+
+mod entries;
+mod items;
+mod trying;
+
+use crate::entries::{Entries, entries_of};
+use cc_count::Budget;
+use cert_limits::has_text;
+use cert_model::Certificate;
+use cops_read::Names;
+use critical_pairs::{Overlap, OverlapError, overlaps};
+use ctrs_classes::{is_extended_oriented, is_left_linear, is_right_stable, is_type3};
+use std::alloc::Global;
+use term_core::{NoMemory, System};
+pub use validity::Search;
+
+// Whether the system is left-linear, of type 3, extended properly oriented and right-stable.
+fn is_in_classes(sys: &System) -> bool
+    ensures { IsTrue result ↔ IsInOrthoClasses sys.now }
+{
+    is_left_linear(sys) && is_type3(sys) && is_extended_oriented(sys) && is_right_stable(sys)
+}
+
+// Searches where the classes hold, and these are the overlaps.
+fn search_open(
+    alloc: Global,
+    sys: &System,
+    names: &Names,
+    overlaps: &[Overlap],
+    budget: &mut Budget,
+) -> Result<Search, NoMemory>
+    requires classes { IsInOrthoClasses sys.now }
+    requires overlaps { AreOverlaps sys.now (map overlap_view overlaps.now) }
+    ensures searched { SearchesExactly (ortho_space names.now sys.now) budget.old budget.new result }
+    ensures paid { IfNothing result ((n : ℕ) × Spends budget.old n budget.new × IsOrthoPaid names.now sys.now n) }
+    ensures kept { (n : ℕ) × Spends budget.old n budget.new }
+{
+    match entries_of(alloc, sys, overlaps, budget) {
+        Ok(Entries::Whole(pairs)) => {
+            let cert = Certificate::Ortho(pairs);
+            if has_text(names, &cert) {
+                Ok(Search::Found(cert))
+            } else {
+                Ok(Search::Nothing)
+            }
+        }
+        Ok(Entries::Missing) => Ok(Search::Nothing),
+        Ok(Entries::Spent) => Ok(Search::Spent),
+        Err(e) => Err(e),
+    }
+}
+
+/// Searches for the certificate of an almost orthogonal system: an entry for each overlap, with the first valid evidence
+/// among that the overlap is trivial, caps, conflicts and grown automata. Each evidence that is tried costs a unit, and the
+/// search ends at the first overlap that has none. Where a class fails or the overlaps are refused, there is nothing to
+/// search, at no cost; nor is there a certificate where its text would be too long.
+pub fn search_ortho(
+    alloc: Global,
+    sys: &System,
+    names: &Names,
+    budget: &mut Budget,
+) -> Result<Search, NoMemory>
+    ensures searched { SearchesExactly (ortho_space names.now sys.now) budget.old budget.new result }
+    ensures nothing { IfNothing result ((c : math.Certificate) → (ortho_space names.now sys.now).Holds c → IsValid sys.now c → ⊥) }
+    ensures valid { IfFound result (IsValid sys.now) }
+    ensures paid { IfNothing result ((n : ℕ) × Spends budget.old n budget.new × IsOrthoPaid names.now sys.now n) }
+    ensures kept { (n : ℕ) × Spends budget.old n budget.new }
+{
+    if !is_in_classes(sys) {
+        return Ok(Search::Nothing);
+    }
+    match overlaps(alloc, sys) {
+        Ok(found) => search_open(alloc, sys, names, &found, budget),
+        Err(OverlapError::PairTooLarge { .. }) => Ok(Search::Nothing),
+        Err(OverlapError::TooManyPairs) => Ok(Search::Nothing),
+        Err(OverlapError::NoMemory) => Err(NoMemory),
+    }
+}
