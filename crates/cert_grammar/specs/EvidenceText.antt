@@ -2,7 +2,7 @@
 use Rattle.std.specs.Prelude.{◌≡◌, ◌≤◌, ◌<◌, ℕ, List, [], ◌∷◌, ◌++◌, Option, Some, None, length, decimal, codes}
 use Rattle.certificates.specs.Evidence.{Transition, Automaton, InfeasibilityEvidence, by_caps, by_automaton, PairEvidence, trivial_pair, infeasible_pair, conflicting_pair, joined_pair, unfeasible_pair}
 use Rattle.certificates.specs.Certificates.{PairEntry}
-use Rattle.cops_read.specs.NameTable.{NameTable, name_at, number_of}
+use Rattle.cops_names.specs.NameTable.{NameTable, name_at, number_of}
 use Rattle.cert_grammar.specs.Words.{largest, each_behind, position_text, ArePlaces, name_of, IsIdentifier, IsNamed}
 use Rattle.cert_grammar.specs.Steps.{derivation_text}
 use Rattle.cert_grammar.specs.Limits.{IsDerivation}

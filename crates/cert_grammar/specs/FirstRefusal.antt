@@ -1,7 +1,7 @@
 -- A reader of certificates that stops at the first refusal: one step a word, with the items that are still to be read.
 use Rattle.std.specs.Prelude.{ℕ, zero, suc, ◌+◌, ◌*◌, Bool, true, not, ◌&&◌, if◌then◌else◌, List, [], ◌∷◌, ◌++◌, length, take, drop, max, Option, Some, None}
 use Rattle.file_text.specs.Bytes.{is_id}
-use Rattle.cops_read.specs.NameTable.{NameTable}
+use Rattle.cops_names.specs.NameTable.{NameTable}
 use Rattle.cert_grammar.specs.Words.{largest}
 use Rattle.cert_grammar.specs.Marks.{CertificateCause, syntax, in_range, Mark, fixed, word, symbol, behind, demands_of, verdict}
 use Rattle.cert_grammar.specs.WordMarks.{are_places}

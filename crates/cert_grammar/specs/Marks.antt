@@ -1,6 +1,6 @@
 -- A text as a list of marks: words with what they must meet, and the bytes between them.
 use Rattle.std.specs.Prelude.{ℕ, ◌+◌, ◌==◌, nat_lt, nat_le, Bool, true, false, ◌&&◌, if◌then◌else◌, List, [], ◌∷◌, ◌++◌, Option, Some, None, is_some, option_and_then}
-use Rattle.cops_read.specs.NameTable.{NameTable, arity_at, number_of}
+use Rattle.cops_names.specs.NameTable.{NameTable, arity_at, number_of}
 
 -- a name for each symbol
 abbrev pub Naming : Type 0

@@ -2,7 +2,7 @@
 use Rattle.std.specs.Prelude.{◌≡◌, ◌⊎◌, ◌≤◌, ◌<◌, ◌+◌, ℕ, Bool, false, List, [], ◌∷◌, ◌++◌, length, take, Option, Some, None}
 use Rattle.file_text.specs.Bytes.{is_id}
 use Rattle.certificates.specs.Certificates.{Certificate}
-use Rattle.cops_read.specs.NameTable.{NameTable}
+use Rattle.cops_names.specs.NameTable.{NameTable}
 use Rattle.cert_grammar.specs.Words.{IsIdentifier}
 use Rattle.cert_grammar.specs.Marks.{Naming, CertificateCause, syntax, Mark, fixed, word, symbol, behind, mark_text, marks_text, demands_of, verdict}
 use Rattle.cert_grammar.specs.CertificateMarks.{certificate_marks}

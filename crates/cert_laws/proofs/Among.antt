@@ -1,7 +1,7 @@
 -- How the refusal of a text comes from that of what is behind a part that was read.
 use Rattle.std.proofs.Common.{◌≡◌, ◌⊎◌, inl, inr, ℕ, ◌+◌, List, [], ◌∷◌, ◌++◌, length, Some, None, refl, sym, ap, ◌∙◌, subst, append_assoc, append-nil, length-append, arith}
 use Rattle.std.proofs.lemmas.List.{append_cancel_left}
-use Rattle.cops_read.specs.NameTable.{NameTable}
+use Rattle.cops_names.specs.NameTable.{NameTable}
 use Rattle.cert_grammar.specs.Marks.{CertificateCause, verdict, Mark, mark_text, marks_text, demands_of}
 use Rattle.cert_grammar.specs.Refusals.{GoesTo, Pass}
 use Rattle.cert_laws.specs.MarkLaws.{GoesAlong}

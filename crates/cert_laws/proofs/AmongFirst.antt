@@ -1,6 +1,6 @@
 -- The refusal at a first byte with which no text begins, and at the byte behind a term.
 use Rattle.std.proofs.Common.{◌≡◌, ◌⊎◌, inl, inr, ℕ, ◌+◌, List, [], ◌∷◌, ◌++◌, refl, sym, ap, ◌∙◌, subst, append-nil, arith}
-use Rattle.cops_read.specs.NameTable.{NameTable}
+use Rattle.cops_names.specs.NameTable.{NameTable}
 use Rattle.cert_grammar.specs.Marks.{CertificateCause, syntax, Demand, Mark, behind, mark_text, marks_text}
 use Rattle.cert_grammar.specs.Refusals.{BeginAlike, IsReached, GoesTo}
 use Rattle.cert_laws.specs.MarkLaws.{GoesAlong}

@@ -1,6 +1,6 @@
 -- The refusal among all texts of the grammar is the refusal of a text.
 use Rattle.std.proofs.Common.{◌≡◌, inl, inr, ℕ, ◌+◌, ◌<◌, ◌≤◌, List, [], ◌∷◌, ◌++◌, length, take, Some, refl, sym, ap, ◌∙◌, subst, append_assoc, append-nil, length-append, arith}
-use Rattle.cops_read.specs.NameTable.{NameTable}
+use Rattle.cops_names.specs.NameTable.{NameTable}
 use Rattle.cert_grammar.specs.Marks.{CertificateCause, verdict, Mark, marks_text, demands_of}
 use Rattle.cert_grammar.specs.Refusals.{Fails, Skeleton, marks_of, skeleton_text, Begins, IsCertificateRefused}
 use Rattle.cert_laws.specs.RefusedAmong.{FailsFrom, BeginsAmong, CannotGoOn, IsRefusedAmong, IsSkeleton}

@@ -2,7 +2,7 @@
 use Rattle.std.proofs.Common.{◌≡◌, ℕ, true, List, [], ◌∷◌, ◌++◌, length, take, drop, Some, None, refl, sym, ap, ◌∙◌, subst, arith, length-append}
 use Rattle.std.proofs.lemmas.List.{append-nil, take-append-drop, length-take-le}
 use Rattle.file_text.specs.Bytes.{is_id}
-use Rattle.cops_read.specs.NameTable.{NameTable}
+use Rattle.cops_names.specs.NameTable.{NameTable}
 use Rattle.cert_grammar.specs.Marks.{CertificateCause, Mark, mark_text, marks_text, demands_of, verdict}
 use Rattle.cert_grammar.specs.Refusals.{HaveNames, Skeleton, marks_of, IsWhole, IsReached, Pass, IsRefusedAtMark}
 use Rattle.cert_grammar.specs.Scans.{scan}

@@ -6,7 +6,7 @@ use Rattle.rewriting.specs.Unraveling.{Head, file, auxiliary}
 use Rattle.certificates.specs.Derivations.{Derivation, no_steps, first_step, Step, by_rule, by_hypothesis, Derivations, no_derivations, first_derivation}
 use Rattle.certificates.specs.Evidence.{Transition, InfeasibilityEvidence, by_caps, by_automaton, PairEvidence, trivial_pair, infeasible_pair, conflicting_pair, joined_pair, unfeasible_pair}
 use Rattle.certificates.specs.Certificates.{PairEntry, LinearEntry, linear_measure, Redex, Apartness, by_normal_forms, by_rigid_caps, Certificate, ortho_certificate, quasi_certificate, peak_certificate}
-use Rattle.cops_read.specs.NameTable.{NameTable}
+use Rattle.cops_names.specs.NameTable.{NameTable}
 use Rattle.cert_grammar.specs.Marks.{Naming, CertificateCause, Demand, is_symbol, has_arity, in_range, is_few, is_shallow, fits_answer, meets, refusal_of, refusal_place, verdict, Mark, mark_text, marks_text, demands_of}
 use Rattle.cert_grammar.specs.WordMarks.{numeral, dotted, are_places, places_text, term_marks, arguments_marks, further_marks, steps_marks, step_marks, derivations_marks, derivation_marks}
 use Rattle.cert_grammar.specs.CertificateMarks.{accepting_marks, further_states_marks, states_marks, head_marks, transitions_marks, infeasibility_marks, evidence_marks, pairs_marks, coefficients_marks, measured_marks, entries_marks, redexes_marks, apart_marks, body_marks, certificate_marks}

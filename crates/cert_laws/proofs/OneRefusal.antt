@@ -1,7 +1,7 @@
 -- Two judged refusals of a text are one, and a text whose demands are all met has none.
 use Rattle.std.proofs.Common.{◌⊎◌, inl, inr, ◌≡◌, ℕ, ◌+◌, Bool, true, false, cond, List, [], ◌∷◌, ◌++◌, length, Some, None, refl, sym, ap, ◌∙◌, subst, append_assoc, length-append, arith}
 use Rattle.std.proofs.lemmas.List.{append_cancel_left}
-use Rattle.cops_read.specs.NameTable.{NameTable}
+use Rattle.cops_names.specs.NameTable.{NameTable}
 use Rattle.cert_grammar.specs.Marks.{CertificateCause, Demand, meets, refusal_of, refusal_place, verdict, Mark, fixed, mark_text, marks_text, demands_of}
 use Rattle.cert_grammar.specs.Refusals.{GoesTo, Pass, Fails, IsRefusedAtMark}
 use Rattle.cert_laws.specs.MarkLaws.{GoesAlong, Alike, ended, same, parted}

@@ -1,7 +1,7 @@
 -- Automata and evidence whose marks pass are those of a certificate within limits.
 use Rattle.std.proofs.Common.{◌≡◌, ℕ, suc, ◌≤◌, List, [], ◌∷◌, ◌++◌, length, Option, Some, None, refl, sym, ap, ◌∙◌, subst, codes}
 use Rattle.certificates.specs.Evidence.{Transition, Automaton, InfeasibilityEvidence, by_caps, by_automaton, PairEvidence, trivial_pair, infeasible_pair, conflicting_pair, joined_pair, unfeasible_pair}
-use Rattle.cops_read.specs.NameTable.{NameTable}
+use Rattle.cops_names.specs.NameTable.{NameTable}
 use Rattle.cert_grammar.specs.Words.{largest, name_of}
 use Rattle.cert_grammar.specs.EvidenceText.{AreStates, IsHead, AreTransitions, IsAutomaton, IsInfeasibility, IsEvidence}
 use Rattle.cert_grammar.specs.Marks.{Naming, Counted, has_arity, is_few, Mark, fixed, symbol, behind}

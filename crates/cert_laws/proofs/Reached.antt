@@ -1,7 +1,7 @@
 -- Where a reader gets to: what begins alike goes there too, and what stops there has no refusal before.
 use Rattle.std.proofs.Common.{◌≡◌, ℕ, true, List, [], ◌∷◌, ◌++◌, take, Option, Some, None, refl, sym, ap, ◌∙◌, subst, append_assoc}
 use Rattle.std.proofs.lemmas.List.{append_cancel_left}
-use Rattle.cops_read.specs.NameTable.{NameTable}
+use Rattle.cops_names.specs.NameTable.{NameTable}
 use Rattle.cert_grammar.specs.Marks.{CertificateCause, Mark, mark_text, marks_text, demands_of, verdict}
 use Rattle.cert_grammar.specs.Refusals.{GoesTo, Pass}
 use Rattle.cert_grammar.specs.Scans.{Scan, scan}

@@ -3,7 +3,7 @@ use Rattle.std.proofs.Common.{◌≡◌, ℕ, suc, ◌+◌, ◌<◌, ◌≤◌, 
 use Rattle.std.specs.Prelude.{is_some, option_and_then}
 use Rattle.std.proofs.lemmas.Bool.{lt-ltb, le-leb}
 use Rattle.rewriting.specs.Positions.{Position}
-use Rattle.cops_read.specs.NameTable.{NameTable, arity_at, number_of}
+use Rattle.cops_names.specs.NameTable.{NameTable, arity_at, number_of}
 use Rattle.cert_grammar.specs.Words.{largest, position_text, parts_text, ArePlaces, name_of, IsNamed, IsIdentifier}
 use Rattle.cert_grammar.specs.Marks.{Counted, limit, Demand, is_symbol, has_arity, in_range, is_few, is_shallow, is_number, meets, refusal_of, refusal_place, verdict, Mark, fixed, word, symbol, behind, mark_text, marks_text}
 use Rattle.cert_grammar.specs.WordMarks.{numeral, number, number_for, dotted, are_places, places_text, position}

@@ -1,7 +1,7 @@
 -- Numbers, positions, variables and names are words of a kind; sets with the same texts refuse alike.
 use Rattle.std.proofs.Common.{inl, inr, ℕ, List, [], ◌∷◌, refl}
 use Rattle.file_text.specs.Bytes.{is_id}
-use Rattle.cops_read.specs.NameTable.{NameTable}
+use Rattle.cops_names.specs.NameTable.{NameTable}
 use Rattle.cert_grammar.specs.Words.{IsIdentifier}
 use Rattle.cert_grammar.specs.Marks.{CertificateCause, Demand, Mark, symbol}
 use Rattle.cert_laws.specs.RefusedAmong.{CannotGoOn, IsRefusedAmong}

@@ -1,7 +1,7 @@
 -- Laws of the reader that stops at the first refusal.
 use Rattle.std.specs.Prelude.{◌≡◌, ◌⊎◌, ℕ, List}
 use Rattle.certificates.specs.Certificates.{Certificate}
-use Rattle.cops_read.specs.NameTable.{NameTable}
+use Rattle.cops_names.specs.NameTable.{NameTable}
 use Rattle.cert_grammar.specs.CertificateText.{IsCertificateText}
 use Rattle.cert_grammar.specs.Marks.{CertificateCause}
 use Rattle.cert_grammar.specs.Refusals.{IsCertificateRefused}

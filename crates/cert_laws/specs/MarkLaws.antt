@@ -1,7 +1,7 @@
 -- Laws of the marks of texts: the grammar is deterministic, and a text has one refusal or a certificate.
 use Rattle.std.specs.Prelude.{◌≡◌, ◌≤◌, ℕ, List, [], ◌∷◌, length}
 use Rattle.certificates.specs.Certificates.{Certificate}
-use Rattle.cops_read.specs.NameTable.{NameTable}
+use Rattle.cops_names.specs.NameTable.{NameTable}
 use Rattle.cert_grammar.specs.CertificateText.{IsCertificateText}
 use Rattle.cert_grammar.specs.Marks.{CertificateCause, Mark}
 use Rattle.cert_grammar.specs.Refusals.{Skeleton, marks_of, skeleton_text, GoesTo, Pass, IsCertificateRefused}

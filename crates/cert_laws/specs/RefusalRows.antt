@@ -1,6 +1,6 @@
 -- Worked refusals, over two symbols: a without arguments and g with one.
 use Rattle.std.specs.Prelude.{[], ◌∷◌, codes}
-use Rattle.cops_read.specs.NameTable.{NameTable}
+use Rattle.cops_names.specs.NameTable.{NameTable}
 use Rattle.cert_grammar.specs.Marks.{syntax, unknown_name, wrong_arity, bad_number}
 use Rattle.cert_grammar.specs.Refusals.{IsRefusedAtMark, IsCertificateRefused}
 

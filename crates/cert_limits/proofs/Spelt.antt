@@ -13,7 +13,7 @@ use Rattle.term_core.proofs.Views.{view-Var, view-Fun}
 use Rattle.cert_model.specs.DerivationView.{derivation_view, step_view}
 use Rattle.cert_model.specs.declared.derivations.Derivation.{Derivation}
 use Rattle.cert_model.specs.declared.derivations.Step.{Step, Rule, Hyp}
-use Rattle.cops_read.specs.NameTable.{NameTable}
+use Rattle.cops_names.specs.NameTable.{NameTable}
 use Rattle.cert_grammar.specs.Words.{largest, IsNamed, IsSpelt, AreSpelt, ArePlaces}
 use Rattle.cert_grammar.specs.Limits.{IsDerivation, IsStep, AreSteps, AreDerivations}
 use Rattle.cert_grammar.proofs.Views.{step_of_rule, step_of_hypothesis, derivation_of_steps}

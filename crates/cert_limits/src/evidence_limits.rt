@@ -8,7 +8,7 @@ use crate::step_limits::is_derivation;
 use crate::term_limits::{are_places, has_name_for, is_number};
 use cert_grammar::{MOST_NESTING, MOST_STATES, MOST_TRANSITIONS};
 use cert_model::{Automaton, InfEvidence, PairEntry, PairEvidence, Transition};
-use cops_read::Names;
+use cops_names::Names;
 
 // Whether all are below the number of states.
 fn are_states(states: u32, numbers: &[u32]) -> bool

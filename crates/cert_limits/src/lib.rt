@@ -2,10 +2,9 @@
 //! text is not too long.
 #![tactic(auto)]
 
-ghost use Rattle.std.specs.Prelude.{◌≡◌, ◌≤◌, ◌↔◌, IsTrue, length, min};
+ghost use Rattle.std.specs.Prelude.{◌≤◌, ◌↔◌, IsTrue, length};
 ghost use Rattle.cert_model.specs.CertificateView.{certificate_view};
 ghost use Rattle.cert_grammar.specs.CertificateText.{certificate_text, CanBeSpelt};
-ghost use Rattle.cert_writing.specs.Written.{greatest};
 
 mod evidence_limits;
 mod step_limits;
@@ -14,17 +13,8 @@ mod whole_limits;
 
 use crate::whole_limits::can_be_spelt;
 use cert_model::Certificate;
-use cert_writing::{Counter, put_certificate};
-use cops_read::Names;
-
-// The number of bytes of the text, or the greatest number where there are more.
-fn text_len(names: &Names, cert: &Certificate) -> u64
-    ensures { result ≡ min (length (certificate_text names.now (certificate_view cert.now))) greatest }
-{
-    let mut counter = Counter { count: 0 };
-    put_certificate(&mut counter, names, cert);
-    counter.count
-}
+use cert_writing::text_len;
+use cops_names::Names;
 
 /// Whether the certificate can be spelt with the names, in a text of at most 16,777,216 bytes. Takes no memory.
 pub fn has_text(names: &Names, cert: &Certificate) -> bool

@@ -1,37 +1,12 @@
 // Names, positions and terms.
-ghost use Rattle.std.specs.Prelude.{◌≡◌, ◌≤◌, ◌↔◌, ℕ, List, IsTrue};
+ghost use Rattle.std.specs.Prelude.{◌≤◌, ◌↔◌, ℕ, List, IsTrue};
 ghost use Rattle.term_core.specs.View.{view, views};
-ghost use Rattle.cert_grammar.specs.Words.{largest, IsIdentifier, IsNamed, IsSpelt, AreSpelt, ArePlaces};
+ghost use Rattle.cert_grammar.specs.Words.{largest, IsNamed, IsSpelt, AreSpelt, ArePlaces};
 ghost use Rattle.cert_grammar.specs.EvidenceText.{IsName, AreAtMost};
-ghost use Rattle.cert_grammar.specs.ReadingTerms as spec;
 
-use cops_lex::is_id;
-use cops_read::Names;
+use cert_grammar::is_identifier;
+use cops_names::Names;
 use term_core::Term;
-
-// Whether an identifier goes on with the first byte.
-fn goes_on(bytes: &[u8]) -> bool
-    ensures { result ≡ spec.goes_on bytes.now }
-{
-    match bytes {
-        [] => false,
-        [b'-', b'>', ..] | [b'=', b'=', ..] => false,
-        [b, ..] => is_id(*b),
-    }
-}
-
-// Whether the bytes are one identifier.
-fn is_identifier(name: &[u8]) -> bool
-    ensures { IsTrue result ↔ IsIdentifier name.now }
-{
-    'bytes: for at in 0..name.len() {
-        let (_, left) = name.split_at(at);
-        if !goes_on(left) {
-            return false;
-        }
-    }
-    !name.is_empty()
-}
 
 /// Whether the number is at most the greatest one, as each of 32 bits is.
 pub fn is_number(number: u32) -> bool

@@ -10,7 +10,7 @@ use crate::step_limits::is_derivation;
 use crate::term_limits::{are_numbers, are_places, has_name, is_number, is_spelt};
 use cert_grammar::{MOST_ENTRIES, MOST_NESTING, MOST_NUMBERS, MOST_PAIRS, MOST_REDEXES};
 use cert_model::{Certificate, Head, LinearEntry, MeasureCert, NonJoin, PairEntry, Peak, Redex};
-use cops_read::Names;
+use cops_names::Names;
 use term_core::fits;
 
 fn is_measured(names: &Names, head: &Head) -> bool

@@ -2,7 +2,7 @@
 use Rattle.std.proofs.Common.{Bool, true, false, ◌==◌, ◌≡◌, ℕ, suc, ◌+◌, ◌-◌, ◌<◌, ◌≤◌, ◌⊎◌, List, [], ◌∷◌, ◌++◌, length, refl, sym, ap, ◌∙◌, subst, decimal, codes, arith, append_assoc, append-nil}
 use Rattle.std.proofs.lemmas.List.{length_push, append_cancel_left}
 use Rattle.rewriting.specs.Terms.{Term, var, app, Terms, nil, cons, count, size, size_all, depth, depth_all, terms_of}
-use Rattle.cops_read.specs.NameTable.{NameTable}
+use Rattle.cops_names.specs.NameTable.{NameTable}
 use Rattle.cert_grammar.specs.Words.{term_text, arguments_text, further_text, IsSpelt, AreSpelt, IsNamed, name_of}
 use Rattle.cert_grammar.specs.Reading.{IsNumber}
 use Rattle.cert_grammar.specs.ReadingTerms.{Stops, WordAt, HasEnded, IsTermAt, TermAt, TermBehind, ArgumentsAt, FurtherAt, IsTermText}

@@ -1,7 +1,7 @@
 -- The lines of an automaton, part by part.
 use Rattle.std.proofs.Common.{◌≡◌, ℕ, ◌<◌, ◌≤◌, List, ◌∷◌, ◌++◌, length, refl, sym, ap, ◌∙◌, subst, decimal, codes, arith, append_assoc}
 use Rattle.certificates.specs.Evidence.{Transition, Automaton}
-use Rattle.cops_read.specs.NameTable.{NameTable}
+use Rattle.cops_names.specs.NameTable.{NameTable}
 use Rattle.cert_grammar.specs.Words.{largest}
 use Rattle.cert_grammar.specs.Reading.{NumberBefore}
 use Rattle.cert_grammar.specs.EvidenceText.{numbers_text, transitions_text, AreStates}

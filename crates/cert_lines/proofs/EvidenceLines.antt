@@ -4,7 +4,7 @@ use Rattle.std.specs.Int.{IsInRange}
 use Rattle.rewriting.specs.Positions.{Position}
 use Rattle.certificates.specs.Derivations.{Derivation}
 use Rattle.certificates.specs.Evidence.{Automaton, InfeasibilityEvidence, by_caps, by_automaton, PairEvidence, trivial_pair, infeasible_pair, conflicting_pair, joined_pair, unfeasible_pair}
-use Rattle.cops_read.specs.NameTable.{NameTable}
+use Rattle.cops_names.specs.NameTable.{NameTable}
 use Rattle.cert_grammar.specs.Steps.{derivation_text}
 use Rattle.cert_grammar.specs.Reading.{NumberBefore, PositionBefore, DerivationAt}
 use Rattle.cert_grammar.specs.EvidenceText.{automaton_text}

@@ -3,7 +3,7 @@ use Rattle.std.proofs.Common.{◌≡◌, ℕ, ◌≤◌, List, [], ◌∷◌, �
 use Rattle.rewriting.specs.Positions.{Position}
 use Rattle.certificates.specs.Evidence.{PairEvidence}
 use Rattle.certificates.specs.Certificates.{PairEntry}
-use Rattle.cops_read.specs.NameTable.{NameTable}
+use Rattle.cops_names.specs.NameTable.{NameTable}
 use Rattle.cert_grammar.specs.Words.{position_text}
 use Rattle.cert_grammar.specs.EvidenceText.{evidence_text, pairs_text, ArePairs}
 use Rattle.cert_lines.specs.ReadingParts.{Items}

@@ -6,7 +6,7 @@ use Rattle.rewriting.specs.Positions.{Position}
 use Rattle.certificates.specs.Derivations.{Derivation}
 use Rattle.certificates.specs.Evidence.{InfeasibilityEvidence}
 use Rattle.certificates.specs.Certificates.{Redex, Apartness, by_normal_forms, by_rigid_caps, Peak}
-use Rattle.cops_read.specs.NameTable.{NameTable}
+use Rattle.cops_names.specs.NameTable.{NameTable}
 use Rattle.cert_grammar.specs.Words.{position_text, term_text, arguments_text, further_text, name_of, IsSpelt, AreSpelt}
 use Rattle.cert_grammar.specs.Steps.{derivation_text}
 use Rattle.cert_grammar.specs.Reading.{Lacks, IsCut}

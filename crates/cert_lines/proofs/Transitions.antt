@@ -3,7 +3,7 @@ use Rattle.std.proofs.Common.{◌≡◌, ℕ, ◌<◌, ◌≤◌, Bool, true, fa
 use Rattle.std.specs.List.{list_all}
 use Rattle.std.proofs.lemmas.Bool.{ltb-true, lt-ltb}
 use Rattle.certificates.specs.Evidence.{Transition}
-use Rattle.cops_read.specs.NameTable.{NameTable}
+use Rattle.cops_names.specs.NameTable.{NameTable}
 use Rattle.cert_grammar.specs.Words.{largest, name_of, IsNamed}
 use Rattle.cert_grammar.specs.Reading.{Lacks, IsCut, NumberBefore}
 use Rattle.cert_grammar.specs.ReadingTerms.{Stops, WordAt}

@@ -1,7 +1,7 @@
 -- The text of a certificate, part by part.
 use Rattle.std.proofs.Common.{◌≡◌, ◌⊎◌, inl, inr, ℕ, true, false, List, [], ◌∷◌, ◌++◌, refl, sym, ap, ◌∙◌, subst, codes, append_assoc}
 use Rattle.certificates.specs.Certificates.{PairEntry, LinearEntry, MeasureCertificate, linear_measure, Peak, Certificate, ortho_certificate, quasi_certificate, peak_certificate}
-use Rattle.cops_read.specs.NameTable.{NameTable}
+use Rattle.cops_names.specs.NameTable.{NameTable}
 use Rattle.cert_grammar.specs.EvidenceText.{pairs_text}
 use Rattle.cert_grammar.specs.CertificateText.{entries_text, measure_text, peak_text, body_text, certificate_text, answer_line, CanBeSpelt, IsCertificateText}
 use Rattle.cert_lines.specs.ReadingEvidence.{IsPairsText}

@@ -3,7 +3,7 @@ use Rattle.std.specs.Prelude.{◌≡◌, ◌≤◌, ℕ, List, ◌∷◌, ◌++�
 use Rattle.rewriting.specs.Terms.{Fits}
 use Rattle.rewriting.specs.Unraveling.{Head}
 use Rattle.certificates.specs.Certificates.{PairEntry, LinearEntry, MeasureCertificate, Redex, Apartness, Peak, Certificate}
-use Rattle.cops_read.specs.NameTable.{NameTable}
+use Rattle.cops_names.specs.NameTable.{NameTable}
 use Rattle.cert_grammar.specs.Words.{largest, IsSpelt}
 use Rattle.cert_grammar.specs.Limits.{IsDerivation}
 use Rattle.cert_grammar.specs.EvidenceText.{numbers_text, pairs_text, AreAtMost, ArePairs}

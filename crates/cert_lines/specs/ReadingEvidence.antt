@@ -4,7 +4,7 @@ use Rattle.rewriting.specs.Positions.{Position}
 use Rattle.certificates.specs.Derivations.{Derivation}
 use Rattle.certificates.specs.Evidence.{Transition, Automaton, InfeasibilityEvidence, PairEvidence, unfeasible_pair}
 use Rattle.certificates.specs.Certificates.{PairEntry}
-use Rattle.cops_read.specs.NameTable.{NameTable}
+use Rattle.cops_names.specs.NameTable.{NameTable}
 use Rattle.cert_grammar.specs.Words.{largest}
 use Rattle.cert_grammar.specs.Reading.{NumberBefore, PositionBefore, DerivationAt}
 use Rattle.cert_grammar.specs.EvidenceText.{numbers_text, head_text, transitions_text, automaton_text, infeasibility_text, evidence_text, pairs_text, AreAtMost, AreStates, IsHead, AreTransitions, IsAutomaton, IsInfeasibility, IsEvidence, ArePairs}

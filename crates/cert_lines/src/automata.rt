@@ -10,7 +10,7 @@ use crate::terms::{symbol, word_of};
 use crate::words::{cut, is_word, marked, number_at, number_before, numbers_line};
 use cert_grammar::{MOST_STATES, MOST_TRANSITIONS, behind};
 use cert_model::{Automaton, Transition};
-use cops_read::Names;
+use cops_names::Names;
 use std::alloc::Global;
 
 // Whether all states are below the number of states.

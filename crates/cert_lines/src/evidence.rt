@@ -11,7 +11,7 @@ use crate::steps::derivation;
 use crate::words::{is_word, number_before, position_before};
 use cert_grammar::{MOST_NESTING, MOST_PAIRS, behind};
 use cert_model::{Derivation, InfEvidence, PairEntry, PairEvidence};
-use cops_read::Names;
+use cops_names::Names;
 use std::alloc::Global;
 
 /// The evidence at the front that conditions are never met, and what is behind it.

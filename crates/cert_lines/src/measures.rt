@@ -8,7 +8,7 @@ use crate::terms::named;
 use crate::words::{number_at, number_before, numbers_line, part_of};
 use cert_grammar::{MOST_ENTRIES, MOST_NUMBERS, behind};
 use cert_model::{Head, LinearEntry};
-use cops_read::Names;
+use cops_names::Names;
 use std::alloc::Global;
 
 // The symbol at the front that is measured, and what is behind it.

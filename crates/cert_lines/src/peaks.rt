@@ -9,7 +9,7 @@ use crate::terms::whole_term;
 use crate::words::{cut, is_word};
 use cert_grammar::{MOST_REDEXES, behind};
 use cert_model::{NonJoin, Peak, Redex};
-use cops_read::Names;
+use cops_names::Names;
 use std::alloc::Global;
 
 // The redex at the front, and what is behind its evidence.

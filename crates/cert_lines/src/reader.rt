@@ -10,7 +10,7 @@ use crate::measures::entries;
 use crate::peaks::peak;
 use cert_grammar::behind;
 use cert_model::{Certificate, Linear, MeasureCert, PairEntry};
-use cops_read::Names;
+use cops_names::Names;
 use std::alloc::Global;
 
 // The measure and the overlaps up to the last line.

@@ -1,7 +1,7 @@
-ghost use Rattle.std.specs.Prelude.{◌≡◌, ◌++◌, ◌↔◌, ℕ, IsTrue, MatchOption};
+ghost use Rattle.std.specs.Prelude.{◌≡◌, ◌++◌, ℕ, MatchOption};
 ghost use Rattle.file_text.specs.Bytes as text;
 ghost use Rattle.term_core.specs.View.{view, views};
-ghost use Rattle.cert_grammar.specs.Words.{IsIdentifier, IsNamed};
+ghost use Rattle.cert_grammar.specs.Words.{IsNamed};
 ghost use Rattle.cert_grammar.specs.EvidenceText.{IsName};
 ghost use Rattle.cert_grammar.specs.ReadingTerms as spec;
 ghost use Rattle.cert_grammar.specs.ReadingTerms.{WordAt, TermAt, TermBehind, ArgumentsAt, IsTermText};
@@ -9,36 +9,11 @@ ghost use Rattle.cert_lines.specs.Answers.{Answers};
 
 use crate::error::Unread;
 use crate::words::number;
-use cert_grammar::behind;
-use cops_lex::is_id;
-use cops_read::Names;
+use cert_grammar::{behind, is_identifier};
+use cops_names::Names;
 use std::alloc::Global;
 use std::str;
 use term_core::{MAX_DEPTH, MAX_NODES, Term};
-
-/// Whether an identifier goes on with the first byte.
-pub fn goes_on(bytes: &[u8]) -> bool
-    ensures { result ≡ spec.goes_on bytes.now }
-{
-    match bytes {
-        [] => false,
-        [b'-', b'>', ..] | [b'=', b'=', ..] => false,
-        [b, ..] => is_id(*b),
-    }
-}
-
-// Whether the bytes are one identifier.
-fn is_identifier(name: &[u8]) -> bool
-    ensures { IsTrue result ↔ IsIdentifier name.now }
-{
-    'bytes: for at in 0..name.len() {
-        let (_, left) = name.split_at(at);
-        if !goes_on(left) {
-            return false;
-        }
-    }
-    !name.is_empty()
-}
 
 /// The symbol that the name is of.
 pub fn named(names: &Names, name: &[u8]) -> Option<u32>

@@ -5,7 +5,7 @@ use Rattle.std.specs.Result.{IsErrAnd}
 use Rattle.std.proofs.lemmas.Result.{err_from_is_err_and}
 use Rattle.cert_refusals.specs.declared.error.CertError.{CertError}
 use Rattle.cert_refusals.specs.ReaderView.{told, IsTold, Judges}
-use Rattle.cops_read.specs.NameTable.{NameTable}
+use Rattle.cops_names.specs.NameTable.{NameTable}
 use Rattle.cert_grammar.specs.Words.{largest}
 use Rattle.cert_grammar.specs.Marks.{CertificateCause, Demand, meets, verdict}
 use Rattle.cert_grammar.specs.Scans.{value_from, value}

@@ -1,6 +1,6 @@
 -- The error that is told of a text that no certificate has.
 use Rattle.std.specs.Prelude.{ℕ, List}
-use Rattle.cops_read.specs.NameTable.{NameTable}
+use Rattle.cops_names.specs.NameTable.{NameTable}
 use Rattle.cert_refusals.specs.declared.error.CertError.{CertError}
 use Rattle.cert_refusals.specs.declared.error.CertError.TheVariants.{CertSyntax, UnknownName, WrongArity, BadNumber, CertTooDeep, TooMany, NoMemory}
 use Rattle.cert_grammar.specs.Marks.{syntax, unknown_name, wrong_arity, bad_number, too_many, too_deep}

@@ -10,7 +10,7 @@ use Rattle.cert_refusals.specs.declared.error.CertCount as counts
 use Rattle.cert_refusals.specs.declared.error.CertCount.TheVariants as counting
 use Rattle.cert_refusals.specs.declared.error.CertError as errors
 use Rattle.cert_refusals.specs.declared.error.CertError.TheVariants as refusing
-use Rattle.cops_read.specs.NameTable.{NameTable}
+use Rattle.cops_names.specs.NameTable.{NameTable}
 use Rattle.cert_grammar.specs.Marks.{Counted, pairs, entries, numbers, steps, redexes, states, transitions, nodes, CertificateCause, syntax, unknown_name, wrong_arity, bad_number, too_many, too_deep, Demand, verdict}
 use Rattle.cert_refusals.specs.declared.items.Between as betweens
 use Rattle.cert_refusals.specs.declared.items.Between.TheVariants as gap
@@ -187,6 +187,10 @@ item_view (part.ConditionCount level) = condition_count level
 item_view part.StartLine = start_line
 item_view (part.Term t) = term_view t
 item_view part.Apart = apart
+
+-- no part of the start
+abbrev pub IsPlain : items.Item → Type 0
+IsPlain i = (t : terms.TermItem) → i ≡ part.Term t → ⊥
 
 -- the next part first
 abbrev pub items_view : List items.Item → List Item

@@ -1,7 +1,7 @@
 //! Steps at the parts of automata.
 
 ghost use Rattle.std.specs.Prelude.{◌≡◌, ◌≤◌, ◌<◌, ◌+◌, ◌∷◌, ◌++◌, [], ℕ, List, suc, length, map, take, drop, Some, None, false, true, OnOk, IfOk, IfErr, MatchResult};
-ghost use Rattle.cops_read.specs.NameTable.{NameTable};
+ghost use Rattle.cops_names.specs.NameTable.{NameTable};
 ghost use Rattle.cert_grammar.specs.Items as spec;
 ghost use Rattle.cert_grammar.specs.Marks.{syntax, in_range};
 ghost use Rattle.cert_grammar.specs.Scans as scans;
@@ -14,7 +14,7 @@ use crate::error::{CertCount, CertError};
 use crate::items::{AutomatonItem, Between, Frame, Item, Lead, Word, front};
 use crate::list_steps::{line, push, stuck};
 use crate::number_steps::number;
-use cops_read::Names;
+use cops_names::Names;
 
 fn state_count<'a>(
     stack: &mut Vec<Item<'a>>,

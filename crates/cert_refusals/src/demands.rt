@@ -1,7 +1,7 @@
 //! What words must meet.
 
 ghost use Rattle.std.specs.Prelude.{◌≡◌, ◌≤◌, ◌<◌, ◌∷◌, ◌+◌, ◌↔◌, [], ℕ, None, Some, suc, option_and_then, length, IsTrue, IfOk, OnOk, IfErr, IfSome, MatchOption, MatchResult};
-ghost use Rattle.cops_read.specs.NameTable.{NameTable, number_of, arity_at};
+ghost use Rattle.cops_names.specs.NameTable.{NameTable, number_of, arity_at};
 ghost use Rattle.cert_grammar.specs.Words.{largest, IsIdentifier};
 ghost use Rattle.cert_grammar.specs.Marks as spec;
 ghost use Rattle.cert_grammar.specs.Marks.{bad_number, is_symbol, has_arity, is_few, is_shallow, in_range, verdict};
@@ -18,7 +18,7 @@ use cert_grammar::{
     MOST_ENTRIES, MOST_NESTING, MOST_NUMBERS, MOST_PAIRS, MOST_REDEXES, MOST_STATES, MOST_STEPS,
     MOST_TRANSITIONS, behind,
 };
-use cops_read::Names;
+use cops_names::Names;
 use std::str;
 use term_core::{MAX_DEPTH, MAX_NODES};
 

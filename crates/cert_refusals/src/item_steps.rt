@@ -1,7 +1,7 @@
 //! A step at any part of a certificate.
 
 ghost use Rattle.std.specs.Prelude.{◌≤◌, ◌+◌, length};
-ghost use Rattle.cert_refusals.specs.ReaderView.{item_view, StepAnswers, step_at};
+ghost use Rattle.cert_refusals.specs.ReaderView.{item_view, IsPlain, StepAnswers, step_at};
 
 use crate::automaton_steps::automaton_step;
 use crate::error::CertError;
@@ -15,7 +15,7 @@ use crate::number_steps::{
     step_count,
 };
 use crate::term_steps::term_step;
-use cops_read::Names;
+use cops_names::Names;
 use std::alloc::Global;
 
 // A step at a part that is none of the start's.
@@ -27,7 +27,8 @@ fn plain_step<'a>(
     left: &'a [u8],
     at: usize,
 ) -> Result<&'a [u8], CertError>
-    requires { at + length left.now ≤ usize.MAX }
+    requires small { at + length left.now ≤ usize.MAX }
+    requires plain { IsPlain item.now }
     ensures { StepAnswers (step_at names.now at (item_view item.now) stack.old.items left.now) at left.now stack.new.items (λ rest. rest.now) result }
 {
     match item {
@@ -54,8 +55,7 @@ fn plain_step<'a>(
         Item::StepsLeft(level, more) => steps(stack, left, at, *level, *more),
         Item::ConditionCount(level) => condition_count(stack, left, at, *level),
         Item::StartLine => start_line(alloc, stack, left, at),
-        // (none is handed in)
-        Item::Term(_) => Err(CertError::NoMemory),
+        Item::Term(_) => unreachable!(),
         Item::Apart => apart(stack, left, at),
     }
 }

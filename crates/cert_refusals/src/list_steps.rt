@@ -1,7 +1,7 @@
 //! Steps at lines, at words of the grammar, and at lists.
 
 ghost use Rattle.std.specs.Prelude.{◌≡◌, ◌≤◌, ◌+◌, ◌∷◌, ◌++◌, [], ℕ, List, suc, length, map, true, false, None, Some, OnOk, IfErr};
-ghost use Rattle.cops_read.specs.NameTable.{NameTable};
+ghost use Rattle.cops_names.specs.NameTable.{NameTable};
 ghost use Rattle.cert_grammar.specs.Items as spec;
 ghost use Rattle.cert_grammar.specs.Items.{between_text};
 ghost use Rattle.cert_grammar.specs.Marks as marks;

@@ -1,7 +1,7 @@
 //! Steps at numbers, positions and measured names.
 
 ghost use Rattle.std.specs.Prelude.{◌≡◌, ◌≤◌, ◌<◌, ◌+◌, ◌∷◌, ◌++◌, [], ℕ, List, suc, length, map, take, drop, Some, None, false, true, OnOk, IfOk, IfErr, MatchResult};
-ghost use Rattle.cops_read.specs.NameTable.{NameTable};
+ghost use Rattle.cops_names.specs.NameTable.{NameTable};
 ghost use Rattle.cert_grammar.specs.Items as spec;
 ghost use Rattle.cert_grammar.specs.Marks.{syntax, in_range};
 ghost use Rattle.cert_grammar.specs.Scans as scans;
@@ -13,7 +13,7 @@ use crate::demands::{few, known, one_more, position, short};
 use crate::error::{CertCount, CertError};
 use crate::items::{Between, Item, Lead, front};
 use crate::list_steps::{push, push_derivations, push_steps, stuck};
-use cops_read::Names;
+use cops_names::Names;
 
 /// The number at the front, and what is behind it.
 pub fn number(left: &[u8], at: usize) -> Result<(&[u8], &[u8]), CertError>

@@ -1,7 +1,7 @@
 //! Steps at the term with which a peak starts.
 
 ghost use Rattle.std.specs.Prelude.{◌≤◌, ◌+◌, ◌∷◌, [], ℕ, suc, length, drop};
-ghost use Rattle.cops_read.specs.NameTable.{NameTable};
+ghost use Rattle.cops_names.specs.NameTable.{NameTable};
 ghost use Rattle.cert_grammar.specs.Items as spec;
 ghost use Rattle.cert_grammar.specs.Words.{largest};
 ghost use Rattle.cert_grammar.specs.Marks.{in_range};
@@ -12,7 +12,7 @@ use crate::demands::{arity, known, next_argument, node, short};
 use crate::error::CertError;
 use crate::items::{Between, Frame, Item, Lead, TermItem, Word, front};
 use crate::list_steps::{fixed, line, push, stuck};
-use cops_read::Names;
+use cops_names::Names;
 
 // a node, the one with this number, within open symbols
 fn at_node<'a>(

@@ -26,9 +26,10 @@ mod refusal;
 mod writer;
 
 pub use cert_refusals::{CertCount, CertError};
+pub use cert_writing::text_len;
 pub use laws::{
     demands_are_met, grammar_is_deterministic, one_answer, reader_stops_at_refusals,
     worked_refusals,
 };
 pub use reader::{one_certificate, read_cert};
-pub use writer::{text_len, write_cert, written_is_read};
+pub use writer::{write_cert, written_is_read};

@@ -1,6 +1,6 @@
 ghost use Rattle.std.specs.Prelude.{◌≡◌, ℕ, List, IfOk, IfErr};
 ghost use Rattle.certificates.specs.Certificates as math;
-ghost use Rattle.cops_read.specs.NameTable.{NameTable};
+ghost use Rattle.cops_names.specs.NameTable.{NameTable};
 ghost use Rattle.cert_model.specs.CertificateView.{certificate_view};
 ghost use Rattle.cert_grammar.specs.CertificateText.{IsCertificateText};
 ghost use Rattle.cert_refusals.specs.CertRefusals.{IsRefusedAs};
@@ -9,7 +9,7 @@ use crate::refusal::first_refusal;
 use cert_lines::{Unread, certificate};
 use cert_model::Certificate;
 use cert_refusals::CertError;
-use cops_read::Names;
+use cops_names::Names;
 use std::alloc::Global;
 
 /// The certificate that the bytes are the text of, with its answer line or without one; else why there is

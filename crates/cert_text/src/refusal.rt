@@ -7,7 +7,7 @@ ghost use Rattle.cert_grammar.specs.CertificateText.{IsCertificateText};
 ghost use Rattle.cert_refusals.specs.CertRefusals.{IsRefusedAs};
 
 use cert_refusals::{CertError, Item, step};
-use cops_read::Names;
+use cops_names::Names;
 use std::alloc::Global;
 
 /// The refusal of the bytes, unless they are the text of a certificate.

@@ -1,13 +1,13 @@
-ghost use Rattle.std.specs.Prelude.{◌≡◌, ◌++◌, ℕ, List, OnOk, OnErr, length, min};
+ghost use Rattle.std.specs.Prelude.{◌≡◌, ◌++◌, ℕ, List, OnOk, OnErr};
 ghost use Rattle.certificates.specs.Certificates as math;
-ghost use Rattle.cops_read.specs.NameTable.{NameTable};
+ghost use Rattle.cops_names.specs.NameTable.{NameTable};
 ghost use Rattle.cert_model.specs.CertificateView.{certificate_view};
-ghost use Rattle.cert_writing.specs.Written.{GrewByFront, greatest};
+ghost use Rattle.cert_writing.specs.Written.{GrewByFront};
 ghost use Rattle.cert_grammar.specs.CertificateText.{certificate_text, CanBeSpelt, IsCertificateText};
 
 use cert_model::Certificate;
-use cert_writing::{Counter, Writer, put_certificate};
-use cops_read::Names;
+use cert_writing::{Writer, put_certificate};
+use cops_names::Names;
 use std::alloc::Global;
 use std::mem;
 use term_core::NoMemory;
@@ -34,15 +34,6 @@ pub fn write_cert(
     } else {
         Ok(())
     }
-}
-
-/// The number of bytes of the certificate's text, or the greatest number where there are more.
-pub fn text_len(names: &Names, cert: &Certificate) -> u64
-    ensures { result ≡ min (length (certificate_text names.now (certificate_view cert.now))) greatest }
-{
-    let mut counter = Counter { count: 0 };
-    put_certificate(&mut counter, names, cert);
-    counter.count
 }
 
 /// What is written of a certificate that can be spelt is a text of it.

@@ -9,7 +9,7 @@ use Rattle.cert_model.specs.declared.derivations.Step.{Step, Rule}
 use Rattle.cert_model.specs.DerivationView.{derivation_view, step_view}
 use Rattle.term_core.specs.declared.terms.Term.{Term}
 use Rattle.term_core.specs.View.{view, views}
-use Rattle.cops_read.specs.NameTable.{NameTable}
+use Rattle.cops_names.specs.NameTable.{NameTable}
 use Rattle.cert_grammar.specs.Words.{term_text, arguments_text, further_text}
 use Rattle.certificates.specs.Judging.{derivation_count}
 use Rattle.certificates.specs.Sizes.{step_count}

@@ -2,7 +2,7 @@
 use Rattle.std.specs.Prelude.{ℕ, List, ◌++◌, decimal, codes}
 use Rattle.certificates.specs.Evidence.{Transition}
 use Rattle.certificates.specs.Certificates.{PairEntry, LinearEntry, Redex}
-use Rattle.cops_read.specs.NameTable.{NameTable}
+use Rattle.cops_names.specs.NameTable.{NameTable}
 use Rattle.cert_grammar.specs.Words.{position_text}
 use Rattle.cert_grammar.specs.EvidenceText.{numbers_text, head_text, infeasibility_text, evidence_text}
 use Rattle.cert_grammar.specs.CertificateText.{measured_text}

@@ -7,5 +7,5 @@ mod written_evidence;
 mod written_steps;
 mod written_terms;
 
-pub use output::{Counter, Output, Writer};
-pub use writer::put_certificate;
+pub use output::{Output, Writer};
+pub use writer::{put_certificate, text_len};

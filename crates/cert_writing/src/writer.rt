@@ -1,15 +1,16 @@
-ghost use Rattle.std.specs.Prelude.{map};
+ghost use Rattle.std.specs.Prelude.{◌≡◌, length, map, min};
 ghost use Rattle.term_core.specs.HeadView.{head_view};
 ghost use Rattle.cert_model.specs.CertificateView.{linear_entry_view, measure_view, redex_view, apart_view, peak_view, certificate_view};
+ghost use Rattle.cert_writing.specs.Written.{greatest};
 ghost use Rattle.cert_writing.specs.WrittenParts.{entry_text, redex_text};
 ghost use Rattle.cert_grammar.specs.CertificateText.{measured_text, entries_text, measure_text, redexes_text, apart_text, peak_text, body_text, certificate_text};
 
-use crate::output::{Output, put_number};
+use crate::output::{Counter, Output, put_number};
 use crate::written_evidence::{put_infeasibility, put_numbers, put_pairs};
 use crate::written_steps::put_derivation;
 use crate::written_terms::{put_name, put_position, put_term};
 use cert_model::{Certificate, Head, LinearEntry, MeasureCert, NonJoin, Peak, Redex};
-use cops_read::Names;
+use cops_names::Names;
 
 // A symbol of the file, or the symbol that a rule has for one of its conditions.
 fn put_measured<O: Output>(to: &mut O, names: &Names, head: &Head)
@@ -127,4 +128,13 @@ pub fn put_certificate<O: Output>(to: &mut O, names: &Names, cert: &Certificate)
     to.put(b"concon 1\n");
     put_body(to, names, cert);
     to.put(b"end\n");
+}
+
+/// The number of bytes of the certificate's text, or the greatest number where there are more.
+pub fn text_len(names: &Names, cert: &Certificate) -> u64
+    ensures { result ≡ min (length (certificate_text names.now (certificate_view cert.now))) greatest }
+{
+    let mut counter = Counter { count: 0 };
+    put_certificate(&mut counter, names, cert);
+    counter.count
 }

@@ -8,7 +8,7 @@ use crate::output::{Output, put_number};
 use crate::written_steps::put_derivation;
 use crate::written_terms::{put_name, put_position};
 use cert_model::{Automaton, InfEvidence, PairEntry, PairEvidence, Transition};
-use cops_read::Names;
+use cops_names::Names;
 
 /// Numbers with a space before each.
 pub fn put_numbers<O: Output>(to: &mut O, numbers: &[u32])

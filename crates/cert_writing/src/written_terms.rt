@@ -3,7 +3,7 @@ ghost use Rattle.term_core.specs.View.{view, views};
 ghost use Rattle.cert_grammar.specs.Words.{name_of, term_text, arguments_text, parts_text, position_text};
 
 use crate::output::{Output, put_number};
-use cops_read::Names;
+use cops_names::Names;
 use term_core::Term;
 
 /// The name of a symbol; a symbol without a name gives nothing.

@@ -1,5 +1,5 @@
 use Rattle.std.proofs.Common.{◌≡◌, ℕ, List, Result, subst, sym}
-use Rattle.cops_read.specs.NameTable.{NameTable}
+use Rattle.cops_names.specs.NameTable.{NameTable}
 use Rattle.cert_refusals.specs.declared.error.CertError.{CertError}
 use Rattle.cert_refusals.specs.declared.items.Item as code
 use Rattle.cert_refusals.specs.ReaderView.{item_view, StepAnswers, step_at}
