@@ -2,7 +2,7 @@
 use Rattle.std.proofs.Common.{◌≡◌, ℕ, suc, ◌+◌, ◌≤◌, List, [], ◌∷◌, ◌++◌, map, flat_map, length, Option, option_to_list, Some, None, refl, sym, ap, ap₂, ◌∙◌, subst, subst₂, append_assoc, append-nil, arith}
 use Rattle.std.specs.Borrow.{Bor}
 use Rattle.std.proofs.lemmas.List.Concat.{flat_map-append}
-use Rattle.rewriting.specs.Terms.{Term, Terms, var, app, nil, cons, size, size_all}
+use Rattle.rewriting.specs.Terms.{Term, Terms, var, app, nil, cons, size_all}
 use Rattle.rewriting.specs.Positions.{Position, argument, subterm, positions, positions_from}
 use Rattle.rewriting.proofs.Positions.{subterm-append}
 use Rattle.term_core.specs.View.{view, views}
@@ -108,14 +108,6 @@ pub stands : (before : List Part) (o : Option (Bor program.Term)) (p : Position)
 stands before None p later args (e, h) none = (e, ap₂ (λ (us : List program.Term) rest. parts_among p 1 (views us) ++ rest) none h)
 stands before (Some t) p later args (small, e) are =
     e ∙ ap (λ z. z ++ later) (first_part p (view t.now)) ∙ ap (λ ts. part p (view t.now) ∷ (parts_among p 1 ts ++ later)) (sym are)
-
-pub arguments_small : (before : List Part) (o : Option (Bor program.Term)) (p : Position) (later : List Part) (args : List program.Term) → Leads before o p later → AreArgumentsOf o args → size_all (views args) ≤ 10000
-arguments_small before None p later args h none = let e = ap (λ (us : List program.Term). size_all (views us)) none in omega (arith, e)
-arguments_small before (Some t) p later args (small, e) are = let below = no_more (view t.now) in let same = ap size_all are in omega (arith, below, same, small)
-  where
-    no_more : (t : Term) → size_all (arguments t) ≤ size t
-    no_more (var x) = omega arith
-    no_more (app f ts) = omega arith
 
 pub leads_on : (before mid : List Part) (o : Option (Bor program.Term)) (p : Position) (later : List Part) → before ≡ mid → Leads mid o p later → Leads before o p later
 leads_on before mid o p later e h = subst (λ z. Leads z o p later) (sym e) h

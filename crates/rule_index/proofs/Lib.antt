@@ -2,6 +2,7 @@ pub mod Buckets
 pub mod Systems
 pub mod Walks
 pub mod Numbers
+pub mod Linear
 pub mod Flat
 pub mod Standing
 pub mod Levels

@@ -1,5 +1,6 @@
 pub mod Roots
 pub mod Index
+pub mod Linear
 pub mod IndexView
 pub mod Parts
 pub mod Levels

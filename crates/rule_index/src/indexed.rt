@@ -1,20 +1,25 @@
 // A system and the index of its rules in one value, so that no question about the system makes an index of its own.
-ghost use Rattle.std.specs.Prelude.{◌≡◌, IfOk, map};
+ghost use Rattle.std.specs.Prelude.{◌≡◌, ◌↔◌, IfOk, IsTrue, IsSome, Some, map};
+ghost use Rattle.rewriting.specs.Variables.{IsLinear};
+ghost use Rattle.rewriting.specs.Rules as math;
+ghost use Rattle.rewriting.specs.Rules.{rule_at};
 ghost use Rattle.rewriting.specs.Systems.{IsSystem};
 ghost use Rattle.rule_index.specs.Roots.{rules_with_root, rules_at};
+ghost use Rattle.rule_index.specs.Linear.{TellLinear};
 ghost use Rattle.term_core.specs.View.{view};
 ghost use Rattle.term_core.specs.RuleView.{rule_view, AreCounted};
 
 use crate::RuleIndex;
 use std::alloc::Global;
 use std::marker::Model;
-use term_core::{NoMemory, Rule, System, Term};
+use term_core::{NoMemory, Rule, System, Term, is_linear};
 
 /// A system with the index of its rules: prepared once, asked often. In contracts it is the system.
 #[derive(Debug, Drop)]
 pub struct IndexedSystem<'a> {
     system: &'a System,
     index: RuleIndex,
+    linear: Vec<bool>,
 }
 
 impl<'a> Model for IndexedSystem<'a> {
@@ -31,13 +36,29 @@ impl<'a> Model for IndexedSystem<'a> {
     ghost invariant = { IsIndexed };
 }
 
+// Whether each left side is linear, in order.
+fn linear_lefts(alloc: Global, rules: &[Rule]) -> Result<Vec<bool>, NoMemory>
+    ensures { IfOk result (λ linear. TellLinear (map rule_view rules.now) linear.items) }
+{
+    let mut linear = Vec::with_capacity(alloc, rules.len())?;
+    for rule in rules {
+        linear.push(is_linear(&rule.left))?;
+    }
+    Ok(linear)
+}
+
 impl<'a> IndexedSystem<'a> {
-    /// The system with its index, in time linear in the numbers of its rules and symbols.
+    /// The system with its index, in time linear in the sizes of its left sides and the number of its symbols.
     pub fn new(alloc: Global, system: &'a System) -> Result<IndexedSystem<'a>, NoMemory>
         ensures { IfOk result (λ s. s ≡ system.now) }
     {
         let index = RuleIndex::new(alloc, system)?;
-        Ok(IndexedSystem { system, index })
+        let linear = linear_lefts(alloc, system.rules())?;
+        Ok(IndexedSystem {
+            system,
+            index,
+            linear,
+        })
     }
 
     /// The system itself.
@@ -69,5 +90,13 @@ impl<'a> IndexedSystem<'a> {
         ensures { result.now ≡ rules_at self.now (view part.now) }
     {
         self.index.rules_at(part)
+    }
+
+    /// Whether the left side of the rule with this number, from 1, is linear.
+    pub fn is_left_linear(&self, number: u32) -> bool
+        requires { IsSome (rule_at self.now number) }
+        ensures { (r : math.Rule) → rule_at self.now number ≡ Some r → (IsTrue result ↔ IsLinear r.left) }
+    {
+        self.linear[number as usize - 1]
     }
 }

@@ -134,11 +134,26 @@ module _ (t : Term) (f : ℕ) (v : Vec Term Global) (items : List Term) (k : ℕ
 pub start_low : (sys : System) (leaf : Leaf) (ts : List Term) (k : ℕ) (us : List Term) (start next : ℕ) → AreCapped sys leaf ts k us start next → 2 ^ 31 ≤ start → 2 ^ 31 ≤ next
 start_low sys leaf ts k us start next capped low = let c = capped.counted in omega (arith, c, low)
 
-pub whole_cap : (sys : System) (leaf : Leaf) (t : Term) (f : ℕ) (v : Vec Term Global) (items : List Term) (k : ℕ) (us : List Term) (start next more : ℕ) (r : Result Cap NoMemory) → t ≡ Fun f v → items ≡ v.items → length items ≤ k
-    → AreCapped sys leaf items k us start next → Fits (view t) → 2 ^ 31 ≤ start → HasConstants sys leaf (view t)
-    → ((s : Substitution) (c : MathCap) → IsHeld sys f (app f (views us)) start c → app f (views us) ≡ filled s start c → next ≡ start + holes c → TopAnswers sys s c start more r) → FrozenAnswers sys leaf (view t) start more r
-whole_cap sys leaf t f v items k us start next more r is same h capped fit low constant top =
-    subst (λ z. FrozenAnswers sys leaf z start more r) (sym shape) (go r (top (standing leaf) (node f capped.shapes) held (ap (app f) capped.shown) capped.counted))
+-- a symbol over the caps of all arguments
+pub args_held : (sys : System) (leaf : Leaf) (t : Term) (f : ℕ) (v : Vec Term Global) (items : List Term) (k : ℕ) (us : List Term) (start next : ℕ) → t ≡ Fun f v → items ≡ v.items → length items ≤ k
+    → (capped : AreCapped sys leaf items k us start next) → Fits (view t) → 2 ^ 31 ≤ start → HasConstants sys leaf (view t) → IsHeld sys f (app f (views us)) start (node f capped.shapes)
+args_held sys leaf t f v items k us start next is same h capped fit low constant =
+    (let nodes : size (view t) ≡ suc (size_all (views items)) = ap size shape in
+    let levels : depth (view t) ≡ suc (depth_all (views items)) = ap depth shape in
+    let a = small.nodes in
+    let b = small.levels in
+    let p = fit.nodes in
+    let q = fit.levels in
+    let few : size_all (views us) ≡ size_all (all_filled (standing leaf) start capped.shapes) = ap size_all capped.shown in
+    let flat : depth_all (views us) ≡ depth_all (all_filled (standing leaf) start capped.shapes) = ap depth_all capped.shown in
+    record {
+      base = based.base;
+      far = based.far;
+      shown = ap (app f) capped.shown ∙ based.same start;
+      root = eq-eqb f f refl;
+      fits = record { nodes = omega (arith, nodes, a, p, few); levels = omega (arith, levels, b, q, flat) };
+      low = low;
+    })
   where
     shape : view t ≡ app f (views items)
     shape = ap view is ∙ (view-Fun f v ∙ ap (λ z. app f (views z)) (sym same))
@@ -152,24 +167,18 @@ whole_cap sys leaf t f v items k us start next more r is same h capped fit low c
     based : IsBased sys leaf (node f capped.shapes)
     based = node_based sys leaf f (views items) capped.shapes (subst (HasConstants sys leaf) shape constant) are
 
-    held : IsHeld sys f (app f (views us)) start (node f capped.shapes)
-    held =
-        (let nodes : size (view t) ≡ suc (size_all (views items)) = ap size shape in
-        let levels : depth (view t) ≡ suc (depth_all (views items)) = ap depth shape in
-        let a = small.nodes in
-        let b = small.levels in
-        let p = fit.nodes in
-        let q = fit.levels in
-        let few : size_all (views us) ≡ size_all (all_filled (standing leaf) start capped.shapes) = ap size_all capped.shown in
-        let flat : depth_all (views us) ≡ depth_all (all_filled (standing leaf) start capped.shapes) = ap depth_all capped.shown in
-        record {
-          base = based.base;
-          far = based.far;
-          shown = ap (app f) capped.shown ∙ based.same start;
-          root = eq-eqb f f refl;
-          fits = record { nodes = omega (arith, nodes, a, p, few); levels = omega (arith, levels, b, q, flat) };
-          low = low;
-        })
+pub whole_cap : (sys : System) (leaf : Leaf) (t : Term) (f : ℕ) (v : Vec Term Global) (items : List Term) (k : ℕ) (us : List Term) (start next more : ℕ) (r : Result Cap NoMemory) → t ≡ Fun f v → items ≡ v.items → length items ≤ k
+    → AreCapped sys leaf items k us start next → Fits (view t) → 2 ^ 31 ≤ start → HasConstants sys leaf (view t)
+    → ((s : Substitution) (c : MathCap) → IsHeld sys f (app f (views us)) start c → app f (views us) ≡ filled s start c → next ≡ start + holes c → TopAnswers sys s c start more r) → FrozenAnswers sys leaf (view t) start more r
+whole_cap sys leaf t f v items k us start next more r is same h capped fit low constant top =
+    subst (λ z. FrozenAnswers sys leaf z start more r) (sym shape)
+    (go r (top (standing leaf) (node f capped.shapes) (args_held sys leaf t f v items k us start next is same h capped fit low constant) (ap (app f) capped.shown) capped.counted))
+  where
+    shape : view t ≡ app f (views items)
+    shape = ap view is ∙ (view-Fun f v ∙ ap (λ z. app f (views z)) (sym same))
+
+    are : AreCapsOf sys (leaf_of leaf) (views items) capped.shapes
+    are = subst (λ z. AreCapsOf sys (leaf_of leaf) (views z) capped.shapes) (take_all items k h) capped.are
 
     go : (r : Result Cap NoMemory) → TopAnswers sys (standing leaf) (node f capped.shapes) start more r → FrozenAnswers sys leaf (app f (views items)) start more r
     go (Ok (Capped u)) (d, top, shown, counted) = (d, (capped.shapes, are, top), shown, counted)

@@ -1,9 +1,12 @@
 pub mod Numbers
 pub mod Rebased
 pub mod Bases
+pub mod Sizes
+pub mod Clashes
+pub mod Linear
+pub mod Filled
 pub mod Tried
 pub mod Roots
-pub mod Sizes
 pub mod Args
 pub mod Sides
 pub mod Apart

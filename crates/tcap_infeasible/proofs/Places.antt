@@ -5,7 +5,7 @@ use Rattle.rewriting.specs.Terms.{Terms, app, nil, cons, size, size_all}
 use Rattle.rewriting.specs.Variables.{with_new}
 use Rattle.unifier_run.specs.Run.{append}
 use Rattle.rewriting.specs.Lists.{AreDistinct, IsFront}
-use Rattle.rewriting.proofs.Lists.{front_refl, front_trans}
+use Rattle.rewriting.proofs.Lists.{front_trans}
 use Rattle.term_core.specs.View.{view, views}
 use Rattle.term_core.specs.declared.terms.Term.{Term, Var, Fun}
 use Rattle.term_core.proofs.Views.{view-Fun, view-Var}

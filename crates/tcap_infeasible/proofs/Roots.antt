@@ -1,8 +1,10 @@
 -- The tries of a root's rules, as the program makes them.
-use Rattle.std.proofs.Common.{ℕ, zero, suc, ◌≡◌, ◌+◌, ◌-◌, ◌<◌, ◌≤◌, List, [], ◌∷◌, map, length, drop, get_or, Some, refl, sym, ap, ◌∙◌, subst, arith, slice_get, add-one}
+use Rattle.std.proofs.Common.{ℕ, zero, suc, ◌≡◌, ◌+◌, ◌-◌, ◌<◌, ◌≤◌, ◌↔◌, Bool, false, true, IsTrue, IsSome, List, [], ◌∷◌, map, length, drop, get_or, Some, refl, sym, ap, ◌∙◌, subst, arith, slice_get, add-one}
 use Rattle.std.proofs.Math.Seq.{drop-cons}
 use Rattle.std.proofs.lemmas.List.{length-map}
-use Rattle.rewriting.specs.Terms.{Term, cons, nil}
+use Rattle.rewriting.specs.Terms.{Term, cons, nil, Fits}
+use Rattle.rewriting.specs.Variables.{occurs, IsLinear, IsDisjoint}
+use Rattle.rewriting.proofs.Instances.{or_cases}
 use Rattle.rewriting.specs.Rules as math
 use Rattle.rewriting.specs.Rules.{System, rule_at}
 use Rattle.rewriting.specs.Systems.{IsSystem}
@@ -13,7 +15,8 @@ use Rattle.term_core.specs.RuleView.{rule_view}
 use Rattle.term_core.specs.declared.systems.Rule.{Rule}
 use Rattle.tcap_infeasible.specs.Frozen.{IsHeld}
 use Rattle.tcap_infeasible.proofs.Rebased.{HasLike, HasFirstLike, clash_like}
-use Rattle.tcap_infeasible.proofs.Tried.{rule_of, outcome_of, AreBefore, one_more, Tried, Next, tried_next}
+use Rattle.tcap_infeasible.proofs.Filled.{held_from}
+use Rattle.tcap_infeasible.proofs.Tried.{rule_of, left_small, outcome_of, AreBefore, one_more, Tried, Next, tried_next}
 
 within : (rs : List math.Rule) (i : ℕ) (r : math.Rule) → slice_get rs i ≡ Some r → i < length rs
 within [] i r e = absurd (cc)
@@ -82,3 +85,24 @@ module _ (sys : System) (f : ℕ) (t : Term) (numbers : List ℕ) (k : ℕ) (sou
         rest = rw add-one next.rest_is;
         clash = λ n c held. subst (AreBefore sys (frozen sys c)) (sym next.number_is) (one_more sys (frozen sys c) next.passed next.rule next.is_rule (clash_like next.rule.left (frozen sys c) (outcome_at rules d clash same next run n c held)) (next.clash n c held));
       }
+
+  -- the rule's number, and what its left side has
+  pub is_number : Tried sys f t numbers k → k < length numbers → IsSome (rule_at sys (get_or numbers k 0))
+  is_number tried h = let next = following tried h in subst (λ z. IsSome (rule_at sys z)) (sym next.number_is) (subst IsSome (sym next.is_rule) refl)
+
+  pub left_fits : (rules : List Rule) (d : Rule) → map rule_view rules ≡ sys.rules → Tried sys f t numbers k → k < length numbers → Fits (view (get_or rules (get_or numbers k 0 - 1) d).left)
+  left_fits rules d same tried h =
+      let next = following tried h in subst (λ z. Fits z.left) (at_place rules d same next) (rule_of sys.arities sys.rules next.passed next.rule sound.rules next.is_rule).fits.0
+
+  pub left_linear : (rules : List Rule) (d : Rule) (b : Bool) → map rule_view rules ≡ sys.rules → Tried sys f t numbers k → k < length numbers
+      → ((r : math.Rule) → rule_at sys (get_or numbers k 0) ≡ Some r → (IsTrue b ↔ IsLinear r.left)) → IsTrue b → IsLinear (view (get_or rules (get_or numbers k 0 - 1) d).left)
+  left_linear rules d b same tried h tells sure =
+      let next = following tried h in
+      subst (λ z. IsLinear z.left) (at_place rules d same next) ((tells next.rule (subst (λ z. rule_at sys z ≡ Some next.rule) (sym next.number_is) next.is_rule)).0 sure)
+
+  pub left_apart : (rules : List Rule) (d : Rule) → map rule_view rules ≡ sys.rules → Tried sys f t numbers k → k < length numbers → (n : ℕ) (c : Cap) → IsHeld sys f t n c
+      → IsDisjoint (view (get_or rules (get_or numbers k 0 - 1) d).left) (cons t nil)
+  left_apart rules d same tried h n c held x o p =
+      let next = following tried h in
+      let small = left_small sys.arities next.rule (rule_of sys.arities sys.rules next.passed next.rule sound.rules next.is_rule) x (subst (λ z. occurs x z.left ≡ true) (sym (at_place rules d same next)) o) in
+      or_cases (occurs x t) false p (λ q. (let large = held_from sys f t n c held x q in omega (arith, small, large))) (λ q. absurd (cc))

@@ -8,7 +8,7 @@ use Rattle.certificates.specs.Sizes.{DoConditionsFit}
 use Rattle.rewriting.specs.Lists.{AreDistinct, IsFront}
 use Rattle.renumbering.specs.Rows.{IsNumbered}
 use Rattle.rewriting.proofs.Lengths.{variables_length}
-use Rattle.renumbering.proofs.Numbered.{AreNumbered, numbered_none, numbered_more}
+use Rattle.renumbering.proofs.Numbered.{AreNumbered, numbered_more}
 use Rattle.caps.specs.Caps.{any, AreCapsOf, AreCapsLarge, IsCapLarge}
 use Rattle.term_core.specs.View.{view, views}
 use Rattle.term_core.specs.RuleView.{condition_view}

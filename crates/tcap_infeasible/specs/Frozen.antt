@@ -6,7 +6,7 @@ use Rattle.rewriting.specs.Substitutions.{Substitution}
 use Rattle.rewriting.specs.Variables.{occurs}
 use Rattle.rewriting.specs.Rules.{System}
 use Rattle.rule_index.specs.Roots.{has_root}
-use Rattle.unifier_run.specs.Run.{Binding, unifier, too_large}
+use Rattle.unifier_run.specs.Run.{Binding, unifier, clash, too_large, IsOutcome}
 use Rattle.unifier_run.specs.Irreducible.{DoRulesClash, IsFirstRule}
 use Rattle.caps.specs.Caps.{Cap as MathCap, any, kept, holes, filled, past, constants, frozen, IsTop, IsCapOf, IsCapLarge}
 use Rattle.term_core.specs.View.{view}
@@ -54,6 +54,19 @@ pub record IsHeld (sys : System) (f : ℕ) (t : math.Term) (n : ℕ) (c : MathCa
   pub root : has_root f t ≡ true
   pub fits : Fits t
   pub low : 2 ^ 31 ≤ n
+
+-- the term is held so from some number on
+pub record IsACap (sys : System) (f : ℕ) (t : math.Term) : Type 0 where
+  pub start : ℕ
+  pub cap : MathCap
+  pub held : IsHeld sys f t start cap
+
+-- what becomes of a symbol by one left side alone
+abbrev pub LeftAnswers : math.Term → math.Term → Result Top NoMemory → Type 0
+LeftAnswers l t (Ok Stays) = IsOutcome (cons l nil) (cons t nil) clash
+LeftAnswers l t (Ok Opens) = (b : List Binding) × IsOutcome (cons l nil) (cons t nil) (unifier b)
+LeftAnswers l t (Ok Passes) = IsOutcome (cons l nil) (cons t nil) too_large
+LeftAnswers l t (Err e) = Unit {0}
 
 -- all runs clash, or the first that does not gives a unifier, or passes the size
 abbrev pub RootAnswers : System → math.Term → Result Top NoMemory → Type 0

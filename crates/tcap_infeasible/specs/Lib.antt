@@ -1,4 +1,5 @@
 pub mod Answers
+pub mod Clashes
 pub mod Frozen
 pub mod Comparing
 pub mod Keys

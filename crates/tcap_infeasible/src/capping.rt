@@ -1,16 +1,18 @@
 // Caps with holes that are no variables of rules, so that left sides need no renaming.
-ghost use Rattle.std.specs.Prelude.{◌≡◌, ◌≤◌, ◌<◌, ◌+◌, ◌^◌, ℕ};
+ghost use Rattle.std.specs.Prelude.{◌≡◌, ◌≤◌, ◌<◌, ◌+◌, ◌^◌, ℕ, IsTrue};
 ghost use Rattle.rewriting.specs.Terms as math;
 ghost use Rattle.rewriting.specs.Substitutions.{Substitution};
+ghost use Rattle.rewriting.specs.Variables.{IsLinear, IsDisjoint};
 ghost use Rattle.caps.specs.Caps.{Cap as MathCap, holes, filled, frozen};
 ghost use Rattle.term_core.specs.View.{view, views};
-ghost use Rattle.tcap_infeasible.specs.Frozen.{leaf_of, standing, HasConstant, HasConstants, IsHeld, RootAnswers, TopAnswers, FrozenAnswers};
+ghost use Rattle.tcap_infeasible.specs.Clashes.{do_clash};
+ghost use Rattle.tcap_infeasible.specs.Frozen.{leaf_of, standing, HasConstant, HasConstants, IsHeld, IsACap, LeftAnswers, RootAnswers, TopAnswers, FrozenAnswers};
 
 use crate::Cap;
 use rule_index::IndexedSystem;
 use std::alloc::Global;
 use term_core::{NoMemory, Term};
-use unification::{Unified, unify_terms};
+use unification::{Unified, unify_fitting};
 
 /// The number of the first hole: the variables of rules are below.
 pub const FIRST_HOLE: u32 = 1 << 31;
@@ -31,16 +33,63 @@ pub enum Top {
     Passes,
 }
 
+/// Whether two terms clash: at a position of both there are other symbols, or other numbers of arguments. It ends at the first.
+pub fn clashes(first: &Term, second: &Term) -> bool
+    ensures { result ≡ do_clash (view first.now) (view second.now) }
+{
+    match (first, second) {
+        (Term::Var(_), _) => false,
+        (Term::Fun(_, _), Term::Var(_)) => false,
+        (Term::Fun(f, xs), Term::Fun(g, ys)) => {
+            if *f != *g || xs.len() != ys.len() {
+                return true;
+            }
+            for i in 0..xs.len() {
+                if clashes(&xs[i], &ys[i]) {
+                    return true;
+                }
+            }
+            false
+        }
+    }
+}
+
+// A left side tried on a term. Where the left side is linear too, the run clashes exactly where the terms do, and it need
+// not be made.
+fn judge_left(alloc: Global, left: &Term, is_linear: bool, part: &Term) -> Result<Top, NoMemory>
+    requires left_fits { math.Fits (view left.now) }
+    requires fits { math.Fits (view part.now) }
+    requires left_linear { IsTrue is_linear → IsLinear (view left.now) }
+    requires linear { IsLinear (view part.now) }
+    requires apart { IsDisjoint (view left.now) (math.cons (view part.now) math.nil) }
+    ensures { LeftAnswers (view left.now) (view part.now) result }
+{
+    if is_linear {
+        return Ok(if clashes(left, part) {
+            Top::Stays
+        } else {
+            Top::Opens
+        });
+    }
+    match unify_fitting(alloc, left, part)? {
+        Unified::Clash => Ok(Top::Stays),
+        Unified::Mgu(_) => Ok(Top::Opens),
+        Unified::TooLarge => Ok(Top::Passes),
+    }
+}
+
 // The rules with the root symbol in order, tried on the whole term; the runs of all others clash at once.
 fn judge_root(alloc: Global, sys: &IndexedSystem, f: u32, part: &Term) -> Result<Top, NoMemory>
+    requires { IsACap sys.now f (view part.now) }
     ensures { (n : ℕ) (c : MathCap) → IsHeld sys.now f (view part.now) n c → RootAnswers sys.now (frozen sys.now c) result }
 {
     let rules = sys.rules();
     for number in sys.with_root(f) {
-        match unify_terms(alloc, &rules[*number as usize - 1].left, part)? {
-            Unified::Clash => {}
-            Unified::Mgu(_) => return Ok(Top::Opens),
-            Unified::TooLarge => return Ok(Top::Passes),
+        let left = &rules[*number as usize - 1].left;
+        match judge_left(alloc, left, sys.is_left_linear(*number), part)? {
+            Top::Stays => {}
+            Top::Opens => return Ok(Top::Opens),
+            Top::Passes => return Ok(Top::Passes),
         }
     }
     Ok(Top::Stays)
@@ -56,6 +105,7 @@ fn topped(
     next: &mut u32,
 ) -> Result<Cap, NoMemory>
     requires room { first + 1 < 2 ^ 32 }
+    requires held { IsACap sys.now f (math.app f (views args.items)) }
     ensures { (s : Substitution) (c : MathCap) → IsHeld sys.now f (math.app f (views args.items)) first c → math.app f (views args.items) ≡ filled s first c → next.old ≡ first + holes c → TopAnswers sys.now s c first next.new result }
 {
     let whole = Term::Fun(f, args);

@@ -8,13 +8,12 @@ ghost use Rattle.tcap_infeasible.specs.Frozen.{HasConstants};
 ghost use Rattle.tcap_infeasible.specs.Compared.{PairAnswers, KeepsInstancesApart, GivesApart, FrozenPairAnswers};
 
 use crate::Cap;
-use crate::capping::{FIRST_HOLE, Leaf, frozen_cap};
+use crate::capping::{FIRST_HOLE, Leaf, clashes, frozen_cap};
 use crate::keys::keyed;
 use renumbering::Numbering;
 use rule_index::IndexedSystem;
 use std::alloc::Global;
 use term_core::{NoMemory, Term};
-use unification::{Unified, unify_terms};
 
 /// What comparing the caps of two terms tells.
 #[derive(Clone, Copy, Debug, PartialEq, Eq)]
@@ -47,10 +46,10 @@ fn compare_frozen(
     let Cap::Capped(second) = frozen_cap(alloc, sys, v, leaf, &mut next)? else {
         return Ok(ComparedCaps::TooLarge);
     };
-    match unify_terms(alloc, &first, &second)? {
-        Unified::Clash => Ok(ComparedCaps::Clash),
-        Unified::Mgu(_) => Ok(ComparedCaps::Unify),
-        Unified::TooLarge => Ok(ComparedCaps::TooLarge),
+    if clashes(&first, &second) {
+        Ok(ComparedCaps::Clash)
+    } else {
+        Ok(ComparedCaps::Unify)
     }
 }
 

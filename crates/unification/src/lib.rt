@@ -63,3 +63,14 @@ pub fn unify_terms(alloc: Global, a: &Term, b: &Term) -> Result<Unified, NoMemor
     let progress = solve(alloc, a, b, false, &mut found)?;
     outcome(alloc, progress, found)
 }
+
+/// The same for two terms that are known to fit, and are not measured then.
+pub fn unify_fitting(alloc: Global, a: &Term, b: &Term) -> Result<Unified, NoMemory>
+    requires first { math.Fits (view a.now) }
+    requires second { math.Fits (view b.now) }
+    ensures { UnifyAnswers (math.cons (view a.now) math.nil) (math.cons (view b.now) math.nil) result }
+{
+    let mut found = Vec::new(alloc);
+    let progress = solve(alloc, a, b, true, &mut found)?;
+    outcome(alloc, progress, found)
+}

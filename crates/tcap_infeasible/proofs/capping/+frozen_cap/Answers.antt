@@ -2,8 +2,9 @@ use Rattle.std.proofs.Common.{◌<◌, ◌+◌, sym, subst, Ok}
 use Rattle.rewriting.specs.Terms.{size}
 use Rattle.term_core.specs.View.{view}
 use Rattle.unification.proofs.Terms.{size_inside}
+use Rattle.caps.specs.Caps.{node}
 use Rattle.tcap_infeasible.specs.Frozen.{FrozenAnswers}
-use Rattle.tcap_infeasible.proofs.Args.{AreCapped, capped_next, start_low, arg_room, arg_fits, arg_constants, arg_large, leaf_constant, whole_cap}
+use Rattle.tcap_infeasible.proofs.Args.{AreCapped, capped_next, start_low, arg_room, arg_fits, arg_constants, arg_large, leaf_constant, args_held, whole_cap}
 use Rattle.tcap_infeasible.proofs.capping.+frozen_cap.Goals as goal
 
 pub frozen_leaf-requires-clause-constant : goal.frozen_leaf-requires-clause-constant
@@ -43,3 +44,12 @@ pub returns-after-loop-arg : goal.returns-after-loop-arg
 returns-after-loop-arg t c =
     whole_cap c.args.sys.now c.args.leaf c.args.t.now c.in-Fun.f c.in-Fun.args c.deref-arg-items.result.now c.loop-arg.arg-index c.loop-arg.capped.items c.args.next.now c.loop-arg.next c.topped.new.next c.topped.result c.in-Fun.is c.deref-arg-items.ensures.value c.loop-arg-test.false
     c.loop-arg.invariant c.requires.fit c.requires.low c.requires.constants c.topped.ensures
+
+pub topped-requires-clause-held : goal.topped-requires-clause-held
+topped-requires-clause-held t c =
+    record {
+      start = c.args.next.now;
+      cap = node c.in-Fun.f c.loop-arg.invariant.shapes;
+      held = args_held c.args.sys.now c.args.leaf c.args.t.now c.in-Fun.f c.in-Fun.args c.deref-arg-items.result.now c.loop-arg.arg-index c.loop-arg.capped.items c.args.next.now c.loop-arg.next c.in-Fun.is c.deref-arg-items.ensures.value c.loop-arg-test.false
+          c.loop-arg.invariant c.requires.fit c.requires.low c.requires.constants;
+    }

@@ -6,4 +6,4 @@ use Rattle.rule_index.proofs.indexed.IndexedSystem.rules_at.Goals as goal
 
 pub returns : goal.returns
 returns c =
-    c.rules_at.ensures ∙ (index_rules c.self.inside.system.now c.self.inside.index c.self.invariant (view c.args.part.now) ∙ ap (λ s. rules_at s (view c.args.part.now)) c.self.view_is)
+    c.rules_at.ensures ∙ (index_rules c.self.inside.system.now c.self.inside.index c.self.invariant.index (view c.args.part.now) ∙ ap (λ s. rules_at s (view c.args.part.now)) c.self.view_is)
