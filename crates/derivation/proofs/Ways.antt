@@ -27,17 +27,6 @@ views-set [] i u = refl
 views-set (t ∷ ts) zero u = refl
 views-set (t ∷ ts) (suc i) u = ap (math.cons (view t)) (views-set ts i u)
 
-pub item_at : (ts : List Term) (i : ℕ) (x y : Term) → x ≡ y → y ≡ get_or ts i y → x ≡ get_or ts i x
-item_at ts i x y same at = subst (λ z. z ≡ get_or ts i z) (sym same) at
-
-pub set_twice : (ts : List Term) (i : ℕ) (a b : Term) → slice_set (slice_set ts i a) i b ≡ slice_set ts i b
-set_twice [] i a b = refl
-set_twice (t ∷ ts) zero a b = refl
-set_twice (t ∷ ts) (suc i) a b = ap (λ us. t ∷ us) (set_twice ts i a b)
-
-pub set_again : (ts : List Term) (i : ℕ) (a b c : Term) → b ≡ c → slice_set (slice_set ts i a) i b ≡ slice_set ts i c
-set_again ts i a b c e = set_twice ts i a b ∙ ap (slice_set ts i) e
-
 module _ (t : Term) (f : ℕ) (v : Vec Term Global) (p rest : List ℕ) (k : ℕ) (is : t ≡ Fun f v) (split : p ≡ k ∷ rest) (there : IsSome (subterm (view t) p)) where
   way : OnWay (view t) k rest
   way = on_way (view t) k rest (subst (λ q. IsSome (subterm (view t) q)) split there)
@@ -60,6 +49,11 @@ module _ (t : Term) (f : ℕ) (v : Vec Term Global) (p rest : List ℕ) (k : ℕ
 
   pub inside : (i : ℕ) (x : Term) → i + 1 ≡ k → x ≡ get_or v.items i x → IsSome (subterm (view x) rest)
   inside i x next e = subst (λ y. IsSome (subterm y rest)) (sym (same i x next e)) way.further
+
+  pub stood : (i : ℕ) (x : Term) → i + 1 ≡ k → x ≡ get_or v.items i x → (u : math.Term) → subterm (view x) rest ≡ Some u → subterm (view t) p ≡ Some u
+  stood i x next e u h =
+      let inner : subterm way.part rest ≡ Some u = subst (λ z. subterm z rest ≡ Some u) (same i x next e) h in
+      ap (subterm (view t)) split ∙ rw way.here inner
 
   pub whole : (w : Vec Term Global) (i : ℕ) (x y : Term) (u : math.Term) → i + 1 ≡ k → x ≡ get_or v.items i x → w.items ≡ slice_set v.items i y
       → replace (view x) rest u ≡ Some (view y) → replace (view t) p u ≡ Some (view (Fun f w))

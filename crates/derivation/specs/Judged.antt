@@ -10,6 +10,7 @@ use Rattle.rewriting.specs.Rules.{Rule}
 use Rattle.certificates.specs.Sizes.{DoConditionsFit}
 use Rattle.term_core.specs.View.{view}
 use Rattle.derivation.specs.declared.places.Counted.{Counted}
+use Rattle.derivation.specs.declared.places.Opened.{Opened}
 use Rattle.derivation.specs.declared.instances.Found.{Found}
 
 -- the instance of a term is none: a variable has no value, or the instance does not fit
@@ -23,21 +24,28 @@ pub record IsInstance (b : Bindings) (t u : math.Term) : Type 0 where
   pub is : u ≡ apply (values_of b) t
   pub fits : math.Fits u
 
--- the least match of a pattern at the position, and the number of nodes there
-pub record IsMatch (pattern t : math.Term) (p : Position) (found : Found) : Type 0 where
-  pub part : math.Term
-  pub stands : subterm t p ≡ Some part
-  pub matches : IsLeastMatch empty found.values pattern part
-  pub nodes : math.size part ≡ found.nodes
-
--- no match there
-abbrev pub IsUnmatchedAt : math.Term → math.Term → Position → Type 0
-IsUnmatchedAt pattern t p = (subterm t p ≡ None) ⊎ ((part : math.Term) × (subterm t p ≡ Some part) × HasNoMatch empty pattern part)
-
 -- a term that fits, with its number of nodes
 pub record IsCounted (u : Counted) : Type 0 where
   pub nodes : math.size (view u.term) ≡ u.nodes
   pub fits : math.Fits (view u.term)
+
+-- what stands at the position, and the term with a variable there
+pub record IsOpened (t : math.Term) (p : Position) (o : Opened) : Type 0 where
+  pub part : subterm t p ≡ Some (view o.part)
+  pub rest : replace t p (math.var 0) ≡ Some (view o.rest.term)
+  pub counted : IsCounted o.rest
+
+-- the least match of a pattern at the position, and the term with a variable there
+pub record IsMatch (pattern t : math.Term) (p : Position) (found : Found) : Type 0 where
+  pub part : math.Term
+  pub stands : subterm t p ≡ Some part
+  pub matches : IsLeastMatch empty found.values pattern part
+  pub rest : replace t p (math.var 0) ≡ Some (view found.rest.term)
+  pub counted : IsCounted found.rest
+
+-- no match there
+abbrev pub IsUnmatchedAt : math.Term → math.Term → Position → Type 0
+IsUnmatchedAt pattern t p = (subterm t p ≡ None) ⊎ ((part : math.Term) × (subterm t p ≡ Some part) × HasNoMatch empty pattern part)
 
 -- the subterm at the position has a number of nodes
 abbrev pub HasSizeAt : math.Term → Position → ℕ → Type 0

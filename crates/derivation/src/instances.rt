@@ -7,13 +7,14 @@ ghost use Rattle.certificates.specs.Reasons.{no_redex};
 ghost use Rattle.term_core.specs.View.{view};
 ghost use Rattle.term_core.specs.RuleView.{rule_view};
 ghost use Rattle.derivation.specs.Errors.{Judged};
-ghost use Rattle.derivation.specs.Judged.{HasNoInstance, IsInstance, IsMatch, IsUnmatchedAt, HasSizeAt, IsJudgable};
+ghost use Rattle.derivation.specs.Judged.{HasNoInstance, IsInstance, IsMatch, IsUnmatchedAt, IsCounted, IsJudgable};
 
 use crate::errors::{ReplayError, here};
+use crate::places::{Counted, Opened, open_at};
 use cert_model::StepReason;
-use matching::{Match, match_term};
+use matching::{Match, match_owned};
 use std::alloc::Global;
-use term_core::{Rule, Subst, System, Term, TermError, size, subterm};
+use term_core::{Rule, Subst, System, Term, TermError};
 
 // The rule with a number.
 pub fn rule_at(sys: &System, number: u32) -> Option<&Rule>
@@ -41,26 +42,38 @@ pub fn instance(alloc: Global, values: &Subst, t: &Term) -> Result<Term, ReplayE
     }
 }
 
-// A rule's match at a position, and the number of nodes there.
+// The same, into which the values are moved.
+pub fn contractum(alloc: Global, values: Subst, right: &Term) -> Result<Term, ReplayError>
+    requires { math.Fits (view right.now) }
+    ensures { Judged (λ u. IsInstance values (view right.now) (view u)) (λ path reason. (path ≡ []) × HasNoInstance values (view right.now) reason) result }
+{
+    if !values.covers(right) {
+        return Err(here(alloc, StepReason::Unbound));
+    }
+    match values.into_instance(alloc, right) {
+        Ok(u) => Ok(u),
+        Err(TermError::NoMemory) => Err(ReplayError::NoMemory),
+        Err(_) => Err(here(alloc, StepReason::TooLarge)),
+    }
+}
+
+// A rule's match at a position, and the term without what stood there.
 #[derive(Drop)]
 pub struct Found {
     pub values: Subst,
-    pub nodes: u32,
+    pub rest: Counted,
 }
 
 // The match of a left side at a position.
-pub fn found_at(alloc: Global, left: &Term, t: &Term, p: &[u32]) -> Result<Found, ReplayError>
-    requires { math.Fits (view t.now) }
-    ensures { Judged (λ f. IsMatch (view left.now) (view t.now) p.now f) (λ path reason. (path ≡ []) × (reason ≡ no_redex) × IsUnmatchedAt (view left.now) (view t.now) p.now) result }
+pub fn found_at(alloc: Global, left: &Term, t: Counted, p: &[u32]) -> Result<Found, ReplayError>
+    requires { IsCounted t }
+    ensures { Judged (λ f. IsMatch (view left.now) (view t.term) p.now f) (λ path reason. (path ≡ []) × (reason ≡ no_redex) × IsUnmatchedAt (view left.now) (view t.term) p.now) result }
 {
-    let Some(part) = subterm(t, p) else {
+    let Some(Opened { part, rest }) = open_at(t, p) else {
         return Err(here(alloc, StepReason::NoRedex));
     };
-    match match_term(alloc, left, part)? {
-        Match::Bound(values) => Ok(Found {
-            values,
-            nodes: size(part),
-        }),
+    match match_owned(Subst::new(alloc), left, part)? {
+        Match::Bound(values) => Ok(Found { values, rest }),
         Match::Unmatched => Err(here(alloc, StepReason::NoRedex)),
     }
 }

@@ -17,7 +17,7 @@ use crate::instances::{found_at, instance, rule_at};
 use crate::places::Counted;
 use crate::steps::{by_hypothesis, contracted};
 use cert_model::{Derivation, Step, StepReason};
-use matching::{Match, match_onto};
+use matching::{Match, match_owned};
 use std::alloc::Global;
 use term_core::{Cond, Subst, System, Term, size, try_clone};
 
@@ -32,15 +32,10 @@ fn condition_start(alloc: Global, values: &Subst, left: &Term) -> Result<Counted
 }
 
 // The values with those that make the right side of a condition equal the end of its derivation.
-fn values_after(
-    alloc: Global,
-    values: &Subst,
-    right: &Term,
-    end: &Term,
-) -> Result<Subst, ReplayError>
-    ensures { Judged (λ after. IsLeastMatch values.now after (view right.now) (view end.now)) (λ path reason. (path ≡ []) × (reason ≡ condition_fails) × HasNoMatch values.now (view right.now) (view end.now)) result }
+fn values_after(alloc: Global, values: Subst, right: &Term, end: Term) -> Result<Subst, ReplayError>
+    ensures { Judged (λ after. IsLeastMatch values after (view right.now) (view end)) (λ path reason. (path ≡ []) × (reason ≡ condition_fails) × HasNoMatch values (view right.now) (view end)) result }
 {
-    match match_onto(alloc, values, right, end)? {
+    match match_owned(values, right, end)? {
         Match::Bound(after) => Ok(after),
         Match::Unmatched => Err(here(alloc, StepReason::ConditionFails)),
     }
@@ -75,7 +70,7 @@ fn values_met(
             Ok(end) => end,
             Err(e) => return Err(below(number, e)),
         };
-        values = match values_after(alloc, &values, &cond.right, &end.term) {
+        values = match values_after(alloc, values, &cond.right, end.term) {
             Ok(after) => after,
             Err(e) => return Err(below(number, e)),
         };
@@ -102,12 +97,12 @@ fn after_step(
             let Some(rule) = rule_at(sys, *rule) else {
                 return Err(here(alloc, StepReason::NoSuchRule));
             };
-            let found = found_at(alloc, &rule.left, &t.term, pos)?;
+            let found = found_at(alloc, &rule.left, t, pos)?;
             if conds.len() != rule.conds.len() {
                 return Err(here(alloc, StepReason::WrongCount));
             }
             let values = values_met(alloc, conds, sys, hyps, &rule.conds, found.values)?;
-            contracted(alloc, &rule.right, &values, t, pos, found.nodes)
+            contracted(alloc, &rule.right, values, found.rest, pos)
         }
         Step::Hyp { number, pos } => by_hypothesis(alloc, hyps, t, *number, pos),
     }

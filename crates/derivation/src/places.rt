@@ -1,11 +1,11 @@
-ghost use Rattle.std.specs.Prelude.{◌≡◌, Some, ℕ, IsSome, IfSome, IfNone};
+ghost use Rattle.std.specs.Prelude.{◌≡◌, Some, None, ℕ, IsSome, IfSome, IfNone};
 ghost use Rattle.rewriting.specs.Terms as math;
 ghost use Rattle.rewriting.specs.Positions as position;
 ghost use Rattle.term_core.specs.View.{view};
-ghost use Rattle.derivation.specs.Judged.{IsCounted, HasSizeAt};
+ghost use Rattle.derivation.specs.Judged.{IsCounted, IsOpened, HasSizeAt};
 
 use std::mem;
-use term_core::{MAX_DEPTH, MAX_NODES, Term, depth, size};
+use term_core::{MAX_DEPTH, MAX_NODES, Term, room_after, size, subterm};
 
 // A term, and the number of its nodes.
 #[derive(Debug, Drop)]
@@ -14,40 +14,60 @@ pub struct Counted {
     pub nodes: u32,
 }
 
-// The term with another one at a position.
-fn put(t: Term, p: &[u32], part: Term) -> Term
-    requires there { IsSome (position.subterm (view t) p.now) }
-    ensures { position.replace (view t) p.now (view part) ≡ Some (view result) }
+// Puts another term at a position; what stood there.
+fn exchange(t: &mut Term, p: &[u32], part: Term) -> Term
+    requires there { IsSome (position.subterm (view t.old) p.now) }
+    ensures was { position.subterm (view t.old) p.now ≡ Some (view result) }
+    ensures put { position.replace (view t.old) p.now (view part) ≡ Some (view t.new) }
 {
     let Some((k, rest)) = p.split_first() else {
-        return part;
+        return mem::replace(t, part);
     };
-    match t {
-        Term::Var(x) => Term::Var(x),
+    match mem::replace(t, Term::Var(0)) {
+        Term::Var(_) => part,
         Term::Fun(f, mut args) => {
-            let at = *k as usize - 1;
-            let inner = mem::replace(&mut args[at], Term::Var(0));
-            let part = put(inner, rest, part);
-            let _hole = mem::replace(&mut args[at], part);
-            Term::Fun(f, args)
+            let was = exchange(&mut args[*k as usize - 1], rest, part);
+            *t = Term::Fun(f, args);
+            was
         }
     }
+}
+
+// A term that was taken out, and the whole with a variable in its place.
+#[derive(Drop)]
+pub struct Opened {
+    pub part: Term,
+    pub rest: Counted,
+}
+
+// Takes out what stands at a position.
+pub fn open_at(t: Counted, p: &[u32]) -> Option<Opened>
+    requires { IsCounted t }
+    ensures some { IfSome result (λ o. IsOpened (view t.term) p.now o) }
+    ensures none { IfNone result (position.subterm (view t.term) p.now ≡ None) }
+{
+    let was = size(subterm(&t.term, p)?);
+    let mut term = t.term;
+    let part = exchange(&mut term, p, Term::Var(0));
+    let nodes = t.nodes - was + 1;
+    Some(Opened {
+        part,
+        rest: Counted { term, nodes },
+    })
 }
 
 // The term with another one at a position, where that has some nodes now; none where it would not fit.
 pub fn replaced(t: Counted, p: &[u32], was: u32, part: Term) -> Option<Counted>
     requires counted { IsCounted t }
     requires there { HasSizeAt (view t.term) p.now was }
-    requires fits { math.Fits (view part) }
     ensures some { IfSome result (λ u. (position.replace (view t.term) p.now (view part) ≡ Some (view u.term)) × IsCounted u) }
     ensures none { IfNone result ((v : math.Term) → position.replace (view t.term) p.now (view part) ≡ Some v → math.Fits v → ⊥) }
 {
-    let nodes = t.nodes + size(&part) - was;
-    if nodes > MAX_NODES || p.len() + depth(&part) as usize > MAX_DEPTH as usize {
-        return None;
-    }
-    Some(Counted {
-        term: put(t.term, p, part),
-        nodes,
-    })
+    let room = MAX_NODES - (t.nodes - was);
+    let levels = MAX_DEPTH - p.len() as u32;
+    let left = room_after(&part, room, levels)?;
+    let nodes = MAX_NODES - left;
+    let mut term = t.term;
+    let _gone = exchange(&mut term, p, part);
+    Some(Counted { term, nodes })
 }

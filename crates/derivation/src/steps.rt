@@ -10,28 +10,27 @@ ghost use Rattle.derivation.specs.Errors.{Judged};
 ghost use Rattle.derivation.specs.Judged.{IsCounted, HasSizeAt, IsContracted, HasNoContractum};
 
 use crate::errors::{ReplayError, here};
-use crate::instances::instance;
+use crate::instances::contractum;
 use crate::places::{Counted, replaced};
 use cert_model::{StepReason, condition};
 use std::alloc::Global;
 use term_core::{Cond, Subst, Term, equal, size, subterm, try_clone};
 
-// The term with the instance of a right side at a position, where there are some nodes now.
+// The term with the instance of a right side at a position, where a single node is now.
 pub fn contracted(
     alloc: Global,
     right: &Term,
-    values: &Subst,
+    values: Subst,
     t: Counted,
     p: &[u32],
-    was: u32,
 ) -> Result<Counted, ReplayError>
     requires right { math.Fits (view right.now) }
     requires counted { IsCounted t }
-    requires there { HasSizeAt (view t.term) p.now was }
-    ensures { Judged (λ u. IsContracted (view right.now) values.now (view t.term) p.now (view u.term) × IsCounted u) (λ path reason. (path ≡ []) × HasNoContractum (view right.now) values.now (view t.term) p.now reason) result }
+    requires there { HasSizeAt (view t.term) p.now 1 }
+    ensures { Judged (λ u. IsContracted (view right.now) values (view t.term) p.now (view u.term) × IsCounted u) (λ path reason. (path ≡ []) × HasNoContractum (view right.now) values (view t.term) p.now reason) result }
 {
-    let part = instance(alloc, values, right)?;
-    match replaced(t, p, was, part) {
+    let part = contractum(alloc, values, right)?;
+    match replaced(t, p, 1, part) {
         Some(u) => Ok(u),
         None => Err(here(alloc, StepReason::TooLarge)),
     }

@@ -4,3 +4,4 @@ pub mod Progress
 pub mod Parts
 pub mod Unmatched
 pub mod Least
+pub mod Shapes

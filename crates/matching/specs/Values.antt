@@ -30,3 +30,16 @@ abbrev mutual
   AgreeAll value nil (cons s ss) = ⊥
   AgreeAll value (cons p ps) nil = ⊥
   AgreeAll value (cons p ps) (cons s ss) = Agrees value p s × AgreeAll value ps ss
+
+-- the symbols of the pattern stand in the subject, whatever stands at its variables
+abbrev mutual
+  pub HasShape : Term → Term → Type 0
+  HasShape (var x) s = Unit {0}
+  HasShape (app f ps) (var y) = ⊥
+  HasShape (app f ps) (app g ss) = (f ≡ g) × HaveShape ps ss
+
+  pub HaveShape : Terms → Terms → Type 0
+  HaveShape nil nil = Unit {0}
+  HaveShape nil (cons s ss) = ⊥
+  HaveShape (cons p ps) nil = ⊥
+  HaveShape (cons p ps) (cons s ss) = HasShape p s × HaveShape ps ss

@@ -2,7 +2,7 @@ ghost use Rattle.std.specs.Prelude.{◌≡◌, ◌↔◌, ℕ, IsTrue, option_ma
 ghost use Rattle.rewriting.specs.Terms as math;
 ghost use Rattle.rewriting.specs.Substitutions.{Matches};
 ghost use Rattle.term_core.specs.View.{view, views};
-ghost use Rattle.matching.specs.Values.{value_at, value_among, Agrees, AgreeAll};
+ghost use Rattle.matching.specs.Values.{value_at, value_among, Agrees, AgreeAll, HasShape, HaveShape};
 
 use term_core::{Term, equal};
 
@@ -74,10 +74,48 @@ fn agree_all(whole: &Term, onto: &Term, patterns: &[Term], subjects: &[Term]) ->
     agree_all(whole, onto, patterns, subjects)
 }
 
+// Whether the symbols of the pattern stand in the subject, whatever stands at its variables.
+#[cycle(shape)]
+#[tactic(auto, using(crate::proofs::Sizes::size_pos))]
+fn has_shape(pattern: &Term, subject: &Term) -> bool
+    ensures { IsTrue result ↔ HasShape (view pattern.now) (view subject.now) }
+{
+    match (pattern, subject) {
+        (Term::Var(_), _) => true,
+        (Term::Fun(f, patterns), Term::Fun(g, subjects)) => {
+            if *f != *g {
+                return false;
+            }
+            have_shape(patterns, subjects)
+        }
+        _ => false,
+    }
+}
+
+#[cycle(shape)]
+#[tactic(auto, using(crate::proofs::Sizes::size_pos))]
+fn have_shape(patterns: &[Term], subjects: &[Term]) -> bool
+    ensures { IsTrue result ↔ HaveShape (views patterns.now) (views subjects.now) }
+{
+    let [pattern, patterns @ ..] = patterns else {
+        return subjects.is_empty();
+    };
+    let [subject, subjects @ ..] = subjects else {
+        return false;
+    };
+    if !has_shape(pattern, subject) {
+        return false;
+    }
+    have_shape(patterns, subjects)
+}
+
 /// Whether the subject is an instance of the pattern. Nothing is built, and no memory is asked for.
-#[tactic(auto, using(crate::proofs::SideBySide::matches_where, crate::proofs::SideBySide::agrees_where))]
 pub fn matches(pattern: &Term, subject: &Term) -> bool
     ensures { IsTrue result ↔ Matches (view pattern.now) (view subject.now) }
 {
+    // The symbols come first, since what stands at variables may be large.
+    if !has_shape(pattern, subject) {
+        return false;
+    }
     agrees(pattern, subject, pattern, subject)
 }

@@ -11,10 +11,12 @@ ghost use Rattle.matching.specs.Answers.{MatchAnswers};
 mod finding;
 mod instances;
 mod normal;
+mod owned;
 
 use finding::match_into;
 pub use instances::matches;
 pub use normal::matches_nowhere;
+pub use owned::match_owned;
 use std::alloc::Global;
 use term_core::{NoMemory, Subst, Term};
 

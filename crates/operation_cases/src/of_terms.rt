@@ -1,7 +1,7 @@
 //! Answers of calls on terms.
 
 use crate::of_numbers::numbers_of;
-use matching::{Match, match_onto, match_term};
+use matching::{Match, match_onto, match_owned, match_term};
 use renumbering::Numbering;
 use std::alloc::Global;
 use std::io;
@@ -45,8 +45,10 @@ pub fn print_call(rt: &HostRuntime, call: &str, terms: &[Term]) -> io::Result<()
     match name {
         "replace" => print_replaced(rt, numbers, t, u),
         "apply" => print_applied(rt, numbers, t, u),
+        "moved" => print_moved(rt, numbers, t, u),
         "match" => println!(rt; "{:?}", match_term(rt.alloc(), t, u)),
         "onto" => print_matched(rt, numbers, t, u),
+        "owned" => print_owned(rt, numbers, t, u),
         "unify" => println!(rt; "{:?}", unify_terms(rt.alloc(), t, u)),
         _ => print_unified(rt, numbers, t, u),
     }
@@ -79,6 +81,22 @@ fn print_applied(rt: &HostRuntime, numbers: &str, t: &Term, u: &Term) -> io::Res
     println!(rt; "{:?}", applied(rt.alloc(), variable, t, u))
 }
 
+// The first term under variable 0 bound to the second term, and variable 1 to the variable.
+fn moved(alloc: Global, variable: u32, t: &Term, u: &Term) -> Result<Term, TermError> {
+    let mut values = Subst::new(alloc);
+    values.bind(0, try_clone(alloc, u)?)?;
+    values.bind(1, Term::Var(variable))?;
+    if !fits(t) {
+        return Err(TermError::TooLarge);
+    }
+    values.into_instance(alloc, t)
+}
+
+fn print_moved(rt: &HostRuntime, numbers: &str, t: &Term, u: &Term) -> io::Result<()> {
+    let variable = numbers.parse().unwrap_or(0);
+    println!(rt; "{:?}", moved(rt.alloc(), variable, t, u))
+}
+
 // Variable 0 is already bound to the variable.
 fn matched(alloc: Global, variable: u32, t: &Term, u: &Term) -> Result<Match, NoMemory> {
     let mut start = Subst::new(alloc);
@@ -89,6 +107,18 @@ fn matched(alloc: Global, variable: u32, t: &Term, u: &Term) -> Result<Match, No
 fn print_matched(rt: &HostRuntime, numbers: &str, t: &Term, u: &Term) -> io::Result<()> {
     let variable = numbers.parse().unwrap_or(0);
     println!(rt; "{:?}", matched(rt.alloc(), variable, t, u))
+}
+
+// The same, of values and a copy of the second term that are used up.
+fn owned(alloc: Global, variable: u32, t: &Term, u: &Term) -> Result<Match, NoMemory> {
+    let mut start = Subst::new(alloc);
+    start.bind(0, Term::Var(variable))?;
+    match_owned(start, t, try_clone(alloc, u)?)
+}
+
+fn print_owned(rt: &HostRuntime, numbers: &str, t: &Term, u: &Term) -> io::Result<()> {
+    let variable = numbers.parse().unwrap_or(0);
+    println!(rt; "{:?}", owned(rt.alloc(), variable, t, u))
 }
 
 // The arguments of two terms, unified one after the other.

@@ -28,11 +28,11 @@ size_apply-Fun s t f v is = ap (λ u. math.size (apply s u)) (ap view is ∙ vie
 pub depth_apply-Fun : (s : ℕ → math.Term) (t : Term) (f : ℕ) (v : Vec Term Global) → t ≡ Fun f v → math.depth (apply s (view t)) ≡ suc (math.depth_all (apply_all s (views v.items)))
 depth_apply-Fun s t f v is = ap (λ u. math.depth (apply s u)) (ap view is ∙ view-Fun f v)
 
-size_some : (t : math.Term) → 1 ≤ math.size t
+pub size_some : (t : math.Term) → 1 ≤ math.size t
 size_some (math.var x) = omega arith
 size_some (math.app f ts) = omega arith
 
-depth_some : (t : math.Term) → 1 ≤ math.depth t
+pub depth_some : (t : math.Term) → 1 ≤ math.depth t
 depth_some (math.var x) = omega arith
 depth_some (math.app f ts) = omega arith
 

@@ -10,3 +10,5 @@ pub mod Rules
 pub mod Covers
 pub mod Counting
 pub mod Entries
+pub mod Noting
+pub mod Moving

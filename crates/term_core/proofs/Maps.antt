@@ -1,7 +1,7 @@
 -- The entries of a `BTreeMap` beside the finite map that they stand for.
 use Rattle.std.proofs.Common.{◌≡◌, ℕ, Bool, true, false, cond, List, [], ◌∷◌, map, Option, Some, None, option_map, BTreeMap, nat_cmp, Bor, refl, sym, ap, ◌∙◌}
 use Rattle.std.specs.Ordering.{eq_by_cmp}
-use Rattle.std.specs.Cmp.{nat_cmp_total, eq_by_cmp_equiv}
+use Rattle.std.specs.Cmp.{nat_cmp_total, eq_by_cmp_equiv, Equal-is}
 use Rattle.std.specs.Option.{option_copied}
 use Rattle.std.specs.Map.{lookup}
 use Rattle.std.specs.BTreeMap.{is_at, get}
@@ -35,3 +35,10 @@ bound m n k v is =
 pub view_of_ref : (r : Option (Bor Term)) → option_map (λ x. view x.now) r ≡ option_map view (option_copied r)
 view_of_ref None = refl
 view_of_ref (Some x) = refl
+
+pub is_elsewhere : (k q : ℕ) → (q ≡ k → ⊥) → is_at (nat_cmp k) q ≡ false
+is_elsewhere k q apart = go (is_at (nat_cmp k) q) refl
+  where
+    go : (b : Bool) → is_at (nat_cmp k) q ≡ b → is_at (nat_cmp k) q ≡ false
+    go true e = absurd (apart (sym (nat_cmp-IsAntisymmetric k q ((Equal-is (nat_cmp k q)).0 e))))
+    go false e = e

@@ -6,3 +6,4 @@ pub mod SystemView
 pub mod SubstView
 pub mod Counting
 pub mod HeadView
+pub mod Noting

@@ -1,12 +1,16 @@
-ghost use Rattle.std.specs.Prelude.{◌≡◌, ◌+◌, ◌<◌, ◌≤◌, ◌⊎◌, ◌↔◌, IfOk, OnOk, OnErr, IfSome, IfNone, IsTrue, option_map};
+ghost use Rattle.std.specs.Prelude.{◌≡◌, ◌+◌, ◌<◌, ◌≤◌, ◌⊎◌, ◌↔◌, ℕ, IfOk, OnOk, OnErr, IfSome, IfNone, IsTrue, option_map};
 ghost use Rattle.std.specs.FinMap as map;
 ghost use Rattle.rewriting.specs.Terms as math;
+ghost use Rattle.rewriting.specs.Terms.{var};
 ghost use Rattle.rewriting.specs.Substitutions.{apply, values_of};
+ghost use Rattle.rewriting.specs.Variables.{occurrences};
 ghost use Rattle.term_core.specs.View.{view};
+ghost use Rattle.term_core.specs.Noting.{Has, Keeps};
 
 use crate::terms::{MAX_DEPTH, MAX_NODES, NoMemory, Term, TermError, room_after, try_clone};
+use crate::variables::repeated;
 use std::alloc::Global;
-use std::collections::BTreeMap;
+use std::collections::{BTreeMap, BTreeSet};
 use std::marker::Model;
 
 /// A finite map from variables to terms.
@@ -121,6 +125,65 @@ impl Subst {
             return Err(TermError::TooLarge);
         }
         Ok(self.instance(alloc, t)?)
+    }
+
+    // Takes the value of a variable out, where it is bound.
+    fn take(&mut self, x: u32) -> Option<Term>
+        ensures value { option_map view result ≡ map.get self.old x }
+        ensures others { (y : ℕ) → (y ≡ x → ⊥) → map.get self.new y ≡ map.get self.old y }
+    {
+        self.bound.remove(&x)
+    }
+
+    // The value of a variable: itself where it is not bound, and a copy where it is a repeated one.
+    fn value(&mut self, alloc: Global, x: u32, repeated: &BTreeSet<u32>) -> Result<Term, NoMemory>
+        ensures value { IfOk result (λ u. view u ≡ values_of self.old x) }
+        ensures kept { OnOk result (Keeps repeated.now (var x) self.old self.new) }
+    {
+        if repeated.contains(&x) {
+            return match self.get(x) {
+                Some(u) => try_clone(alloc, u),
+                None => Ok(Term::Var(x)),
+            };
+        }
+        match self.take(x) {
+            Some(u) => Ok(u),
+            None => Ok(Term::Var(x)),
+        }
+    }
+
+    // The instance of a term, of any size, into which the values of all but repeated variables are moved.
+    fn moved(&mut self, alloc: Global, t: &Term, repeated: &BTreeSet<u32>) -> Result<Term, NoMemory>
+        requires { (x : ℕ) → 2 ≤ occurrences x (view t.now) → Has repeated.now x }
+        ensures instance { IfOk result (λ u. view u ≡ apply (values_of self.old) (view t.now)) }
+        ensures kept { OnOk result (Keeps repeated.now (view t.now) self.old self.new) }
+    {
+        match t {
+            Term::Var(x) => self.value(alloc, *x, repeated),
+            Term::Fun(f, args) => {
+                let mut out = Vec::with_capacity(alloc, args.len())?;
+                for arg in args {
+                    out.push(self.moved(alloc, arg, repeated)?)?;
+                }
+                Ok(Term::Fun(*f, out))
+            }
+        }
+    }
+
+    /// The instance of a term, as `apply` makes it. The value of a variable that stands once in the term
+    /// is moved and not copied.
+    pub fn into_instance(self, alloc: Global, t: &Term) -> Result<Term, TermError>
+        requires { math.Fits (view t.now) }
+        ensures { ApplyAnswers (apply (values_of self) (view t.now)) result }
+    {
+        match self.room_after(t, MAX_NODES, MAX_DEPTH) {
+            Some(_) => {
+                let repeated = repeated(alloc, t)?;
+                let mut values = self;
+                Ok(values.moved(alloc, t, &repeated)?)
+            }
+            None => Err(TermError::TooLarge),
+        }
     }
 
     /// Whether every variable of a term is bound.

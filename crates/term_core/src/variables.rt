@@ -3,9 +3,11 @@ ghost use Rattle.rewriting.specs.Variables.{with_new, with_variables, variables,
 ghost use Rattle.rewriting.specs.Terms.{var};
 ghost use Rattle.term_core.specs.View.{view};
 ghost use Rattle.term_core.specs.Counting.{bit, with_counts, HasTwo, IsBelow};
+ghost use Rattle.term_core.specs.Noting.{Has, AreNoted};
 
 use crate::terms::{NoMemory, Term};
 use std::alloc::Global;
+use std::collections::BTreeSet;
 
 // Puts a variable last, where the list lacks it.
 fn add(x: u32, out: &mut Vec<u32>) -> Result<(), NoMemory>
@@ -38,6 +40,45 @@ pub fn vars(alloc: Global, t: &Term) -> Result<Vec<u32>, NoMemory>
     let mut out = Vec::new(alloc);
     collect(t, &mut out)?;
     Ok(out)
+}
+
+// Notes a variable, and as a repeated one where it is noted already.
+fn note(x: u32, seen: &mut BTreeSet<u32>, repeated: &mut BTreeSet<u32>) -> Result<(), NoMemory>
+    ensures { OnOk result (AreNoted (λ y. occurrences y (var x)) seen.old seen.new repeated.old repeated.new) }
+{
+    if !seen.insert(x)? {
+        repeated.insert(x)?;
+    }
+    Ok(())
+}
+
+// The same for each variable as it occurs in a term.
+fn note_all(
+    t: &Term,
+    seen: &mut BTreeSet<u32>,
+    repeated: &mut BTreeSet<u32>,
+) -> Result<(), NoMemory>
+    ensures { OnOk result (AreNoted (λ x. occurrences x (view t.now)) seen.old seen.new repeated.old repeated.new) }
+{
+    match t {
+        Term::Var(x) => note(*x, seen, repeated),
+        Term::Fun(_, args) => {
+            for arg in args {
+                note_all(arg, seen, repeated)?;
+            }
+            Ok(())
+        }
+    }
+}
+
+// Variables of a term, and among them all that occur twice or more often.
+pub(crate) fn repeated(alloc: Global, t: &Term) -> Result<BTreeSet<u32>, NoMemory>
+    ensures { IfOk result (λ xs. (x : ℕ) → 2 ≤ occurrences x (view t.now) → Has xs x) }
+{
+    let mut seen = BTreeSet::new(alloc);
+    let mut repeated = BTreeSet::new(alloc);
+    note_all(t, &mut seen, &mut repeated)?;
+    Ok(repeated)
 }
 
 // The variables that one pass of `is_linear` counts: so many numbers in a row.

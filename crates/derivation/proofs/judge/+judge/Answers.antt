@@ -7,11 +7,12 @@ use Rattle.rewriting.specs.Matching.{IsLeastMatch, HasNoMatch}
 use Rattle.term_core.specs.View.{view}
 use Rattle.term_core.specs.RuleView.{condition_view, rule_view}
 use Rattle.cert_model.specs.DerivationView.{derivation_view, step_view}
-use Rattle.derivation.specs.Judged.{IsCounted, IsMatch, IsUnmatchedAt, IsContracted, HasNoContractum, IsInstance, HasNoInstance}
+use Rattle.derivation.specs.Judged.{IsCounted, IsMatch, IsUnmatchedAt, IsContracted, HasNoContractum, HasSizeAt, IsInstance, HasNoInstance}
 use Rattle.derivation.proofs.Judging.{judged_here, judged_passed, judged_map, judged_below}
 use Rattle.derivation.proofs.Shown.{shown_rule, counted_derivations, counted_conditions, view-Derivation, step_count_of, picked}
 use Rattle.derivation.proofs.Loops.{Running, run_begins, no_start, bad_inside, differs, fulfilled}
 use Rattle.derivation.proofs.Progress.{next_running, failing_step, short_rest, next_meeting, failing_condition, fits_rest, short_derivations}
+use Rattle.derivation.proofs.Contracting.{open_size, contracted_back, uncontracted_back}
 use Rattle.derivation.proofs.OneStep.{absent_rule, unmatched, miscounted, unmet, stepped, uncontracted}
 use Rattle.derivation.proofs.judge.+judge.Goals as goal
 
@@ -87,17 +88,24 @@ after_step-returns-in_ok-values-in-Rule t c =
     let values = c.in_ok-values-in-Rule.values in
     let met : AreMet sys hyps found.values r.conditions ds values =
     subst₂ (λ cs xs. AreMet sys hyps found.values (map condition_view cs) (derivations_of (map derivation_view xs)) values) c.deref-in-Rule-2.ensures.value c.deref-in-Rule.ensures.value c.in_ok-values-in-Rule.ensures in
-    judged_map (λ u. IsContracted r.right values term c.deref-in-Rule-3.result.now (view u.term) × IsCounted u) (λ path reason. (path ≡ []) × HasNoContractum r.right values term c.deref-in-Rule-3.result.now reason)
+    let rest = view found.rest.term in
+    judged_map (λ u. IsContracted r.right values rest c.deref-in-Rule-3.result.now (view u.term) × IsCounted u) (λ path reason. (path ≡ []) × HasNoContractum r.right values rest c.deref-in-Rule-3.result.now reason)
     (λ u. StepsTo sys hyps term s (view u.term) × IsCounted u) (StepFails sys hyps term s)
     c.contracted.result
     (λ u h. (
       stepped sys hyps term s c.in-Rule.rule c.in-Rule.pos.items ds is r c.in-Some.ensures.rule found m values met (view u.term)
-          (subst (λ q. IsContracted r.right values term q (view u.term)) c.deref-in-Rule-3.ensures.value h.0) h.1.fits,
+          (contracted_back term rest m.part c.in-Rule.pos.items m.stands m.rest r.right values (view u.term) (subst (λ q. IsContracted r.right values rest q (view u.term)) c.deref-in-Rule-3.ensures.value h.0)) h.1.fits,
       h.1,
     ))
     (λ path reason h. uncontracted sys hyps term s c.in-Rule.rule c.in-Rule.pos.items ds is r c.in-Some.ensures.rule found m values met path reason
-    (subst (λ q. (path ≡ []) × HasNoContractum r.right values term q reason) c.deref-in-Rule-3.ensures.value h))
+    (let g = subst (λ q. (path ≡ []) × HasNoContractum r.right values rest q reason) c.deref-in-Rule-3.ensures.value h in (g.0, uncontracted_back term rest m.part c.in-Rule.pos.items m.stands m.rest r.right values reason g.1)))
     c.contracted.ensures
+
+pub after_step-contracted-requires-clause-there : goal.after_step-contracted-requires-clause-there
+after_step-contracted-requires-clause-there t c =
+    let found = c.in_ok-found-in-Rule.found in
+    let m = c.in_ok-found-in-Rule.ensures in
+    subst (λ q. HasSizeAt (view found.rest.term) q 1) (c.deref.ensures.value ∙ sym c.deref-in-Rule-3.ensures.value) (open_size (view c.args.t.term) (view found.rest.term) m.part c.deref.result.now m.stands m.rest)
 
 pub run-loop-step-init : goal.run-loop-step-init
 run-loop-step-init t c =

@@ -1,45 +1,64 @@
-use Rattle.std.proofs.Common.{arith}
+use Rattle.std.proofs.Common.{ℕ, ◌<◌, ◌≤◌, ◌⊎◌, inl, inr, arith}
 use Rattle.term_core.specs.View.{view}
+use Rattle.term_core.proofs.Numbers.{none_holds}
 use Rattle.certificates.proofs.Growth.{subterm_smaller, replaced_few, replaced_shallow, replaced_fits, size_replace}
 use Rattle.derivation.proofs.places.replaced.Goals as goal
-use Rattle.derivation.proofs.places.replaced.Goals.{then-nodes-gt-MAX_NODES-via-then-nodes-gt-MAX_NODES, then-nodes-gt-MAX_NODES-via-else-nodes-gt-MAX_NODES+then-p-depth}
 
-pub overflow_sub-nodes : goal.overflow_sub-nodes
-overflow_sub-nodes c =
+too_much : (a b c d : ℕ) → (a < b) ⊎ (c < d) → b ≤ a → d ≤ c → ⊥
+too_much a b c d (inl h) k l = omega (arith, h, k)
+too_much a b c d (inr h) k l = omega (arith, h, l)
+
+pub overflow_sub-room : goal.overflow_sub-room
+overflow_sub-room c =
     let h = c.requires.there in
     let less = (subterm_smaller (view c.args.t.term) c.args.p.now h.0 h.1).1 in
     let was = h.2 in
     let all = c.requires.counted.nodes in
     omega (arith, less, was, all)
 
-pub returns-then-nodes-gt-MAX_NODES-clause-none : goal.returns-then-nodes-gt-MAX_NODES-clause-none
-returns-then-nodes-gt-MAX_NODES-clause-none c =
-    λ v put fits.
+pub overflow_cast-levels : goal.overflow_cast-levels
+overflow_cast-levels c =
     let h = c.requires.there in
+    let deep = (subterm_smaller (view c.args.t.term) c.args.p.now h.0 h.1).0 in
+    let levels = c.requires.counted.fits.levels in
+    omega (arith, deep, levels)
+
+pub overflow_sub-levels : goal.overflow_sub-levels
+overflow_sub-levels c =
+    let h = c.requires.there in
+    let deep = (subterm_smaller (view c.args.t.term) c.args.p.now h.0 h.1).0 in
+    let levels = c.requires.counted.fits.levels in
+    omega (arith, deep, levels)
+
+pub returns-in_err-left-clause-none : goal.returns-in_err-left-clause-none
+returns-in_err-left-clause-none c =
+    none_holds c.from_residual.result (λ v put fits.
+    let h = c.requires.there in
+    let less = (subterm_smaller (view c.args.t.term) c.args.p.now h.0 h.1).1 in
     let was = h.2 in
     let all = c.requires.counted.nodes in
-    let new = c.size.ensures in
+    let nodes = c.requires.counted.fits.nodes in
     let few = replaced_few (view c.args.t.term) c.args.p.now h.0 (view c.args.part) v h.1 put fits in
     let shallow = replaced_shallow (view c.args.t.term) c.args.p.now (view c.args.part) v put fits in
-    elim c.then-nodes-gt-MAX_NODES.branch [
-      | then-nodes-gt-MAX_NODES-via-then-nodes-gt-MAX_NODES w ↦ (let many = w.if-nodes-gt-MAX_NODES.true in omega (arith, many, was, all, new, few))
-      | then-nodes-gt-MAX_NODES-via-else-nodes-gt-MAX_NODES+then-p-depth w ↦ (let deep = w.if-p-depth.true in let levels = w.depth.ensures in omega (arith, deep, levels, shallow))
-    ]
+    too_much _ _ _ _ c.in_err-left.ensures.none (omega (arith, few, was, all, less, nodes)) (omega (arith, shallow)))
 
 pub returns-clause-some : goal.returns-clause-some
 returns-clause-some c =
     let h = c.requires.there in
+    let less = (subterm_smaller (view c.args.t.term) c.args.p.now h.0 h.1).1 in
+    let deep = (subterm_smaller (view c.args.t.term) c.args.p.now h.0 h.1).0 in
     let was = h.2 in
     let all = c.requires.counted.nodes in
-    let new = c.size.ensures in
-    let put = c.put.ensures in
-    let few = c.if-nodes-gt-MAX_NODES.false in
-    let shallow = c.if-p-depth.false in
-    let levels = c.depth.ensures in
-    let grown = size_replace (view c.args.t.term) c.args.p.now h.0 (view c.args.part) (view c.put.result) h.1 put in (
+    let fits = c.requires.counted.fits in
+    let nodes = fits.nodes in
+    let levels = fits.levels in
+    let room = c.in_ok-left.ensures.nodes in
+    let shallow = c.in_ok-left.ensures.levels in
+    let put = c.exchange-gone.ensures.put in
+    let grown = size_replace (view c.args.t.term) c.args.p.now h.0 (view c.args.part) (view c.exchange-gone.new.t) h.1 put in (
       put,
       record {
-        nodes = omega (arith, grown, was, all, new);
-        fits = replaced_fits (view c.args.t.term) c.args.p.now h.0 (view c.args.part) (view c.put.result) h.1 put c.requires.counted.fits (omega (arith, few, was, all, new)) (omega (arith, shallow, levels));
+        nodes = omega (arith, grown, was, all, less, nodes, room);
+        fits = replaced_fits (view c.args.t.term) c.args.p.now h.0 (view c.args.part) (view c.exchange-gone.new.t) h.1 put fits (omega (arith, was, all, less, nodes, room)) (omega (arith, deep, levels, shallow));
       },
     )

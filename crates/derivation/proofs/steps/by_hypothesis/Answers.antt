@@ -1,12 +1,10 @@
-use Rattle.std.proofs.Common.{map, sym, subst}
-use Rattle.rewriting.specs.Terms.{Fits}
+use Rattle.std.proofs.Common.{map}
 use Rattle.certificates.specs.Judging.{HypothesisStep, HypothesisFails}
 use Rattle.certificates.specs.Reasons.{no_such_hypothesis, no_redex, too_large}
 use Rattle.term_core.specs.View.{view}
 use Rattle.term_core.specs.RuleView.{condition_view}
 use Rattle.derivation.specs.Judged.{IsCounted}
 use Rattle.derivation.proofs.Judging.{judged_empty}
-use Rattle.certificates.proofs.Sizes.{hypothesis_fits}
 use Rattle.derivation.proofs.Contracting.{hypothesis_absent, hypothesis_elsewhere, hypothesis_large}
 use Rattle.derivation.proofs.steps.by_hypothesis.Goals as goal
 
@@ -33,7 +31,3 @@ returns-in-None c =
     let p = c.args.p.now in
     judged_empty (λ u. HypothesisStep hyps t c.args.number p (view u.term) × IsCounted u) (HypothesisFails hyps t c.args.number p) too_large c.here-in-None.result c.here-in-None.ensures
     (hypothesis_large hyps t c.args.number p (condition_view c.in-Some.h.now) (view c.in_ok-part.part) c.in-Some.ensures c.in-Some-nodes_where.ensures.some.0 c.in_ok-part.ensures c.in-None.ensures.none)
-
-pub replaced-requires-clause-fits : goal.replaced-requires-clause-fits
-replaced-requires-clause-fits c =
-    subst Fits (sym c.in_ok-part.ensures) (hypothesis_fits (map condition_view c.args.hyps.now) c.args.number (condition_view c.in-Some.h.now) (sym c.in-Some.ensures) c.requires.hypotheses).1

@@ -9,7 +9,7 @@ pub returns-in_err-part : goal.returns-in_err-part
 returns-in_err-part c =
     let right = view c.args.right.now in
     let t = view c.args.t.term in
-    judged_passed (λ u. IsInstance c.args.values.now right (view u)) (λ path reason. (path ≡ []) × HasNoInstance c.args.values.now right reason)
-    (λ u. IsContracted right c.args.values.now t c.args.p.now (view u.term) × IsCounted u) (λ path reason. (path ≡ []) × HasNoContractum right c.args.values.now t c.args.p.now reason)
+    judged_passed (λ u. IsInstance c.args.values right (view u)) (λ path reason. (path ≡ []) × HasNoInstance c.args.values right reason)
+    (λ u. IsContracted right c.args.values t c.args.p.now (view u.term) × IsCounted u) (λ path reason. (path ≡ []) × HasNoContractum right c.args.values t c.args.p.now reason)
     c.from_residual.result c.in_err-part.field-0.0 c.from_residual.ensures.0 c.from_residual.ensures.1
-    (none_from_instance right c.args.values.now t c.args.p.now) c.in_err-part.ensures
+    (none_from_instance right c.args.values t c.args.p.now) c.in_err-part.ensures
