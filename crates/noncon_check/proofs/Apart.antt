@@ -22,27 +22,17 @@ use Rattle.validity.specs.declared.CheckError.TheVariants.{Rejected, NoMemory}
 use Rattle.valid_certificates.specs.Peaks.{RedexPlace, IsRedex, IsEarlierRedex, AreRedexes, chosen, IsRedexJudged, AreRefuted, AreNotRefuted, IsMissed, AreNotShownApart, LeadsTo, IsPeakRejected, first_fails, second_fails, not_apart}
 use Rattle.valid_certificates.specs.Laws.{ReachesApart, ValidPeaksReachApart}
 use Rattle.validity.specs.Answers.{PeakAnswers}
-use Rattle.noncon_check.specs.Judged.{IsJudgedAt}
-use Rattle.noncon_check.specs.Redexes.{redexes, AreRedexesOf}
+use Rattle.redex_conditions.specs.Judged.{IsJudgedAt}
+use Rattle.redex_conditions.specs.Redexes.{redexes, AreRedexesOf}
 use Rattle.noncon_check.specs.Walks.{Judgement, IsEntry, IsAbsent, Pass, Fail, PlacesAnswer}
 use Rattle.noncon_check.specs.Ends.{FirstAnswers, SecondAnswers, ApartAnswers, AreJudgedFrom, EndAnswers}
 use Rattle.rewriting.proofs.Lengths.{variables_length}
 use Rattle.rewriting.proofs.Lists.{among_left, among_right, among_either, sorted_append}
-use Rattle.noncon_check.proofs.Numbers.{AreBelow, redex_judged, same_redexes}
-use Rattle.noncon_check.proofs.Places.{redexes_are}
+use Rattle.redex_conditions.proofs.Numbers.{AreBelow, redex_judged, same_redexes}
+use Rattle.redex_conditions.proofs.Places.{redexes_are}
 use Rattle.unifier_run.proofs.Renamed.{size-names}
 use Rattle.noncon_check.proofs.Walks.{pass_append, pass_fail, fail_append, pass_to, fail_to, answers_to}
-
--- a row is no longer than its term
-pub few_names : (t : Term) (before row : List ℕ) (n : ℕ) → before ≡ [] → row ≡ with_variables before t → size t ≤ 10000 → n ≡ length row → n ≤ 10000
-few_names t before row n none is fits e =
-    let bound = variables_length before t in
-    let zero_long : length before ≡ 0 = ap length none in
-    let long = e ∙ ap length is in
-    omega (arith, bound, zero_long, long, fits)
-
-pub numbered_size : (t n : Term) (row : List ℕ) → t ≡ apply (naming row) n → size t ≤ 10000 → size n ≤ 10000
-numbered_size t n row is fits = let same = ap size is ∙ size-names (λ m. get_or row m 0) n in omega (arith, same, fits)
+use Rattle.redex_conditions.proofs.Ends.{both}
 
 -- the redexes of an end, judged by those of the numbered end
 module _ (sys : System) (good : IsSystem sys) (row : List ℕ) (own : ℕ) (long : own ≡ length row) (distinct : AreDistinct row) (t n : Term) (is : t ≡ apply (naming row) n) (below : AreBelow (length row) n) where
@@ -59,13 +49,6 @@ module _ (sys : System) (good : IsSystem sys) (row : List ℕ) (own : ℕ) (long
   end_answers w at es (Ok after) h = judged_from w at es (Ok after) h
   end_answers w at es (Err (Rejected reason)) h = judged_from w at es (Err (Rejected reason)) h
   end_answers w at es (Err NoMemory) h = tt
-
-are_sound : (arities : _) (rs : List program.Rule) → AreRules arities (map rule_view rs) → AreCounted rs → AreSound arities rs
-are_sound arities [] h k = tt
-are_sound arities (r ∷ rs) (h, hs) (k, ks) = (record { rule = h; counted = k }, are_sound arities rs hs ks)
-
-pub rules_sound : (sys : System) (rs : List program.Rule) → IsSystem sys → map rule_view rs ≡ sys.rules → AreCounted rs → AreSound sys.arities rs
-rules_sound sys rs good same counted = are_sound sys.arities rs (subst (AreRules sys.arities) (sym same) good.rules) counted
 
 -- entries from a number on
 drop_some : (es : List Redex) (at : ℕ) (e : Redex) → slice_get es at ≡ Some e → drop at es ≡ e ∷ drop (suc at) es
@@ -88,28 +71,6 @@ module _ (sys : System) (u v : Term) where
   -- what is judged at a place of one of both ends
   abbrev J : Judgement
   J r e o = IsRedexJudged sys (chosen u v r.which) r e o
-
-  -- both lists of redexes make the list of both ends
-  pub both : (rs ss : List RedexPlace) → AreRedexesOf sys 1 u rs → AreRedexesOf sys 2 v ss → AreRedexes sys u v (rs ++ ss)
-  both rs ss a b = record { each = each; whole = whole; sorted = sorted_append IsEarlierRedex rs ss a.sorted b.sorted earlier }
-    where
-      each : (r : RedexPlace) → IsAmong r (rs ++ ss) → IsRedex sys u v r
-      each r l = go (among_either r rs ss l)
-        where
-          go : IsAmong r rs ⊎ IsAmong r ss → IsRedex sys u v r
-          go (inl k) = inl (a.each r k)
-          go (inr k) = inr (b.each r k)
-
-      whole : (r : RedexPlace) → IsRedex sys u v r → IsAmong r (rs ++ ss)
-      whole r (inl (w, m)) =
-          among_left r rs ss
-          (subst (λ (k : ℕ). IsAmong (record { which = k; position = r.position; rule = r.rule }) rs) (sym w) (a.whole r.position r.rule m))
-      whole r (inr (w, m)) =
-          among_right r rs ss
-          (subst (λ (k : ℕ). IsAmong (record { which = k; position = r.position; rule = r.rule }) ss) (sym w) (b.whole r.position r.rule m))
-
-      earlier : (x y : RedexPlace) → IsAmong x rs → IsAmong y ss → IsEarlierRedex x y
-      earlier x y l k = let one = (a.each x l).0 in let two = (b.each y k).0 in inl (omega (arith, one, two))
 
   first_own : (rs : List RedexPlace) → AreRedexesOf sys 1 u rs → (r : RedexPlace) → IsAmong r rs → (e : InfeasibilityEvidence) (o : Option EvidenceReason) → IsRedexJudged sys u r e o → J r e o
   first_own rs a r l e o h = subst (λ k. IsRedexJudged sys (chosen u v k) r e o) (sym (a.each r l).0) h
@@ -157,7 +118,7 @@ module _ (sys : System) (u v : Term) where
           differ,
           (
             h.places ++ ss,
-            both h.places ss h.are (redexes_are sys 2 v good),
+            both sys u v h.places ss h.are (redexes_are sys 2 v good),
             one_fails es 0 (h.places ++ ss) (rejected_view reason)
                 (fail_append J es 0 h.places ss (rejected_view reason) (fail_to (IsRedexJudged sys u) J es 0 h.places (rejected_view reason) (first_own h.places h.are) h.answer)),
           ),
@@ -174,7 +135,7 @@ module _ (sys : System) (u v : Term) where
             differ,
             (
               a.places ++ h.places,
-              both a.places h.places a.are h.are,
+              both sys u v a.places h.places a.are h.are,
               one_fails es 0 (a.places ++ h.places) (rejected_view reason)
                   (pass_fail J es 0 a.places mid h.places (rejected_view reason) first_passes (fail_to (IsRedexJudged sys v) J es mid h.places (rejected_view reason) (second_own h.places h.are) h.answer)),
             ),
@@ -185,10 +146,10 @@ module _ (sys : System) (u v : Term) where
         all_pass = pass_append J es 0 a.places mid b.places after first_passes (pass_to (IsRedexJudged sys v) J es mid b.places after (second_own b.places b.are) b.answer)
 
         pub extra : (n : ℕ) → n ≡ suc after → after < length es → AreNotShownApart sys u v (by_normal_forms es) (redex_extra n)
-        extra n e less = subst (λ k. AreNotShownApart sys u v (by_normal_forms es) (redex_extra k)) (sym e) (inr (differ, (a.places ++ b.places, both a.places b.places a.are b.are, one_extra es 0 (a.places ++ b.places) after all_pass less)))
+        extra n e less = subst (λ k. AreNotShownApart sys u v (by_normal_forms es) (redex_extra k)) (sym e) (inr (differ, (a.places ++ b.places, both sys u v a.places b.places a.are b.are, one_extra es 0 (a.places ++ b.places) after all_pass less)))
 
         pub shown : length es ≤ after → ApartAnswers sys u v (by_normal_forms es) (Ok tt)
-        shown long = (differ, (a.places ++ b.places, both a.places b.places a.are b.are, all_refuted es 0 (a.places ++ b.places) after all_pass long))
+        shown long = (differ, (a.places ++ b.places, both sys u v a.places b.places a.are b.are, all_refuted es 0 (a.places ++ b.places) after all_pass long))
 
 -- the answer for a peak
 pub first_rejected : (sys : System) (peak : Peak) (e : CheckError) → FirstAnswers sys peak (Err e) → PeakAnswers sys peak (Err e)

@@ -1,10 +1,4 @@
-pub mod Deciding
-pub mod Hits
-pub mod Completing
 pub mod Walks
 pub mod Rules
 pub mod Parts
-pub mod Places
-pub mod Renaming
-pub mod Numbers
 pub mod Apart

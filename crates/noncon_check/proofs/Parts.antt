@@ -1,46 +1,39 @@
--- Redexes rule by rule at a part, and part by part in a term.
+-- Entries for redexes, rule by rule at a part, and part by part in a term.
 use Rattle.std.proofs.Common.{ℕ, ◌≡◌, ◌<◌, ◌≤◌, ◌+◌, inl, inr, refl, sym, ap, ◌∙◌, subst, List, [], ◌∷◌, ◌++◌, map, flat_map, length, get_or, drop, Bool, true, false, if◌then◌else◌, Option, Some, Result, Ok, Err}
 use Rattle.std.specs.Borrow.{Bor}
+use Rattle.std.specs.FinMap.{empty}
 use Rattle.std.proofs.lemmas.List.{map-append, get_or_default}
 use Rattle.rewriting.specs.Terms as math
 use Rattle.rewriting.specs.Lists.{IsAmong}
 use Rattle.rewriting.specs.Positions.{Position, subterm}
-use Rattle.rewriting.specs.Rules.{System, rule_at}
+use Rattle.rewriting.specs.Rules.{Rule, System, rule_at}
+use Rattle.rewriting.specs.Substitutions.{Bindings}
+use Rattle.rewriting.specs.Matching.{IsLeastMatch}
 use Rattle.rewriting.proofs.Lists.{among_of_map}
 use Rattle.rule_index.specs.Roots.{rules_at}
 use Rattle.rule_index.specs.Parts.{Part, part, parts, IsNext}
 use Rattle.rule_index.proofs.Standing.{part_stands}
 use Rattle.certificates.specs.Certificates.{Redex}
 use Rattle.certificates.specs.Evidence.{InfeasibilityEvidence}
+use Rattle.certificates.specs.Judging.{RuleMatches}
 use Rattle.certificates.specs.Reasons.{EvidenceReason}
 use Rattle.term_core.specs.View.{view}
 use Rattle.term_core.specs.declared.terms.Term.{Term}
 use Rattle.validity.specs.declared.CheckError.{CheckError}
 use Rattle.valid_certificates.specs.Peaks.{RedexPlace}
-use Rattle.noncon_check.specs.Judged.{IsJudgedOn, IsJudgedAt}
-use Rattle.noncon_check.specs.Redexes.{place, places, hits, is_hit, part_redexes}
+use Rattle.redex_conditions.specs.Judged.{IsJudgedOn, IsJudgedAt}
+use Rattle.redex_conditions.specs.Redexes.{place, places, hits, is_hit, part_redexes}
 use Rattle.noncon_check.specs.Walks.{Judgement, Pass, PlacesAnswer}
-use Rattle.noncon_check.proofs.Completing.{drop_first, drop_end}
+use Rattle.redex_conditions.proofs.Completing.{drop_first, drop_end}
 use Rattle.noncon_check.proofs.Walks.{rest_answers, first_answers, answers_to}
-
--- hits among more numbers
-hits_more : (sys : System) (t : math.Term) (n : ℕ) (ns : List ℕ) → hits sys t (n ∷ ns) ≡ hits sys t (n ∷ []) ++ hits sys t ns
-hits_more sys t n ns = go (is_hit (rule_at sys n) t)
-  where
-    go : (b : Bool) → (if b then n ∷ hits sys t ns else hits sys t ns) ≡ (if b then n ∷ [] else []) ++ hits sys t ns
-    go true = refl
-    go false = refl
+use Rattle.redex_conditions.proofs.Parts.{places_split, AreAhead, ahead_first, ahead_rest, matches_in}
 
 module _ (J : Judgement) (es : List Redex) (sys : System) (w : ℕ) (q : Part) (ns : List ℕ) (i n : ℕ) (low : i < length ns) (here : n ≡ get_or ns i 0) where
   abbrev those : List ℕ → List RedexPlace
   those ms = places sys w q ms
 
-  here_own : n ≡ get_or ns i n
-  here_own = here ∙ get_or_default ns i 0 n low
-
   split : those (drop i ns) ≡ those (n ∷ []) ++ those (drop (i + 1) ns)
-  split =
-      ap those (drop_first ns i n low here_own) ∙ ap (map (place w q.position)) (hits_more sys q.term n (drop (i + 1) ns)) ∙ map-append (place w q.position) (hits sys q.term (n ∷ [])) (hits sys q.term (drop (i + 1) ns))
+  split = places_split sys w q ns i n low here
 
   pub next_rule : (at mid : ℕ) (a : Result ℕ CheckError) → Pass J es at (those (n ∷ [])) mid → PlacesAnswer J es mid (those (drop (i + 1) ns)) a → PlacesAnswer J es at (those (drop i ns)) a
   next_rule at mid a h k = subst (λ rs. PlacesAnswer J es at rs a) (sym split) (rest_answers J es at (those (n ∷ [])) mid (those (drop (i + 1) ns)) a h k)
@@ -51,39 +44,20 @@ module _ (J : Judgement) (es : List Redex) (sys : System) (w : ℕ) (q : Part) (
 pub rules_end : (J : Judgement) (es : List Redex) (sys : System) (w : ℕ) (q : Part) (ns : List ℕ) (i at : ℕ) → length ns ≤ i → PlacesAnswer J es at (places sys w q (drop i ns)) (Ok at)
 rules_end J es sys w q ns i at high = subst (λ ms. PlacesAnswer J es at (places sys w q ms) (Ok at)) (sym (drop_end ns i high)) refl
 
--- the next part, at the position that is told of it
-pub here : (qs rest : List Part) (o : Option (Bor Term)) (t : Bor Term) (p told : Position) → IsNext qs o p rest → o ≡ Some t → told ≡ p → qs ≡ part told (view t.now) ∷ rest
-here qs rest o t p told next is e = subst (λ x. IsNext qs x p rest) is next ∙ ap (λ x. part x (view t.now) ∷ rest) (sym e)
-
--- the parts of a term one by one
 module _ (sys : System) (w own : ℕ) (es : List Redex) (t : math.Term) where
   abbrev J : Judgement
   J = IsJudgedAt sys own t
 
   -- evidence judged for a redex of a part
   judged_in : (q : Part) → IsAmong q (parts t) → (r : RedexPlace) → IsAmong r (part_redexes sys w q) → (e : InfeasibilityEvidence) (o : Option EvidenceReason) → IsJudgedOn sys own q.term r e o → J r e o
-  judged_in q l r m e o h =
-      let there : r.position ≡ q.position = ap (λ x. x.position) (among_of_map (place w q.position) r (hits sys q.term (rules_at sys q.term)) m).2 in
-      record {
-        rule = h.rule;
-        match = h.match;
-        matches = record { is_rule = h.is_rule; redex = q.term; stands = ap (subterm t) there ∙ part_stands t q l; matches = h.matches };
-        judged = h.judged;
-      }
+  judged_in q l r m e o h = record { rule = h.rule; match = h.match; matches = matches_in t sys w q l r m h.rule h.match h.is_rule h.matches; judged = h.judged }
 
   part_judged : (q : Part) → IsAmong q (parts t) → (at : ℕ) (a : Result ℕ CheckError) → PlacesAnswer (IsJudgedOn sys own q.term) es at (part_redexes sys w q) a → PlacesAnswer J es at (part_redexes sys w q) a
   part_judged q l at a h = answers_to (IsJudgedOn sys own q.term) J es at (part_redexes sys w q) a (judged_in q l) h
 
-  -- the parts that are still to come are parts of the term
-  abbrev pub AreAhead : List Part → Type 0
-  AreAhead qs = (q : Part) → IsAmong q qs → IsAmong q (parts t)
-
-  module _ (qs rest : List Part) (q : Part) (split : qs ≡ q ∷ rest) (ahead : AreAhead qs) where
-    pub ahead_rest : AreAhead rest
-    ahead_rest x l = ahead x (subst (IsAmong x) (sym split) (inr l))
-
+  module _ (qs rest : List Part) (q : Part) (split : qs ≡ q ∷ rest) (ahead : AreAhead t qs) where
     first : IsAmong q (parts t)
-    first = ahead q (subst (IsAmong q) (sym split) (inl refl))
+    first = ahead_first t qs rest q split ahead
 
     pub next_part : (at next : ℕ) (a : Result ℕ CheckError) → PlacesAnswer (IsJudgedOn sys own q.term) es at (part_redexes sys w q) (Ok next) → PlacesAnswer J es next (flat_map (part_redexes sys w) rest) a
         → PlacesAnswer J es at (flat_map (part_redexes sys w) qs) a

@@ -1,4 +1,4 @@
--- Rules of a system, and entries of a certificate, by their numbers.
+-- Entries of a certificate by their numbers, and those for a rule at a part.
 use Rattle.std.proofs.Common.{◌≡◌, ℕ, zero, suc, ◌-◌, ◌<◌, List, [], ◌∷◌, length, get_or, map, Option, Some, IsSome, slice_get, refl, sym, ap, ◌∙◌, subst, arith, inl, inr, Bool, true, false, if◌then◌else◌, Result}
 use Rattle.std.proofs.lemmas.Option.{slice_get_within}
 use Rattle.std.proofs.lemmas.List.{length-map}
@@ -22,43 +22,22 @@ use Rattle.certificates.specs.Evidence.{InfeasibilityEvidence}
 use Rattle.certificates.specs.Reasons.{EvidenceReason}
 use Rattle.validity.specs.declared.CheckError.{CheckError}
 use Rattle.valid_certificates.specs.Peaks.{RedexPlace}
-use Rattle.noncon_check.specs.Judged.{match_or_new, AreJudged, IsJudgedOn}
+use Rattle.redex_conditions.specs.Judged.{match_or_new, AreJudged, IsJudgedOn}
 use Rattle.noncon_check.specs.Walks.{Judgement, Pass, PlacesAnswer}
 use Rattle.noncon_check.proofs.Walks.{answers_to}
-use Rattle.noncon_check.specs.Redexes.{hits, is_hit, place, places}
-use Rattle.noncon_check.proofs.Deciding.{match_decided, match_found}
-
-sound_at : (arities : Signature) (rs : List program.Rule) (i : ℕ) (d : program.Rule) → AreSound arities rs → i < length rs → IsSound arities (get_or rs i d)
-sound_at arities [] i d h l = absurd (omega (arith, l))
-sound_at arities (q ∷ rs) zero d h l = h.0
-sound_at arities (q ∷ rs) (suc i) d h l = sound_at arities rs i d h.1 (omega (arith, l))
-
-pub sound_is : (sys : System) (rs : List program.Rule) → map rule_view rs ≡ sys.rules → AreSound sys.arities rs → (n : ℕ) → IsSome (rule_at sys n) → (d : program.Rule) → IsSound sys.arities (get_or rs (n - 1) d)
-sound_is sys rs same sound n h d = sound_at sys.arities rs (n - 1) d sound (number_low sys rs same n h).1
+use Rattle.redex_conditions.specs.Redexes.{hits, is_hit, place, places}
+use Rattle.redex_conditions.proofs.Deciding.{match_decided, match_found}
+use Rattle.redex_conditions.proofs.Rules.{hit_yes, hit_no}
 
 -- entries
 pub entry_low : (es : List program_redex.Redex) (at : ℕ) (e : math.Redex) → slice_get (map redex_view es) at ≡ Some e → at < length es
 entry_low es at e h = let low = slice_get_within (map redex_view es) at e h in let long = length-map es redex_view in omega (arith, low, long)
 
--- a rule that matches is hit
+-- where a rule matches, and where it does not
 module _ (sys : System) (t : Term) (n : ℕ) (r : Rule) (is : rule_at sys n ≡ Some r) where
-  pub hit_yes : (m : Bindings) → IsLeastMatch empty m r.left t → hits sys t (n ∷ []) ≡ n ∷ []
-  hit_yes m h =
-      let yes : is_hit (rule_at sys n) t ≡ true = ap (λ o. is_hit o t) is ∙ match_decided r.left t (values_of m, solved_instance m r.left t h.solves) in
-      ap (λ (b : Bool). if b then n ∷ [] else []) yes
-
-  pub hit_no : HasNoMatch empty r.left t → hits sys t (n ∷ []) ≡ []
-  hit_no none = go (is_hit (rule_at sys n) t) refl
-    where
-      go : (b : Bool) → is_hit (rule_at sys n) t ≡ b → (if b then n ∷ [] else []) ≡ []
-      go false e = refl
-      go true e =
-          let least = instance_matched r.left t (match_found r.left t (sym (ap (λ o. is_hit o t) is) ∙ e)) in
-          absurd (none least.0 least.1.extends least.1.solves)
-
   -- nothing is asked where the rule does not match
   pub unmatched_pass : (J : Judgement) (p : Position) (es : List math.Redex) (w at : ℕ) → HasNoMatch empty r.left t → Pass J es at (places sys w (part p t) (n ∷ [])) at
-  unmatched_pass J p es w at none = subst (λ is. Pass J es at (map (place w p) is) at) (sym (hit_no none)) refl
+  unmatched_pass J p es w at none = subst (λ is. Pass J es at (map (place w p) is) at) (sym (hit_no sys t n r is none)) refl
 
   judged_here : (own w : ℕ) (p : Position) (m : Bindings) → IsLeastMatch empty m r.left t → (q : RedexPlace) → IsAmong q (place w p n ∷ []) → (e : InfeasibilityEvidence) (o : Option EvidenceReason)
       → AreJudged sys (conditions_under (match_or_new own m) r.conditions) e o → IsJudgedOn sys own t q e o
@@ -70,5 +49,5 @@ module _ (sys : System) (t : Term) (n : ℕ) (r : Rule) (is : rule_at sys n ≡ 
       → PlacesAnswer (λ q e o. AreJudged sys (conditions_under (match_or_new own m) r.conditions) e o) es at (place w p n ∷ []) a
       → PlacesAnswer (IsJudgedOn sys own t) es at (places sys w (part p t) (n ∷ [])) a
   matched_answers p es own w at m a h k =
-      subst (λ is. PlacesAnswer (IsJudgedOn sys own t) es at (map (place w p) is) a) (sym (hit_yes m h))
+      subst (λ is. PlacesAnswer (IsJudgedOn sys own t) es at (map (place w p) is) a) (sym (hit_yes sys t n r is m h))
       (answers_to (λ q e o. AreJudged sys (conditions_under (match_or_new own m) r.conditions) e o) (IsJudgedOn sys own t) es at (place w p n ∷ []) a (judged_here own w p m h) k)

@@ -11,7 +11,7 @@ use Rattle.cert_model.specs.ReasonView.{rejected_view}
 use Rattle.validity.specs.declared.CheckError.{CheckError}
 use Rattle.validity.specs.declared.CheckError.TheVariants.{Rejected, NoMemory}
 use Rattle.valid_certificates.specs.Peaks.{RedexPlace, IsRedexJudged, AreShownApart, AreNotShownApart}
-use Rattle.noncon_check.specs.Redexes.{AreRedexesOf}
+use Rattle.redex_conditions.specs.Redexes.{AreRedexesOf}
 use Rattle.noncon_check.specs.Walks.{PlacesAnswer}
 
 -- the derivation leads to the end, which fits

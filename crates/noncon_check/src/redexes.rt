@@ -8,8 +8,8 @@ ghost use Rattle.term_core.specs.RuleView.{rule_view, condition_view};
 ghost use Rattle.term_core.specs.SystemView.{IsSound};
 ghost use Rattle.cert_model.specs.CertificateView.{redex_view};
 ghost use Rattle.valid_certificates.specs.Peaks.{entry_place};
-ghost use Rattle.noncon_check.specs.Redexes.{place, places, part_redexes, redexes};
-ghost use Rattle.noncon_check.specs.Judged.{match_or_new, AreJudged, IsJudgedOn, IsJudgedAt};
+ghost use Rattle.redex_conditions.specs.Redexes.{place, places, part_redexes, redexes};
+ghost use Rattle.redex_conditions.specs.Judged.{match_or_new, AreJudged, IsJudgedOn, IsJudgedAt};
 ghost use Rattle.noncon_check.specs.Walks.{IsAbsent, PlacesAnswer, MissedAnswers};
 ghost use Rattle.noncon_check.specs.Judges.{IsReady};
 

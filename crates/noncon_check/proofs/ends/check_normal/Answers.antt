@@ -7,7 +7,8 @@ use Rattle.term_core.specs.View.{view}
 use Rattle.term_core.proofs.Rules.{handed_on}
 use Rattle.cert_model.specs.CertificateView.{redex_view}
 use Rattle.noncon_check.specs.Ends.{ApartAnswers}
-use Rattle.noncon_check.proofs.Apart.{rules_sound, first_fails_so, second_fails_so, extra, shown}
+use Rattle.noncon_check.proofs.Apart.{first_fails_so, second_fails_so, extra, shown}
+use Rattle.redex_conditions.proofs.Ends.{rules_sound}
 use Rattle.noncon_check.proofs.ends.check_normal.Goals as goal
 
 pub judge_end-requires-clause-ready : goal.judge_end-requires-clause-ready

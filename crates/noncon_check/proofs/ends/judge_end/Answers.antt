@@ -1,5 +1,6 @@
 use Rattle.std.proofs.Common.{arith}
-use Rattle.noncon_check.proofs.Apart.{few_names, numbered_size, end_answers}
+use Rattle.noncon_check.proofs.Apart.{end_answers}
+use Rattle.redex_conditions.proofs.Ends.{few_names, numbered_size}
 use Rattle.noncon_check.proofs.ends.judge_end.Goals as goal
 
 pub overflow_cast-own : goal.overflow_cast-own

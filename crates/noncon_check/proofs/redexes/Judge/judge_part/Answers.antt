@@ -4,8 +4,8 @@ use Rattle.term_core.proofs.Rules.{handed_on}
 use Rattle.cert_model.specs.CertificateView.{redex_view}
 use Rattle.rule_index.specs.Parts.{part}
 use Rattle.rule_index.proofs.Numbers.{number_some}
-use Rattle.noncon_check.specs.Judged.{IsJudgedOn}
-use Rattle.noncon_check.specs.Redexes.{places, part_redexes}
+use Rattle.redex_conditions.specs.Judged.{IsJudgedOn}
+use Rattle.redex_conditions.specs.Redexes.{places, part_redexes}
 use Rattle.noncon_check.specs.Walks.{PlacesAnswer}
 use Rattle.noncon_check.proofs.Parts.{next_rule, rule_fails, rules_end}
 use Rattle.noncon_check.proofs.redexes.Judge.judge_part.Goals as goal

@@ -3,8 +3,8 @@ use Rattle.term_core.specs.View.{view}
 use Rattle.cert_model.specs.CertificateView.{redex_view}
 use Rattle.rule_index.specs.Parts.{part}
 use Rattle.validity.specs.declared.CheckError.{CheckError}
-use Rattle.noncon_check.specs.Judged.{IsJudgedOn}
-use Rattle.noncon_check.specs.Redexes.{places, part_redexes}
+use Rattle.redex_conditions.specs.Judged.{IsJudgedOn}
+use Rattle.redex_conditions.specs.Redexes.{places, part_redexes}
 use Rattle.noncon_check.specs.Walks.{PlacesAnswer}
 use Rattle.noncon_check.proofs.redexes.Judge.judge_part.Given as goal
 

@@ -3,10 +3,11 @@ use Rattle.term_core.specs.View.{view}
 use Rattle.term_core.proofs.Rules.{handed_on}
 use Rattle.cert_model.specs.CertificateView.{redex_view}
 use Rattle.rule_index.specs.Parts.{part}
-use Rattle.noncon_check.specs.Judged.{IsJudgedAt}
-use Rattle.noncon_check.specs.Redexes.{redexes}
+use Rattle.redex_conditions.specs.Judged.{IsJudgedAt}
+use Rattle.redex_conditions.specs.Redexes.{redexes}
 use Rattle.noncon_check.specs.Walks.{PlacesAnswer}
-use Rattle.noncon_check.proofs.Parts.{here, ahead_rest, next_part, part_fails}
+use Rattle.noncon_check.proofs.Parts.{next_part, part_fails}
+use Rattle.redex_conditions.proofs.Parts.{here, ahead_rest}
 use Rattle.noncon_check.proofs.redexes.Judge.judge_parts.Goals as goal
 
 pub returns-in_err-next : goal.returns-in_err-next
@@ -25,6 +26,6 @@ parts-preserved c =
     let es = map redex_view c.args.self.now.entries.now in
     let q = part c.position.result.now (view c.in-Some.part.now) in
     record {
-      ahead = ahead_rest sys c.args.self.now.which c.args.self.now.own es t c.parts.walk.rest c.next.new.self.rest q (here _ _ _ _ _ _ c.in_ok-part.ensures c.in-Some.is c.position.ensures) c.parts.invariant.ahead;
+      ahead = ahead_rest t c.parts.walk.rest c.next.new.self.rest q (here _ _ _ _ _ _ c.in_ok-part.ensures c.in-Some.is c.position.ensures) c.parts.invariant.ahead;
       rest = λ a h. c.parts.invariant.rest a (next_part sys c.args.self.now.which c.args.self.now.own es t c.parts.walk.rest c.next.new.self.rest q (here _ _ _ _ _ _ c.in_ok-part.ensures c.in-Some.is c.position.ensures) c.parts.invariant.ahead c.parts.next c.in_ok-next.next a c.in_ok-next.ensures h);
     }

@@ -2,8 +2,9 @@ use Rattle.std.proofs.Common.{map}
 use Rattle.term_core.specs.View.{view}
 use Rattle.cert_model.specs.CertificateView.{redex_view}
 use Rattle.rule_index.proofs.Numbers.{rule_is}
-use Rattle.noncon_check.specs.Judged.{IsJudgedOn}
-use Rattle.noncon_check.proofs.Rules.{sound_is, unmatched_pass, matched_answers}
+use Rattle.redex_conditions.specs.Judged.{IsJudgedOn}
+use Rattle.noncon_check.proofs.Rules.{unmatched_pass, matched_answers}
+use Rattle.redex_conditions.proofs.Rules.{sound_is}
 use Rattle.noncon_check.proofs.redexes.Judge.judge_rule.Goals as goal
 
 pub judge_entry-requires-clause-sound : goal.judge_entry-requires-clause-sound

@@ -9,8 +9,8 @@ use Rattle.rule_index.specs.Parts.{Part, part, parts}
 use Rattle.rule_index.proofs.Flat.{among_flat, among_of_flat, sorted_flat}
 use Rattle.rule_index.proofs.Standing.{ComesBefore, part_stands, is_part, parts_sorted}
 use Rattle.valid_certificates.specs.Peaks.{RedexPlace, MatchesAt, IsEarlierRedex}
-use Rattle.noncon_check.specs.Redexes.{place, part_redexes, redexes, AreRedexesOf}
-use Rattle.noncon_check.proofs.Hits.{hit_each, part_whole, part_sorted}
+use Rattle.redex_conditions.specs.Redexes.{place, part_redexes, redexes, AreRedexesOf}
+use Rattle.redex_conditions.proofs.Hits.{hit_each, part_whole, part_sorted}
 
 module _ (sys : System) (w : ℕ) (t : Term) where
   abbrev IsAt : RedexPlace → Type 0

@@ -9,8 +9,8 @@ use Rattle.rule_index.specs.Roots.{has_root, rules_with_root}
 use Rattle.rule_index.specs.Parts.{part}
 use Rattle.rule_index.proofs.Walks.{root_of, is_listed, ascending}
 use Rattle.valid_certificates.specs.Peaks.{RedexPlace, MatchesAt, IsEarlierRedex}
-use Rattle.noncon_check.specs.Redexes.{is_hit, hits, place, part_redexes}
-use Rattle.noncon_check.proofs.Deciding.{match_decided, match_found}
+use Rattle.redex_conditions.specs.Redexes.{is_hit, hits, place, part_redexes}
+use Rattle.redex_conditions.proofs.Deciding.{match_decided, match_found}
 use Rattle.rewriting.proofs.Lists.{among_at, before_each}
 
 -- a rule that is hit matches at the root, and the other way round

@@ -1,5 +1,5 @@
 -- The evidence for a redex of a term whose variables are 0 to n - 1: a rule's variables k without value become n + k.
-use Rattle.std.specs.Prelude.{ℕ, ◌≡◌, ◌+◌, ◌⊎◌, List, Option, Some, unwrap_or, Result, Ok, Err, map}
+use Rattle.std.specs.Prelude.{ℕ, ◌≡◌, ◌+◌, ◌⊎◌, List, Option, None, Some, unwrap_or, Result, Ok, Err, map}
 use Rattle.std.specs.FinMap.{get, empty}
 use Rattle.std.specs.Global.{Vec}
 use Rattle.rewriting.specs.Terms as math
@@ -12,8 +12,12 @@ use Rattle.certificates.specs.Evidence.{InfeasibilityEvidence}
 use Rattle.certificates.specs.Judging.{RuleMatches}
 use Rattle.certificates.specs.Reasons.{EvidenceReason, tcap_large}
 use Rattle.certificates.specs.Sizes.{DoConditionsFit}
+use Rattle.rewriting.specs.Signatures.{Signature}
 use Rattle.term_core.specs.RuleView.{condition_view}
+use Rattle.term_core.specs.SystemView.{IsSound}
+use Rattle.term_core.specs.declared.systems.Rule as program
 use Rattle.term_core.specs.declared.systems.Cond.{Cond}
+use Rattle.term_core.specs.declared.terms.NoMemory as memory
 use Rattle.term_core.specs.declared.terms.TermError.{TermError}
 use Rattle.term_core.specs.declared.terms.TermError.TheVariants.{NoPosition, TooLarge, NoMemory}
 use Rattle.valid_certificates.specs.Evidence.{IsInfeasibilityJudged}
@@ -25,6 +29,10 @@ value_or_new n k o = unwrap_or o (var (n + k))
 -- the values of a match, and new variables
 abbrev pub match_or_new : ℕ → Bindings → Substitution
 match_or_new n match k = value_or_new n k (get match k)
+
+-- the rule is as some system has it
+abbrev pub IsOfSystem : program.Rule → Type 0
+IsOfSystem r = (arities : Signature) × IsSound arities r
 
 -- the evidence is judged; conditions of which a side does not fit count as ones with a large cap
 abbrev pub AreJudged : System → List Condition → InfeasibilityEvidence → Option EvidenceReason → Type 0
@@ -57,3 +65,9 @@ InstancesAnswer cs (Ok ds) = (map condition_view ds.items ≡ cs) × DoCondition
 InstancesAnswer cs (Err NoPosition) = ⊥
 InstancesAnswer cs (Err TooLarge) = DoConditionsFit cs → ⊥
 InstancesAnswer cs (Err NoMemory) = Unit {0}
+
+-- the conditions, if each side of each fits
+abbrev pub ConditionsAnswer : List Condition → Result (Option (Vec Cond)) memory.NoMemory → Type 0
+ConditionsAnswer cs (Ok (Some ds)) = (map condition_view ds.items ≡ cs) × DoConditionsFit cs
+ConditionsAnswer cs (Ok None) = DoConditionsFit cs → ⊥
+ConditionsAnswer cs (Err e) = Unit {0}

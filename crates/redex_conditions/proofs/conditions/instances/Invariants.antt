@@ -3,7 +3,7 @@ use Rattle.rewriting.specs.Substitutions.{values_of}
 use Rattle.rewriting.specs.Overlaps.{conditions_under}
 use Rattle.certificates.specs.Sizes.{DoConditionsFit}
 use Rattle.term_core.specs.RuleView.{condition_view}
-use Rattle.noncon_check.proofs.conditions.instances.Given as goal
+use Rattle.redex_conditions.proofs.conditions.instances.Given as goal
 
 abbrev pub invariant-loop-cond : goal.invariant-loop-cond
 invariant-loop-cond l = record {

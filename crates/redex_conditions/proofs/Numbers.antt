@@ -20,10 +20,10 @@ use Rattle.rewriting.proofs.Lists.{distinct_at}
 use Rattle.renumbering.specs.Rows.{naming}
 use Rattle.renumbering.proofs.Spreads.{spread_past, spread_one_to_one, odd_is_spread}
 use Rattle.valid_certificates.proofs.Ends.{unmoved}
-use Rattle.valid_certificates.specs.Peaks.{RedexPlace, MatchesAt, value_or_own, at_redex, IsRedexJudged}
-use Rattle.noncon_check.specs.Judged.{value_or_new, match_or_new, AreJudged, IsJudgedAt}
-use Rattle.noncon_check.specs.Redexes.{AreRedexesOf}
-use Rattle.noncon_check.proofs.Renaming.{are_judged_to}
+use Rattle.valid_certificates.specs.Peaks.{RedexPlace, MatchesAt, value_or_own, at_redex, AreConditionsAt, IsRedexJudged}
+use Rattle.redex_conditions.specs.Judged.{value_or_new, match_or_new, IsJudgedAt}
+use Rattle.redex_conditions.specs.Redexes.{AreRedexesOf}
+use Rattle.redex_conditions.proofs.Renaming.{conditions_renamed, are_judged_to}
 
 nothing_bound : (x : ℕ) (t : Term) → get (empty {R = nat_cmp}) x ≡ Some t → ⊥
 nothing_bound x t e = (let bad : None ≡ Some t = sym (get-empty nat_cmp x) ∙ e in cc)
@@ -177,15 +177,22 @@ module _ (row : List ℕ) (distinct : AreDistinct row) (t n : Term) (is : t ≡ 
       side : (u : Term) → apply a u ≡ apply (spreading row) (apply b u)
       side u = apply-agree a (compose b (spreading row)) u (λ x o. same x) ∙ sym (apply-apply b (spreading row) u)
 
-  -- so evidence is judged alike
+  -- so the conditions at the redex are those at the numbered one, with other variables
+  pub redex_conditions : (sys : System) (r : RedexPlace) (q : Rule) (m : Bindings) → RuleMatches sys n r.rule r.position q m
+      → AreConditionsAt sys t r (conditions_renamed (spread row) (conditions_under (match_or_new (length row) m) q.conditions))
+  redex_conditions sys r q m h =
+      record {
+        rule = q;
+        match = moved (naming row) m;
+        matches = subst (λ z. RuleMatches sys z r.rule r.position q (moved (naming row) m)) (sym is) (moved_matches (naming row) sys n r.rule r.position q m h);
+        are = sym (spread_conditions (at_redex (moved (naming row) m)) (match_or_new (length row) m) (values_spread sys r.rule r.position q m h) q.conditions);
+      }
+
+  -- and evidence is judged alike
   pub redex_judged : (sys : System) (r : RedexPlace) (e : InfeasibilityEvidence) (o : Option EvidenceReason) → IsJudgedAt sys (length row) n r e o → IsRedexJudged sys t r e o
   redex_judged sys r e o h =
-      let m = moved (naming row) h.match in
-      let cs = conditions_under (at_redex m) h.rule.conditions in
-      let there : RuleMatches sys t r.rule r.position h.rule m = subst (λ z. RuleMatches sys z r.rule r.position h.rule m) (sym is) (moved_matches (naming row) sys n r.rule r.position h.rule h.match h.matches) in
-      let judged = are_judged_to (spread row) (spread_one_to_one row distinct) sys (conditions_under (match_or_new (length row) h.match) h.rule.conditions) e o h.judged in
-      let same : conditions_under (spreading row) (conditions_under (match_or_new (length row) h.match) h.rule.conditions) ≡ cs = sym (spread_conditions (at_redex m) (match_or_new (length row) h.match) (values_spread sys r.rule r.position h.rule h.match h.matches) h.rule.conditions) in
-      (cs, record { rule = h.rule; match = m; matches = there; are = refl }, subst (λ z. AreJudged sys z e o) same judged)
+      let cs = conditions_under (match_or_new (length row) h.match) h.rule.conditions in
+      (conditions_renamed (spread row) cs, redex_conditions sys r h.rule h.match h.matches, are_judged_to (spread row) (spread_one_to_one row distinct) sys cs e o h.judged)
 
   -- matches of the numbered term are those of the term
   match_back : (sys : System) (p : Position) (i : ℕ) → MatchesAt sys n p i → MatchesAt sys t p i

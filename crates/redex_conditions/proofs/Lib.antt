@@ -1,0 +1,9 @@
+pub mod Deciding
+pub mod Hits
+pub mod Completing
+pub mod Rules
+pub mod Parts
+pub mod Places
+pub mod Renaming
+pub mod Numbers
+pub mod Ends

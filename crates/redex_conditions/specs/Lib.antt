@@ -1,0 +1,2 @@
+pub mod Redexes
+pub mod Judged
