@@ -27,9 +27,6 @@ condition_fits cs zero c h e = absurd (cc)
 condition_fits cs (suc k) c h e = get_fits cs k c h e
 
 module _ (sys : System) (cs : List Condition) (k : ℕ) where
-  pub no_condition : hypothesis_at cs k ≡ None → OfferAnswers sys cs (try_growth k) (Ok None)
-  no_condition none e (c, a, is, g, f) = some_or_none (hypothesis_at cs k) c is none
-
   module _ (c : Condition) (is : hypothesis_at cs k ≡ Some c) where
     nothing_grows : ((a : Automaton) → GrowsTo sys c.left a → ⊥) → OfferAnswers sys cs (try_growth k) (Ok None)
     nothing_grows bare e (d, a, at, g, f) = bare a (subst (λ z. GrowsTo sys z.left a) (same_some (hypothesis_at cs k) d c at is) g)

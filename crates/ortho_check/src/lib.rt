@@ -9,6 +9,7 @@ ghost use Rattle.level_theorem.specs.AlmostOrthogonal.{DoLevelsCommute};
 ghost use Rattle.valid_certificates.specs.Entries.{ArePairsShort};
 ghost use Rattle.validity.specs.Answers.{OrthoAnswers};
 ghost use Rattle.ortho_check.specs.Answers.{ClassAnswers, ClassesAnswer};
+ghost use Rattle.ortho_check.specs.Laws.{ValidSystemsAreConfluent};
 
 use cert_model::{Class, PairEntry, Rejected};
 use ctrs_classes::why_not;
@@ -65,4 +66,11 @@ pub fn check_ortho(alloc: Global, sys: &System, pairs: &[PairEntry]) -> Result<(
     levels_commute();
     let _rules = sys.rules();
     judge_ortho(alloc, sys, pairs)
+}
+
+/// A system that has a valid certificate is confluent. This is a law of the definitions: nothing is checked here.
+pub fn valid_certificates_are_confluent()
+    ensures { ValidSystemsAreConfluent }
+{
+    levels_commute();
 }

@@ -4,7 +4,7 @@ use Rattle.rewriting.specs.Rules.{System}
 use Rattle.unifier_run.specs.Overlaps.{Overlap, AreOverlaps, IsPairTooLarge, AreTooManyOverlaps}
 use Rattle.rewriting.specs.Positions.{Position}
 use Rattle.certificates.specs.Certificates.{Certificate, PairEntry, ortho_certificate}
-use Rattle.cops_read.specs.NameTable.{NameTable}
+use Rattle.cops_names.specs.NameTable.{NameTable}
 use Rattle.valid_certificates.specs.Certificates.{IsValid}
 use Rattle.valid_certificates.specs.Confluence.{IsInOrthoClasses}
 use Rattle.valid_certificates.specs.Kinds.{ortho}
@@ -16,11 +16,10 @@ use Rattle.critical_pairs.specs.declared.OverlapError.{OverlapError}
 use Rattle.critical_pairs.specs.declared.OverlapError.TheVariants.{PairTooLarge, TooManyPairs}
 use Rattle.validity.specs.declared.Search.{Search}
 use Rattle.validity.specs.declared.Search.TheVariants.{Found, Nothing, Spent}
-use Rattle.pair_check.specs.Walk.{EachIsOverlap}
 use Rattle.cc_count.specs.Counts.{Counts, Spends}
 use Rattle.first_found.specs.Rows.{AreFirsts, EndsAtRow, StopsInRow}
 use Rattle.first_found.specs.Spaces.{spent, MayEndExactly}
-use Rattle.search_spaces.specs.Answers.{SearchesExactly, IfFound, IfNothing}
+use Rattle.search_answers.specs.Answers.{SearchesExactly, IfFound, IfNothing}
 use Rattle.search_spaces.specs.Entries.{overlap_cost, StopsAtOverlap}
 use Rattle.search_spaces.specs.Ortho.{IsOrthoOpen, IsOrthoEntry, IsOrthoPaid, ortho_space}
 use Rattle.search_spaces.specs.PairItems.{ortho_items}
@@ -29,9 +28,6 @@ use Rattle.search_spaces.proofs.Ortho.{space_searched, ends_closed, ends_at_row,
 use Rattle.ortho_search.specs.Answers.{EntriesAnswers}
 use Rattle.ortho_search.specs.declared.entries.Entries.{Entries}
 use Rattle.ortho_search.proofs.Turns.{spends_nothing}
-
-pub each_overlap : (sys : System) (os : List Overlap) → AreOverlaps sys os → EachIsOverlap sys os
-each_overlap sys os are o m = (are.are.each o m).0
 
 module _ (names : NameTable) (sys : System) where
   abbrev Searched : Counts → Counts → Result Search NoMemory → Type 0

@@ -1,5 +1,5 @@
 -- One item after the other.
-use Rattle.std.proofs.Common.{ℕ, zero, suc, ◌≡◌, ◌+◌, ◌<◌, ◌≤◌, List, [], ◌∷◌, ◌++◌, map, take, drop, length, get_or, Option, None, Some, Result, Ok, Err, refl, sym, ap, ◌∙◌, subst, arith}
+use Rattle.std.proofs.Common.{ℕ, zero, suc, ◌≡◌, ◌+◌, ◌<◌, List, [], ◌∷◌, ◌++◌, map, take, drop, length, get_or, Option, None, Some, Result, Ok, Err, refl, sym, ap, ◌∙◌, subst, arith}
 use Rattle.std.specs.Prelude.{true, false, IsTrue}
 use Rattle.rewriting.specs.Rules.{Condition, System}
 use Rattle.unifier_run.specs.Overlaps.{Overlap}
@@ -43,9 +43,6 @@ module _ (sys : System) (o : Overlap) where
   offered item given off (Ok None) h = λ b g. h (subst (λ z. IsPairJudged ortho sys o z None) (offers_once sys o item b given g.0 off) g.1)
   offered item given off (Err e) h = tt
 
-  pub none_offered : (item : PairItem) → ((e : math.PairEvidence) → Offers sys o item e → ⊥) → ItemAnswers sys o item (Ok None)
-  none_offered item h = λ b g. h b g.0
-
   -- evidence that the conditions are never met is offered
   pub refuting_at : (r : Refuting) (cs : List Condition) → cs ≡ o.pair.conditions → (f : Option InfEvidence) (e : InfEvidence) → f ≡ Some e → OfferAnswers sys cs r (Ok f)
       → Offers sys o (try_refuting r) (infeasible_pair (inf_evidence_view e))
@@ -63,12 +60,6 @@ module _ {A B : Type 0} (f : A → B) where
   take_more [] i d l = absurd (omega (arith, l))
   take_more (y ∷ xs) zero d l = refl
   take_more (y ∷ xs) (suc i) d l = ap (λ (zs : List B). f y ∷ zs) (take_more xs i d (omega (arith, l)))
-
-  pub take_whole : (xs : List A) (i : ℕ) → length xs ≤ i → map f (take i xs) ≡ map f xs
-  take_whole [] zero l = refl
-  take_whole [] (suc i) l = refl
-  take_whole (x ∷ xs) zero l = absurd (omega (arith, l))
-  take_whole (x ∷ xs) (suc i) l = ap (λ (zs : List B). f x ∷ zs) (take_whole xs i (omega (arith, l)))
 
 -- where no unit could be taken, none is left
 pub none_left : (b : Counts) → (0 < b.left → IsTrue false) → b.left ≡ 0

@@ -1,5 +1,5 @@
 -- One overlap after the other.
-use Rattle.std.proofs.Common.{ℕ, zero, suc, ◌≡◌, ◌+◌, ◌<◌, ◌≤◌, inl, inr, List, [], ◌∷◌, ◌++◌, map, take, drop, length, get_or, Ok, refl, sym, ap, ◌∙◌, subst, subst₂, arith}
+use Rattle.std.proofs.Common.{ℕ, zero, suc, ◌≡◌, ◌+◌, ◌<◌, inl, inr, List, [], ◌∷◌, ◌++◌, map, take, drop, length, get_or, Ok, refl, sym, ap, ◌∙◌, subst, subst₂, arith}
 use Rattle.rewriting.specs.Lists.{IsAmong}
 use Rattle.rewriting.specs.Rules.{System}
 use Rattle.unifier_run.specs.Overlaps as math
@@ -20,7 +20,7 @@ use Rattle.search_spaces.specs.Ortho.{IsOrthoEntry}
 use Rattle.search_spaces.proofs.Entries.{no_entry}
 use Rattle.ortho_search.specs.Answers.{WalkAnswers}
 use Rattle.ortho_search.specs.declared.trying.Walk.{Walk}
-use Rattle.ortho_search.proofs.Turns.{take_more, take_whole, spends_more}
+use Rattle.ortho_search.proofs.Turns.{take_more, spends_more}
 
 -- the overlaps around one
 split_here : (xs : List Overlap) (i : ℕ) (x : Overlap) → i < length xs → x ≡ get_or xs i x
@@ -99,8 +99,3 @@ module _ (sys : System) (xs : List Overlap) (i : ℕ) (x : Overlap) (below : i <
 
   pub kept_more : (n : ℕ) × Spends here n after → (n : ℕ) × Spends start n after
   kept_more (m, unit) = (far.0 + m, spends_more start here after far.0 m far.1 unit)
-
-pub rows_end : (sys : System) (xs : List Overlap) (i : ℕ) (start here : Counts) (es : List PairEntry) → length xs ≤ i → IsSoFar sys (take i xs) start here es
-    → (n : ℕ) × Spends start n here × AreFirsts (IsOrthoEntry sys) (map overlap_view xs) (map pair_entry_view es) n
-rows_end sys xs i start here es past far =
-    (far.0, far.1, subst (λ (rows : List math.Overlap). AreFirsts (IsOrthoEntry sys) rows (map pair_entry_view es) far.0) (take_whole overlap_view xs i past) far.2)

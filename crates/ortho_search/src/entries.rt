@@ -15,7 +15,7 @@ use critical_pairs::Overlap;
 use irreducible::LeftSides;
 use rule_index::IndexedSystem;
 use std::alloc::Global;
-use term_core::{NoMemory, System};
+use term_core::NoMemory;
 
 /// How the walk over the overlaps ends.
 #[derive(Debug, Drop)]
@@ -70,10 +70,10 @@ fn entries_for(
     Ok(Entries::Whole(entries))
 }
 
-/// The same for a system, whose index and left sides are made once for all overlaps.
+/// The same for a system, whose left sides are made once for all overlaps.
 pub fn entries_of(
     alloc: Global,
-    sys: &System,
+    sys: &IndexedSystem<'_>,
     overlaps: &[Overlap],
     budget: &mut Budget,
 ) -> Result<Entries, NoMemory>
@@ -81,7 +81,6 @@ pub fn entries_of(
     ensures answer { EntriesAnswers sys.now (map overlap_view overlaps.now) budget.old budget.new result }
     ensures kept { (n : ℕ) × Spends budget.old n budget.new }
 {
-    let indexed = IndexedSystem::new(alloc, sys)?;
-    let sides = LeftSides::new(alloc, &indexed)?;
+    let sides = LeftSides::new(alloc, sys)?;
     entries_for(alloc, &sides, overlaps, budget)
 }

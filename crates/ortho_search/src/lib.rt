@@ -8,7 +8,7 @@ ghost use Rattle.critical_pairs.specs.View.{overlap_view};
 ghost use Rattle.valid_certificates.specs.Certificates.{IsValid};
 ghost use Rattle.valid_certificates.specs.Confluence.{IsInOrthoClasses};
 ghost use Rattle.cc_count.specs.Counts.{Spends};
-ghost use Rattle.search_spaces.specs.Answers.{SearchesExactly, IfFound, IfNothing};
+ghost use Rattle.search_answers.specs.Answers.{SearchesExactly, IfFound, IfNothing};
 ghost use Rattle.search_spaces.specs.Ortho.{ortho_space, IsOrthoPaid};
 
 mod entries;
@@ -19,9 +19,10 @@ use crate::entries::{Entries, entries_of};
 use cc_count::Budget;
 use cert_limits::has_text;
 use cert_model::Certificate;
-use cops_read::Names;
+use cops_names::Names;
 use critical_pairs::{Overlap, OverlapError, overlaps};
 use ctrs_classes::{is_extended_oriented, is_left_linear, is_right_stable, is_type3};
+use rule_index::IndexedSystem;
 use std::alloc::Global;
 use term_core::{NoMemory, System};
 pub use validity::Search;
@@ -33,10 +34,10 @@ fn is_in_classes(sys: &System) -> bool
     is_left_linear(sys) && is_type3(sys) && is_extended_oriented(sys) && is_right_stable(sys)
 }
 
-// Searches where the classes hold, and these are the overlaps.
+// Searches where the classes hold.
 fn search_open(
     alloc: Global,
-    sys: &System,
+    sys: &IndexedSystem<'_>,
     names: &Names,
     overlaps: &[Overlap],
     budget: &mut Budget,
@@ -62,6 +63,28 @@ fn search_open(
     }
 }
 
+/// The same as `search_ortho`, over an index and a list of the overlaps that were made before.
+pub fn search_ortho_over(
+    alloc: Global,
+    sys: &IndexedSystem<'_>,
+    names: &Names,
+    overlaps: &[Overlap],
+    budget: &mut Budget,
+) -> Result<Search, NoMemory>
+    requires overlaps { AreOverlaps sys.now (map overlap_view overlaps.now) }
+    ensures searched { SearchesExactly (ortho_space names.now sys.now) budget.old budget.new result }
+    ensures nothing { IfNothing result ((c : math.Certificate) → (ortho_space names.now sys.now).Holds c → IsValid sys.now c → ⊥) }
+    ensures valid { IfFound result (IsValid sys.now) }
+    ensures paid { IfNothing result ((n : ℕ) × Spends budget.old n budget.new × IsOrthoPaid names.now sys.now n) }
+    ensures kept { (n : ℕ) × Spends budget.old n budget.new }
+{
+    if is_in_classes(sys.system()) {
+        search_open(alloc, sys, names, overlaps, budget)
+    } else {
+        Ok(Search::Nothing)
+    }
+}
+
 /// Searches for the certificate of an almost orthogonal system: an entry for each overlap, with the first valid evidence
 /// among that the overlap is trivial, caps, conflicts and grown automata. Each evidence that is tried costs a unit, and the
 /// search ends at the first overlap that has none. Where a class fails or the overlaps are refused, there is nothing to
@@ -78,11 +101,9 @@ pub fn search_ortho(
     ensures paid { IfNothing result ((n : ℕ) × Spends budget.old n budget.new × IsOrthoPaid names.now sys.now n) }
     ensures kept { (n : ℕ) × Spends budget.old n budget.new }
 {
-    if !is_in_classes(sys) {
-        return Ok(Search::Nothing);
-    }
+    let indexed = IndexedSystem::new(alloc, sys)?;
     match overlaps(alloc, sys) {
-        Ok(found) => search_open(alloc, sys, names, &found, budget),
+        Ok(found) => search_ortho_over(alloc, &indexed, names, &found, budget),
         Err(OverlapError::PairTooLarge { .. }) => Ok(Search::Nothing),
         Err(OverlapError::TooManyPairs) => Ok(Search::Nothing),
         Err(OverlapError::NoMemory) => Err(NoMemory),

@@ -13,4 +13,4 @@ mod sites;
 mod solutions;
 
 pub use listed::{ReachStop, Reached};
-pub use search::reach;
+pub use search::{reach, reach_in};

@@ -23,7 +23,7 @@ use crate::sites::{Search, Site};
 use crate::solutions::{Solution, extend_by, start_of};
 use cc_count::Budget;
 use cert_model::Derivation;
-use rule_index::RuleIndex;
+use rule_index::IndexedSystem;
 use std::alloc::Global;
 use term_core::{Cond, NoMemory, Subst, System, Term, try_clone};
 
@@ -76,7 +76,7 @@ impl<'a> Search<'a> {
         depth: u32,
         budget: &mut Budget,
     ) -> Result<Vec<Reached>, ReachStop>
-        requires ready { IsReady self.now.sys.now self.now.rules.now self.now.index.now self.now.hyps.now }
+        requires ready { IsReady self.now.sys.now self.now.rules.now self.now.hyps.now }
         requires start { math.Fits (view start.now) }
         ensures { ReachAnswers self.now.sys.now (map condition_view self.now.hyps.now) (view start.now) steps depth budget.old budget.new result }
     {
@@ -100,7 +100,7 @@ impl<'a> Search<'a> {
         depth: u32,
         budget: &mut Budget,
     ) -> Result<(), ReachStop>
-        requires ready { IsReady self.now.sys.now self.now.rules.now self.now.index.now self.now.hyps.now }
+        requires ready { IsReady self.now.sys.now self.now.rules.now self.now.hyps.now }
         requires fit { DoAllFit list.old }
         requires from { from ≤ length list.old }
         ensures { Takes list.old (flat_map (successors self.now.sys.now (map condition_view self.now.hyps.now) (condition_list self.now.sys.now (map condition_view self.now.hyps.now) depth)) (drop from list.old)) (total (λ u. total (condition_cost self.now.sys.now (map condition_view self.now.hyps.now) depth) (asked_from self.now.sys.now (map condition_view self.now.hyps.now) (condition_list self.now.sys.now (map condition_view self.now.hyps.now) depth) u.term)) (drop from list.old)) list.new budget.old budget.new result }
@@ -123,7 +123,7 @@ impl<'a> Search<'a> {
         depth: u32,
         budget: &mut Budget,
     ) -> Result<(), ReachStop>
-        requires ready { IsReady self.now.sys.now self.now.rules.now self.now.index.now self.now.hyps.now }
+        requires ready { IsReady self.now.sys.now self.now.rules.now self.now.hyps.now }
         requires fits { math.Fits (view u.now.term) }
         ensures { Takes list.old (successors self.now.sys.now (map condition_view self.now.hyps.now) (condition_list self.now.sys.now (map condition_view self.now.hyps.now) depth) (reached_view u.now)) (total (condition_cost self.now.sys.now (map condition_view self.now.hyps.now) depth) (asked_from self.now.sys.now (map condition_view self.now.hyps.now) (condition_list self.now.sys.now (map condition_view self.now.hyps.now) depth) (view u.now.term))) list.new budget.old budget.new result }
     {
@@ -145,7 +145,7 @@ impl<'a> Search<'a> {
         depth: u32,
         budget: &mut Budget,
     ) -> Result<(), ReachStop>
-        requires ready { IsReady self.now.sys.now self.now.rules.now self.now.index.now self.now.hyps.now }
+        requires ready { IsReady self.now.sys.now self.now.rules.now self.now.hyps.now }
         requires fits { math.Fits (view u.now.term) }
         requires site { DoesSiteFit (site_view site.now) }
         ensures { Takes list.old (at_site (condition_list self.now.sys.now (map condition_view self.now.hyps.now) depth) (reached_view u.now) (site_view site.now)) (total (condition_cost self.now.sys.now (map condition_view self.now.hyps.now) depth) (asked_at (condition_list self.now.sys.now (map condition_view self.now.hyps.now) depth) (site_view site.now))) list.new budget.old budget.new result }
@@ -179,7 +179,7 @@ impl<'a> Search<'a> {
         depth: u32,
         budget: &mut Budget,
     ) -> Result<Vec<Solution>, ReachStop>
-        requires ready { IsReady self.now.sys.now self.now.rules.now self.now.index.now self.now.hyps.now }
+        requires ready { IsReady self.now.sys.now self.now.rules.now self.now.hyps.now }
         requires fit { DoConditionsFit (map condition_view conds.now) }
         ensures { Costs (λ ss. solutions_view ss.items ≡ math_solutions.solutions (condition_list self.now.sys.now (map condition_view self.now.hyps.now) depth) (map condition_view conds.now) (solution_view first ∷ [])) (total (condition_cost self.now.sys.now (map condition_view self.now.hyps.now) depth) (math_solutions.asked (condition_list self.now.sys.now (map condition_view self.now.hyps.now) depth) (map condition_view conds.now) (solution_view first ∷ []))) budget.old budget.new result }
     {
@@ -201,7 +201,7 @@ impl<'a> Search<'a> {
         depth: u32,
         budget: &mut Budget,
     ) -> Result<Vec<Solution>, ReachStop>
-        requires ready { IsReady self.now.sys.now self.now.rules.now self.now.index.now self.now.hyps.now }
+        requires ready { IsReady self.now.sys.now self.now.rules.now self.now.hyps.now }
         requires fits { math.Fits (view cond.now.left) }
         ensures { Costs (λ ss. solutions_view ss.items ≡ flat_map (math_solutions.extensions (condition_list self.now.sys.now (map condition_view self.now.hyps.now) depth) (condition_view cond.now)) (solutions_view found.now)) (total (condition_cost self.now.sys.now (map condition_view self.now.hyps.now) depth) (flat_map (math_solutions.starts (condition_view cond.now)) (solutions_view found.now))) budget.old budget.new result }
     {
@@ -223,7 +223,7 @@ impl<'a> Search<'a> {
         budget: &mut Budget,
         out: &mut Vec<Solution>,
     ) -> Result<(), ReachStop>
-        requires ready { IsReady self.now.sys.now self.now.rules.now self.now.index.now self.now.hyps.now }
+        requires ready { IsReady self.now.sys.now self.now.rules.now self.now.hyps.now }
         requires fits { math.Fits (view cond.now.left) }
         ensures { Costs (λ _. solutions_view out.new.items ≡ solutions_view out.old.items ++ math_solutions.extensions (condition_list self.now.sys.now (map condition_view self.now.hyps.now) depth) (condition_view cond.now) (solution_view s.now)) (total (condition_cost self.now.sys.now (map condition_view self.now.hyps.now) depth) (math_solutions.starts (condition_view cond.now) (solution_view s.now))) budget.old budget.new result }
     {
@@ -237,6 +237,29 @@ impl<'a> Search<'a> {
         extend_by(alloc, cond, s, &list, out)?;
         Ok(())
     }
+}
+
+/// The same as `reach`, in a system that has its index, which is made once for many lists.
+pub fn reach_in(
+    alloc: Global,
+    sys: &IndexedSystem<'_>,
+    hyps: &[Cond],
+    start: &Term,
+    steps: u32,
+    cond_depth: u32,
+    budget: &mut Budget,
+) -> Result<Vec<Reached>, ReachStop>
+    requires start { math.Fits (view start.now) }
+    requires hypotheses { DoConditionsFit (map condition_view hyps.now) }
+    requires few { length hyps.now < 2 ^ 32 }
+    ensures { ReachAnswers sys.now (map condition_view hyps.now) (view start.now) steps cond_depth budget.old budget.new result }
+{
+    let search = Search {
+        sys,
+        rules: sys.rules(),
+        hyps,
+    };
+    search.list(alloc, start, steps, cond_depth, budget)
 }
 
 /// The terms that the start reaches in so many steps, breadth first, each with the first derivation of it: at most 2,000, and
@@ -257,12 +280,6 @@ pub fn reach(
     requires few { length hyps.now < 2 ^ 32 }
     ensures { ReachAnswers sys.now (map condition_view hyps.now) (view start.now) steps cond_depth budget.old budget.new result }
 {
-    let index = RuleIndex::new(alloc, sys)?;
-    let search = Search {
-        sys,
-        rules: sys.rules(),
-        index: &index,
-        hyps,
-    };
-    search.list(alloc, start, steps, cond_depth, budget)
+    let indexed = IndexedSystem::new(alloc, sys)?;
+    reach_in(alloc, &indexed, hyps, start, steps, cond_depth, budget)
 }

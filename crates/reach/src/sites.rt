@@ -10,9 +10,9 @@ ghost use Rattle.reach.specs.Walks.{one_rule};
 
 use cert_model::copy_numbers;
 use matching::{Match, match_term};
-use rule_index::{PartWalk, RuleIndex};
+use rule_index::{IndexedSystem, PartWalk};
 use std::alloc::Global;
-use term_core::{Cond, NoMemory, Rule, Subst, System, Term, equal};
+use term_core::{Cond, NoMemory, Rule, Subst, Term, equal};
 
 // Where a step may be made: at a position, by a rule with its match, or by a hypothesis. Both are numbered from 1.
 #[derive(Debug, Drop)]
@@ -33,9 +33,8 @@ pub(crate) enum Site<'a> {
 // What a search goes by.
 #[derive(Clone, Copy)]
 pub(crate) struct Search<'a> {
-    pub(crate) sys: &'a System,
+    pub(crate) sys: &'a IndexedSystem<'a>,
     pub(crate) rules: &'a [Rule],
-    pub(crate) index: &'a RuleIndex,
     pub(crate) hyps: &'a [Cond],
 }
 
@@ -96,10 +95,10 @@ impl<'a> Search<'a> {
         path: &[u32],
         out: &mut Vec<Site<'a>>,
     ) -> Result<(), NoMemory>
-        requires ready { IsReady self.now.sys.now self.now.rules.now self.now.index.now self.now.hyps.now }
+        requires ready { IsReady self.now.sys.now self.now.rules.now self.now.hyps.now }
         ensures { OnOk result (sites_view out.new.items ≡ sites_view out.old.items ++ lists.rule_sites path.now (view part.now) 1 self.now.sys.now.rules) }
     {
-        let numbers = self.index.rules_at(part);
+        let numbers = self.sys.rules_at(part);
         for number in numbers {
             add_rule(
                 alloc,
@@ -121,7 +120,7 @@ impl<'a> Search<'a> {
         path: &[u32],
         out: &mut Vec<Site<'a>>,
     ) -> Result<(), NoMemory>
-        requires ready { IsReady self.now.sys.now self.now.rules.now self.now.index.now self.now.hyps.now }
+        requires ready { IsReady self.now.sys.now self.now.rules.now self.now.hyps.now }
         ensures { OnOk result (sites_view out.new.items ≡ sites_view out.old.items ++ lists.sites_of_part self.now.sys.now (map condition_view self.now.hyps.now) path.now (view part.now)) }
     {
         self.add_rules(alloc, part, path, out)?;
@@ -130,7 +129,7 @@ impl<'a> Search<'a> {
 
     // The places in a term, part by part in preorder.
     pub(crate) fn sites(&self, alloc: Global, t: &Term) -> Result<Vec<Site<'a>>, NoMemory>
-        requires ready { IsReady self.now.sys.now self.now.rules.now self.now.index.now self.now.hyps.now }
+        requires ready { IsReady self.now.sys.now self.now.rules.now self.now.hyps.now }
         requires fits { math.Fits (view t.now) }
         ensures { IfOk result (λ out. sites_view out.items ≡ lists.sites self.now.sys.now (map condition_view self.now.hyps.now) (view t.now)) }
     {

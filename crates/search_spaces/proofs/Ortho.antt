@@ -3,7 +3,7 @@ use Rattle.std.proofs.Common.{ℕ, ◌≡◌, ◌<◌, inl, inr, List, [], ◌�
 use Rattle.rewriting.specs.Rules.{System}
 use Rattle.unifier_run.specs.Overlaps.{Overlap}
 use Rattle.certificates.specs.Certificates.{PairEntry, Certificate, ortho_certificate}
-use Rattle.cops_read.specs.NameTable.{NameTable}
+use Rattle.cops_names.specs.NameTable.{NameTable}
 use Rattle.valid_certificates.specs.Kinds.{Kind, ortho}
 use Rattle.valid_certificates.specs.Entries.{AreSettled, triple_of}
 use Rattle.valid_certificates.specs.PairEvidence.{IsPairJudged}

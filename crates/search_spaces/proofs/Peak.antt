@@ -4,7 +4,7 @@ use Rattle.rewriting.specs.Lists.{IsAmong}
 use Rattle.rewriting.proofs.Lists.{among_middle}
 use Rattle.rewriting.specs.Rules.{System}
 use Rattle.certificates.specs.Certificates.{Certificate}
-use Rattle.cops_read.specs.NameTable.{NameTable}
+use Rattle.cops_names.specs.NameTable.{NameTable}
 use Rattle.valid_certificates.specs.Certificates.{IsValid}
 use Rattle.rewriting.specs.Terms.{Term}
 use Rattle.unifier_run.specs.Overlaps.{Overlap, AreOverlaps}

@@ -4,7 +4,7 @@ use Rattle.rewriting.specs.Terms.{Term}
 use Rattle.rewriting.specs.Rules.{Condition, Rule, System, rule_at}
 use Rattle.certificates.specs.Evidence.{InfeasibilityEvidence}
 use Rattle.certificates.specs.Certificates.{Redex, Apartness, by_normal_forms, by_rigid_caps, Certificate, peak_certificate}
-use Rattle.cops_read.specs.NameTable.{NameTable}
+use Rattle.cops_names.specs.NameTable.{NameTable}
 use Rattle.valid_certificates.specs.Peaks.{RedexPlace, AreConditionsAt, at_redex, chosen}
 use Rattle.valid_certificates.proofs.OneList.{redexes_once}
 use Rattle.rewriting.specs.Substitutions.{Bindings}
@@ -19,7 +19,7 @@ use Rattle.search_spaces.specs.PeakItems.{PeakItem, make_listing, try_ends, cond
 use Rattle.search_spaces.proofs.Entries.{tries_once}
 
 -- the conditions at a redex are determined
-conditions_once : (sys : System) (t : Term) (r : RedexPlace) (cs ds : List Condition) → AreConditionsAt sys t r cs → AreConditionsAt sys t r ds → cs ≡ ds
+pub conditions_once : (sys : System) (t : Term) (r : RedexPlace) (cs ds : List Condition) → AreConditionsAt sys t r cs → AreConditionsAt sys t r ds → cs ≡ ds
 conditions_once sys t r cs ds a b =
     let same = matches_unique sys t r.rule r.position a.rule b.rule a.match b.match a.matches b.matches in
     a.are ∙ ap₂ (λ (q : Rule) (m : Bindings). conditions_under (at_redex m) q.conditions) same.same_rule same.same_match ∙ sym b.are
@@ -37,7 +37,7 @@ module _ (sys : System) (u v : Term) where
       let same = first_once (RefutesRedex sys u v r) one (refutings (conditions_of (rule_at sys r.rule))) d e n m f g in
       (same.0, p ∙ ap (entry_of r) (refutes_once r same.1.0 d e same.1.1 same.1.2) ∙ sym q)
 
-  apart_once : (a b : Apartness) → TriesApart sys u v a → TriesApart sys u v b → a ≡ b
+  pub apart_once : (a b : Apartness) → TriesApart sys u v a → TriesApart sys u v b → a ≡ b
   apart_once (by_normal_forms es) (by_normal_forms fs) (rs, h, (n, x)) (qs, k, (m, y)) =
       ap by_normal_forms (firsts_once (IsFirstRefuted sys u v) refuted_once rs es fs n m x (subst (λ z. AreFirsts (IsFirstRefuted sys u v) z fs m) (redexes_once sys u v qs rs k h) y)).1
   apart_once (by_normal_forms es) by_rigid_caps (rs, h, (n, x)) (qs, k, s) =

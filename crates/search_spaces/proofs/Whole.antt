@@ -1,7 +1,7 @@
 -- Each space is searchable, and so are both, one behind the other.
 use Rattle.rewriting.specs.Rules.{System}
 use Rattle.certificates.specs.Certificates.{Certificate}
-use Rattle.cops_read.specs.NameTable.{NameTable}
+use Rattle.cops_names.specs.NameTable.{NameTable}
 use Rattle.valid_certificates.specs.Certificates.{IsValid}
 use Rattle.first_found.specs.Spaces.{Space, followed_by}
 use Rattle.first_found.proofs.Spaces.{both_searched, both_cost, both_once, both_find_once, has_price}

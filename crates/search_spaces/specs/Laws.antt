@@ -1,7 +1,7 @@
 -- Laws of the spaces.
 use Rattle.rewriting.specs.Rules.{System}
 use Rattle.certificates.specs.Certificates.{Certificate}
-use Rattle.cops_read.specs.NameTable.{NameTable}
+use Rattle.cops_names.specs.NameTable.{NameTable}
 use Rattle.valid_certificates.specs.Certificates.{IsValid}
 use Rattle.first_found.specs.Spaces.{Space, CostsOnce, HasCost, FindsOnce, HasPrice, IsSearched}
 use Rattle.search_spaces.specs.Ortho.{ortho_space}

@@ -5,7 +5,7 @@ use Rattle.rewriting.specs.Terms.{Term}
 use Rattle.rewriting.specs.Rules.{System}
 use Rattle.unifier_run.specs.Overlaps.{Overlap, AreOverlaps}
 use Rattle.certificates.specs.Certificates.{Certificate}
-use Rattle.cops_read.specs.NameTable.{NameTable}
+use Rattle.cops_names.specs.NameTable.{NameTable}
 use Rattle.first_found.specs.Items.{IsFirst, cost_of}
 use Rattle.first_found.specs.Spaces.{Space}
 use Rattle.search_spaces.specs.PeakItems.{PeakItem, peak_item_cost, peak_items, HoldsPeak, GivesPeak}

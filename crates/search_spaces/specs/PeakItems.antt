@@ -4,7 +4,7 @@ use Rattle.rewriting.specs.Terms.{Term}
 use Rattle.rewriting.specs.Rules.{Condition, Rule, System, rule_at}
 use Rattle.certificates.specs.Evidence.{InfeasibilityEvidence}
 use Rattle.certificates.specs.Certificates.{Redex, Apartness, by_normal_forms, by_rigid_caps, Certificate, peak_certificate}
-use Rattle.cops_read.specs.NameTable.{NameTable}
+use Rattle.cops_names.specs.NameTable.{NameTable}
 use Rattle.valid_certificates.specs.Peaks.{RedexPlace, AreRedexes, AreConditionsAt, IsRedexJudged, chosen}
 use Rattle.valid_certificates.specs.Certificates.{IsValid}
 use Rattle.first_found.specs.Items.{IsFirst, one}

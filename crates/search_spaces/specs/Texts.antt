@@ -1,7 +1,7 @@
 -- Certificates that are in a space: those that can be spelt, with a text that is not too long.
 use Rattle.std.specs.Prelude.{ℕ, ◌≤◌, length}
 use Rattle.certificates.specs.Certificates.{Certificate}
-use Rattle.cops_read.specs.NameTable.{NameTable}
+use Rattle.cops_names.specs.NameTable.{NameTable}
 use Rattle.cert_grammar.specs.CertificateText.{certificate_text, CanBeSpelt}
 
 -- no text of a certificate is longer

@@ -1,19 +1,10 @@
-use Rattle.std.proofs.Common.{Ok}
+use Rattle.std.proofs.Common.{ℕ, Ok, subst}
+use Rattle.cc_count.specs.Counts.{Spends}
+use Rattle.search_answers.specs.Answers.{IfNothing}
+use Rattle.search_spaces.specs.Ortho.{IsOrthoPaid}
 use Rattle.validity.specs.declared.Search.TheVariants.{Nothing}
-use Rattle.ortho_search.proofs.Ending.{found_valid, nothing_valid, closed_searched, closed_paid, closed_by_class, closed_by_large, closed_by_many, large_told, many_told}
+use Rattle.ortho_search.proofs.Ending.{nothing_valid, closed_searched, closed_paid, closed_by_large, closed_by_many, large_told, many_told}
 use Rattle.ortho_search.proofs.search_ortho.Goals as goal
-
-pub returns-then-not-is_in_classes-clause-searched : goal.returns-then-not-is_in_classes-clause-searched
-returns-then-not-is_in_classes-clause-searched c =
-    closed_searched c.args.names.now c.args.sys.now (closed_by_class c.args.names.now c.args.sys.now (λ h. (let e = c.if-not-is_in_classes.ensures.1 h in cc))) c.args.budget.now
-
-pub returns-then-not-is_in_classes-clause-nothing : goal.returns-then-not-is_in_classes-clause-nothing
-returns-then-not-is_in_classes-clause-nothing c =
-    nothing_valid c.args.names.now c.args.sys.now c.args.budget.now c.args.budget.now (Ok Nothing) (closed_searched c.args.names.now c.args.sys.now (closed_by_class c.args.names.now c.args.sys.now (λ h. (let e = c.if-not-is_in_classes.ensures.1 h in cc))) c.args.budget.now)
-
-pub returns-then-not-is_in_classes-clause-paid : goal.returns-then-not-is_in_classes-clause-paid
-returns-then-not-is_in_classes-clause-paid c =
-    closed_paid c.args.names.now c.args.sys.now (closed_by_class c.args.names.now c.args.sys.now (λ h. (let e = c.if-not-is_in_classes.ensures.1 h in cc))) c.args.budget.now
 
 pub returns-in-Err-PairTooLarge-clause-searched : goal.returns-in-Err-PairTooLarge-clause-searched
 returns-in-Err-PairTooLarge-clause-searched c =
@@ -39,8 +30,7 @@ pub returns-in-Err-TooManyPairs-clause-paid : goal.returns-in-Err-TooManyPairs-c
 returns-in-Err-TooManyPairs-clause-paid c =
     closed_paid c.args.names.now c.args.sys.now (closed_by_many c.args.names.now c.args.sys.now (many_told c.args.sys.now c.in-Err-TooManyPairs.field-0 c.in-Err-TooManyPairs.field-0-is c.in-Err-TooManyPairs.ensures)) c.args.budget.now
 
-pub returns-in-Ok-clause-nothing : goal.returns-in-Ok-clause-nothing
-returns-in-Ok-clause-nothing c = nothing_valid c.args.names.now c.args.sys.now c.args.budget.now c.search_open.new.budget c.search_open.result c.search_open.ensures.searched
-
-pub returns-in-Ok-clause-valid : goal.returns-in-Ok-clause-valid
-returns-in-Ok-clause-valid c = found_valid c.args.names.now c.args.sys.now c.args.budget.now c.search_open.new.budget c.search_open.result c.search_open.ensures.searched
+pub returns-in-Ok-clause-paid : goal.returns-in-Ok-clause-paid
+returns-in-Ok-clause-paid c =
+    subst (λ s. IfNothing c.search_ortho_over.result ((n : ℕ) × Spends c.args.budget.now n c.search_ortho_over.new.budget × IsOrthoPaid c.args.names.now s n)) c.in_ok-indexed.ensures
+    c.search_ortho_over.ensures.paid
