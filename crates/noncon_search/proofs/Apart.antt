@@ -1,0 +1,166 @@
+-- Whether two listed terms are shown to be apart.
+use Rattle.std.proofs.Common.{ℕ, ◌≡◌, ◌≢◌, ◌+◌, inl, inr, List, [], ◌∷◌, ◌++◌, map, is_some, Vec, Global, Option, None, Some, Ok, refl, sym, ap, ◌∙◌, subst, subst₂}
+use Rattle.std.specs.Prelude.{Bool, true, false, nat_eq, if◌then◌else◌}
+use Rattle.std.proofs.lemmas.Bool.{false≢true}
+use Rattle.std.proofs.lemmas.List.{map-append}
+use Rattle.rewriting.specs.Lists.{IsAmong}
+use Rattle.rewriting.specs.Terms.{Term}
+use Rattle.rewriting.specs.Rules.{System}
+use Rattle.rewriting.specs.Systems.{IsWellFormed}
+use Rattle.rewriting.proofs.Lists.{among_left, among_right, among_middle}
+use Rattle.unifier_run.specs.Run.{Binding, unifier, clash, too_large}
+use Rattle.caps.specs.Caps.{kept}
+use Rattle.caps.specs.Evidence.{IsPairOutcome, IsRigidOutcome, IsPairLarge}
+use Rattle.caps.proofs.Unique.{one_outcome}
+use Rattle.certificates.specs.Certificates as math
+use Rattle.certificates.specs.Certificates.{Apartness, by_normal_forms, by_rigid_caps, Certificate}
+use Rattle.certificates.specs.Judging.{Derives}
+use Rattle.certificates.proofs.Unique.{derives_unique}
+use Rattle.cops_names.specs.NameTable.{NameTable}
+use Rattle.valid_certificates.specs.Certificates.{IsValid}
+use Rattle.valid_certificates.specs.Peaks.{RedexPlace, IsRedexJudged, AreRedexes, AreRefuted, AreShownApart, chosen, entry_place}
+use Rattle.cert_model.specs.CertificateView.{redex_view}
+use Rattle.cert_model.specs.declared.model.Redex.{Redex}
+use Rattle.first_found.specs.Rows.{AreFirsts, HasNone, SomeHasNone}
+use Rattle.redex_conditions.specs.Redexes.{redexes, place, AreRedexesOf}
+use Rattle.redex_conditions.proofs.Ends.{both}
+use Rattle.redex_conditions.proofs.Places.{redexes_are}
+use Rattle.reach_lists.specs.Solutions.{Reached}
+use Rattle.search_spaces.specs.PeakItems.{IsFirstRefuted, TriesApart, try_ends, GivesPeak}
+use Rattle.search_spaces.specs.Texts.{HasText}
+use Rattle.search_spaces.proofs.PeakOnce.{apart_once}
+use Rattle.noncon_search.specs.Refuted.{RefutedAnswers}
+use Rattle.tcap_infeasible.specs.Compared.{PairAnswers}
+use Rattle.tcap_infeasible.specs.declared.comparing.ComparedCaps.{ComparedCaps}
+use Rattle.tcap_infeasible.specs.declared.comparing.ComparedCaps.TheVariants.{Unify, TooLarge}
+use Rattle.noncon_search.specs.Ends.{IsOpen, HasHole}
+use Rattle.noncon_search.specs.Answers.{peak_of}
+use Rattle.noncon_search.proofs.Clashing.{never_first, never_second}
+use Rattle.noncon_search.proofs.Moving.{refuted_as, firsts_as, firsts_append}
+
+-- a term with a redex that has no evidence
+pub open_of : (sys : System) (w : ℕ) (t : Term) (o : Option (Vec Redex Global)) → RefutedAnswers sys w t (Ok o) → is_some o ≡ false → IsOpen sys t
+open_of sys w t (Some es) h e = absurd (false≢true (sym e))
+open_of sys w t None (rs, are, s) e =
+    record {
+      place = s.row;
+      matches = (are.each s.row (subst (IsAmong s.row) (sym s.split) (among_middle s.row s.before s.behind))).1;
+      none = s.none;
+    }
+
+some_none : {X B : Type 0} (First : X → B → ℕ → Type 0) (xs : List X) (x : X) → IsAmong x xs → HasNone First x → SomeHasNone First xs
+some_none First [] x h none = absurd h
+some_none First (y ∷ ys) x (inl e) none = record { before = []; row = y; behind = ys; split = refl; none = subst (HasNone First) e none }
+some_none First (y ∷ ys) x (inr l) none =
+    let s = some_none First ys x l none in
+    record { before = y ∷ s.before; row = s.row; behind = s.behind; split = ap (λ zs. y ∷ zs) s.split; none = s.none }
+
+chosen_same : (t : Term) (w : ℕ) → chosen t t w ≡ t
+chosen_same t w = go (nat_eq w 1)
+  where
+    go : (b : Bool) → (if b then t else t) ≡ t
+    go true = refl
+    go false = refl
+
+module _ (sys : System) (u v : Term) where
+  -- the redex has none either as one of two terms
+  still_none : (k : ℕ) (t : Term) → chosen u v k ≡ t → (o : IsOpen sys t) → HasNone (IsFirstRefuted sys u v) (place k o.place.position o.place.rule)
+  still_none k t is o x n (e, f, same) =
+      o.none (record { which = o.place.which; position = o.place.position; rule = o.place.rule; evidence = e }) n
+      (e, refuted_as sys u v t t (place k o.place.position o.place.rule) o.place.which (is ∙ sym (chosen_same t o.place.which)) e n f, refl)
+
+  module _ (good : IsWellFormed sys) where
+    abbrev all : List RedexPlace
+    all = redexes sys 1 u ++ redexes sys 2 v
+
+    are_all : AreRedexes sys u v all
+    are_all = both sys u v (redexes sys 1 u) (redexes sys 2 v) (redexes_are sys 1 u good) (redexes_are sys 2 v good)
+
+    pub open_first : IsOpen sys u → TriesApart sys u v by_rigid_caps
+    open_first o = (
+      all,
+      are_all,
+      some_none (IsFirstRefuted sys u v) all (place 1 o.place.position o.place.rule)
+          (among_left (place 1 o.place.position o.place.rule) (redexes sys 1 u) (redexes sys 2 v) ((redexes_are sys 1 u good).whole o.place.position o.place.rule o.matches))
+          (still_none 1 u refl o),
+    )
+
+    pub open_second : IsOpen sys v → TriesApart sys u v by_rigid_caps
+    open_second o = (
+      all,
+      are_all,
+      some_none (IsFirstRefuted sys u v) all (place 2 o.place.position o.place.rule)
+          (among_right (place 2 o.place.position o.place.rule) (redexes sys 1 u) (redexes sys 2 v) ((redexes_are sys 2 v good).whole o.place.position o.place.rule o.matches))
+          (still_none 2 v refl o),
+    )
+
+  -- entries for both terms
+  pub both_refuted : (es fs : List Redex) (a : (rs : List RedexPlace) × AreRedexesOf sys 1 u rs × ((n : ℕ) × AreFirsts (IsFirstRefuted sys u u) rs (map redex_view es) n))
+      (b : (rs : List RedexPlace) × AreRedexesOf sys 2 v rs × ((n : ℕ) × AreFirsts (IsFirstRefuted sys v v) rs (map redex_view fs) n))
+      (joined : List Redex) → joined ≡ es ++ fs → TriesApart sys u v (by_normal_forms (map redex_view joined))
+  both_refuted es fs (rs, h, (n, x)) (ss, k, (m, y)) joined is = (
+    rs ++ ss,
+    both sys u v rs ss h k,
+    (
+      n + m,
+      subst (λ z. AreFirsts (IsFirstRefuted sys u v) (rs ++ ss) z (n + m)) (sym (ap (map redex_view) is ∙ map-append redex_view es fs))
+          (firsts_append (IsFirstRefuted sys u v) rs ss (map redex_view es) (map redex_view fs) n m
+          (firsts_as sys u u u v rs (map redex_view es) n (λ r l. subst (λ w. chosen u u w ≡ chosen u v w) (sym (h.each r l).0) refl) x)
+          (firsts_as sys v v u v ss (map redex_view fs) m (λ r l. subst (λ w. chosen v v w ≡ chosen u v w) (sym (k.each r l).0) refl) y)),
+    ),
+  )
+
+  all_refuted : (rs : List RedexPlace) (es : List math.Redex) (n : ℕ) → AreFirsts (IsFirstRefuted sys u v) rs es n → AreRefuted sys u v rs es
+  all_refuted [] [] n h = tt
+  all_refuted [] (e ∷ es) n h = absurd h
+  all_refuted (r ∷ rs) [] n h = absurd h
+  all_refuted (r ∷ rs) (x ∷ es) n (m, k, (e, f, is), rest, up) =
+      (ap entry_place is, subst (λ z. IsRedexJudged sys (chosen u v r.which) r z.evidence None) (sym is) f.gives.3, all_refuted rs es k rest)
+
+  pub shown_by_entries : (u ≡ v → ⊥) → (es : List math.Redex) → TriesApart sys u v (by_normal_forms es) → AreShownApart sys u v (by_normal_forms es)
+  shown_by_entries differ es (rs, are, (n, x)) = (differ, (rs, are, all_refuted rs es n x))
+
+  -- where caps do not clash, and only caps are tried
+  module _ (tries : TriesApart sys u v by_rigid_caps) where
+    not_by_caps : (IsRigidOutcome sys u v clash → ⊥) → (a : Apartness) → TriesApart sys u v a → AreShownApart sys u v a → ⊥
+    not_by_caps never a t s = never (subst (AreShownApart sys u v) (apart_once sys u v a by_rigid_caps t tries) s)
+
+    pub hole_first : HasHole sys u → (a : Apartness) → TriesApart sys u v a → AreShownApart sys u v a → ⊥
+    hole_first h = not_by_caps (λ o. never_first sys u v o h)
+
+    pub hole_second : HasHole sys v → (a : Apartness) → TriesApart sys u v a → AreShownApart sys u v a → ⊥
+    hole_second h = not_by_caps (λ o. never_second sys u v o h)
+
+    unify_none : (b : List Binding) → IsPairOutcome sys kept u v (unifier b) → IsRigidOutcome sys u v clash → ⊥
+    unify_none b h k = let same = (one_outcome sys kept u v).one clash (unifier b) k h in cc
+
+    large_none : IsPairLarge sys kept u v → IsRigidOutcome sys u v clash → ⊥
+    large_none (inl (inl h)) k = ((one_outcome sys kept u v).never_both clash k).0 h
+    large_none (inl (inr h)) k = ((one_outcome sys kept u v).never_both clash k).1 h
+    large_none (inr h) k = let same = (one_outcome sys kept u v).one clash too_large k h in cc
+
+    pub caps_unify : (r : ComparedCaps) → r ≡ Unify → PairAnswers sys kept u v (Ok r) → (a : Apartness) → TriesApart sys u v a → AreShownApart sys u v a → ⊥
+    caps_unify r is h = let w = subst (λ z. PairAnswers sys kept u v (Ok z)) is h in not_by_caps (unify_none w.0 w.1)
+
+    pub caps_too_large : (r : ComparedCaps) → r ≡ TooLarge → PairAnswers sys kept u v (Ok r) → (a : Apartness) → TriesApart sys u v a → AreShownApart sys u v a → ⊥
+    caps_too_large r is h = not_by_caps (large_none (subst (λ z. PairAnswers sys kept u v (Ok z)) is h))
+
+-- the certificate of two listed terms
+module _ (names : NameTable) (sys : System) (t : Term) (x y : Reached) (first : Derives sys [] t x.by x.term) (second : Derives sys [] t y.by y.term) where
+  valid_apart : (a : Apartness) → IsValid sys (peak_of t x y a) → AreShownApart sys x.term y.term a
+  valid_apart a h =
+      subst₂ (λ u v. AreShownApart sys u v a) (derives_unique sys [] t x.by h.u x.term h.ends.first first) (derives_unique sys [] t y.by h.v y.term h.ends.second second) h.apart
+
+  module _ (a : Apartness) (tries : TriesApart sys x.term y.term a) where
+    pub gives : AreShownApart sys x.term y.term a → (c : Certificate) → c ≡ peak_of t x y a → HasText names c → GivesPeak names sys (try_ends t x y) c
+    gives shown c is text = (
+      ((a, tries, is), text),
+      subst (IsValid sys) (sym is) (record { u = x.term; v = y.term; ends = record { first = first; second = second }; apart = shown }),
+    )
+
+    pub without_text : (c : Certificate) → c ≡ peak_of t x y a → (HasText names c → ⊥) → (d : Certificate) → GivesPeak names sys (try_ends t x y) d → ⊥
+    without_text c is long d (((b, other, same), text), valid) =
+        long (subst (HasText names) (same ∙ ap (peak_of t x y) (apart_once sys x.term y.term b a other tries) ∙ sym is) text)
+
+  pub not_shown : ((a : Apartness) → TriesApart sys x.term y.term a → AreShownApart sys x.term y.term a → ⊥) → (c : Certificate) → GivesPeak names sys (try_ends t x y) c → ⊥
+  not_shown never c (((a, tries, is), text), valid) = never a tries (valid_apart a (subst (IsValid sys) is valid))

@@ -1,0 +1,91 @@
+-- What is tried for a redex of a numbered term is tried for the redex of the term.
+use Rattle.std.proofs.Common.{ℕ, ◌≡◌, Bool, true, false, if◌then◌else◌, nat_eq, List, [], ◌∷◌, length, None, refl, sym, ap, subst}
+use Rattle.rewriting.specs.Lists.{AreDistinct}
+use Rattle.rewriting.specs.Rules.{Condition, Rule, System, rule_at}
+use Rattle.rewriting.specs.Substitutions.{Bindings, apply}
+use Rattle.rewriting.specs.Overlaps.{conditions_under}
+use Rattle.rewriting.specs.Terms.{Term}
+use Rattle.certificates.specs.Certificates.{Redex}
+use Rattle.certificates.specs.Evidence.{InfeasibilityEvidence}
+use Rattle.certificates.specs.Judging.{RuleMatches}
+use Rattle.renumbering.specs.Rows.{naming}
+use Rattle.renumbering.specs.Spread.{spread}
+use Rattle.renumbering.proofs.Spreads.{spread_one_to_one}
+use Rattle.valid_certificates.specs.Peaks.{RedexPlace, AreConditionsAt, chosen}
+use Rattle.redex_conditions.specs.Judged.{match_or_new, AreJudged}
+use Rattle.redex_conditions.proofs.Renaming.{conditions_renamed, are_judged_to, are_judged_from}
+use Rattle.redex_conditions.proofs.Numbers.{AreBelow, redex_conditions}
+use Rattle.first_found.specs.Items.{NoneGives, IsFirst, one}
+use Rattle.first_found.specs.Rows.{HasNone}
+use Rattle.first_found.proofs.Items.{not_both}
+use Rattle.search_spaces.specs.Refuting.{Refuting, Tries, refutings}
+use Rattle.search_spaces.specs.PeakItems.{conditions_of, RefutesRedex, IsFirstRefuted}
+use Rattle.search_spaces.proofs.PeakOnce.{conditions_once}
+use Rattle.noncon_search.specs.Trying.{Refutes}
+use Rattle.noncon_search.specs.Entries.{entry_at}
+use Rattle.noncon_search.proofs.Tries.{tries_to, tries_from}
+
+-- items that give the same
+module _ {A B : Type 0} (Gives Other : A → B → Type 0) (to : (a : A) (b : B) → Gives a b → Other a b) (from : (a : A) (b : B) → Other a b → Gives a b) where
+  none_other : (items : List A) → NoneGives Gives items → NoneGives Other items
+  none_other [] h = tt
+  none_other (a ∷ items) (h, hs) = (λ b g. h b (from a b g), none_other items hs)
+
+  first_other : (cost : A → ℕ) (items : List A) (b : B) (n : ℕ) → IsFirst cost Gives items b n → IsFirst cost Other items b n
+  first_other cost items b n f =
+      record { before = f.before; item = f.item; behind = f.behind; split = f.split; none = none_other f.before f.none; gives = to f.item b f.gives; up_to = f.up_to }
+
+either_chosen : (t : Term) (w : ℕ) → chosen t t w ≡ t
+either_chosen t w = go (nat_eq w 1)
+  where
+    go : (b : Bool) → (if b then t else t) ≡ t
+    go true = refl
+    go false = refl
+
+module _ (row : List ℕ) (distinct : AreDistinct row) (t n : Term) (is : t ≡ apply (naming row) n) (below : AreBelow (length row) n)
+    (sys : System) (r : RedexPlace) (rule : Rule) (match : Bindings) (matches : RuleMatches sys n r.rule r.position rule match) where
+  -- the conditions of the numbered redex, and of the redex
+  abbrev numbered : List Condition
+  numbered = conditions_under (match_or_new (length row) match) rule.conditions
+
+  abbrev there : List Condition
+  there = conditions_renamed (spread row) numbered
+
+  are_there : AreConditionsAt sys (chosen t t r.which) r there
+  are_there = subst (λ u. AreConditionsAt sys u r there) (sym (either_chosen t r.which)) (redex_conditions row distinct t n is below sys r rule match matches)
+
+  one_there : (cs : List Condition) → AreConditionsAt sys (chosen t t r.which) r cs → cs ≡ there
+  one_there cs h = conditions_once sys (chosen t t r.which) r cs there h are_there
+
+  refutes_to : (item : Refuting) (e : InfeasibilityEvidence) → Refutes sys numbered item e → RefutesRedex sys t t r item e
+  refutes_to item e (tried, judged) = (
+    there,
+    are_there,
+    tries_to (spread row) sys numbered item e tried,
+    (there, are_there, are_judged_to (spread row) (spread_one_to_one row distinct) sys numbered e None judged),
+  )
+
+  refutes_from : (item : Refuting) (e : InfeasibilityEvidence) → RefutesRedex sys t t r item e → Refutes sys numbered item e
+  refutes_from item e (cs, at, tried, (ds, ats, judged)) = (
+    tries_from (spread row) sys numbered item e (subst (λ z. Tries sys z item e) (one_there cs at) tried),
+    are_judged_from (spread row) (spread_one_to_one row distinct) sys numbered e None (subst (λ z. AreJudged sys z e None) (one_there ds ats) judged),
+  )
+
+  same_items : refutings (length rule.conditions) ≡ refutings (conditions_of (rule_at sys r.rule))
+  same_items = ap (λ o. refutings (conditions_of o)) (sym matches.is_rule)
+
+  pub refuted_there : (e : InfeasibilityEvidence) (m : ℕ) → IsFirst one (Refutes sys numbered) (refutings (length rule.conditions)) e m → (entry : Redex) → entry ≡ entry_at r e
+      → IsFirstRefuted sys t t r entry m
+  refuted_there e m f entry same = (
+    e,
+    subst (λ items. IsFirst one (RefutesRedex sys t t r) items e m) same_items
+        (first_other (Refutes sys numbered) (RefutesRedex sys t t r) refutes_to refutes_from one (refutings (length rule.conditions)) e m f),
+    same,
+  )
+
+  pub unrefuted_there : NoneGives (Refutes sys numbered) (refutings (length rule.conditions)) → HasNone (IsFirstRefuted sys t t) r
+  unrefuted_there none entry m (e, f, same) =
+      not_both (RefutesRedex sys t t r) one (refutings (conditions_of (rule_at sys r.rule))) e m
+      (subst (NoneGives (RefutesRedex sys t t r)) same_items
+      (none_other (Refutes sys numbered) (RefutesRedex sys t t r) refutes_to refutes_from (refutings (length rule.conditions)) none))
+      f

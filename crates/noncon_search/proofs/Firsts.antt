@@ -1,0 +1,90 @@
+-- One item after the other.
+use Rattle.std.proofs.Common.{ℕ, suc, ◌≡◌, ◌+◌, ◌-◌, ◌<◌, ◌≤◌, inl, inr, List, [], ◌∷◌, map, length, Option, None, Some, Result, Ok, Err, sym, ap, ◌∙◌, subst, subst₂, arith}
+use Rattle.std.specs.List.{range_with_len}
+use Rattle.std.proofs.lemmas.List.{length-map}
+use Rattle.rewriting.specs.Overlaps.{conditions_under}
+use Rattle.rewriting.specs.Rules.{Condition, System}
+use Rattle.rewriting.specs.Substitutions.{Substitution}
+use Rattle.rewriting.proofs.Conditions.{length-conditions_under}
+use Rattle.certificates.specs.Evidence.{InfeasibilityEvidence}
+use Rattle.certificates.specs.Reasons.{EvidenceReason}
+use Rattle.certificates.specs.Sizes.{DoConditionsFit}
+use Rattle.term_core.specs.RuleView.{condition_view}
+use Rattle.term_core.specs.declared.systems.Cond.{Cond}
+use Rattle.term_core.specs.declared.terms.NoMemory.{NoMemory}
+use Rattle.cert_model.specs.EvidenceView.{inf_evidence_view}
+use Rattle.cert_model.specs.declared.evidence.InfEvidence.{InfEvidence}
+use Rattle.valid_certificates.specs.Evidence.{IsInfeasibilityJudged}
+use Rattle.valid_certificates.proofs.OneAnswer.{evidence_once}
+use Rattle.redex_conditions.specs.Judged.{AreJudged}
+use Rattle.first_found.specs.Items.{GivesNothing, NoneGives, one}
+use Rattle.first_found.proofs.Items.{first_here, first_right}
+use Rattle.search_spaces.specs.Refuting.{Refuting, try_growth, Tries, growths, refutings}
+use Rattle.search_spaces.proofs.Entries.{tries_once}
+use Rattle.noncon_search.specs.Trying.{Refutes, FirstAnswers}
+
+module _ (sys : System) (cs : List Condition) where
+  other_judgement : (e : InfeasibilityEvidence) (why : EvidenceReason) → IsInfeasibilityJudged sys cs e (Some why) → DoConditionsFit cs → AreJudged sys cs e None → ⊥
+  other_judgement e why h fit (inl (_, k)) = (let same = evidence_once sys cs e None (Some why) k h in cc)
+  other_judgement e why h fit (inr (large, is)) = large fit
+
+  -- nothing is valid for conditions that do not fit
+  pub large_gives : (DoConditionsFit cs → ⊥) → (items : List Refuting) → NoneGives (Refutes sys cs) items
+  large_gives large [] = tt
+  large_gives large (item ∷ items) = (λ e h. unfit e h.1, large_gives large items)
+    where
+      unfit : (e : InfeasibilityEvidence) → AreJudged sys cs e None → ⊥
+      unfit e (inl (fit, k)) = large fit
+      unfit e (inr (_, is)) = cc
+
+  -- an item gives nothing where its evidence is refused
+  pub refused_gives : (item : Refuting) (e : InfeasibilityEvidence) (why : EvidenceReason) → Tries sys cs item e → IsInfeasibilityJudged sys cs e (Some why) → DoConditionsFit cs
+      → GivesNothing (Refutes sys cs) item
+  refused_gives item e why tried h fit b (other, judged) =
+      other_judgement e why h fit (subst (λ z. AreJudged sys cs z None) (tries_once sys cs item b e other tried) judged)
+
+  module _ (item : Refuting) (rest : List Refuting) where
+    -- the first of some items
+    pub first_gives : (e : InfEvidence) → Refutes sys cs item (inf_evidence_view e) → FirstAnswers sys cs (item ∷ rest) (Ok (Some e))
+    first_gives e h = (1, first_here (Refutes sys cs) one [] item rest (inf_evidence_view e) tt h)
+
+    -- one behind an item that gives nothing
+    pub rest_gives : GivesNothing (Refutes sys cs) item → (r : Result (Option InfEvidence) NoMemory) → FirstAnswers sys cs rest r → FirstAnswers sys cs (item ∷ rest) r
+    rest_gives bare (Ok (Some e)) (n, f) = (1 + n, first_right (Refutes sys cs) one (item ∷ []) rest (inf_evidence_view e) n (bare, tt) f)
+    rest_gives bare (Ok None) none = (bare, none)
+    rest_gives bare (Err e) h = tt
+
+  -- the growths behind the first k of n
+  abbrev pub growths_behind : ℕ → ℕ → List Refuting
+  growths_behind k n = map try_growth (range_with_len (k + 1) (n - k))
+
+  -- what they give, all give
+  abbrev pub IsBehind : ℕ → ℕ → Type 0
+  IsBehind k n = (r : Result (Option InfEvidence) NoMemory) → FirstAnswers sys cs (growths_behind k n) r → FirstAnswers sys cs (growths n) r
+
+  pub all_behind : (n : ℕ) → IsBehind 0 n
+  all_behind n r h =
+      let whole : n - 0 ≡ n = omega arith in subst (λ m. FirstAnswers sys cs (map try_growth (range_with_len 1 m)) r) whole h
+
+  module _ (k n : ℕ) (less : k < n) (behind : IsBehind k n) where
+    behind-next : growths_behind k n ≡ try_growth (k + 1) ∷ growths_behind (k + 1) n
+    behind-next = let one_less : n - k ≡ suc (n - (k + 1)) = omega (arith, less) in ap (λ m. map try_growth (range_with_len (k + 1) m)) one_less
+
+    pub growth_gives : (e : InfEvidence) → Refutes sys cs (try_growth (k + 1)) (inf_evidence_view e) → FirstAnswers sys cs (growths n) (Ok (Some e))
+    growth_gives e h =
+        behind (Ok (Some e)) (subst (λ z. FirstAnswers sys cs z (Ok (Some e))) (sym behind-next) (first_gives (try_growth (k + 1)) (growths_behind (k + 1) n) e h))
+
+    pub behind_more : GivesNothing (Refutes sys cs) (try_growth (k + 1)) → IsBehind (k + 1) n
+    behind_more bare r h = behind r (subst (λ z. FirstAnswers sys cs z r) (sym behind-next) (rest_gives (try_growth (k + 1)) (growths_behind (k + 1) n) bare r h))
+
+  pub none_behind : (k n : ℕ) → n ≤ k → IsBehind k n → FirstAnswers sys cs (growths n) (Ok None)
+  none_behind k n most behind =
+      let past : n - k ≡ 0 = omega (arith, most) in
+      behind (Ok None) (subst (λ m. FirstAnswers sys cs (map try_growth (range_with_len (k + 1) m)) (Ok None)) (sym past) tt)
+
+-- what is answered for conditions of the program
+pub first_same : (sys : System) (ds : List Cond) (s : Substitution) (cs : List Condition) (r : Result (Option InfEvidence) NoMemory) → map condition_view ds ≡ conditions_under s cs
+    → FirstAnswers sys (map condition_view ds) (refutings (length ds)) r → FirstAnswers sys (conditions_under s cs) (refutings (length cs)) r
+first_same sys ds s cs r is h =
+    let long : length ds ≡ length cs = sym (length-map ds condition_view) ∙ ap length is ∙ length-conditions_under s cs in
+    subst₂ (λ (z : List Condition) (n : ℕ). FirstAnswers sys z (refutings n) r) is long h

@@ -1,0 +1,12 @@
+pub mod Walking
+pub mod Clashing
+pub mod Moving
+pub mod Apart
+pub mod Listed
+pub mod Ending
+pub mod Growth
+pub mod Tries
+pub mod Firsts
+pub mod AtRedexes
+pub mod Adding
+pub mod Whole

@@ -1,0 +1,18 @@
+use Rattle.std.proofs.Common.{Ok, refl, subst}
+use Rattle.term_core.specs.View.{view}
+use Rattle.search_spaces.specs.PeakItems.{try_ends}
+use Rattle.noncon_search.specs.Answers.{CandidateAnswers}
+use Rattle.noncon_search.specs.Ends.{end_view}
+use Rattle.noncon_search.proofs.Walking.{none_left, pair_stops, pair_found}
+use Rattle.noncon_search.proofs.pairs.try_pair.Goals as goal
+
+pub returns-then-not-take : goal.returns-then-not-take
+returns-then-not-take c =
+    pair_stops c.args.names.now c.args.sys.now (view c.args.start.now) (end_view c.args.first.now) (end_view c.args.second.now) c.args.budget.now c.take.new.self
+    (none_left c.args.budget.now c.if-not-take.ensures.some.1) (c.if-not-take.ensures.none refl)
+
+pub returns-in-Some : goal.returns-in-Some
+returns-in-Some c =
+    pair_found c.args.names.now c.args.sys.now (view c.args.start.now) (end_view c.args.first.now) (end_view c.args.second.now) c.args.budget.now c.take.new.self
+    (c.if-not-take.ensures.taken refl) c.in-Some.cert
+    (subst (λ z. CandidateAnswers c.args.names.now c.args.sys.now (try_ends (view c.args.start.now) (end_view c.args.first.now) (end_view c.args.second.now)) (Ok z)) c.in-Some.is c.in_ok-cert.ensures)

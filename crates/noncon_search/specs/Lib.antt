@@ -1,0 +1,6 @@
+pub mod Given
+pub mod Ends
+pub mod Answers
+pub mod Refuted
+pub mod Trying
+pub mod Entries

@@ -1,0 +1,81 @@
+// All pairs of the listed terms of a start.
+ghost use Rattle.std.specs.Prelude.{◌∷◌, []};
+ghost use Rattle.term_core.specs.View.{view};
+ghost use Rattle.search_spaces.specs.PeakItems.{try_ends};
+ghost use Rattle.noncon_search.specs.Ends.{end_view, ends_view, AreEnds};
+ghost use Rattle.noncon_search.specs.Answers.{pairs_with, pair_items, WalkAnswers};
+
+use crate::candidates::candidate;
+use crate::ends::End;
+use cc_count::Budget;
+use cops_names::Names;
+use rule_index::IndexedSystem;
+use std::alloc::Global;
+use term_core::{NoMemory, Term};
+use validity::Search;
+
+// Tries two ends, for a unit.
+fn try_pair(
+    alloc: Global,
+    sys: &IndexedSystem<'_>,
+    names: &Names,
+    start: &Term,
+    first: &End<'_>,
+    second: &End<'_>,
+    budget: &mut Budget,
+) -> Result<Search, NoMemory>
+    requires ends { AreEnds sys.now (view start.now) (first.now ∷ second.now ∷ []) }
+    ensures { WalkAnswers names.now sys.now (try_ends (view start.now) (end_view first.now) (end_view second.now) ∷ []) budget.old budget.new result }
+{
+    if !budget.take() {
+        return Ok(Search::Spent);
+    }
+    match candidate(alloc, sys, names, start, first, second)? {
+        Some(cert) => Ok(Search::Found(cert)),
+        None => Ok(Search::Nothing),
+    }
+}
+
+// Tries an end with each of later ones.
+fn try_with(
+    alloc: Global,
+    sys: &IndexedSystem<'_>,
+    names: &Names,
+    start: &Term,
+    first: &End<'_>,
+    later: &[End<'_>],
+    budget: &mut Budget,
+) -> Result<Search, NoMemory>
+    requires ends { AreEnds sys.now (view start.now) (first.now ∷ later.now) }
+    ensures { WalkAnswers names.now sys.now (pairs_with (view start.now) (end_view first.now) (ends_view later.now)) budget.old budget.new result }
+{
+    'later: for second in later {
+        match try_pair(alloc, sys, names, start, first, second, budget)? {
+            Search::Nothing => {}
+            end => return Ok(end),
+        }
+    }
+    Ok(Search::Nothing)
+}
+
+/// Tries all pairs of an earlier and a later end, by the earlier, then the later.
+pub fn try_pairs(
+    alloc: Global,
+    sys: &IndexedSystem<'_>,
+    names: &Names,
+    start: &Term,
+    ends: &[End<'_>],
+    budget: &mut Budget,
+) -> Result<Search, NoMemory>
+    requires ends { AreEnds sys.now (view start.now) ends.now }
+    ensures { WalkAnswers names.now sys.now (pair_items (view start.now) (ends_view ends.now)) budget.old budget.new result }
+{
+    'firsts: for (i, first) in ends.iter().enumerate() {
+        let later = &ends[i + 1..];
+        match try_with(alloc, sys, names, start, first, later, budget)? {
+            Search::Nothing => {}
+            end => return Ok(end),
+        }
+    }
+    Ok(Search::Nothing)
+}

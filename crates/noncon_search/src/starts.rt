@@ -1,0 +1,101 @@
+// One start after the other.
+ghost use Rattle.std.specs.Prelude.{◌≡◌, [], map};
+ghost use Rattle.rewriting.specs.Terms as math;
+ghost use Rattle.reach_lists.specs.Laws.{EachOf};
+ghost use Rattle.search_spaces.specs.Listings.{listing};
+ghost use Rattle.search_spaces.specs.PeakItems.{peak_items_of, peak_items};
+ghost use Rattle.reach.specs.ReachedView.{list_view};
+ghost use Rattle.term_core.specs.View.{view};
+ghost use Rattle.noncon_search.specs.Answers.{pair_items, WalkAnswers};
+
+use crate::ends::ends_of;
+use crate::pairs::try_pairs;
+use cc_count::Budget;
+use cops_names::Names;
+use critical_pairs::Overlap;
+use reach::{ReachStop, Reached, reach_in};
+use rule_index::IndexedSystem;
+use std::alloc::Global;
+use term_core::{NoMemory, Rule, Term};
+use validity::Search;
+
+// The steps of a listing.
+const STEPS: u32 = 5;
+
+// Its condition depth.
+const COND_DEPTH: u32 = 2;
+
+// Tries the pairs of a start's listed terms.
+fn try_listed(
+    alloc: Global,
+    sys: &IndexedSystem<'_>,
+    names: &Names,
+    start: &Term,
+    listed: &[Reached],
+    budget: &mut Budget,
+) -> Result<Search, NoMemory>
+    requires fits { math.Fits (view start.now) }
+    requires listed { list_view listed.now ≡ listing sys.now [] (view start.now) }
+    ensures { WalkAnswers names.now sys.now (pair_items (view start.now) (list_view listed.now)) budget.old budget.new result }
+{
+    let ends = ends_of(alloc, sys, listed)?;
+    try_pairs(alloc, sys, names, start, &ends, budget)
+}
+
+// Lists the terms that a start reaches, and tries their pairs.
+fn try_start(
+    alloc: Global,
+    sys: &IndexedSystem<'_>,
+    names: &Names,
+    start: &Term,
+    budget: &mut Budget,
+) -> Result<Search, NoMemory>
+    requires fits { math.Fits (view start.now) }
+    ensures { WalkAnswers names.now sys.now (peak_items_of sys.now (view start.now)) budget.old budget.new result }
+{
+    match reach_in(alloc, sys, &[], start, STEPS, COND_DEPTH, budget) {
+        Ok(listed) => try_listed(alloc, sys, names, start, &listed, budget),
+        Err(ReachStop::Spent) => Ok(Search::Spent),
+        Err(ReachStop::NoMemory) => Err(NoMemory),
+    }
+}
+
+/// Tries the left sides of rules as starts.
+pub fn try_rules(
+    alloc: Global,
+    sys: &IndexedSystem<'_>,
+    names: &Names,
+    rules: &[Rule],
+    budget: &mut Budget,
+) -> Result<Search, NoMemory>
+    requires fit { EachOf (λ r. math.Fits (view r.left)) rules.now }
+    ensures { WalkAnswers names.now sys.now (peak_items sys.now (map (λ r. view r.left) rules.now)) budget.old budget.new result }
+{
+    'rules: for rule in rules {
+        match try_start(alloc, sys, names, &rule.left, budget)? {
+            Search::Nothing => {}
+            end => return Ok(end),
+        }
+    }
+    Ok(Search::Nothing)
+}
+
+/// Tries the sources of overlaps as starts.
+pub fn try_overlaps(
+    alloc: Global,
+    sys: &IndexedSystem<'_>,
+    names: &Names,
+    overlaps: &[Overlap],
+    budget: &mut Budget,
+) -> Result<Search, NoMemory>
+    requires fit { EachOf (λ o. math.Fits (view o.source)) overlaps.now }
+    ensures { WalkAnswers names.now sys.now (peak_items sys.now (map (λ o. view o.source) overlaps.now)) budget.old budget.new result }
+{
+    'overlaps: for overlap in overlaps {
+        match try_start(alloc, sys, names, &overlap.source, budget)? {
+            Search::Nothing => {}
+            end => return Ok(end),
+        }
+    }
+    Ok(Search::Nothing)
+}

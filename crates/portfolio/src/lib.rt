@@ -1,0 +1,132 @@
+//! All searches for a certificate, one behind the other.
+#![tactic(auto)]
+
+ghost use Rattle.std.specs.Prelude.{ℕ, ◌≡◌};
+ghost use Rattle.certificates.specs.Certificates as math;
+ghost use Rattle.valid_certificates.specs.Certificates.{IsValid};
+ghost use Rattle.cc_count.specs.Counts.{Spends};
+ghost use Rattle.search_answers.specs.Answers.{SearchesExactly};
+ghost use Rattle.search_spaces.specs.Ortho.{ortho_space};
+ghost use Rattle.search_spaces.specs.Peak.{peak_space};
+ghost use Rattle.search_spaces.specs.Whole.{whole_space};
+ghost use Rattle.noncon_search.specs.Given.{IsOverlapList};
+ghost use Rattle.portfolio.specs.Answers.{SearchesAll, IfProved, IfNotBuilt};
+
+use cc_count::Budget;
+use cert_model::Certificate;
+use cops_names::Names;
+use critical_pairs::{Overlap, OverlapError, overlaps};
+use noncon_search::search_peak_over;
+use ortho_search::{Search, search_ortho_over};
+use rule_index::IndexedSystem;
+use search_spaces::spaces_are_searchable;
+use std::alloc::Global;
+use term_core::{NoMemory, System};
+
+/// How the searches end.
+#[derive(Debug, Drop)]
+pub enum Outcome {
+    Found(Certificate),
+    /// What is searched holds no valid certificate; quasi-decreasing systems are not searched for yet.
+    NotBuilt,
+    /// The budget was spent.
+    Spent,
+}
+
+// The search for a certificate of an almost orthogonal system; where the overlaps have no list, there is nothing to search.
+fn search_ortho_if(
+    alloc: Global,
+    sys: &IndexedSystem<'_>,
+    names: &Names,
+    overlaps: Option<&[Overlap]>,
+    budget: &mut Budget,
+) -> Result<Search, NoMemory>
+    requires overlaps { IsOverlapList sys.now overlaps }
+    ensures searched { SearchesExactly (ortho_space names.now sys.now) budget.old budget.new result }
+    ensures kept { (n : ℕ) × Spends budget.old n budget.new }
+{
+    match overlaps {
+        Some(found) => search_ortho_over(alloc, sys, names, found, budget),
+        None => Ok(Search::Nothing),
+    }
+}
+
+// Goes on with the search for two terms that are apart.
+fn search_behind(
+    alloc: Global,
+    sys: &IndexedSystem<'_>,
+    names: &Names,
+    overlaps: Option<&[Overlap]>,
+    budget: &mut Budget,
+) -> Result<Outcome, NoMemory>
+    requires overlaps { IsOverlapList sys.now overlaps }
+    ensures searched { SearchesAll (peak_space names.now sys.now) budget.old budget.new result }
+    ensures kept { (n : ℕ) × Spends budget.old n budget.new }
+{
+    match search_peak_over(alloc, sys, names, overlaps, budget) {
+        Ok(Search::Found(cert)) => Ok(Outcome::Found(cert)),
+        Ok(Search::Nothing) => Ok(Outcome::NotBuilt),
+        Ok(Search::Spent) => Ok(Outcome::Spent),
+        Err(e) => Err(e),
+    }
+}
+
+// One search behind the other.
+fn search_all(
+    alloc: Global,
+    sys: &IndexedSystem<'_>,
+    names: &Names,
+    overlaps: Option<&[Overlap]>,
+    budget: &mut Budget,
+) -> Result<Outcome, NoMemory>
+    requires overlaps { IsOverlapList sys.now overlaps }
+    ensures searched { SearchesAll (whole_space names.now sys.now) budget.old budget.new result }
+    ensures ortho_first { (c : math.Certificate) (n : ℕ) → (ortho_space names.now sys.now).Finds c n → IfProved result (λ found. (found ≡ c) × Spends budget.old n budget.new) }
+    ensures kept { (n : ℕ) × Spends budget.old n budget.new }
+{
+    match search_ortho_if(alloc, sys, names, overlaps, budget) {
+        Ok(Search::Found(cert)) => Ok(Outcome::Found(cert)),
+        Ok(Search::Nothing) => search_behind(alloc, sys, names, overlaps, budget),
+        Ok(Search::Spent) => Ok(Outcome::Spent),
+        Err(e) => Err(e),
+    }
+}
+
+// Both searches, over one index and one list of overlaps.
+fn search_whole(
+    alloc: Global,
+    sys: &System,
+    names: &Names,
+    budget: &mut Budget,
+) -> Result<Outcome, NoMemory>
+    ensures searched { SearchesAll (whole_space names.now sys.now) budget.old budget.new result }
+    ensures ortho_first { (c : math.Certificate) (n : ℕ) → (ortho_space names.now sys.now).Finds c n → IfProved result (λ found. (found ≡ c) × Spends budget.old n budget.new) }
+    ensures kept { (n : ℕ) × Spends budget.old n budget.new }
+{
+    let indexed = IndexedSystem::new(alloc, sys)?;
+    match overlaps(alloc, sys) {
+        Ok(found) => search_all(alloc, &indexed, names, Some(&found), budget),
+        Err(OverlapError::PairTooLarge { .. }) => search_all(alloc, &indexed, names, None, budget),
+        Err(OverlapError::TooManyPairs) => search_all(alloc, &indexed, names, None, budget),
+        Err(OverlapError::NoMemory) => Err(NoMemory),
+    }
+}
+
+/// Searches for a certificate of an almost orthogonal system, then for one that the system is not confluent. The first that is
+/// valid is found. A unit is spent for each item that is tried, in both searches together at most what the budget has.
+pub fn prove(
+    alloc: Global,
+    sys: &System,
+    names: &Names,
+    budget: &mut Budget,
+) -> Result<Outcome, NoMemory>
+    ensures searched { SearchesAll (whole_space names.now sys.now) budget.old budget.new result }
+    ensures valid { IfProved result (IsValid sys.now) }
+    ensures nothing { IfNotBuilt result ((c : math.Certificate) → (whole_space names.now sys.now).Holds c → IsValid sys.now c → ⊥) }
+    // Where the first space has a certificate, that is found, for exactly its price.
+    ensures ortho_first { (c : math.Certificate) (n : ℕ) → (ortho_space names.now sys.now).Finds c n → IfProved result (λ found. (found ≡ c) × Spends budget.old n budget.new) }
+    ensures kept { (n : ℕ) × Spends budget.old n budget.new }
+{
+    spaces_are_searchable();
+    search_whole(alloc, sys, names, budget)
+}
