@@ -20,7 +20,7 @@ use Rattle.first_found.specs.Rows.{HasNone}
 use Rattle.first_found.proofs.Items.{not_both}
 use Rattle.search_spaces.specs.Refuting.{Refuting, Tries, refutings}
 use Rattle.search_spaces.specs.PeakItems.{conditions_of, RefutesRedex, IsFirstRefuted}
-use Rattle.search_spaces.proofs.PeakOnce.{conditions_once}
+use Rattle.valid_certificates.proofs.OneAnswer.{conditions_once}
 use Rattle.noncon_search.specs.Trying.{Refutes}
 use Rattle.noncon_search.specs.Entries.{entry_at}
 use Rattle.noncon_search.proofs.Tries.{tries_to, tries_from}

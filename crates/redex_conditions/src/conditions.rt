@@ -72,6 +72,7 @@ pub fn conditions_at(
     match instances(alloc, &values, &rule.conds) {
         Ok(conds) => Ok(Some(conds)),
         Err(TermError::TooLarge) => Ok(None),
-        Err(_) => Err(NoMemory),
+        Err(TermError::NoMemory) => Err(NoMemory),
+        Err(TermError::NoPosition) => unreachable!(),
     }
 }

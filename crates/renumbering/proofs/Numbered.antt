@@ -19,9 +19,6 @@ pub record AreNumbered (xs : List ℕ) (ts us : Terms) : Type 0 where
   pub names : ts ≡ apply_all (naming xs) us
   pub below : (m : ℕ) → occurs_in m us ≡ true → m < length xs
 
-pub numbered_none : (xs : List ℕ) → AreNumbered xs nil nil
-numbered_none xs = record { names = refl; below = λ m o. absurd (cc) }
-
 pub numbered_grows : (xs ys : List ℕ) (ts us : Terms) → IsFront xs ys → AreNumbered xs ts us → AreNumbered ys ts us
 numbered_grows xs ys ts us f n = record {
   names = n.names ∙ apply_all-agree (naming xs) (naming ys) us (λ m o. ap var (sym (front_at xs ys 0 m f (n.below m o))));

@@ -1,15 +1,13 @@
 -- An item of the peak space has one certificate at most.
-use Rattle.std.proofs.Common.{ℕ, ◌≡◌, List, refl, sym, ap, ap₂, ◌∙◌, subst}
+use Rattle.std.proofs.Common.{ℕ, ◌≡◌, refl, sym, ap, ◌∙◌, subst}
 use Rattle.rewriting.specs.Terms.{Term}
-use Rattle.rewriting.specs.Rules.{Condition, Rule, System, rule_at}
+use Rattle.rewriting.specs.Rules.{System, rule_at}
 use Rattle.certificates.specs.Evidence.{InfeasibilityEvidence}
 use Rattle.certificates.specs.Certificates.{Redex, Apartness, by_normal_forms, by_rigid_caps, Certificate, peak_certificate}
 use Rattle.cops_names.specs.NameTable.{NameTable}
-use Rattle.valid_certificates.specs.Peaks.{RedexPlace, AreConditionsAt, at_redex, chosen}
+use Rattle.valid_certificates.specs.Peaks.{RedexPlace, chosen}
+use Rattle.valid_certificates.proofs.OneAnswer.{conditions_once}
 use Rattle.valid_certificates.proofs.OneList.{redexes_once}
-use Rattle.rewriting.specs.Substitutions.{Bindings}
-use Rattle.rewriting.specs.Overlaps.{conditions_under}
-use Rattle.certificates.proofs.Unique.{matches_unique}
 use Rattle.first_found.specs.Items.{one}
 use Rattle.first_found.specs.Rows.{AreFirsts}
 use Rattle.first_found.proofs.Items.{first_once}
@@ -17,12 +15,6 @@ use Rattle.first_found.proofs.Rows.{firsts_once, none_of_rows}
 use Rattle.search_spaces.specs.Refuting.{Refuting, Tries, refutings}
 use Rattle.search_spaces.specs.PeakItems.{PeakItem, make_listing, try_ends, conditions_of, RefutesRedex, IsFirstRefuted, TriesApart, HoldsPeak}
 use Rattle.search_spaces.proofs.Entries.{tries_once}
-
--- the conditions at a redex are determined
-pub conditions_once : (sys : System) (t : Term) (r : RedexPlace) (cs ds : List Condition) → AreConditionsAt sys t r cs → AreConditionsAt sys t r ds → cs ≡ ds
-conditions_once sys t r cs ds a b =
-    let same = matches_unique sys t r.rule r.position a.rule b.rule a.match b.match a.matches b.matches in
-    a.are ∙ ap₂ (λ (q : Rule) (m : Bindings). conditions_under (at_redex m) q.conditions) same.same_rule same.same_match ∙ sym b.are
 
 module _ (sys : System) (u v : Term) where
   refutes_once : (r : RedexPlace) (item : Refuting) (d e : InfeasibilityEvidence) → RefutesRedex sys u v r item d → RefutesRedex sys u v r item e → d ≡ e

@@ -3,7 +3,7 @@ use Rattle.std.proofs.Common.{◌≡◌, ℕ, zero, suc, ◌+◌, ◌≤◌, ◌
 use Rattle.std.proofs.lemmas.Grind.{common_steps}
 use Rattle.std.specs.Prelude.{unwrap_or}
 use Rattle.std.specs.FinMap.{get}
-use Rattle.rewriting.specs.Terms.{Term, Terms, var, app, cons}
+use Rattle.rewriting.specs.Terms.{Term, Terms, var, cons}
 use Rattle.rewriting.specs.Substitutions.{Bindings, apply, values_of}
 use Rattle.rewriting.specs.Variables.{occurrences, occurrences_in}
 use Rattle.rewriting.proofs.Instances.{apply-agree}
@@ -43,9 +43,6 @@ module _ (repeated : BTreeSet ℕ) (whole t : Term) (rest : Terms) (b c : Bindin
       other : (x : ℕ) → (occurrences x whole ≡ 0) ⊎ Has repeated x → (occurrences x t ≡ 0) ⊎ Has repeated x
       other x (inl e) = inl (omega (arith, e, m.within x))
       other x (inr r) = inr r
-
-pub moving_from : (repeated : BTreeSet ℕ) (f : ℕ) (ts : Terms) (b : Bindings) → Moving repeated (app f ts) ts b b
-moving_from repeated f ts b = record { within = λ x. omega arith; coming = λ x h. refl; kept = λ x h. refl }
 
 -- the instances of some terms, and the one of the next
 pub made_on : (f : program.Term → Term) (ts out new : List program.Term) (i : ℕ) (t u : program.Term) → i < length ts → t ≡ get_or ts i t → map view out ≡ map f (take i ts) → new ≡ out ++ u ∷ []

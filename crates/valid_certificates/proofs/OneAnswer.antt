@@ -20,7 +20,7 @@ use Rattle.valid_certificates.specs.Laws.{IsOneAnswer}
 use Rattle.valid_certificates.proofs.OneList.{redexes_once}
 
 -- the conditions at a redex are determined
-conditions_once : (sys : System) (t : Term) (r : RedexPlace) (cs ds : List Condition) → AreConditionsAt sys t r cs → AreConditionsAt sys t r ds → cs ≡ ds
+pub conditions_once : (sys : System) (t : Term) (r : RedexPlace) (cs ds : List Condition) → AreConditionsAt sys t r cs → AreConditionsAt sys t r ds → cs ≡ ds
 conditions_once sys t r cs ds a b =
     let same = matches_unique sys t r.rule r.position a.rule b.rule a.match b.match a.matches b.matches in
     a.are ∙ ap₂ (λ (q : Rule) (m : Bindings). conditions_under (at_redex m) q.conditions) same.same_rule same.same_match ∙ sym b.are

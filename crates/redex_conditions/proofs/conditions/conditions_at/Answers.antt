@@ -19,3 +19,6 @@ returns-in-Err-TooLarge c =
     let same = ap (λ z. conditions_under (values_of c.complete.new.values) (map condition_view z)) c.deref.ensures.value ∙ completed_conditions _ _ c.requires.sound.1 _ _ _ c.in_ok-complete.ensures in
     let large : DoConditionsFit (conditions_under (values_of c.complete.new.values) (map condition_view c.deref.result.now)) → ⊥ = rw c.in-Err-TooLarge.field-0-is at c.in-Err-TooLarge.ensures in
     λ fit. large (subst DoConditionsFit (sym same) fit)
+
+pub unreachable-requires : goal.unreachable-requires
+unreachable-requires c = rw c.in-Err-NoPosition.field-0-is at c.in-Err-NoPosition.ensures
