@@ -21,7 +21,7 @@ use Rattle.cert_grammar.specs.CertificateText.{IsApart, IsCertificateText}
 
 -- terms that the names spell are over the arities of the names
 mutual
-  spelt_over : (names : NameTable) (arities : List ℕ) → arities ≡ map (λ s. s.1) names.symbols → (t : Term) → IsSpelt names t → IsOver arities t
+  pub spelt_over : (names : NameTable) (arities : List ℕ) → arities ≡ map (λ s. s.1) names.symbols → (t : Term) → IsSpelt names t → IsOver arities t
   spelt_over names arities e (var x) h = tt
   spelt_over names arities e (app f ts) h =
       (ap (λ (l : List ℕ). slice_get l f) e ∙ slice_get-map (λ (s : List ℕ × ℕ). s.1) names.symbols f ∙ h.0.1.arity, spelt_all_over names arities e ts h.1)

@@ -1,10 +1,15 @@
 pub mod PieceLists
-pub mod ThreeWords
+pub mod FewWords
+pub mod Commands
 pub mod TextsRead
 pub mod Bounds
+pub mod Unread
 pub mod Verdicts
+pub mod Searches
 pub mod Answered
+pub mod Told
 pub mod SoundNo
 pub mod OneAnswer
-pub mod Rejecting
+pub mod OneSearch
+pub mod Meant
 pub mod SaidRefusals

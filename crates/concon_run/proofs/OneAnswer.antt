@@ -7,7 +7,6 @@ use Rattle.valid_certificates.specs.Certificates.{IsRejected, IsValid}
 use Rattle.valid_certificates.specs.Laws.{CertificatesHaveOneAnswer}
 use Rattle.cert_check.specs.Kinds.{verdict_of}
 use Rattle.cert_check.specs.declared.Verdict.{Verdict}
-use Rattle.cert_check.specs.declared.Verdict.TheVariants.{Yes, No}
 use Rattle.cops_read.specs.NameTable.{NameTable}
 use Rattle.cops_read.specs.File.{IsFile}
 use Rattle.cops_read.specs.Answers.{OneSystem, OneRefusal, NeverSystemAndRefusal}
@@ -19,10 +18,11 @@ use Rattle.cert_lines.proofs.Whole.{same_certificate}
 use Rattle.concon_run.specs.Words.{IsCheck}
 use Rattle.concon_run.specs.Said.{Said, IsTold}
 use Rattle.concon_run.specs.Outcomes.{Bytes, CheckOutcome, no_system, no_certificate, rejected, shown, SpellsSystem, IsRefusedFile, SpellsCertificate, IsRefusedCertificate, ComesTo, status_of, said_of_outcome}
-use Rattle.concon_run.specs.Causes.{Run, Answer, usage, checked, file_fault, cert_fault, no_memory, said_of, told_or_any, bytes_of, HasFailed, IsCaused}
+use Rattle.concon_run.specs.Causes.{Run, Answer, usage, checked, searched, file_fault, cert_fault, no_memory, said_of, told_or_any, bytes_of, HasFailed, IsCaused}
 use Rattle.concon_run.specs.Rows.{CalmlyComesTo, IsUnlessHindered}
 use Rattle.concon_run.specs.declared.status.Status.{Status}
-use Rattle.concon_run.specs.declared.status.Status.TheVariants as statuses
+use Rattle.concon_run.proofs.Commands.{check_or_prove, file_of_check}
+use Rattle.concon_run.proofs.Told.{told_or_wanting}
 
 same_bytes : (told : Option (List ℕ)) (a b : List ℕ) → told ≡ Some a → told_or_any told b → b ≡ a
 same_bytes None a b e h = absurd cc
@@ -50,7 +50,7 @@ module _ (k : Known) (file cert : Option (List ℕ)) where
   cert_bytes : (a b : List ℕ) (names : NameTable) (c : Certificate) → cert ≡ Some a → told_or_any cert b → IsCertificateText names b c → IsCertificateText names a c
   cert_bytes a b names c e h f = subst (λ x. IsCertificateText names x c) (same_bytes cert a b e h) f
 
-  one_pair : (sys other : System) (names others : NameTable) → SpellsSystem (Told file) sys names → SpellsSystem (told_or_any file) other others → (sys ≡ other) × (names ≡ others)
+  pub one_pair : (sys other : System) (names others : NameTable) → SpellsSystem (Told file) sys names → SpellsSystem (told_or_any file) other others → (sys ≡ other) × (names ≡ others)
   one_pair sys other names others x y = k.one x.0 sys other names others x.3 (file_bytes x.0 y.0 other others x.1 y.1 y.3)
 
   -- a text that spells a system is not refused
@@ -64,14 +64,14 @@ module _ (k : Known) (file cert : Option (List ℕ)) where
   refused_once bytes (no_system_text e at) long_file h g = absurd (omega (arith, h.0))
   refused_once bytes (no_system_text e at) (no_system_text d to) h g = let same = k.once bytes e d at to h.1 g.1 in ap₂ no_system_text same.0 same.1
 
-  spells_or_none : (sys : System) (names : NameTable) (r : FileRefusal) → SpellsSystem (Told file) sys names → IsRefusedFile (told_or_any file) r → ⊥
+  pub spells_or_none : (sys : System) (names : NameTable) (r : FileRefusal) → SpellsSystem (Told file) sys names → IsRefusedFile (told_or_any file) r → ⊥
   spells_or_none sys names r x y = read_or_refused x.0 sys names r x.2 x.3 (subst (λ b. IsFileRefused b r) (same_bytes file x.0 y.0 x.1 y.1) y.2)
 
-  none_or_spells : (sys : System) (names : NameTable) (r : FileRefusal) → IsRefusedFile (Told file) r → SpellsSystem (told_or_any file) sys names → ⊥
+  pub none_or_spells : (sys : System) (names : NameTable) (r : FileRefusal) → IsRefusedFile (Told file) r → SpellsSystem (told_or_any file) sys names → ⊥
   none_or_spells sys names r x y =
       read_or_refused y.0 sys names r y.2 y.3 (subst (λ b. IsFileRefused b r) (sym (same_bytes file x.0 y.0 x.1 y.1)) x.2)
 
-  one_refused : (r s : FileRefusal) → IsRefusedFile (Told file) r → IsRefusedFile (told_or_any file) s → r ≡ s
+  pub one_refused : (r s : FileRefusal) → IsRefusedFile (Told file) r → IsRefusedFile (told_or_any file) s → r ≡ s
   one_refused r s x y = refused_once x.0 r s x.2 (subst (λ b. IsFileRefused b s) (same_bytes file x.0 y.0 x.1 y.1) y.2)
 
   -- what two certificates of one text have in common
@@ -147,39 +147,25 @@ same_cert : (words : List (List ℕ)) (file cert other others : List ℕ) → Is
 same_cert words file cert other others e f = cc
 
 module _ (k : Known) (run : Run) (status : Status) (out_old out_new err_old err_new : Option (List ℕ)) (out_before out_now err_before err_now : ℕ) where
-  abbrev pub Tells : Said → Type 0
+  abbrev Tells : Said → Type 0
   Tells said = IsTold said status out_old out_new err_old err_new out_before out_now err_before err_now
 
   pub exactly : (answer : Answer) → IsCaused run answer → Tells (said_of answer) → (file cert : List ℕ) (outcome : CheckOutcome) → CalmlyComesTo run file cert outcome
       → Tells (said_of_outcome file cert outcome) ⊎ Tells (said_of no_memory)
-  exactly usage caused told file cert outcome calm = absurd (caused file cert calm.0)
+  exactly usage caused told file cert outcome calm = absurd (caused file (inl (cert, calm.0)))
   exactly (checked f c o) caused told file cert outcome calm =
       let files = same_file run.words file cert f c calm.0 caused.0 in
       let certs = same_cert run.words file cert f c calm.0 caused.0 in
       let here : ComesTo (bytes_of run file) (bytes_of run cert) o = subst₂ (λ x y. ComesTo (bytes_of run x) (bytes_of run y) o) files certs caused.1 in
       let same = one_outcome k (run.contents file) (run.contents cert) outcome o calm.1 here in
       inl (subst (λ p. Tells (said_of_outcome file cert p)) (sym same) (subst₂ (λ x y. Tells (said_of_outcome x y o)) files certs told))
-  exactly (file_fault f c) caused told file cert outcome calm =
-      absurd (calm.2 (subst (HasFailed run) (same_file run.words file cert f c calm.0 caused.0) caused.1))
+  exactly (searched f b o) caused told file cert outcome calm = absurd (check_or_prove run.words file cert f b calm.0 caused.0)
+  exactly (file_fault f) caused told file cert outcome calm =
+      absurd (calm.2 (subst (HasFailed run) (file_of_check run.words file cert f calm.0 caused.0) caused.1))
   exactly (cert_fault f c) caused told file cert outcome calm =
       absurd (calm.3 (subst (HasFailed run) (same_cert run.words file cert f c calm.0 caused.0) caused.1))
   exactly no_memory caused told file cert outcome calm = inr told
 
-  told_status : (said : Said) → Tells said → IsUnlessHindered said.status status
-  told_status said (inl whole) = inl whole.0
-  told_status said (inr part) = inr (inr part.0)
-
-  wanting_status : Tells (said_of no_memory) → (status ≡ statuses.NoMemory) ⊎ (status ≡ statuses.WriteFault)
-  wanting_status (inl whole) = inl whole.0
-  wanting_status (inr part) = inr part.0
-
-  -- what is said of a verdict has its status
-  status_said : (file cert : List ℕ) (v : Verdict) → (said_of_outcome file cert (shown v)).status ≡ status_of v
-  status_said file cert Yes = refl
-  status_said file cert No = refl
-
   pub complete : (answer : Answer) → IsCaused run answer → Tells (said_of answer) → (file cert : List ℕ) (v : Verdict) → CalmlyComesTo run file cert (shown v) → IsUnlessHindered (status_of v) status
-  complete answer caused told file cert v calm = elim (exactly answer caused told file cert (shown v) calm) [
-    | inl t ↦ subst (λ s. IsUnlessHindered s status) (status_said file cert v) (told_status (said_of_outcome file cert (shown v)) t)
-    | inr t ↦ inr (wanting_status t)
-  ]
+  complete answer caused told file cert v calm =
+      told_or_wanting status out_old out_new err_old err_new out_before out_now err_before err_now (said_of_outcome file cert (shown v)) (exactly answer caused told file cert (shown v) calm)

@@ -14,7 +14,8 @@ use Rattle.concon_run.specs.CertRefusals.{long_certificate, most_cert_bytes}
 use Rattle.concon_run.specs.Outcomes.{Bytes, IsRefusedFile, IsRefusedCertificate}
 use Rattle.concon_run.specs.Causes.{told_or_any}
 use Rattle.concon_run.specs.Judging.{SystemAnswers, CertificateAnswers}
-use Rattle.concon_run.specs.declared.judge.NoVerdict.TheVariants.{FileUnread, CertUnread, CertRefused}
+use Rattle.concon_run.specs.declared.files.NoSystem.TheVariants.{Unread}
+use Rattle.concon_run.specs.declared.judge.NoVerdict.TheVariants.{CertUnread, CertRefused}
 use Rattle.std.specs.Prelude.{Err, IsErrOf}
 
 -- some text is longer, and if one is told it is
@@ -29,7 +30,7 @@ no_certificate_beyond : (told : Option (List ℕ)) (names : NameTable) → IfSom
 no_certificate_beyond told names l = long_text told most_cert_bytes l
 
 pub file_unread : {A : Type 0} (told : Option (List ℕ)) (failed : Type 0) (e : ReadAllError) → (IsErrOf {T = A} (Err e) ReadFault → failed) → (IsTooLong e → IfSome told (λ bytes. most_file_bytes < length bytes))
-    → SystemAnswers (told_or_any told) failed (Err (FileUnread e))
+    → SystemAnswers (told_or_any told) failed (Err (Unread e))
 file_unread told failed ReadFault fault long = fault refl
 file_unread told failed (TooLong n) fault long = no_system_beyond told (long tt)
 file_unread told failed NoMemory fault long = tt

@@ -1,55 +1,71 @@
 -- What was read and judged is what the check comes to.
-use Rattle.std.specs.Prelude.{List, ℕ, Option, Some, None, Result, Ok, Err, option_map}
-use Rattle.std.proofs.Common.{sym, subst}
+use Rattle.std.specs.Prelude.{List, ℕ, Option, Some, None, IfSome, Result, Ok, Err}
+use Rattle.std.proofs.Common.{◌≤◌, inl, sym, subst, arith}
 use Rattle.rewriting.specs.Rules.{System}
 use Rattle.certificates.specs.Certificates.{Certificate, ortho_certificate, quasi_certificate, peak_certificate}
 use Rattle.cert_check.specs.declared.Verdict.{Verdict}
 use Rattle.cert_check.specs.declared.Verdict.TheVariants.{Yes, No}
 use Rattle.cops_read.specs.NameTable.{NameTable}
+use Rattle.cc_io.specs.Faults.{Rose}
 use Rattle.cc_io.specs.declared.shelf.ReadAllError.TheVariants as reading
 use Rattle.concon_run.specs.Words.{IsCheck}
-use Rattle.concon_run.specs.FileRefusals.{FileRefusal, file_refusal_of}
 use Rattle.concon_run.specs.CertRefusals.{CertRefusal, cert_refusal_of}
-use Rattle.concon_run.specs.Outcomes.{no_system, no_certificate, SpellsSystem, SpellsCertificate, IsTrueOf}
-use Rattle.concon_run.specs.Causes.{Run, bytes_of, IsCaused, IsRight}
-use Rattle.concon_run.specs.Judging.{IsShown, CheckAnswers, refused_answer, answer_of}
+use Rattle.concon_run.specs.Outcomes.{no_system, no_certificate, SpellsSystem, SpellsCertificate, IsRefusedCertificate, IsShown, IsTrueOf}
+use Rattle.concon_run.specs.Causes.{Run, checked, bytes_of, HasFailed, IsCaused, IsRight}
+use Rattle.concon_run.specs.Judging.{SystemAnswers, CertificateAnswers, CheckAnswers, refused_answer, answer_of}
+use Rattle.concon_run.specs.declared.files.NoSystem.{NoSystem}
 use Rattle.concon_run.specs.declared.judge.NoVerdict.{NoVerdict}
-use Rattle.concon_run.specs.declared.judge.NoVerdict.TheVariants.{FileUnread, FileRefused, CertUnread, CertRefused, Rejected, NoMemory}
+use Rattle.concon_run.specs.declared.judge.NoVerdict.TheVariants as no_verdict
+use Rattle.concon_run.proofs.Unread.{no_system_caused, no_system_right}
+
+-- what rose since a later time, rose since an earlier one
+pub rose_since : (before between now : ℕ) → before ≤ between → Rose between now → Rose before now
+rose_since before between now le rose = omega (arith, le, rose)
 
 module _ (run : Run) (file cert : List ℕ) where
-  refused_file_is_right : (o : Option FileRefusal) → IsRight run (refused_answer file cert (option_map no_system o))
-  refused_file_is_right (Some r) = tt
-  refused_file_is_right None = tt
-
-  refused_cert_is_right : (o : Option CertRefusal) → IsRight run (refused_answer file cert (option_map no_certificate o))
+  refused_cert_is_right : (o : Option CertRefusal) → IsRight run (refused_answer (λ r. checked file cert (no_certificate r)) o)
   refused_cert_is_right (Some r) = tt
   refused_cert_is_right None = tt
 
   -- an answer without a verdict says nothing of the system
   pub no_verdict_is_right : (e : NoVerdict) → IsRight run (answer_of file cert (Err e))
-  no_verdict_is_right (FileUnread reading.ReadFault) = tt
-  no_verdict_is_right (FileUnread (reading.TooLong n)) = tt
-  no_verdict_is_right (FileUnread reading.NoMemory) = tt
-  no_verdict_is_right (FileRefused e) = refused_file_is_right (file_refusal_of e)
-  no_verdict_is_right (CertUnread reading.ReadFault) = tt
-  no_verdict_is_right (CertUnread (reading.TooLong n)) = tt
-  no_verdict_is_right (CertUnread reading.NoMemory) = tt
-  no_verdict_is_right (CertRefused e) = refused_cert_is_right (cert_refusal_of e)
-  no_verdict_is_right (Rejected names reason) = tt
-  no_verdict_is_right NoMemory = tt
+  no_verdict_is_right (no_verdict.NoSystem e) = no_system_right run file (λ r. checked file cert (no_system r)) (λ r. tt) e
+  no_verdict_is_right (no_verdict.CertUnread reading.ReadFault) = tt
+  no_verdict_is_right (no_verdict.CertUnread (reading.TooLong n)) = tt
+  no_verdict_is_right (no_verdict.CertUnread reading.NoMemory) = tt
+  no_verdict_is_right (no_verdict.CertRefused e) = refused_cert_is_right (cert_refusal_of e)
+  no_verdict_is_right (no_verdict.Rejected names reason) = tt
+  no_verdict_is_right no_verdict.NoMemory = tt
 
   module _ (form : IsCheck run.words file cert) where
+    -- the file gives no system
+    pub unread : (e : NoSystem) → SystemAnswers (bytes_of run file) (HasFailed run file) (Err e) → IsCaused run (answer_of file cert (Err (no_verdict.NoSystem e)))
+    unread e h = no_system_caused run file (λ r. checked file cert (no_system r)) (inl (cert, form)) (λ r refused. (form, refused)) e h
+
     module _ (sys : System) (names : NameTable) (f : SpellsSystem (bytes_of run file) sys names) where
+      refused_cert_caused : (o : Option CertRefusal) → IfSome o (IsRefusedCertificate (bytes_of run cert) names) → IsCaused run (refused_answer (λ r. checked file cert (no_certificate r)) o)
+      refused_cert_caused (Some r) h = (form, (sys, names, f, h))
+      refused_cert_caused None h = (file, inl (cert, form))
+
+      -- the file gives a system, and the certificate was not read
+      pub unread_certificate : (failed : Type 0) → (failed → HasFailed run cert) → (e : NoVerdict) → CertificateAnswers (bytes_of run cert) failed names (Err e) → IsCaused run (answer_of file cert (Err e))
+      unread_certificate failed rose (no_verdict.NoSystem e) h = absurd h
+      unread_certificate failed rose (no_verdict.CertUnread reading.ReadFault) h = (form, rose h, (sys, names, f))
+      unread_certificate failed rose (no_verdict.CertUnread (reading.TooLong n)) h = (form, (sys, names, f, h))
+      unread_certificate failed rose (no_verdict.CertUnread reading.NoMemory) h = (file, inl (cert, form))
+      unread_certificate failed rose (no_verdict.CertRefused e) h = refused_cert_caused (cert_refusal_of e) h
+      unread_certificate failed rose (no_verdict.Rejected others reason) h = absurd h
+      unread_certificate failed rose no_verdict.NoMemory h = absurd h
+
       -- the certificate was checked
       pub judged : (c : Certificate) → SpellsCertificate (bytes_of run cert) names c → (r : Result Verdict NoVerdict) → CheckAnswers sys names c r → IsCaused run (answer_of file cert r)
       judged c t (Ok v) h = (form, (sys, names, c, f, t, h.1, h.0))
-      judged c t (Err (FileUnread e)) h = absurd h
-      judged c t (Err (FileRefused e)) h = absurd h
-      judged c t (Err (CertUnread e)) h = absurd h
-      judged c t (Err (CertRefused e)) h = absurd h
-      judged c t (Err (Rejected others reason)) h =
+      judged c t (Err (no_verdict.NoSystem e)) h = absurd h
+      judged c t (Err (no_verdict.CertUnread e)) h = absurd h
+      judged c t (Err (no_verdict.CertRefused e)) h = absurd h
+      judged c t (Err (no_verdict.Rejected others reason)) h =
           (form, (sys, c, subst (SpellsSystem (bytes_of run file) sys) (sym h.0) f, subst (λ n. SpellsCertificate (bytes_of run cert) n c) (sym h.0) t, h.1))
-      judged c t (Err NoMemory) h = (file, cert, form)
+      judged c t (Err no_verdict.NoMemory) h = (file, inl (cert, form))
 
   -- what a certificate shows of the system is true of the texts
   true_of : (sys : System) (names : NameTable) (c : Certificate) → SpellsSystem (bytes_of run file) sys names → SpellsCertificate (bytes_of run cert) names c

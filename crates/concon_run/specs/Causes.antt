@@ -4,9 +4,11 @@ use Rattle.rewriting.specs.Rules.{System}
 use Rattle.cops_read.specs.NameTable.{NameTable}
 use Rattle.cc_io.specs.Faults.{Rose}
 use Rattle.cc_io.specs.Errors.{IsBegunIfAny}
-use Rattle.concon_run.specs.Words.{IsCheck, IsNoCommand}
+use Rattle.concon_run.specs.Words.{IsCheck, IsProve, NamesFile, IsNoCommand}
 use Rattle.concon_run.specs.Said.{Said}
-use Rattle.concon_run.specs.Outcomes.{Bytes, CheckOutcome, no_system, shown, SpellsSystem, ComesTo, IsTrueOf, said_of_outcome}
+use Rattle.concon_run.specs.Outcomes.{Bytes, CheckOutcome, no_system, shown, SpellsSystem, ComesTo, IsShown, IsTrueOf, said_of_outcome}
+use Rattle.concon_run.specs.Searching.{SearchOutcome, found, SearchComesTo, said_of_search}
+use Rattle.cert_check.specs.Kinds.{verdict_of}
 use Rattle.concon_run.specs.declared.status.Status.TheVariants as status
 
 -- the words, what the shelf tells of its files, and how often it had failed at each name before and now
@@ -35,41 +37,46 @@ told_bytes run name bytes = run.contents name ≡ Some bytes
 abbrev pub HasFailed : Run → List ℕ → Type 0
 HasFailed run name = Rose (run.before name) (run.now name)
 
--- the words FILE and CERT stand first where an answer has them
+-- the words for FILE and CERT, or the budget, stand first where an answer has them
 pub data Answer : Type 0 where
   usage : Answer
   checked : List ℕ → List ℕ → CheckOutcome → Answer
-  file_fault : List ℕ → List ℕ → Answer
+  searched : List ℕ → ℕ → SearchOutcome → Answer
+  file_fault : List ℕ → Answer
   cert_fault : List ℕ → List ℕ → Answer
   no_memory : Answer
 
 abbrev pub usage_text : List ℕ
-usage_text = codes "usage: concon check FILE CERT\n"
+usage_text = codes "usage: concon check FILE CERT\n       concon prove FILE [--budget N]\n"
 
 abbrev pub said_of : Answer → Said
 said_of usage = record { status = status.Usage; out = []; err = usage_text }
 said_of (checked file cert outcome) = said_of_outcome file cert outcome
-said_of (file_fault file cert) = record { status = status.ReadFault; out = []; err = file ++ codes ": read fault\n" }
+said_of (searched file budget outcome) = said_of_search file outcome
+said_of (file_fault file) = record { status = status.ReadFault; out = []; err = file ++ codes ": read fault\n" }
 said_of (cert_fault file cert) = record { status = status.ReadFault; out = []; err = cert ++ codes ": read fault\n" }
 said_of no_memory = record { status = status.NoMemory; out = []; err = codes "no memory\n" }
 
--- the cause of an answer; want of memory is told only of a check
+-- the cause of an answer; want of memory is told only of a command
 abbrev pub IsCaused : Run → Answer → Type 0
 IsCaused run usage = IsNoCommand run.words
 IsCaused run (checked file cert outcome) = IsCheck run.words file cert × ComesTo (bytes_of run file) (bytes_of run cert) outcome
-IsCaused run (file_fault file cert) = IsCheck run.words file cert × HasFailed run file
+IsCaused run (searched file budget outcome) = IsProve run.words file budget × SearchComesTo (bytes_of run file) budget outcome
+IsCaused run (file_fault file) = NamesFile run.words file × HasFailed run file
 IsCaused run (cert_fault file cert) =
     IsCheck run.words file cert × HasFailed run cert × ((sys : System) × (names : NameTable) × SpellsSystem (bytes_of run file) sys names)
-IsCaused run no_memory = (file : List ℕ) × (cert : List ℕ) × IsCheck run.words file cert
+IsCaused run no_memory = (file : List ℕ) × NamesFile run.words file
 
 -- an answer that the system is confluent, or that it is not, is right
 abbrev pub IsRight : Run → Answer → Type 0
 IsRight run (checked file cert (shown verdict)) = IsTrueOf (bytes_of run file) (bytes_of run cert) verdict
+IsRight run (searched file budget (found names c)) = (sys : System) × SpellsSystem (bytes_of run file) sys names × IsShown sys c (verdict_of c)
 IsRight run _ = Unit {0}
 
--- What the shelf was asked: nothing, where the words are no command; no other file than FILE, where the answer is about FILE.
+-- What the shelf was asked: nothing, where the words are no command; no other file than FILE, in a search and where the answer is about FILE.
 abbrev pub IsLeft : Answer → Option (List ℕ) → Option (List ℕ) → ℕ → ℕ → Type 0
 IsLeft usage begun_before begun_now given_before given_now = (begun_now ≡ begun_before) × (given_now ≡ given_before)
 IsLeft (checked file cert (no_system refusal)) begun_before begun_now given_before given_now = IsBegunIfAny file begun_now
-IsLeft (file_fault file cert) begun_before begun_now given_before given_now = IsBegunIfAny file begun_now
+IsLeft (searched file budget outcome) begun_before begun_now given_before given_now = IsBegunIfAny file begun_now
+IsLeft (file_fault file) begun_before begun_now given_before given_now = IsBegunIfAny file begun_now
 IsLeft _ begun_before begun_now given_before given_now = Unit {0}

@@ -3,11 +3,14 @@ pub mod Paths
 pub mod Pieces
 pub mod Rejections
 pub mod Words
+pub mod Commands
 pub mod Said
 pub mod FileRefusals
 pub mod CertRefusals
 pub mod Outcomes
+pub mod Searching
 pub mod Causes
+pub mod Answered
 pub mod Replies
 pub mod Refusals
 pub mod Judging

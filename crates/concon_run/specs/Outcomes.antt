@@ -6,7 +6,7 @@ use Rattle.certificates.specs.Certificates.{Certificate, Peak, peak_certificate}
 use Rattle.certificates.specs.Reasons.{Rejection}
 use Rattle.valid_certificates.specs.Certificates.{IsValid, IsRejected}
 use Rattle.valid_certificates.specs.Laws.{ReachesApart}
-use Rattle.cert_check.specs.Kinds.{verdict_of}
+use Rattle.cert_check.specs.Kinds.{verdict_of, IsPeakApart}
 use Rattle.cert_check.specs.declared.Verdict.{Verdict}
 use Rattle.cert_check.specs.declared.Verdict.TheVariants as verdict
 use Rattle.cops_read.specs.NameTable.{NameTable}
@@ -54,9 +54,18 @@ ComesTo file cert (shown verdict) =
     (sys : System) × (names : NameTable) × (c : Certificate) × SpellsSystem file sys names × SpellsCertificate cert names c × IsValid sys c
     × (verdict ≡ verdict_of c)
 
+-- what a certificate shows of a system
+abbrev pub IsShown : System → Certificate → Verdict → Type 0
+IsShown sys c verdict.Yes = IsConfluent sys
+IsShown sys c verdict.No = IsPeakApart sys c
+
 -- the file spells a system that is confluent
 abbrev pub IsConfirmed : Bytes → Type 0
 IsConfirmed file = (sys : System) × (names : NameTable) × SpellsSystem file sys names × IsConfluent sys
+
+-- the file spells a system, for which there is a peak: its derivations lead from the start to two terms without a common reduct
+abbrev pub IsDisproved : Bytes → Type 0
+IsDisproved file = (sys : System) × (names : NameTable) × (peak : Peak) × SpellsSystem file sys names × ReachesApart sys peak
 
 -- the file spells a system, and the certificate a peak: its derivations lead from the start to two terms without a common reduct
 abbrev pub IsRefuted : Bytes → Bytes → Type 0
@@ -74,10 +83,14 @@ abbrev pub status_of : Verdict → Status
 status_of verdict.Yes = status.Yes
 status_of verdict.No = status.No
 
+-- the answer that a verdict is
+abbrev pub verdict_text : Verdict → List ℕ
+verdict_text verdict.Yes = codes "YES\n"
+verdict_text verdict.No = codes "NO\n"
+
 -- what is said of it, with the words for the file and for the certificate
 abbrev pub said_of_outcome : List ℕ → List ℕ → CheckOutcome → Said
 said_of_outcome file cert (no_system refusal) = record { status = status.FileRefused; out = []; err = file_refused_line file refusal }
 said_of_outcome file cert (no_certificate refusal) = record { status = status.CertRefused; out = []; err = cert_refused_line cert refusal }
 said_of_outcome file cert (rejected names reason) = record { status = status.Rejected; out = rejected_line names reason; err = [] }
-said_of_outcome file cert (shown verdict.Yes) = record { status = status.Yes; out = codes "YES\n"; err = [] }
-said_of_outcome file cert (shown verdict.No) = record { status = status.No; out = codes "NO\n"; err = [] }
+said_of_outcome file cert (shown verdict) = record { status = status_of verdict; out = verdict_text verdict; err = [] }

@@ -1,5 +1,5 @@
 -- The words of a command line.
-use Rattle.std.specs.Prelude.{◌≡◌, List, [], ◌∷◌, ℕ, map, codes}
+use Rattle.std.specs.Prelude.{◌≡◌, ◌⊎◌, ◌<◌, ◌^◌, List, [], ◌∷◌, ℕ, map, codes, decimal}
 use Rattle.std.specs.Borrow.{Bor}
 
 abbrev pub texts : List (Bor (List ℕ)) → List (List ℕ)
@@ -9,6 +9,24 @@ texts words = map (λ w. w.now) words
 abbrev pub IsCheck : List (List ℕ) → List ℕ → List ℕ → Type 0
 IsCheck words file cert = words ≡ codes "check" ∷ file ∷ cert ∷ []
 
+-- the units of a search that is given no budget
+abbrev pub usual_budget : ℕ
+usual_budget = 1000000
+
+-- the word is a budget: a number in decimal, without a sign and without zeros in front
+abbrev pub IsBudget : List ℕ → ℕ → Type 0
+IsBudget word n = (word ≡ decimal n) × (n < 2 ^ 63)
+
+-- the words name a file, and a budget within which a certificate is to be found
+abbrev pub IsProve : List (List ℕ) → List ℕ → ℕ → Type 0
+IsProve words file budget =
+    ((words ≡ codes "prove" ∷ file ∷ []) × (budget ≡ usual_budget))
+    ⊎ ((number : List ℕ) × (words ≡ codes "prove" ∷ file ∷ codes "--budget" ∷ number ∷ []) × IsBudget number budget)
+
+-- the words are a command, with this word for FILE
+abbrev pub NamesFile : List (List ℕ) → List ℕ → Type 0
+NamesFile words file = ((cert : List ℕ) × IsCheck words file cert) ⊎ ((budget : ℕ) × IsProve words file budget)
+
 -- the words are no command
 abbrev pub IsNoCommand : List (List ℕ) → Type 0
-IsNoCommand words = (file cert : List ℕ) → IsCheck words file cert → ⊥
+IsNoCommand words = (file : List ℕ) → NamesFile words file → ⊥

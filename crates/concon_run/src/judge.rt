@@ -1,24 +1,21 @@
 //! Reads the two texts, and judges the certificate.
-ghost use Rattle.std.specs.Prelude.{◌≡◌, ◌≤◌, ℕ, List};
-ghost use Rattle.cc_io.specs.Errors.{IsBegunIfAny};
+ghost use Rattle.std.specs.Prelude.{ℕ, List};
 ghost use Rattle.cc_io.specs.Faults.{Rose};
 ghost use Rattle.cops_read.specs.File.{IsFile};
 ghost use Rattle.cert_grammar.specs.CertificateText.{IsCertificateText};
 ghost use Rattle.cert_model.specs.CertificateView.{certificate_view};
 ghost use Rattle.concon_run.specs.Words.{IsCheck};
 ghost use Rattle.concon_run.specs.Causes.{run_of, told_or_any, IsCaused, IsRight, IsLeft};
-ghost use Rattle.concon_run.specs.Judging.{SystemAnswers, CertificateAnswers, CheckAnswers, answer_of};
+ghost use Rattle.concon_run.specs.Judging.{CertificateAnswers, CheckAnswers, answer_of};
 
+use crate::files::{NoSystem, system_of};
 use cc_io::{ReadAllError, Shelf, read_all};
 use cert_check::{CheckError, Verdict, check};
 use cert_model::{Certificate, Rejected};
 use cert_text::{CertError, read_cert};
-use cops_read::{Names, ReadError, read_system};
+use cops_read::Names;
 use std::alloc::Global;
 use term_core::System;
-
-/// How many bytes a file may have.
-pub const FILE_LIMIT: u64 = 1048576;
 
 /// How many bytes a certificate may have.
 pub const CERT_LIMIT: u64 = 16777216;
@@ -26,10 +23,8 @@ pub const CERT_LIMIT: u64 = 16777216;
 /// Why there is no verdict.
 #[derive(Drop)]
 pub enum NoVerdict {
-    /// The file was not read whole.
-    FileUnread(ReadAllError),
-    /// The file is no text of a system.
-    FileRefused(ReadError),
+    /// The file gives no system.
+    NoSystem(NoSystem),
     /// The certificate was not read whole.
     CertUnread(ReadAllError),
     /// The certificate is no text of one.
@@ -38,26 +33,6 @@ pub enum NoVerdict {
     Rejected(Names, Rejected),
     /// Memory was refused.
     NoMemory,
-}
-
-fn system_of<S: Shelf>(
-    alloc: Global,
-    shelf: &mut S,
-    file: &str,
-) -> Result<(System, Names), NoVerdict>
-    ensures answers { SystemAnswers (told_or_any (S.contents shelf.old file.now)) (Rose (S.faults shelf.old file.now) (S.faults shelf.new file.now)) result }
-    ensures begun { IsBegunIfAny file.now (S.begun shelf.new) }
-    ensures contents { S.contents shelf.new ≡ S.contents shelf.old }
-    ensures never_falls { (name : List ℕ) → S.faults shelf.old name ≤ S.faults shelf.new name }
-{
-    let bytes = match read_all(alloc, shelf, file, FILE_LIMIT) {
-        Ok(bytes) => bytes,
-        Err(error) => return Err(NoVerdict::FileUnread(error)),
-    };
-    match read_system(alloc, &bytes) {
-        Ok(found) => Ok(found),
-        Err(error) => Err(NoVerdict::FileRefused(error)),
-    }
 }
 
 fn certificate_of<S: Shelf>(
@@ -107,7 +82,10 @@ pub fn judge<S: Shelf>(
         IsRight (run_of words (S.contents shelf.old) (S.faults shelf.old) (S.faults shelf.new)) (answer_of file.now cert.now result) }
     ensures left { IsLeft (answer_of file.now cert.now result) (S.begun shelf.old) (S.begun shelf.new) (S.given shelf.old) (S.given shelf.new) }
 {
-    let (sys, names) = system_of(alloc, shelf, file)?;
+    let (sys, names) = match system_of(alloc, shelf, file) {
+        Ok(found) => found,
+        Err(why) => return Err(NoVerdict::NoSystem(why)),
+    };
     let found = certificate_of(alloc, shelf, cert, &names)?;
     verdict_on(alloc, &sys, names, &found)
 }

@@ -1,15 +1,19 @@
-//! All that the program does: `run` reads the words, the file and the certificate, has the certificate checked, and writes the
+//! All that the program does: `run` reads the words and the file, has a certificate checked or searched for, and writes the
 //! one answer with its status.
 //!
 //! Files come from a `Shelf` and texts go to two `Sink`s, so that its contract speaks of bytes and not of a disk. The program
 //! `concon` hands it the real files and streams.
 #![tactic(auto)]
 
+mod answers;
+mod files;
+mod found;
 mod judge;
 mod pieces;
 mod refusals;
 mod rejections;
 mod reply;
+mod search;
 mod status;
 mod top;
 mod words;

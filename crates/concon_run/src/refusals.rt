@@ -1,15 +1,16 @@
-//! What is said where there is no verdict: each refusal with its status and its text.
+//! What is said where there is no system or no verdict: each refusal with its status and its text.
 ghost use Rattle.std.specs.Prelude.{◌≡◌, Some, Err, option_map};
 ghost use Rattle.concon_run.specs.CertRefusals.{cert_refusal_text};
 ghost use Rattle.cops_read.specs.Answers.{cause_of_count};
 ghost use Rattle.concon_run.specs.FileRefusals.{meaning_words, file_refusal_text};
-ghost use Rattle.concon_run.specs.Refusals.{place_and_words, refused_said, unread_said, rejected_said};
+ghost use Rattle.concon_run.specs.Refusals.{place_and_words, refused_said, unread_said, no_system_said, rejected_said};
 ghost use Rattle.concon_run.specs.Causes.{said_of};
 ghost use Rattle.concon_run.specs.Judging.{answer_of};
 ghost use Rattle.concon_run.specs.Replies.{reply_said, IsSaidIfMemory};
 ghost use Rattle.cert_model.specs.ReasonView.{rejected_view};
 
-use crate::judge::{CERT_LIMIT, FILE_LIMIT, NoVerdict};
+use crate::files::{FILE_LIMIT, NoSystem};
+use crate::judge::{CERT_LIMIT, NoVerdict};
 use crate::pieces::Piece;
 use crate::rejections::rejection_line;
 use crate::reply::{Reply, Text, complaint, no_memory};
@@ -141,24 +142,22 @@ fn rejected(alloc: Global, names: &Names, reason: &Rejected) -> Reply
     }
 }
 
+/// Says why a file gives no system.
+pub fn no_system_reply(alloc: Global, file: &str, why: &NoSystem) -> Reply
+    ensures { IsSaidIfMemory (no_system_said file.now why.now) (reply_said result) }
+{
+    match why {
+        NoSystem::Unread(error) => unread(alloc, file, error, Status::FileRefused, FILE_LIMIT),
+        NoSystem::Refused(error) => refused(alloc, Status::FileRefused, file, file_refusal(error)),
+    }
+}
+
 /// Says why a check came to no verdict.
 pub fn refusal_reply(alloc: Global, check: Check, why: &NoVerdict) -> Reply
     ensures { IsSaidIfMemory (said_of (answer_of check.entry.file.now check.entry.cert.now (Err why.now))) (reply_said result) }
 {
     match why {
-        NoVerdict::FileUnread(error) => unread(
-            alloc,
-            check.file,
-            error,
-            Status::FileRefused,
-            FILE_LIMIT,
-        ),
-        NoVerdict::FileRefused(error) => refused(
-            alloc,
-            Status::FileRefused,
-            check.file,
-            file_refusal(error),
-        ),
+        NoVerdict::NoSystem(error) => no_system_reply(alloc, check.file, error),
         NoVerdict::CertUnread(error) => unread(
             alloc,
             check.cert,

@@ -1,5 +1,5 @@
 //! What is to be said, made whole before any of it is written.
-ghost use Rattle.std.specs.Prelude.{◌≡◌, IfOk, [], if◌then◌else◌};
+ghost use Rattle.std.specs.Prelude.{◌≡◌, IfOk, []};
 ghost use Rattle.concon_run.specs.Said.{IsTold};
 ghost use Rattle.concon_run.specs.Pieces.{pieces_text};
 ghost use Rattle.concon_run.specs.Replies.{text_bytes, reply_said, IsSaidIfMemory, no_memory_said};

@@ -1,23 +1,32 @@
 //! All that the program does.
 ghost use Rattle.std.specs.Prelude.{◌≡◌, ◌⊎◌, ◌++◌, ℕ, List, Some, codes};
+ghost use Rattle.certificates.specs.Certificates.{Certificate};
+ghost use Rattle.cops_read.specs.NameTable.{NameTable};
+ghost use Rattle.cert_check.specs.Kinds.{verdict_of};
 ghost use Rattle.cc_io.specs.Bytes.{appended};
-ghost use Rattle.concon_run.specs.Words.{texts, IsNoCommand};
+ghost use Rattle.concon_run.specs.Words.{texts, IsCheck, IsProve, IsNoCommand};
 ghost use Rattle.concon_run.specs.Said.{IsTold};
 ghost use Rattle.concon_run.specs.Replies.{reply_said, IsSaidIfMemory};
 ghost use Rattle.concon_run.specs.Outcomes.{CheckOutcome, status_of, said_of_outcome};
+ghost use Rattle.concon_run.specs.Searching.{SearchOutcome, said_of_search};
 ghost use Rattle.concon_run.specs.Causes.{run_of, Answer, said_of, IsCaused, IsRight, IsLeft};
+ghost use Rattle.concon_run.specs.Answered.{Answered};
 ghost use Rattle.concon_run.specs.Judging.{answer_of};
-ghost use Rattle.concon_run.specs.Rows.{CheckComesTo, IsFileRefusal, IsCertificateRefusal, IsRejection, NamesConfluentSystem, NamesPeakApart, IsReadFault, IsWriteFault, IsPossible, CalmlyComesTo, IsUnlessHindered};
+ghost use Rattle.concon_run.specs.Rows.{IsFileRefusal, IsCertificateRefusal, IsRejection, IsVerdict, NamesConfluentSystem, NamesPeakApart, TookProof, ProveComesTo, IsReadFault, IsWriteFault, IsOfCheck, IsOfProve, CalmlyComesTo, CalmlyMustComeTo, IsUnlessHindered};
 
+use crate::answers::verdict_reply;
+use crate::found::search_reply;
 use crate::judge::{NoVerdict, judge};
 use crate::refusals::refusal_reply;
 use crate::reply::{Reply, Text, deliver};
+use crate::search::search;
 use crate::status::Status;
-use crate::words::{Check, command_of};
+use crate::words::{Check, Command, Prove, command_of};
 use cc_io::{Shelf, Sink};
 use cert_check::Verdict;
 use cert_text::one_answer;
 use cops_read::one_reading;
+use search_spaces::spaces_are_searchable;
 use std::alloc::Global;
 use valid_certificates::certificates_have_one_answer;
 
@@ -28,22 +37,9 @@ fn usage() -> Reply
     Reply {
         status: Status::Usage,
         to_out: false,
-        text: Text::Fixed(b"usage: concon check FILE CERT\n"),
-    }
-}
-
-// What is said of a system that is confluent, or that is not.
-fn verdict_reply(verdict: Verdict) -> Reply
-    ensures { (file : List ℕ) (cert : List ℕ) → reply_said result ≡ said_of_outcome file cert (CheckOutcome.shown verdict) }
-{
-    let (status, text): (Status, &'static [u8]) = match verdict {
-        Verdict::Yes => (Status::Yes, b"YES\n"),
-        Verdict::No => (Status::No, b"NO\n"),
-    };
-    Reply {
-        status,
-        to_out: true,
-        text: Text::Fixed(text),
+        text: Text::Fixed(
+            b"usage: concon check FILE CERT\n       concon prove FILE [--budget N]\n",
+        ),
     }
 }
 
@@ -57,19 +53,32 @@ fn reply_to(alloc: Global, check: Check, judged: &Result<Verdict, NoVerdict>) ->
     }
 }
 
+fn check_reply<S: Shelf>(alloc: Global, check: Check, shelf: &mut S) -> Reply
+    ensures { (words : List (List ℕ)) → IsCheck words check.entry.file.now check.entry.cert.now →
+        Answered (run_of words (S.contents shelf.old) (S.faults shelf.old) (S.faults shelf.new))
+        (S.begun shelf.old) (S.begun shelf.new) (S.given shelf.old) (S.given shelf.new) (reply_said result) }
+{
+    let judged = judge(alloc, shelf, check.file, check.cert);
+    reply_to(alloc, check, &judged)
+}
+
+fn prove_reply<S: Shelf>(alloc: Global, prove: Prove, shelf: &mut S) -> Reply
+    ensures { (words : List (List ℕ)) → IsProve words prove.entry.file.now prove.entry.budget →
+        Answered (run_of words (S.contents shelf.old) (S.faults shelf.old) (S.faults shelf.new))
+        (S.begun shelf.old) (S.begun shelf.new) (S.given shelf.old) (S.given shelf.new) (reply_said result) }
+{
+    let searched = search(alloc, shelf, prove.file, prove.budget);
+    search_reply(alloc, prove, &searched)
+}
+
 // What is to be said. Nothing has been written yet.
 fn decide<S: Shelf>(alloc: Global, words: &[&str], shelf: &mut S) -> Reply
-    ensures { let run = run_of (texts words.now) (S.contents shelf.old) (S.faults shelf.old) (S.faults shelf.new) in
-        (answer : Answer)
-        × IsCaused run answer × IsRight run answer
-        × IsLeft answer (S.begun shelf.old) (S.begun shelf.new) (S.given shelf.old) (S.given shelf.new)
-        × (reply_said result ≡ said_of answer) }
+    ensures { Answered (run_of (texts words.now) (S.contents shelf.old) (S.faults shelf.old) (S.faults shelf.new))
+        (S.begun shelf.old) (S.begun shelf.new) (S.given shelf.old) (S.given shelf.new) (reply_said result) }
 {
     match command_of(words) {
-        Some(check) => {
-            let judged = judge(alloc, shelf, check.file, check.cert);
-            reply_to(alloc, check, &judged)
-        }
+        Some(Command::Check(check)) => check_reply(alloc, check, shelf),
+        Some(Command::Prove(prove)) => prove_reply(alloc, prove, shelf),
         None => usage(),
     }
 }
@@ -92,7 +101,8 @@ fn run_all<S: Shelf, K: Sink, E: Sink>(
     deliver(&reply, out, err)
 }
 
-/// Does what the words say: `check FILE CERT` reads both files and writes the verdict.
+/// Does what the words say: `check FILE CERT` reads both files and writes the verdict; `prove FILE`, and `prove FILE --budget N`, reads the
+/// file and searches for a certificate, and writes the answer and below it the certificate.
 pub fn run<S: Shelf, K: Sink, E: Sink>(
     alloc: Global,
     words: &[&str],
@@ -127,6 +137,19 @@ pub fn run<S: Shelf, K: Sink, E: Sink>(
         (file : List ℕ) (cert : List ℕ) (verdict : Verdict) →
         CalmlyComesTo run file cert (CheckOutcome.shown verdict) →
         IsUnlessHindered (status_of verdict) result }
+    // Where no fault of the shelf rose, the status and the texts are those of what the search must come to, unless memory was refused.
+    ensures searched { let run = run_of (texts words.now) (S.contents shelf.old) (S.faults shelf.old) (S.faults shelf.new) in
+        (file : List ℕ) (budget : ℕ) (outcome : SearchOutcome) →
+        CalmlyMustComeTo run file budget outcome →
+        IsTold (said_of_search file outcome) result (K.written out.old) (K.written out.new) (E.written err.old) (E.written err.new)
+        (K.faults out.old) (K.faults out.new) (E.faults err.old) (E.faults err.new)
+        ⊎ IsTold (said_of Answer.no_memory) result (K.written out.old) (K.written out.new) (E.written err.old) (E.written err.new)
+        (K.faults out.old) (K.faults out.new) (E.faults err.old) (E.faults err.new) }
+    // A valid certificate that is searched for, with a price within the budget, is found.
+    ensures enough { let run = run_of (texts words.now) (S.contents shelf.old) (S.faults shelf.old) (S.faults shelf.new) in
+        (file : List ℕ) (budget : ℕ) (names : NameTable) (c : Certificate) →
+        CalmlyMustComeTo run file budget (SearchOutcome.found names c) →
+        IsUnlessHindered (status_of (verdict_of c)) result }
     ensures usage { result ≡ Status.Usage → IsNoCommand (texts words.now) }
     ensures usage_exactly { IsNoCommand (texts words.now) → (result ≡ Status.Usage) ⊎ (result ≡ Status.WriteFault) }
     ensures nothing_begun { IsNoCommand (texts words.now) → S.begun shelf.new ≡ S.begun shelf.old }
@@ -138,19 +161,29 @@ pub fn run<S: Shelf, K: Sink, E: Sink>(
     ensures rejected { let run = run_of (texts words.now) (S.contents shelf.old) (S.faults shelf.old) (S.faults shelf.new) in
         result ≡ Status.Rejected → IsRejection run }
     ensures yes { let run = run_of (texts words.now) (S.contents shelf.old) (S.faults shelf.old) (S.faults shelf.new) in
-        result ≡ Status.Yes → CheckComesTo run (CheckOutcome.shown Verdict.Yes) }
+        result ≡ Status.Yes → IsVerdict run Verdict.Yes }
     ensures no { let run = run_of (texts words.now) (S.contents shelf.old) (S.faults shelf.old) (S.faults shelf.new) in
-        result ≡ Status.No → CheckComesTo run (CheckOutcome.shown Verdict.No) }
+        result ≡ Status.No → IsVerdict run Verdict.No }
+    // Under prove, YES and NO stand above the text of a certificate, which is valid and the first that is searched for.
+    ensures proved { let run = run_of (texts words.now) (S.contents shelf.old) (S.faults shelf.old) (S.faults shelf.new) in
+        (file : List ℕ) (budget : ℕ) → IsProve (texts words.now) file budget → (result ≡ Status.Yes) ⊎ (result ≡ Status.No) →
+        TookProof run file (K.written out.old) (K.written out.new) }
+    ensures over_budget { let run = run_of (texts words.now) (S.contents shelf.old) (S.faults shelf.old) (S.faults shelf.new) in
+        result ≡ Status.Maybe → ProveComesTo run SearchOutcome.over_budget }
+    ensures not_built { let run = run_of (texts words.now) (S.contents shelf.old) (S.faults shelf.old) (S.faults shelf.new) in
+        result ≡ Status.NotBuilt → ProveComesTo run SearchOutcome.not_built }
     ensures read_fault { let run = run_of (texts words.now) (S.contents shelf.old) (S.faults shelf.old) (S.faults shelf.new) in
         result ≡ Status.ReadFault → IsReadFault run (E.written err.old) (E.written err.new) }
     ensures write_fault { let run = run_of (texts words.now) (S.contents shelf.old) (S.faults shelf.old) (S.faults shelf.new) in
         result ≡ Status.WriteFault → IsWriteFault run
         (K.written out.old) (K.written out.new) (E.written err.old) (E.written err.new) (K.faults out.old) (K.faults out.new) (E.faults err.old) (E.faults err.new) }
     ensures no_memory { result ≡ Status.NoMemory → (K.written out.new ≡ K.written out.old) × (E.written err.new ≡ appended (E.written err.old) (codes "no memory\n")) }
-    ensures possible { IsPossible result }
+    ensures of_check { (file cert : List ℕ) → IsCheck (texts words.now) file cert → IsOfCheck result }
+    ensures of_prove { (file : List ℕ) (budget : ℕ) → IsProve (texts words.now) file budget → IsOfProve result }
 {
     one_reading();
     one_answer();
     certificates_have_one_answer();
+    spaces_are_searchable();
     run_all(alloc, words, shelf, out, err)
 }

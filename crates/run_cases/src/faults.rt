@@ -12,6 +12,8 @@ const PEAK: &str =
 
 const CHECK: &[&str] = &["check", "x.trs", "c.crt"];
 
+const PROVE: &[&str] = &["prove", "x.trs"];
+
 // the files of a valid peak, on a shelf that fails at this call
 fn failing_shelf(alloc: Global, call: u64) -> Result<MemoryShelf, Fail> {
     let mut fails = Vec::new(alloc);
@@ -45,7 +47,7 @@ const NO_COMMANDS: &[&[&str]] = &[&[], &["check", "x.trs"], &["prove", "x.trs", 
 #[test]
 fn words_that_are_no_command_ask_nothing(rt: HostRuntime) -> Result<(), Fail> {
     let mut shelf = failing_shelf(rt.alloc(), 1)?;
-    let usage = "usage: concon check FILE CERT\n";
+    let usage = "usage: concon check FILE CERT\n       concon prove FILE [--budget N]\n";
     for words in NO_COMMANDS {
         let is_usage = is_told(rt.alloc(), words, &mut shelf, Status::Usage, usage)?;
         assert!(rt; is_usage);
@@ -86,6 +88,47 @@ fn a_sink_that_fails_has_a_front_of_the_answer(rt: HostRuntime) -> Result<(), Fa
     Ok(())
 }
 
+#[test]
+fn a_fault_of_the_searched_file_is_named(rt: HostRuntime) -> Result<(), Fail> {
+    for call in [1, 2, 3] {
+        let mut shelf = failing_shelf(rt.alloc(), call)?;
+        let text = "x.trs: read fault\n";
+        let is_named = is_told(rt.alloc(), PROVE, &mut shelf, Status::ReadFault, text)?;
+        assert!(rt; is_named, "call {call}");
+    }
+    Ok(())
+}
+
+// the answer to a search, with the certificate that it finds
+const PROOF: &str =
+    "NO\nconcon 1\npeak\nstart a\nsteps 1\nrule 1 e 0\nsteps 1\nrule 2 e 0\nnormal\nend\n";
+
+#[test]
+fn a_certificate_is_written_a_byte_a_call(rt: HostRuntime) -> Result<(), Fail> {
+    let alloc = rt.alloc();
+    let mut shelf = shelf_of(alloc, SYSTEM, "", Vec::new(alloc))?;
+    let mut out = MemorySink::new(alloc, 100, 1, Vec::new(alloc))?;
+    let mut err = MemorySink::new(alloc, 100, 1, Vec::new(alloc))?;
+    let answer = status_of_run(alloc, PROVE, &mut shelf, &mut out, &mut err);
+    assert_eq!(rt; answer, Status::No);
+    assert_eq!(rt; out.written(), PROOF.as_bytes());
+    assert_eq!(rt; err.written(), b"".as_slice());
+    Ok(())
+}
+
+#[test]
+fn a_sink_that_fails_has_a_front_of_the_certificate(rt: HostRuntime) -> Result<(), Fail> {
+    let alloc = rt.alloc();
+    let mut shelf = shelf_of(alloc, SYSTEM, "", Vec::new(alloc))?;
+    let mut out = failing_sink(alloc, 4)?;
+    let mut err = failing_sink(alloc, 1)?;
+    let answer = status_of_run(alloc, PROVE, &mut shelf, &mut out, &mut err);
+    assert_eq!(rt; answer, Status::WriteFault);
+    assert_eq!(rt; out.written(), b"NO\ncon".as_slice());
+    assert_eq!(rt; err.written(), b"".as_slice());
+    Ok(())
+}
+
 const EXIT_CODES: &[(Status, u8)] = &[
     (Status::Yes, 0),
     (Status::No, 0),
@@ -97,6 +140,7 @@ const EXIT_CODES: &[(Status, u8)] = &[
     (Status::ReadFault, 4),
     (Status::WriteFault, 5),
     (Status::NoMemory, 6),
+    (Status::NotBuilt, 7),
 ];
 
 #[test]

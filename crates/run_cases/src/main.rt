@@ -51,7 +51,12 @@ fn print_text(rt: &HostRuntime, name: &str, bytes: &[u8]) -> io::Result<()> {
     Ok(())
 }
 
-fn print_answer(rt: &HostRuntime, words: &str, shelf: &mut MemoryShelf) -> io::Result<()> {
+// Prints what is answered to the words; where it is that a system is confluent, or that it is not, what was written.
+fn print_answer(
+    rt: &HostRuntime,
+    words: &str,
+    shelf: &mut MemoryShelf,
+) -> io::Result<Option<String>> {
     let alloc = rt.alloc();
     let mut list = Vec::new(alloc);
     for word in words.split_whitespace() {
@@ -62,16 +67,30 @@ fn print_answer(rt: &HostRuntime, words: &str, shelf: &mut MemoryShelf) -> io::R
     let status = status_of_run(alloc, &list, shelf, &mut out, &mut err);
     println!(rt; "{status:?} {}", status.code())?;
     print_text(rt, "out", out.written())?;
-    print_text(rt, "err", err.written())
+    print_text(rt, "err", err.written())?;
+    match status {
+        Status::Yes | Status::No => Ok(Some(String::from_utf8_lossy(alloc, out.written())?)),
+        _ => Ok(None),
+    }
 }
 
+// Prints what is answered to a case, and what a check of a certificate answers that was found.
 fn print_case(rt: &HostRuntime, case: Case, certificate: &str) -> io::Result<()> {
     let alloc = rt.alloc();
     let file = text_of(alloc, case.file)?;
     let certificate = text_of(alloc, certificate)?;
     let mut shelf = shelf_of(alloc, &file, &certificate, Vec::new(alloc))?;
     println!(rt; "= {}", case.title)?;
-    print_answer(rt, case.words, &mut shelf)
+    let found = print_answer(rt, case.words, &mut shelf)?;
+    match found {
+        Some(found) if case.words.trim().starts_with("prove ") => {
+            let mut shelf = shelf_of(alloc, &file, &found, Vec::new(alloc))?;
+            println!(rt; "checked:")?;
+            print_answer(rt, "check x.trs c.crt", &mut shelf)?;
+            Ok(())
+        }
+        _ => Ok(()),
+    }
 }
 
 fn print_cases(rt: &HostRuntime, name: &str) -> io::Result<()> {

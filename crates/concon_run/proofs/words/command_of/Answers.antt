@@ -1,5 +1,6 @@
-use Rattle.concon_run.proofs.ThreeWords.{three_words}
+use Rattle.concon_run.specs.Words.{texts}
+use Rattle.concon_run.proofs.Commands.{no_command}
 use Rattle.concon_run.proofs.words.command_of.Goals as goal
 
-pub returns-then-eq-clause-found : goal.returns-then-eq-clause-found
-returns-then-eq-clause-found c = three_words c.args.words.now _ _ c.in-len3.len_at_least c.in-len3.len_below c.if-eq.ensures
+pub returns-in-None-clause-none : goal.returns-in-None-clause-none
+returns-in-None-clause-none c = no_command (texts c.args.words.now) c.in_default.ensures.none c.in-None.ensures.none
