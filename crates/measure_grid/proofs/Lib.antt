@@ -1,0 +1,4 @@
+pub mod Dead
+pub mod Grid
+pub mod Pruned
+pub mod Shape

@@ -1,0 +1,54 @@
+-- Laws of the space of certificates with a measure.
+use Rattle.std.specs.Prelude.{ℕ, ◌≡◌, ◌↔◌, None}
+use Rattle.rewriting.specs.Lists.{IsAmong}
+use Rattle.rewriting.specs.Rules.{System}
+use Rattle.unifier_run.specs.Overlaps.{Overlap}
+use Rattle.certificates.specs.Evidence.{joined_pair}
+use Rattle.certificates.specs.Certificates.{Certificate}
+use Rattle.cops_names.specs.NameTable.{NameTable}
+use Rattle.valid_certificates.specs.Kinds.{quasi}
+use Rattle.valid_certificates.specs.PairEvidence.{IsPairJudged}
+use Rattle.reach_lists.specs.Solutions.{Reached}
+use Rattle.first_found.specs.Spaces.{Ending}
+use Rattle.search_spaces.specs.Listings.{listing}
+use Rattle.search_spaces.specs.Laws.{IsSearchable}
+use Rattle.quasi_space.specs.Endings.{MayEndLast}
+use Rattle.quasi_space.specs.Measures.{pruned_measures}
+use Rattle.quasi_space.specs.Quasi.{quasi_space, quasi_space_by}
+use Rattle.quasi_space.specs.AllSpaces.{all_spaces, pruned_spaces}
+
+-- x is on the listing of the overlap's left side, and y on that of its right side
+pub record AreListedAt (sys : System) (o : Overlap) (x y : Reached) : Type 0 where
+  pub left : IsAmong x (listing sys o.pair.conditions o.pair.left)
+  pub right : IsAmong y (listing sys o.pair.conditions o.pair.right)
+
+-- derivations of two such terms join the sides exactly where these are one term
+abbrev pub JoinsAreSharedTerms : Type 0
+JoinsAreSharedTerms =
+    (sys : System) (o : Overlap) (x y : Reached) → AreListedAt sys o x y → IsPairJudged quasi sys o (joined_pair x.by y.by) None ↔ (x.term ≡ y.term)
+
+abbrev pub QuasiSpacesAreSearchable : Type 0
+QuasiSpacesAreSearchable = (names : NameTable) (sys : System) → IsSearchable sys (quasi_space names sys)
+
+-- the same with the pruned grid
+abbrev pub PrunedSpacesAreSearchable : Type 0
+PrunedSpacesAreSearchable = (names : NameTable) (sys : System) → IsSearchable sys (quasi_space_by (pruned_measures sys) names sys)
+
+-- the three, one behind the other, with the whole grid and with the pruned one
+abbrev pub AllSpacesAreSearchable : Type 0
+AllSpacesAreSearchable = (names : NameTable) (sys : System) → IsSearchable sys (all_spaces names sys)
+
+abbrev pub AllPrunedSpacesAreSearchable : Type 0
+AllPrunedSpacesAreSearchable = (names : NameTable) (sys : System) → IsSearchable sys (pruned_spaces names sys)
+
+-- a search with the pruned grid answers what one with the whole grid may answer
+abbrev pub PrunedSearchesAreSearches : Type 0
+PrunedSearchesAreSearches =
+    (names : NameTable) (sys : System) (left paid : ℕ) (e : Ending Certificate)
+    → MayEndLast (quasi_space_by (pruned_measures sys) names sys) left paid e → MayEndLast (quasi_space names sys) left paid e
+
+-- and so does one of all three spaces
+abbrev pub AllPrunedSearchesAreSearches : Type 0
+AllPrunedSearchesAreSearches =
+    (names : NameTable) (sys : System) (left paid : ℕ) (e : Ending Certificate)
+    → MayEndLast (pruned_spaces names sys) left paid e → MayEndLast (all_spaces names sys) left paid e

@@ -1,0 +1,27 @@
+//! The space of certificates with a measure: which it holds, in which order they are tried, and at what cost; and this
+//! space behind the two of `search_spaces`. No program speaks here.
+#![tactic(auto)]
+
+ghost use Rattle.quasi_space.specs.Laws.{JoinsAreSharedTerms, QuasiSpacesAreSearchable, PrunedSpacesAreSearchable, PrunedSearchesAreSearches};
+ghost use Rattle.quasi_space.specs.Laws.{AllSpacesAreSearchable, AllPrunedSpacesAreSearchable, AllPrunedSearchesAreSearches};
+
+/// Two listed terms join the sides of an overlap exactly where they are one term.
+pub fn joins_are_shared_terms()
+    ensures joins { JoinsAreSharedTerms }
+{}
+
+/// What the space finds is valid, and nothing in it is valid where it finds nothing; it finds one certificate at most, at
+/// one price; it has one price at most, and there is no space without one. The same holds where nothing behind a dead
+/// prefix of the grid is tried, and of the three spaces, one behind the other.
+pub fn quasi_spaces_are_searchable()
+    ensures each { QuasiSpacesAreSearchable }
+    ensures pruned { PrunedSpacesAreSearchable }
+    ensures all { AllSpacesAreSearchable }
+    ensures all_pruned { AllPrunedSpacesAreSearchable }
+{}
+
+/// A search that tries nothing behind a dead prefix of the grid answers what one that tries each measure may answer.
+pub fn pruned_searches_are_searches()
+    ensures quasi { PrunedSearchesAreSearches }
+    ensures all { AllPrunedSearchesAreSearches }
+{}
