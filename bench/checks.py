@@ -22,7 +22,7 @@ def run(what, rules, words, texts):
 
 def timed(what, rules, entries):
     """Checks a certificate of an almost orthogonal system."""
-    run(what, rules, ["check", "x.trs", "c.crt"], {"c.crt": "concon 1\northo\n%s\nend\n" % "\n".join(entries)})
+    run(what, rules, ["check", "x.trs", "c.crt"], {"c.crt": "\n".join(["concon 1", "ortho", *entries, "end", ""])})
 
 
 def searched(what, rules, budget):
