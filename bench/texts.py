@@ -9,6 +9,14 @@ def rules_text(size):
     return '(VAR x y)\n(RULES\n' + rule * min(1000, size // len(rule)) + ')\n'
 
 
+def terms_text(size):
+    """Terms of 406 nodes over variables and symbols with names of several bytes, each rule with a condition."""
+    part = 'plus(times(xs,succ(n)),cons(zero,nil))'
+    row = 'row(' + ','.join([part] * 10) + ')'
+    rule = '  rows(' + ','.join([row] * 5) + ') -> ' + row + ' | plus(n,zero) == n\n'
+    return '(CONDITIONTYPE ORIENTED)\n(VAR n xs)\n(RULES\n' + rule * min(1000, size // len(rule)) + ')\n'
+
+
 def brackets_text(size):
     """Terms that nest as deep as the text is long: refused at the first that is too deep."""
     count = size // 3
@@ -52,6 +60,7 @@ def refused_text(size):
 
 kinds = {
     'rules': rules_text,
+    'terms': terms_text,
     'brackets': brackets_text,
     'comments': comments_text,
     'positions': positions_text,

@@ -15,7 +15,7 @@ pub fn read_system(alloc: Global, bytes: &[u8]) -> Result<(System, Names), ReadE
     ensures { ReadAnswers bytes.now result }
 {
     let file = parse(alloc, bytes)?;
-    read_file(alloc, &file)
+    read_file(alloc, file)
 }
 
 /// A text spells one system, with one table of names, or it has one refusal, and never both. What it

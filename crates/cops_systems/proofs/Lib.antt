@@ -12,3 +12,4 @@ pub mod Sound
 pub mod Wholes
 pub mod Means
 pub mod Places
+pub mod Shaped

@@ -1,5 +1,5 @@
 -- Reading conditions and rules one after the other.
-use Rattle.std.proofs.Common.{◌≡◌, ℕ, zero, suc, ◌+◌, ◌<◌, ◌≤◌, Bool, List, [], ◌∷◌, ◌++◌, map, length, take, drop, get_or, Option, refl, sym, ap, ap₂, subst, ◌∙◌, arith}
+use Rattle.std.proofs.Common.{◌≡◌, ℕ, zero, suc, ◌+◌, ◌<◌, ◌≤◌, Bool, List, [], ◌∷◌, ◌++◌, map, length, take, drop, get_or, Option, refl, sym, ap, ap₂, subst, ◌∙◌, arith, append_assoc}
 use Rattle.std.proofs.lemmas.List.{take_all, drop_all}
 use Rattle.file_text.specs.Syntax.{ConditionTree, RuleTree}
 use Rattle.cops_trees.specs.View.{IsCondition, AreConditions, IsRule, AreRules}
@@ -38,13 +38,21 @@ conditions_length [] (t ∷ ts) h = absurd h
 conditions_length (c ∷ cs) [] h = absurd h
 conditions_length (c ∷ cs) (t ∷ ts) h = ap suc (conditions_length cs ts h.1)
 
-pub next_rule : (rs : List RuleText) (trees : List RuleTree) (i : ℕ) (r : RuleText) → AreRules rs trees → i < length rs → r ≡ get_or rs i r → IsNext (IsRule r) trees i
-next_rule [] trees i r h l e = absurd (omega arith)
-next_rule (q ∷ rs) [] i r h l e = absurd h
-next_rule (q ∷ rs) (t ∷ ts) zero r h l e = record { item = t; is = subst (λ (x : RuleText). IsRule x t) (sym e) h.0; later = refl; front = refl }
-next_rule (q ∷ rs) (t ∷ ts) (suc i) r h l e =
-    let n = next_rule rs ts i r h.1 (omega arith) e in
+next_rule : (front : List RuleText) (r : RuleText) (rest : List RuleText) (trees : List RuleTree) → AreRules (front ++ r ∷ rest) trees → IsNext (IsRule r) trees (length front)
+next_rule [] r rest [] h = absurd h
+next_rule [] r rest (t ∷ ts) h = record { item = t; is = h.0; later = refl; front = refl }
+next_rule (q ∷ rs) r rest [] h = absurd h
+next_rule (q ∷ rs) r rest (t ∷ ts) h =
+    let n = next_rule rs r rest ts h.1 in
     record { item = n.item; is = n.is; later = n.later; front = ap (λ (x : List RuleTree). t ∷ x) n.front }
+
+-- Of all texts the front was taken, and then one more.
+module _ (all front left : List RuleText) (r : RuleText) (rest : List RuleText) (e : front ++ left ≡ all) (f : left ≡ r ∷ rest) where
+  pub rule_taken : (trees : List RuleTree) → AreRules all trees → IsNext (IsRule r) trees (length front)
+  rule_taken trees h = next_rule front r rest trees (subst (λ (ts : List RuleText). AreRules ts trees) (sym e ∙ ap (λ (ts : List RuleText). front ++ ts) f) h)
+
+  pub all_left : (front ++ r ∷ []) ++ rest ≡ all
+  all_left = append_assoc front (r ∷ []) rest ∙ ap (λ (ts : List RuleText). front ++ ts) (sym f) ∙ e
 
 pub rules_length : (rs : List RuleText) (trees : List RuleTree) → AreRules rs trees → length trees ≡ length rs
 rules_length [] [] h = refl

@@ -9,3 +9,4 @@ pub mod Steps
 pub mod RuleSteps
 pub mod Heads
 pub mod Texts
+pub mod Shapes

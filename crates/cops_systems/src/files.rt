@@ -6,6 +6,7 @@ ghost use Rattle.term_core.specs.RuleView.{rule_view, AreCounted};
 ghost use Rattle.cops_names.specs.NameLists.{with_names};
 ghost use Rattle.cops_systems.specs.RuleSteps.{FileAnswers};
 
+use crate::block::Block;
 use crate::errors::ReadError;
 use crate::heads::{Scope, text_of};
 use crate::rules::read_rules;
@@ -24,12 +25,12 @@ fn add_names<'a>(block: &mut NameSet<'a>, names: &[Name<'a>]) -> Result<(), NoMe
 }
 
 // The names of the variables' block, each once.
-fn read_block<'a>(alloc: Global, names: &[Name<'a>]) -> Result<NameSet<'a>, NoMemory>
+fn read_block<'a>(alloc: Global, names: &[Name<'a>]) -> Result<Block<'a>, NoMemory>
     ensures { IfOk result (λ block. block ≡ with_names [] (map (λ n. n.text) (names_view names.now))) }
 {
     let mut block = NameSet::new(alloc);
     add_names(&mut block, names)?;
-    Ok(block)
+    Ok(Block::new(block))
 }
 
 // Sound rules make a system.
@@ -45,16 +46,21 @@ fn make_system(arities: Vec<u32>, rules: Vec<Rule>) -> System
 }
 
 /// The system that the tree means, with its names, or the first refusal.
-pub fn read_file<'a>(alloc: Global, file: &FileText<'a>) -> Result<(System, Names), ReadError>
-    requires { (tree : syntax.FileTree) × IsFileText file.now tree }
-    ensures { (tree : syntax.FileTree) → IsFileText file.now tree → FileAnswers tree result }
+pub fn read_file<'a>(alloc: Global, file: FileText<'a>) -> Result<(System, Names), ReadError>
+    requires { (tree : syntax.FileTree) × IsFileText file tree }
+    ensures { (tree : syntax.FileTree) → IsFileText file.entry tree → FileAnswers tree result }
 {
+    let FileText {
+        oriented,
+        variables,
+        rules,
+    } = file;
     let mut scope = Scope {
-        block: read_block(alloc, &file.variables)?,
+        block: read_block(alloc, &variables)?,
         names: Names::new(alloc),
         variables: NameSet::new(alloc),
     };
-    let rules = read_rules(alloc, &mut scope, file.oriented, &file.rules)?;
+    let rules = read_rules(alloc, &mut scope, oriented, rules)?;
     let arities = scope.names.arities(alloc)?;
     let system = make_system(arities, rules);
     Ok((system, scope.names))

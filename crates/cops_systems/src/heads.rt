@@ -3,6 +3,7 @@ ghost use Rattle.cops_trees.specs.View.{node_view};
 ghost use Rattle.cops_systems.specs.Refusals.{limit_cause};
 ghost use Rattle.cops_systems.specs.Heads.{used_at, WithinAnswers, RoomAnswers, CauseAnswers, VariableAnswers, SymbolAnswers, HeadAnswers};
 
+use crate::block::Block;
 use crate::errors::{Count, ReadError};
 use cops_names::{NameSet, Names};
 use cops_trees::{Name, Node};
@@ -16,7 +17,7 @@ pub const MOST_DEPTH: usize = 200;
 // so far, and the variables of the rule that is read.
 #[derive(Drop)]
 pub(crate) struct Scope<'a> {
-    pub(crate) block: NameSet<'a>,
+    pub(crate) block: Block<'a>,
     pub(crate) names: Names,
     pub(crate) variables: NameSet<'a>,
 }
@@ -117,8 +118,11 @@ fn read_variable<'a>(
     if place.is_left && place.depth == 1 {
         return Err(ReadError::LeftVariable { at });
     }
-    if !variables.has(name) {
-        check_room(Count::Variables, variables.len(), at)?;
+    // A name that is there already needs no room, and is looked up once more only where there is none.
+    if let Err(error) = check_room(Count::Variables, variables.len(), at) {
+        if !variables.has(name) {
+            return Err(error);
+        }
     }
     Ok(variables.add(name)? as u32)
 }

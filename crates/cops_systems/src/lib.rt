@@ -2,6 +2,7 @@
 //! it; what is proved of each identifier stands here, so that it is proved once.
 #![tactic(auto)]
 
+mod block;
 mod errors;
 mod files;
 mod heads;

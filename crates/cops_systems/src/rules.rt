@@ -140,21 +140,22 @@ fn read_rule<'a>(
     Ok(rule)
 }
 
-// All rules. The names of their variables are put last.
+// All rules. The names of their variables are put last. The text of a rule is let go as soon as it is read, so that its
+// memory serves the rules behind it.
 pub(crate) fn read_rules<'a>(
     alloc: Global,
     scope: &mut Scope<'a>,
     oriented: bool,
-    texts: &[RuleText<'a>],
+    texts: Vec<RuleText<'a>>,
 ) -> Result<Vec<Rule>, ReadError>
     requires none { scope.old.names.variables ≡ [] }
-    requires texts { (trees : List syntax.RuleTree) × AreRules texts.now trees }
-    ensures rules { (trees : List syntax.RuleTree) → AreRules texts.now trees → RulesAnswers scope.old.block oriented scope.old.names.symbols trees scope.new.names.symbols scope.new.names.variables result }
+    requires texts { (trees : List syntax.RuleTree) × AreRules texts.items trees }
+    ensures rules { (trees : List syntax.RuleTree) → AreRules texts.entry.items trees → RulesAnswers scope.old.block oriented scope.old.names.symbols trees scope.new.names.symbols scope.new.names.variables result }
     ensures block { scope.new.block ≡ scope.old.block }
 {
-    let mut rules = Vec::new(alloc);
-    'rules: for (i, text) in texts.iter().enumerate() {
-        let rule = read_rule(alloc, scope, oriented, text, i + 1)?;
+    let mut rules = Vec::with_capacity(alloc, texts.len())?;
+    'rules: for text in texts {
+        let rule = read_rule(alloc, scope, oriented, &text, rules.len() + 1)?;
         rules.push(rule)?;
     }
     Ok(rules)

@@ -62,7 +62,7 @@ fn read_arguments<'a>(
     ensures block { scope.new.block ≡ scope.old.block }
     ensures rules { scope.new.names.variables ≡ scope.old.names.variables }
 {
-    let mut terms = Vec::new(alloc);
+    let mut terms = Vec::with_capacity(alloc, count)?;
     let mut before = first.before;
     'arguments: for argument in 0..count {
         let place = NodePlace {

@@ -1,8 +1,8 @@
-ghost use Rattle.std.specs.Prelude.{◌≡◌, IfOk};
+ghost use Rattle.std.specs.Prelude.{◌≡◌, IfOk, option_map};
 ghost use Rattle.cops_trees.specs.Flat as flat;
-ghost use Rattle.cops_trees.specs.Flat.{CanRead, CanStep};
-ghost use Rattle.cops_trees.specs.View.{name_view, names_view};
-ghost use Rattle.cops_trees.specs.States.{word_view, stage_view, blocks_view, reading_view, cause_of, passed, file_view, ended_file};
+ghost use Rattle.cops_trees.specs.Flat.{CanStep};
+ghost use Rattle.cops_trees.specs.View.{names_view};
+ghost use Rattle.cops_trees.specs.States.{word_view, rules_view, stage_view, blocks_view, cause_of, passed, file_view, ended_file};
 
 use crate::rules::Reading;
 use crate::tree::{FileText, Name, RuleText};
@@ -54,6 +54,19 @@ impl<'a> Blocks<'a> {
         }
     }
 
+    // A word outside of all blocks.
+    fn begin(&mut self, word: Word<'a>) -> Option<SyntaxRefusal>
+        ensures { passed result self.new ≡ flat.stage_step (blocks_view self.old) flat.outside (word_view word.entry) }
+    {
+        match word {
+            Word::LeftParen => {
+                self.stage = Stage::Title;
+                None
+            }
+            _ => Some(SyntaxRefusal::Syntax),
+        }
+    }
+
     // A block begins, unless there was one of its title.
     fn enter(&mut self, again: bool, stage: Stage<'a>) -> Option<SyntaxRefusal>
         ensures { passed result self.new ≡ flat.enter (blocks_view self.old) again (stage_view stage.entry) }
@@ -65,10 +78,13 @@ impl<'a> Blocks<'a> {
         None
     }
 
-    // An identifier behind a block's bracket.
-    fn titled(&mut self, alloc: Global, name: Name<'a>) -> Option<SyntaxRefusal>
-        ensures { passed result self.new ≡ flat.title_step (blocks_view self.old) (name_view name.entry) }
+    // A word behind a block's bracket.
+    fn titled(&mut self, alloc: Global, word: Word<'a>) -> Option<SyntaxRefusal>
+        ensures { passed result self.new ≡ flat.stage_step (blocks_view self.old) flat.at_title (word_view word.entry) }
     {
+        let Word::Id(name) = word else {
+            return Some(SyntaxRefusal::Syntax);
+        };
         if name.is(b"CONDITIONTYPE") {
             self.enter(self.oriented, Stage::ConditionType)
         } else if name.is(b"VAR") {
@@ -82,10 +98,13 @@ impl<'a> Blocks<'a> {
         }
     }
 
-    // An identifier behind the title of a condition type.
-    fn typed(&mut self, name: Name<'a>) -> Option<SyntaxRefusal>
-        ensures { passed result self.new ≡ flat.type_step (blocks_view self.old) (name_view name.entry) }
+    // A word behind the title of a condition type.
+    fn typed(&mut self, word: Word<'a>) -> Option<SyntaxRefusal>
+        ensures { passed result self.new ≡ flat.stage_step (blocks_view self.old) flat.at_type (word_view word.entry) }
     {
+        let Word::Id(name) = word else {
+            return Some(SyntaxRefusal::Syntax);
+        };
         if name.is(b"ORIENTED") {
             self.stage = Stage::TypeEnd;
             None
@@ -94,71 +113,42 @@ impl<'a> Blocks<'a> {
         }
     }
 
-    // A word in a block of variables.
-    fn variable(
-        &mut self,
-        mut names: Vec<Name<'a>>,
-        word: Word<'a>,
-    ) -> Result<Option<SyntaxRefusal>, AllocError>
-        requires { self.old.stage ≡ Stage.Outside }
-        ensures { IfOk result (λ o. passed o self.new ≡ flat.variable_step (blocks_view self.old) (names_view names.entry.items) (word_view word.entry)) }
+    // A word behind a condition type.
+    fn close_type(&mut self, word: Word<'a>) -> Option<SyntaxRefusal>
+        ensures { passed result self.new ≡ flat.stage_step (blocks_view self.old) flat.at_type_end (word_view word.entry) }
     {
         match word {
-            Word::Id(name) => {
-                names.push(name)?;
-                self.stage = Stage::Variables(names);
-                Ok(None)
-            }
             Word::RightParen => {
-                self.variables = Some(names);
-                Ok(None)
+                self.oriented = true;
+                self.stage = Stage::Outside;
+                None
             }
-            _ => Ok(Some(SyntaxRefusal::Syntax)),
+            _ => Some(SyntaxRefusal::Syntax),
         }
     }
 
-    // The block of rules ends.
-    fn close_rules(
-        &mut self,
-        alloc: Global,
-        reading: Reading<'a>,
-    ) -> Result<Option<SyntaxRefusal>, AllocError>
-        requires { self.old.stage ≡ Stage.Outside }
-        ensures { IfOk result (λ o. passed o self.new ≡ flat.closed_step (blocks_view self.old) (reading_view reading.entry)) }
+    // The block of variables ends.
+    fn close_variables(&mut self, names: Vec<Name<'a>>)
+        ensures { blocks_view self.new ≡ flat.with_variables (blocks_view self.old) (names_view names.entry.items) }
     {
-        match reading.finish(alloc)? {
-            Some(rules) => {
-                self.rules = Some(rules);
-                Ok(None)
-            }
-            None => Ok(Some(SyntaxRefusal::Syntax)),
-        }
+        self.variables = Some(names);
+        self.stage = Stage::Outside;
     }
 
-    // A word in a block of rules.
-    fn rule(
-        &mut self,
-        alloc: Global,
-        mut reading: Reading<'a>,
-        word: Word<'a>,
-    ) -> Result<Option<SyntaxRefusal>, AllocError>
-        requires outside { self.old.stage ≡ Stage.Outside }
-        requires ready { CanRead (reading_view reading) }
-        ensures { IfOk result (λ o. passed o self.new ≡ flat.rule_step (blocks_view self.old) (reading_view reading.entry) (word_view word.entry)) }
+    // The block of rules ends, where they are whole.
+    fn close_rules(&mut self, rules: Option<Vec<RuleText<'a>>>) -> Option<SyntaxRefusal>
+        ensures { passed result self.new ≡ flat.or_syntax (option_map (λ v. flat.with_rules (blocks_view self.old) (rules_view v.items)) rules.entry) }
     {
-        if reading.is_flat() && matches!(word, Word::RightParen) {
-            return self.close_rules(alloc, reading);
-        }
-        if reading.step(alloc, word)? {
-            self.stage = Stage::Rules(reading);
-            Ok(None)
-        } else {
-            Ok(Some(SyntaxRefusal::Syntax))
-        }
+        let Some(rules) = rules else {
+            return Some(SyntaxRefusal::Syntax);
+        };
+        self.rules = Some(rules);
+        self.stage = Stage::Outside;
+        None
     }
 
     /// The refusal that the word calls for, if it may not stand here; else the state is the one
-    /// behind it.
+    /// behind it. What a block holds so far grows in place, since a file has many words.
     pub fn step(
         &mut self,
         alloc: Global,
@@ -167,21 +157,34 @@ impl<'a> Blocks<'a> {
         requires { CanStep (stage_view self.old.stage) }
         ensures { IfOk result (λ o. passed o self.new ≡ flat.step_blocks (blocks_view self.old) (word_view word.entry)) }
     {
-        let stage = mem::replace(&mut self.stage, Stage::Outside);
-        match (stage, word) {
-            (Stage::Outside, Word::LeftParen) => {
-                self.stage = Stage::Title;
-                Ok(None)
+        match &mut self.stage {
+            Stage::Outside => Ok(self.begin(word)),
+            Stage::Title => Ok(self.titled(alloc, word)),
+            Stage::ConditionType => Ok(self.typed(word)),
+            Stage::TypeEnd => Ok(self.close_type(word)),
+            Stage::Variables(names) => match word {
+                Word::Id(name) => {
+                    names.push(name)?;
+                    Ok(None)
+                }
+                Word::RightParen => {
+                    let names = mem::replace(names, Vec::new(alloc));
+                    self.close_variables(names);
+                    Ok(None)
+                }
+                _ => Ok(Some(SyntaxRefusal::Syntax)),
+            },
+            Stage::Rules(reading) => {
+                if reading.is_flat() && matches!(word, Word::RightParen) {
+                    let rules = reading.finish(alloc)?;
+                    return Ok(self.close_rules(rules));
+                }
+                if reading.step(alloc, word)? {
+                    Ok(None)
+                } else {
+                    Ok(Some(SyntaxRefusal::Syntax))
+                }
             }
-            (Stage::Title, Word::Id(name)) => Ok(self.titled(alloc, name)),
-            (Stage::ConditionType, Word::Id(name)) => Ok(self.typed(name)),
-            (Stage::TypeEnd, Word::RightParen) => {
-                self.oriented = true;
-                Ok(None)
-            }
-            (Stage::Variables(names), word) => self.variable(names, word),
-            (Stage::Rules(reading), word) => self.rule(alloc, reading, word),
-            _ => Ok(Some(SyntaxRefusal::Syntax)),
         }
     }
 

@@ -285,13 +285,12 @@ impl<'a> Reading<'a> {
         self.opens.is_empty()
     }
 
-    /// The rules, if the last one is whole or there is none.
-    pub fn finish(mut self, alloc: Global) -> Result<Option<Vec<RuleText<'a>>>, AllocError>
-        ensures { IfOk result (λ r. option_map (λ v. rules_view v.items) r ≡ flat.close_rule (reading_view self.entry)) }
+    /// The rules, if the last one is whole or there is none. They are taken out.
+    pub fn finish(&mut self, alloc: Global) -> Result<Option<Vec<RuleText<'a>>>, AllocError>
+        ensures { IfOk result (λ r. option_map (λ v. rules_view v.items) r ≡ flat.close_rule (reading_view self.old)) }
     {
         if self.close_rule(alloc)? {
-            let Reading { rules, .. } = self;
-            Ok(Some(rules))
+            Ok(Some(mem::replace(&mut self.rules, Vec::new(alloc))))
         } else {
             Ok(None)
         }

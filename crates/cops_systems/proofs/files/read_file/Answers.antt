@@ -1,7 +1,6 @@
-use Rattle.std.proofs.Common.{◌≡◌, ◌∙◌, ap, map, List, ℕ, [], sym, subst}
+use Rattle.std.proofs.Common.{◌≡◌, ◌∙◌, ap, map, List, ℕ, [], refl}
 use Rattle.file_text.specs.Syntax.{Name, FileTree}
-use Rattle.cops_trees.specs.View.{AreRules, IsFileText, names_view}
-use Rattle.cops_trees.specs.declared.tree.RuleText.{RuleText}
+use Rattle.cops_trees.specs.View.{IsFileText, names_view}
 use Rattle.cops_trees.specs.declared.tree.Name as program
 use Rattle.cops_trees.specs.declared.tree.FileText.{FileText}
 use Rattle.cops_names.specs.NameTable.{NameTable}
@@ -20,31 +19,31 @@ block_is file text block items h e same =
 pub returns-in_err-rules : goal.returns-in_err-rules
 returns-in_err-rules c tree h =
     handed (FileAnswers tree) c.in_err-rules.field-0.0 c.from_residual-in_err-rules.result c.from_residual-in_err-rules.ensures.1
-    (rules_told tree c.args.file.now h c.in_ok-read_block.field-0 c.new.result.symbols c.deref-2.result.now
-    (block_is tree c.args.file.now c.in_ok-read_block.field-0 c.deref.result.now h c.in_ok-read_block.ensures c.deref.ensures.value) (ap (λ (n : NameTable). n.symbols) c.new.ensures) c.deref-2.ensures.value
+    (rules_told tree c.args.file h c.in_ok-read_block.field-0 c.new.result.symbols c.args.file.rules.items
+    (block_is tree c.args.file c.in_ok-read_block.field-0 c.deref.result.now h c.in_ok-read_block.ensures c.deref.ensures.value) (ap (λ (n : NameTable). n.symbols) c.new.ensures) refl
     c.read_rules.new.scope.names.symbols c.read_rules.new.scope.names.variables c.in_err-rules.field-0.0 c.in_err-rules.ensures.rules)
 
 pub read_rules-requires-clause-texts : goal.read_rules-requires-clause-texts
-read_rules-requires-clause-texts c = (c.requires.0.rules, subst (λ (rs : List RuleText). AreRules rs c.requires.0.rules) (sym c.deref-2.ensures.value) c.requires.1.rules)
+read_rules-requires-clause-texts c = (c.requires.0.rules, c.requires.1.rules)
 
 pub make_system-system-requires-clause-sound : goal.make_system-system-requires-clause-sound
 make_system-system-requires-clause-sound c =
     let tree = c.requires.0 in
     let h = c.requires.1 in
-    rules_sound tree c.args.file.now h c.in_ok-read_block.field-0 c.new.result.symbols c.deref-2.result.now
-    (block_is tree c.args.file.now c.in_ok-read_block.field-0 c.deref.result.now h c.in_ok-read_block.ensures c.deref.ensures.value) (ap (λ (n : NameTable). n.symbols) c.new.ensures) c.deref-2.ensures.value
+    rules_sound tree c.args.file h c.in_ok-read_block.field-0 c.new.result.symbols c.args.file.rules.items
+    (block_is tree c.args.file c.in_ok-read_block.field-0 c.deref.result.now h c.in_ok-read_block.ensures c.deref.ensures.value) (ap (λ (n : NameTable). n.symbols) c.new.ensures) refl
     c.read_rules.new.scope.names c.in_ok-arities.arities.items c.in_ok-rules.rules.items c.in_ok-rules.ensures.rules c.in_ok-arities.ensures
 
 pub make_system-system-requires-clause-counted : goal.make_system-system-requires-clause-counted
 make_system-system-requires-clause-counted c =
     let tree = c.requires.0 in
     let h = c.requires.1 in
-    rules_counted tree c.args.file.now h c.in_ok-read_block.field-0 c.new.result.symbols c.deref-2.result.now
-    (block_is tree c.args.file.now c.in_ok-read_block.field-0 c.deref.result.now h c.in_ok-read_block.ensures c.deref.ensures.value) (ap (λ (n : NameTable). n.symbols) c.new.ensures) c.deref-2.ensures.value
+    rules_counted tree c.args.file h c.in_ok-read_block.field-0 c.new.result.symbols c.args.file.rules.items
+    (block_is tree c.args.file c.in_ok-read_block.field-0 c.deref.result.now h c.in_ok-read_block.ensures c.deref.ensures.value) (ap (λ (n : NameTable). n.symbols) c.new.ensures) refl
     c.read_rules.new.scope.names c.in_ok-arities.arities.items c.in_ok-rules.rules.items c.in_ok-rules.ensures.rules c.in_ok-arities.ensures
 
 pub returns : goal.returns
 returns c tree h =
-    file_read tree c.args.file.now h c.in_ok-read_block.field-0 c.new.result.symbols c.deref-2.result.now
-    (block_is tree c.args.file.now c.in_ok-read_block.field-0 c.deref.result.now h c.in_ok-read_block.ensures c.deref.ensures.value) (ap (λ (n : NameTable). n.symbols) c.new.ensures) c.deref-2.ensures.value
+    file_read tree c.args.file h c.in_ok-read_block.field-0 c.new.result.symbols c.args.file.rules.items
+    (block_is tree c.args.file c.in_ok-read_block.field-0 c.deref.result.now h c.in_ok-read_block.ensures c.deref.ensures.value) (ap (λ (n : NameTable). n.symbols) c.new.ensures) refl
     c.read_rules.new.scope.names c.in_ok-arities.arities.items c.in_ok-rules.rules.items c.in_ok-rules.ensures.rules c.in_ok-arities.ensures c.make_system-system.result c.make_system-system.ensures

@@ -106,7 +106,7 @@ read_arguments-returns-in_err-term-clause-terms t c ps rest many h =
     c.args.nodes.now ps rest c.arguments.argument c.arguments.scope.names.symbols c.arguments.scope.variables c.arguments.terms.items c.arguments.before loop n) in
     let told' = rw c.arguments.invariant.block at told in
     handed (ArgumentsAnswers c.args.scope.now.block c.args.scope.now.names.symbols c.args.scope.now.variables (side_at c.args.first) c.args.first.depth c.args.first.before ps
-    c.read_term.new.scope.names.symbols c.read_term.new.scope.variables) c.in_err-term.field-0.0 c.from_residual.result c.from_residual.ensures.1
+    c.read_term.new.scope.names.symbols c.read_term.new.scope.variables) c.in_err-term.field-0.0 c.from_residual-in_err-term.result c.from_residual-in_err-term.ensures.1
     (loop_fails c.args.scope.now.block c.args.scope.now.names.symbols c.args.scope.now.variables (side_at c.args.first) c.args.first.depth c.args.first.before
     c.args.nodes.now ps rest c.arguments.argument c.arguments.scope.names.symbols c.arguments.scope.variables c.arguments.terms.items c.arguments.before loop n c.in_err-term.field-0.0 told')
 
