@@ -1,44 +1,19 @@
 -- Batches of choices: what their parts say of the choices.
-use Rattle.std.proofs.Common.{◌≡◌, ◌≢◌, ◌↔◌, ◌⊎◌, inl, inr, ℕ, zero, suc, ◌+◌, ◌-◌, ◌*◌, ◌/◌, ◌%◌, ◌^◌, ◌<◌, ◌≤◌, Bool, true, false, nat_eq, min, if◌then◌else◌, List, [], ◌∷◌, ◌++◌, length, get_or, take, None, Some, slice_get, refl, ap, sym, subst, ◌∙◌, arith, eq-eqb}
-use Rattle.std.proofs.Math.Nat.{pow-zero, pow-suc, one-le-pow}
-use Rattle.std.proofs.lemmas.Bool.{cases_lt, eqb-true}
-use Rattle.std.specs.List.{All}
-use Rattle.std.proofs.lemmas.List.Elements.{All-head, All-tail}
+use Rattle.std.proofs.Common.{◌≡◌, ◌≢◌, ◌↔◌, ◌⊎◌, inl, inr, ⊎_elim, ℕ, zero, suc, ◌+◌, ◌<◌, ◌≤◌, Bool, true, false, nat_eq, if◌then◌else◌, List, [], ◌∷◌, ◌++◌, length, get_or, take, ltb, None, Some, slice_get, Vec, Global, refl, ap, sym, subst, ◌∙◌, arith, eq-eqb}
+use Rattle.std.proofs.lemmas.Bool.{cases_lt, eqb-true, ltb-true, ltb-false}
 use Rattle.std.proofs.lemmas.List.{take_more}
-use Rattle.std.proofs.lemmas.Option.{get_or_from_slice_get}
+use Rattle.std.proofs.lemmas.Option.{same_Some, get_or_from_slice_get, slice_get-get_or, slice_get_read, slice_get_within}
 use Rattle.automata.specs.Closed.{state_of}
 use Rattle.rewriting.specs.Lists.{IsAmong}
+use Rattle.rewriting.proofs.Lists.{among_either}
 use Rattle.number_sets.specs.Relation.{Relates}
 use Rattle.number_sets.specs.declared.rows.NumberRelation.{NumberRelation}
-use Rattle.automaton_runs.specs.Choices.{Batch, start, Holds, choice_of}
+use Rattle.automaton_runs.specs.Choices.{as_lists, Batch, Holds, choice_of}
 use Rattle.automaton_runs.specs.BatchView.{AreStatesAt, IsFirstPlace}
-use Rattle.automaton_runs.proofs.Choices.{length_choice, choice_below, choice_item}
-
--- where there is a choice for all places, there is one for some
-pub power_positive : (n i m : ℕ) → i ≤ m → 0 < n ^ m → 0 < n ^ i
-power_positive zero zero m h pos = omega (arith, pow-zero 0)
-power_positive zero (suc i) zero h pos = absurd (omega arith)
-power_positive zero (suc i) (suc m) h pos = let none : 0 ^ suc m ≡ 0 ^ m * 0 = pow-suc 0 m in absurd (omega arith)
-power_positive (suc n) i m h pos = let some : 1 ≤ suc n ^ i = one-le-pow i (suc n) (omega arith) in omega arith
-
--- the power at a place
-pub power_at : (xs : List ℕ) (n m i d : ℕ) → ((j : ℕ) → j < m → slice_get xs j ≡ Some (n ^ j)) → i < m → d ≡ get_or xs i d → d ≡ n ^ i
-power_at xs n m i d each h e = e ∙ get_or_from_slice_get xs i (n ^ i) d (each i h)
-
--- how many choices a batch has
-pub counted : (b : Batch) (count k : ℕ) → count ≡ min (b.states ^ b.length - start b) 4096 → (k < count) ↔ Holds b k
-counted b count k e =
-    (λ h. (omega arith, omega arith), λ h. let low : k < 4096 = h.0 in let within : start b + k < b.states ^ b.length = h.1 in omega arith)
-
--- what a list has, with one more
-pub got_more : (f : ℕ → ℕ) (xs : List ℕ) (n x : ℕ) → length xs ≡ n → ((i : ℕ) → i < n → slice_get xs i ≡ Some (f i)) → x ≡ f n
-    → (i : ℕ) → i < n + 1 → slice_get (xs ++ x ∷ []) i ≡ Some (f i)
-got_more f [] zero x e each is zero h = ap Some is
-got_more f [] zero x e each is (suc i) h = absurd (omega arith)
-got_more f [] (suc n) x e each is i h = absurd (omega arith)
-got_more f (y ∷ xs) zero x e each is i h = absurd (omega arith)
-got_more f (y ∷ xs) (suc n) x e each is zero h = each 0 (omega arith)
-got_more f (y ∷ xs) (suc n) x e each is (suc i) h = got_more (λ j. f (suc j)) xs n x (omega arith) (λ j k. each (suc j) (omega arith)) is i (omega arith)
+use Rattle.automaton_runs.specs.Leaves.{AreStatesIn, AreZeros}
+use Rattle.automaton_runs.proofs.ChoiceLists.{place_among}
+use Rattle.automaton_runs.proofs.Members.{mapped_more}
+use Rattle.automaton_runs.proofs.Twins.{all_of}
 
 pub each_more : {X : Type 0} (P : ℕ → X → Type 0) (xs : List X) (x : X) → ((i : ℕ) (y : X) → slice_get xs i ≡ Some y → P i y) → P (length xs) x
     → (i : ℕ) (y : X) → slice_get (xs ++ x ∷ []) i ≡ Some y → P i y
@@ -47,50 +22,110 @@ each_more P [] x each last (suc i) y e = absurd (cc)
 each_more P (z ∷ xs) x each last zero y e = each 0 y e
 each_more P (z ∷ xs) x each last (suc i) y e = each_more (λ j. P (suc j)) xs x (λ j. each (suc j)) last i y e
 
--- a relation of the numbers below a count to what f says, with one more
-pub related_more : (f : ℕ → ℕ) (old new : NumberRelation) (count state : ℕ)
-    → ((q k : ℕ) → Relates old q k ↔ ((k < count) × (q ≡ f k)))
-    → ((q k : ℕ) → Relates new q k ↔ (Relates old q k ⊎ ((q ≡ state) × (k ≡ count)))) → state ≡ f count
-    → (q k : ℕ) → Relates new q k ↔ ((k < count + 1) × (q ≡ f k))
-related_more f old new count state had made is q k = (λ h. there ((made q k).0 h), λ h. back h (cases_lt k count))
-  where
-    there : Relates old q k ⊎ ((q ≡ state) × (k ≡ count)) → (k < count + 1) × (q ≡ f k)
-    there (inl h) = let now = (had q k).0 h in (let low : k < count = now.0 in omega arith, now.1)
-    there (inr (e, same)) = (omega arith, e ∙ is ∙ ap f (sym same))
+-- a relation of the numbers below n to states that they are at, with one more
+module _ (At : ℕ → ℕ → Type 0) (old : NumberRelation) (n : ℕ) (had : (q k : ℕ) → Relates old q k ↔ ((k < n) × At k q)) where
+  pub leaf_put : (new : NumberRelation) (state : ℕ) → ((q k : ℕ) → Relates new q k ↔ (Relates old q k ⊎ ((q ≡ state) × (k ≡ n)))) → At n state → ((q : ℕ) → At n q → q ≡ state) → (q k : ℕ) → Relates new q k ↔ ((k < n + 1) × At k q)
+  leaf_put new state made here alone q k = (λ h. there ((made q k).0 h), λ h. back h.1 h.0 (cases_lt k n))
+    where
+      there : Relates old q k ⊎ ((q ≡ state) × (k ≡ n)) → (k < n + 1) × At k q
+      there (inl h) = let r = (had q k).0 h in let low = r.0 in (omega arith, r.1)
+      there (inr (e, same)) = (omega arith, subst (λ (j : ℕ). At j q) (sym same) (subst (λ (p : ℕ). At n p) (sym e) here))
 
-    back : (k < count + 1) × (q ≡ f k) → (k < count) ⊎ (count ≤ k) → Relates new q k
-    back h (inl low) = (made q k).1 (inl ((had q k).1 (low, h.1)))
-    back h (inr high) = let same : k ≡ count = let low : k < count + 1 = h.0 in omega arith in (made q k).1 (inr (h.1 ∙ ap f same ∙ sym is, same))
+      back : At k q → k < n + 1 → (k < n) ⊎ (n ≤ k) → Relates new q k
+      back h l (inl low) = (made q k).1 (inl ((had q k).1 (low, h)))
+      back h l (inr high) = let same : k ≡ n = omega arith in (made q k).1 (inr (alone q (subst (λ (j : ℕ). At j q) same h), same))
 
--- the states at a place
-pub states_at : (b : Batch) (count place : ℕ) (r : NumberRelation) → place < b.length → ((k : ℕ) → (k < count) ↔ Holds b k)
-    → ((q k : ℕ) → Relates r q k ↔ ((k < count) × (q ≡ ((start b + k) / b.states ^ (b.length - 1 - place)) % b.states))) → AreStatesAt b place r
-states_at b count place r h counted is q k =
-    let item = choice_item b.states b.length (start b + k) place h in (
-      λ g. let had = (is q k).0 g in ((counted k).0 had.0, item ∙ ap Some (sym had.1)),
-      λ g. let e = g.1 in (is q k).1 ((counted k).1 g.0, cc),
+  pub leaf_skip : ((q : ℕ) → At n q → ⊥) → (q k : ℕ) → Relates old q k ↔ ((k < n + 1) × At k q)
+  leaf_skip none q k = (λ h. let r = (had q k).0 h in let low = r.0 in (omega arith, r.1), λ h. back h.1 h.0 (cases_lt k n))
+    where
+      back : At k q → k < n + 1 → (k < n) ⊎ (n ≤ k) → Relates old q k
+      back h l (inl low) = (had q k).1 (low, h)
+      back h l (inr high) = let same : k ≡ n = omega arith in absurd (none q (subst (λ (j : ℕ). At j q) same h))
+
+-- the state that a list has at a place, among some lists
+abbrev pub HasAt : List (List ℕ) → ℕ → ℕ → ℕ → Type 0
+HasAt lists place k q = (list : List ℕ) × (slice_get lists k ≡ Some list) × (slice_get list place ≡ Some q)
+
+pub leaf_none : (lists : List (List ℕ)) (place : ℕ) (r : NumberRelation) → ((p q : ℕ) → Relates r p q → ⊥) → (q k : ℕ) → Relates r q k ↔ ((k < 0) × HasAt lists place k q)
+leaf_none lists place r none q k = (λ h. absurd (none q k h), λ (l, h). absurd (omega arith))
+
+pub leaf_all : (lists : List (List ℕ)) (place n : ℕ) (r : NumberRelation) → length lists ≤ n → ((q k : ℕ) → Relates r q k ↔ ((k < n) × HasAt lists place k q)) → AreStatesIn lists place r
+leaf_all lists place n r past had q k = (λ h. ((had q k).0 h).1, λ (list, at, is). let low = slice_get_within lists k list at in (had q k).1 (omega arith, (list, at, is)))
+
+-- the only state there
+pub one_state : (lists : List (List ℕ)) (place k state : ℕ) (list : List ℕ) → slice_get lists k ≡ Some list → slice_get list place ≡ Some state → (q : ℕ) → HasAt lists place k q → q ≡ state
+one_state lists place k state list at is q (other, there, has) =
+    let same : other ≡ list = same_Some other list (sym there ∙ at) in
+    same_Some q state (sym has ∙ ap (λ (l : List ℕ). slice_get l place) same ∙ is)
+
+pub no_state : (lists : List (List ℕ)) (place k : ℕ) (list : List ℕ) → slice_get lists k ≡ Some list → length list ≤ place → (q : ℕ) → HasAt lists place k q → ⊥
+no_state lists place k list at past q (other, there, has) =
+    let same : other ≡ list = same_Some other list (sym there ∙ at) in
+    let low = slice_get_within list place q (ap (λ (l : List ℕ). slice_get l place) (sym same) ∙ has) in
+    omega arith
+
+-- a state with all numbers
+pub all_with : (n state : ℕ) (none r : NumberRelation) (all : List ℕ) → ((p q : ℕ) → Relates none p q → ⊥) → ((k : ℕ) → IsAmong k all ↔ (k < n))
+    → ((p q : ℕ) → Relates r p q ↔ (Relates none p q ⊎ ((p ≡ state) × IsAmong q all))) → (q k : ℕ) → Relates r q k ↔ ((k < n) × (q ≡ state))
+all_with n state none r all empty is made q k = (
+  λ h. ⊎_elim (λ o. absurd (empty q k o)) (λ o. ((is k).0 o.1, o.0)) ((made q k).0 h),
+  λ h. (made q k).1 (inr (h.1, (is k).1 h.0)),
+)
+
+-- what `get` tells of a place
+pub got : {X : Type 0} (xs : List X) (i : ℕ) (x : X) → true ≡ ltb i (length xs) → x ≡ get_or xs i x → slice_get xs i ≡ Some x
+got xs i x inside is = slice_get_read xs (length xs) i x refl (ltb-true i (length xs) (sym inside)) is
+
+pub not_got : {X : Type 0} (xs : List X) (i : ℕ) → false ≡ ltb i (length xs) → length xs ≤ i
+not_got xs i outside = ltb-false i (length xs) (sym outside)
+
+-- the list that a vector has, and the first of some lists
+pub list_at : (vs : List (Vec ℕ Global)) (i : ℕ) (v : Vec ℕ Global) → i < length vs → v ≡ get_or vs i v → slice_get (as_lists vs) i ≡ Some v.items
+list_at [] i v h e = absurd (omega arith)
+list_at (w ∷ vs) zero v h e = ap (λ (u : Vec ℕ Global). Some u.items) (sym e)
+list_at (w ∷ vs) (suc i) v h e = list_at vs i v (omega arith) e
+
+pub lists_more : (vs : List (Vec ℕ Global)) (i : ℕ) (v : Vec ℕ Global) → i < length vs → v ≡ get_or vs i v → as_lists (take (i + 1) vs) ≡ as_lists (take i vs) ++ v.items ∷ []
+lists_more vs i v h e = mapped_more (λ (u : Vec ℕ Global). u.items) vs i v h e
+
+-- zeros up to a place
+pub zeros_more : (list : List ℕ) (i : ℕ) → i < length list → get_or list i 0 ≡ 0 → AreZeros (take i list) → AreZeros (take (i + 1) list)
+zeros_more list i inside here front q h =
+    ⊎_elim (λ k. front q k) (λ k. ⊎_elim (λ e. e ∙ here) (λ f. absurd f) k) (among_either q (take i list) (get_or list i 0 ∷ []) (subst (IsAmong q) (take_more list i 0 inside) h))
+
+pub zeros_all : (list : List ℕ) (i : ℕ) → length list ≤ i → AreZeros (take i list) → AreZeros list
+zeros_all list i past front = subst AreZeros (all_of list i past) front
+
+-- places of two lists
+pub front_place : {X : Type 0} (xs ys : List X) (i : ℕ) → i < length xs → slice_get (xs ++ ys) i ≡ slice_get xs i
+front_place [] ys i h = absurd (omega arith)
+front_place (x ∷ xs) ys zero h = refl
+front_place (x ∷ xs) ys (suc i) h = front_place xs ys i (omega arith)
+
+pub behind_place : {X : Type 0} (xs ys : List X) (i : ℕ) → slice_get (xs ++ ys) (length xs + i) ≡ slice_get ys i
+behind_place [] ys i = let same : 0 + i ≡ i = omega arith in ap (slice_get ys) same
+behind_place (x ∷ xs) ys i = let same : suc (length xs) + i ≡ suc (length xs + i) = omega arith in ap (slice_get (x ∷ (xs ++ ys))) same ∙ behind_place xs ys i
+
+-- the states of a batch at a place of its front
+pub states_in_front : (b : Batch) (place state : ℕ) (r : NumberRelation) → slice_get b.front place ≡ Some state → ((q k : ℕ) → Relates r q k ↔ ((k < length b.tails) × (q ≡ state))) → AreStatesAt b place r
+states_in_front b place state r at is q k =
+    let here = front_place b.front (get_or b.tails k []) place (slice_get_within b.front place state at) ∙ at in (
+      λ h. let g = (is q k).0 h in (g.0, here ∙ ap Some (sym g.1)),
+      λ h. (is q k).1 (h.0, same_Some q state (sym h.1 ∙ here)),
     )
 
--- the state 0
-pub zeros_at : (b : Batch) (count : ℕ) (none r : NumberRelation) (all : List ℕ) → ((k : ℕ) → (k < count) ↔ Holds b k)
-    → ((p q : ℕ) → Relates none p q → ⊥) → ((q : ℕ) → IsAmong q all ↔ (q < count))
-    → ((p q : ℕ) → Relates r p q ↔ (Relates none p q ⊎ ((p ≡ 0) × IsAmong q all))) → (q k : ℕ) → Relates r q k ↔ (Holds b k × (q ≡ 0))
-zeros_at b count none r all holds empty is made q k = (λ h. there ((made q k).0 h), λ h. (made q k).1 (inr (h.1, (is k).1 ((holds k).1 h.0))))
-  where
-    there : Relates none q k ⊎ ((q ≡ 0) × IsAmong k all) → Holds b k × (q ≡ 0)
-    there (inl h) = absurd (empty q k h)
-    there (inr h) = ((holds k).0 ((is k).0 h.1), h.0)
+-- and behind it
+pub states_behind : (b : Batch) (place : ℕ) (r : NumberRelation) → AreStatesIn b.tails place r → AreStatesAt b (length b.front + place) r
+states_behind b place r is q k =
+    let there = behind_place b.front (get_or b.tails k []) place in (
+      λ h.
+          let (list, at, has) = (is q k).0 h in
+          let low = slice_get_within b.tails k list at in
+          (low, there ∙ ap (λ (l : List ℕ). slice_get l place) (get_or_from_slice_get b.tails k list [] at) ∙ has),
+      λ (low, e). (is q k).1 (get_or b.tails k [], slice_get-get_or b.tails k [] low, sym there ∙ e),
+    )
 
-pub choice_more : (b : Batch) (k place state : ℕ) (old : List ℕ) → place < b.length → old ≡ take place (choice_of b k)
-    → state ≡ ((start b + k) / b.states ^ (b.length - 1 - place)) % b.states → old ++ state ∷ [] ≡ take (place + 1) (choice_of b k)
-choice_more b k place state old h e is =
-    let long : length (choice_of b k) ≡ b.length = length_choice b.states b.length (start b + k) in
-    let within : place < length (choice_of b k) = omega arith in
-    let more = take_more (choice_of b k) place 0 within in
-    let item = get_or_from_slice_get (choice_of b k) place (((start b + k) / b.states ^ (b.length - 1 - place)) % b.states) 0 (choice_item b.states b.length (start b + k) place h) in
-    cc
-
-other_name : (x y c r : ℕ) → (y ≡ x → ⊥) → (if nat_eq x y then c else r) ≡ r
+pub other_name : (x y c r : ℕ) → (y ≡ x → ⊥) → (if nat_eq x y then c else r) ≡ r
 other_name x y c r ne = go (nat_eq x y) refl
   where
     go : (b : Bool) → nat_eq x y ≡ b → (if b then c else r) ≡ r
@@ -101,7 +136,7 @@ same_name : (x y c r : ℕ) → y ≡ x → (if nat_eq x y then c else r) ≡ c
 same_name x y c r e = rw (eq-eqb x y (sym e)) refl
 
 -- the state of a name is that at its first place, or 0
-pub found_state : (names cs : List ℕ) (x i : ℕ) → length cs ≡ length names → i < length names → get_or names i 0 ≡ x → ((k : ℕ) → k < i → get_or names k 0 ≢ x)
+pub found_state : (names cs : List ℕ) (x i : ℕ) → i < length cs → i < length names → get_or names i 0 ≡ x → ((k : ℕ) → k < i → get_or names k 0 ≢ x)
     → slice_get cs i ≡ Some (state_of names cs x)
 found_state [] cs x i long h e before = absurd (omega arith)
 found_state (y ∷ ys) [] x i long h e before = absurd (omega arith)
@@ -116,13 +151,15 @@ absent_state (y ∷ ys) (c ∷ cs) x none =
     other_name x y c (state_of ys cs x) (none 0 (omega arith)) ∙ absent_state ys cs x (λ k h. none (suc k) (omega arith))
 
 -- the states of a variable
-pub states_found : (b : Batch) (names : List ℕ) (x place : ℕ) (r : NumberRelation) → length names ≡ b.length → IsFirstPlace names x (Some place)
+pub states_found : (b : Batch) (names : List ℕ) (x place : ℕ) (r : NumberRelation) → IsFirstPlace names x (Some place) → ((k : ℕ) → Holds b k → place < length (choice_of b k))
     → AreStatesAt b place r → (q k : ℕ) → Relates r q k ↔ (Holds b k × (q ≡ state_of names (choice_of b k) x))
-states_found b names x place r long first is q k =
-    let here = found_state names (choice_of b k) x place (length_choice b.states b.length (start b + k) ∙ sym long) first.0 first.1 first.2 in (
-      λ h. let g = (is q k).0 h in let e = g.1 in (g.0, cc),
-      λ g. (is q k).1 (g.0, here ∙ ap Some (sym g.1)),
-    )
+states_found b names x place r first within is q k = (
+  λ h.
+      let g = (is q k).0 h in
+      let here = found_state names (choice_of b k) x place (within k g.0) first.0 first.1 first.2 in
+      (g.0, same_Some q (state_of names (choice_of b k) x) (sym g.1 ∙ here)),
+  λ (holds, e). let here = found_state names (choice_of b k) x place (within k holds) first.0 first.1 first.2 in (is q k).1 (holds, here ∙ ap Some (sym e)),
+)
 
 pub states_absent : (b : Batch) (names : List ℕ) (x : ℕ) (r : NumberRelation) → IsFirstPlace names x None
     → ((q k : ℕ) → Relates r q k ↔ (Holds b k × (q ≡ 0))) → (q k : ℕ) → Relates r q k ↔ (Holds b k × (q ≡ state_of names (choice_of b k) x))
@@ -133,20 +170,23 @@ states_absent b names x r none is q k =
     )
 
 -- where there is no other state than 0, each name has it
-only_zero : (names cs : List ℕ) (x n : ℕ) → n ≤ 1 → All (λ q. q < n) cs → state_of names cs x ≡ 0
-only_zero [] cs x n low all = refl
-only_zero (y ∷ ys) [] x n low all = refl
-only_zero (y ∷ ys) (c ∷ cs) x n low all = either (nat_eq x y) (let first : c < n = All-head (λ q. q < n) c cs all in omega arith) (only_zero ys cs x n low (All-tail (λ q. q < n) c cs all))
+only_zero : (names cs : List ℕ) (x : ℕ) → AreZeros cs → state_of names cs x ≡ 0
+only_zero [] cs x all = refl
+only_zero (y ∷ ys) [] x all = refl
+only_zero (y ∷ ys) (c ∷ cs) x all = either (nat_eq x y) (all c (inl refl)) (only_zero ys cs x (λ q i. all q (inr i)))
   where
     either : (b : Bool) → c ≡ 0 → state_of ys cs x ≡ 0 → (if b then c else state_of ys cs x) ≡ 0
     either true e f = e
     either false e f = f
 
-pub states_alone : (b : Batch) (names : List ℕ) (x : ℕ) (r : NumberRelation) → b.states ≤ 1 → ((q k : ℕ) → Relates r q k ↔ (Holds b k × (q ≡ 0))) → (q k : ℕ) → Relates r q k ↔ (Holds b k × (q ≡ state_of names (choice_of b k) x))
-states_alone b names x r low zeros q k = (
+pub states_alone : (b : Batch) (names : List ℕ) (x : ℕ) (r : NumberRelation) → b.front ≡ [] → ((list : List ℕ) → IsAmong list b.tails → AreZeros list) → ((q k : ℕ) → Relates r q k ↔ (Holds b k × (q ≡ 0)))
+    → (q k : ℕ) → Relates r q k ↔ (Holds b k × (q ≡ state_of names (choice_of b k) x))
+states_alone b names x r front all zeros q k = (
   λ h. let z = (zeros q k).0 h in (z.0, z.1 ∙ sym (none z.0)),
   λ (holds, e). (zeros q k).1 (holds, e ∙ none holds),
 )
   where
     none : Holds b k → state_of names (choice_of b k) x ≡ 0
-    none holds = only_zero names (choice_of b k) x b.states low (choice_below b.states b.length (start b + k) holds.1)
+    none holds =
+        ap (λ (l : List ℕ). state_of names (l ++ get_or b.tails k []) x) front
+        ∙ only_zero names (get_or b.tails k []) x (all (get_or b.tails k []) (place_among b.tails k (get_or b.tails k []) (slice_get-get_or b.tails k [] holds)))

@@ -24,7 +24,7 @@ pub number_is : (o : Option ℕ) (q : ℕ) → is_number o q ≡ true → o ≡ 
 number_is None q e = absurd (false≢true e)
 number_is (Some p) q e = ap Some (eqb-true p q e)
 
-is_the_number : (o : Option ℕ) (q : ℕ) → o ≡ Some q → is_number o q ≡ true
+pub is_the_number : (o : Option ℕ) (q : ℕ) → o ≡ Some q → is_number o q ≡ true
 is_the_number o q e = ap (λ (p : Option ℕ). is_number p q) e ∙ eq-eqb q q refl
 
 arity_from : (symbols : Symbols) (f n : ℕ) → has_arity symbols f n ≡ true → HasArity symbols f n

@@ -9,7 +9,7 @@ use Rattle.number_sets.specs.Relation.{Relates}
 use Rattle.number_sets.specs.declared.rows.NumberRelation.{NumberRelation}
 use Rattle.automaton_runs.specs.Counted.{Indexed, Finds}
 use Rattle.automaton_runs.specs.Counting.{Key, chosen, symbol_key, first_key}
-use Rattle.automaton_runs.specs.Reached.{AreRelated, Leads, HaveLeads, HaveLeadsByFirst, IsReachedFrom}
+use Rattle.automaton_runs.specs.Reached.{IsOneOf, AreRelated, Leads, HaveLeads, HaveLeadsByFirst, IsReachedFrom}
 use Rattle.automaton_runs.proofs.Looked.{looked_from, looked_to}
 use Rattle.rewriting.proofs.Lists.{among_either, among_left, among_right}
 
@@ -41,40 +41,37 @@ one_more {X = X} {A = A} {B = B} {C = C} P xs x ys e front more = (into, back)
 
 module _ (a : Indexed) (f : ℕ) (all : List ℕ) (rs : List NumberRelation) (key : Key) (s q k : ℕ) where
   -- transitions that are looked up lead where the symbol does
-  from_led : HaveLeads f all rs (filter (chosen a.symbols key a.automaton.states s) a.automaton.transitions) q k → IsAmong k all × IsReachedFrom a f rs q k
+  from_led : HaveLeads f all rs (filter (chosen a.symbols key a.automaton.states s) a.automaton.transitions) q k → IsOneOf rs all k × IsReachedFrom a f rs q k
   from_led (t, i, e) =
       let has = (looked_from a key s t i).0 in
       (e.number, (t.arguments, subst (λ (o : Option ℕ). Finds a o t.arguments q) e.symbol (subst (λ (r : ℕ). Finds a t.symbol t.arguments r) (sym e.target) has), e.arguments))
 
-  to_led : (qs : List ℕ) → IsAmong (record { symbol = Some f; arguments = qs; target = q }) (filter (chosen a.symbols key a.automaton.states s) a.automaton.transitions) → IsAmong k all → AreRelated rs qs k
+  to_led : (qs : List ℕ) → IsAmong (record { symbol = Some f; arguments = qs; target = q }) (filter (chosen a.symbols key a.automaton.states s) a.automaton.transitions) → IsOneOf rs all k → AreRelated rs qs k
       → HaveLeads f all rs (filter (chosen a.symbols key a.automaton.states s) a.automaton.transitions) q k
   to_led qs i n e = (record { symbol = Some f; arguments = qs; target = q }, i, record { symbol = refl; number = n; arguments = e; target = refl })
 
 -- without arguments the symbol leads by its transitions
-pub led_by_symbol : (a : Indexed) (f q k : ℕ) (all : List ℕ) (rs : List NumberRelation) → HaveLeads f all rs (filter (chosen a.symbols symbol_key a.automaton.states f) a.automaton.transitions) q k ↔ (IsAmong k all × IsReachedFrom a f rs q k)
+pub led_by_symbol : (a : Indexed) (f q k : ℕ) (all : List ℕ) (rs : List NumberRelation) → HaveLeads f all rs (filter (chosen a.symbols symbol_key a.automaton.states f) a.automaton.transitions) q k ↔ (IsOneOf rs all k × IsReachedFrom a f rs q k)
 led_by_symbol a f q k all rs = (
   λ h. from_led a f all rs symbol_key f q k h,
   λ (n, (qs, has, e)). to_led a f all rs symbol_key f q k qs (looked_to a symbol_key f (Some f) qs q has refl) n e,
 )
 
 -- with a first argument it leads by the transitions from a state of the first relation
-pub led_by_first : (a : Indexed) (f q k : ℕ) (all : List ℕ) (r : NumberRelation) (rs : List NumberRelation) → HaveLeadsByFirst a r f all (r ∷ rs) q k ↔ (IsAmong k all × IsReachedFrom a f (r ∷ rs) q k)
+pub led_by_first : (a : Indexed) (f q k : ℕ) (all : List ℕ) (r : NumberRelation) (rs : List NumberRelation) → HaveLeadsByFirst a r f all (r ∷ rs) q k ↔ (IsOneOf (r ∷ rs) all k × IsReachedFrom a f (r ∷ rs) q k)
 led_by_first a f q k all r rs = (λ (s, (p, h)). from_led a f all (r ∷ rs) first_key s q k h, back)
   where
-    back : IsAmong k all × IsReachedFrom a f (r ∷ rs) q k → HaveLeadsByFirst a r f all (r ∷ rs) q k
+    back : IsOneOf (r ∷ rs) all k × IsReachedFrom a f (r ∷ rs) q k → HaveLeadsByFirst a r f all (r ∷ rs) q k
     back (n, ([], has, e)) = absurd e
     back (n, (s ∷ qs, has, e)) = (s, ((k, e.0), to_led a f all (r ∷ rs) first_key s q k (s ∷ qs) (looked_to a first_key s (Some f) (s ∷ qs) q has refl) n e))
 
 -- one transition
-module _ (f : ℕ) (all : List ℕ) (rs : List NumberRelation) (t : Transition) (old new : NumberRelation) (symbol : t.symbol ≡ Some f) (set : List ℕ) (shared : (k : ℕ) → IsAmong k set ↔ (IsAmong k all × AreRelated rs t.arguments k)) where
-  pub lead_put : ((q k : ℕ) → Relates new q k ↔ (Relates old q k ⊎ ((q ≡ t.target) × IsAmong k set))) → (q k : ℕ) → Relates new q k ↔ (Relates old q k ⊎ Leads f all rs t q k)
-  lead_put put q k = (
-    λ h. ⊎_elim inl (λ (e, i). let s = (shared k).0 i in inr (record { symbol = symbol; number = s.0; arguments = s.1; target = e })) ((put q k).0 h),
-    λ h. (put q k).1 (⊎_elim inl (λ (l : Leads f all rs t q k). inr (l.target, (shared k).1 (l.number, l.arguments))) h),
-  )
-
-  pub lead_empty : set ≡ [] → (q k : ℕ) → Relates old q k ↔ (Relates old q k ⊎ Leads f all rs t q k)
-  lead_empty none q k = (inl, λ h. ⊎_elim (λ r. r) (λ (l : Leads f all rs t q k). absurd (subst (IsAmong k) none ((shared k).1 (l.number, l.arguments)))) h)
+pub lead_put : (f : ℕ) (all : List ℕ) (rs : List NumberRelation) (t : Transition) (old new : NumberRelation) → t.symbol ≡ Some f
+    → ((q k : ℕ) → Relates new q k ↔ (Relates old q k ⊎ ((q ≡ t.target) × (IsOneOf rs all k × AreRelated rs t.arguments k)))) → (q k : ℕ) → Relates new q k ↔ (Relates old q k ⊎ Leads f all rs t q k)
+lead_put f all rs t old new symbol put q k = (
+  λ h. ⊎_elim inl (λ (e, i). inr (record { symbol = symbol; number = i.0; arguments = i.1; target = e })) ((put q k).0 h),
+  λ h. (put q k).1 (⊎_elim inl (λ (l : Leads f all rs t q k). inr (l.target, (l.number, l.arguments))) h),
+)
 
 -- the states below a bound, one more at a time
 module _ {A B : Type 0} (P : ℕ → Type 0) (n : ℕ) (front : A ↔ (B ⊎ ((s : ℕ) × (s < n) × P s))) where
@@ -99,14 +96,14 @@ led_here L f h = (λ c. ⊎_elim inl (λ l. inr (f, l)) (h.0 c), λ k. h.1 (⊎_
 
 -- all that is related to numbers in the end
 pub reached_by_symbol : {A C : Type 0} (a : Indexed) (f q k : ℕ) (all : List ℕ) (rs : List NumberRelation) → (A → ⊥) → (ts : List Transition) → ts ≡ filter (chosen a.symbols symbol_key a.automaton.states f) a.automaton.transitions
-    → C ↔ (A ⊎ HaveLeads f all rs ts q k) → C ↔ (IsAmong k all × IsReachedFrom a f rs q k)
+    → C ↔ (A ⊎ HaveLeads f all rs ts q k) → C ↔ (IsOneOf rs all k × IsReachedFrom a f rs q k)
 reached_by_symbol {A = A} {C = C} a f q k all rs none ts is h =
     let l = led_by_symbol a f q k all rs in
     let here : C ↔ (A ⊎ HaveLeads f all rs (filter (chosen a.symbols symbol_key a.automaton.states f) a.automaton.transitions) q k) = subst (λ (us : List Transition). C ↔ (A ⊎ HaveLeads f all rs us q k)) is h in
     (λ c. l.0 (⊎_elim (λ x. absurd (none x)) (λ y. y) (here.0 c)), λ r. here.1 (inr (l.1 r)))
 
 pub reached_by_first : {A C : Type 0} (a : Indexed) (f q k : ℕ) (all : List ℕ) (first : NumberRelation) (rs : List NumberRelation) → (A → ⊥) → Some first ≡ slice_get rs 0
-    → C ↔ (A ⊎ HaveLeadsByFirst a first f all rs q k) → C ↔ (IsAmong k all × IsReachedFrom a f rs q k)
+    → C ↔ (A ⊎ HaveLeadsByFirst a first f all rs q k) → C ↔ (IsOneOf rs all k × IsReachedFrom a f rs q k)
 reached_by_first a f q k all first [] none some h = absurd (none-some first (sym some))
 reached_by_first {A = A} {C = C} a f q k all first (r ∷ rs) none some h =
     let same : first ≡ r = same_Some first r some in

@@ -5,7 +5,10 @@ pub mod Arguments
 pub mod Looked
 pub mod Twins
 pub mod Widths
-pub mod Choices
+pub mod Ordered
+pub mod ChoiceLists
+pub mod PoolStates
+pub mod MadeChoices
 pub mod NumberedLeaves
 pub mod Zips
 pub mod Shared
@@ -13,6 +16,5 @@ pub mod Led
 pub mod BatchParts
 pub mod Evaluated
 pub mod NumberedTerms
-pub mod Ordered
 pub mod Arrived
 pub mod MayArrive

@@ -1,66 +1,44 @@
--- Batches of choices by which a term may arrive: what is left out has no arrival.
-use Rattle.std.proofs.Common.{◌≡◌, ◌↔◌, ◌⊎◌, inl, inr, ⊎_elim, ℕ, zero, suc, ◌+◌, ◌-◌, ◌*◌, ◌/◌, ◌%◌, ◌^◌, ◌<◌, ◌≤◌, List, [], ◌∷◌, ◌++◌, length, get_or, true, false, ltb, Some, slice_get, Vec, Global, refl, ap, sym, subst, ◌∙◌, arith}
+-- Fronts of choices by which a term may arrive: what is left out has no arrival.
+use Rattle.std.proofs.Common.{◌≡◌, ◌↔◌, ◌⊎◌, inl, inr, ⊎_elim, ℕ, zero, suc, ◌+◌, ◌-◌, ◌<◌, ◌≤◌, List, [], ◌∷◌, ◌++◌, length, get_or, AllPairs, Some, slice_get, Vec, Global, refl, ap, sym, subst, ◌∙◌, length-append, arith}
 use Rattle.std.specs.List.{AllZip}
-use Rattle.std.proofs.Math.Nat.{mod-lt, mod-eq_of_lt, one-le-pow, pow-zero, div-mul-le_self}
-use Rattle.std.proofs.lemmas.Bool.{cases_lt, ltb-true, ltb-false}
-use Rattle.std.proofs.lemmas.Nat.{le-div}
-use Rattle.std.proofs.lemmas.Option.{get_or_from_slice_get, slice_get_within}
+use Rattle.std.proofs.lemmas.Bool.{cases_lt}
+use Rattle.std.proofs.lemmas.Option.{slice_get_within, slice_get-get_or, same_Some}
+use Rattle.std.proofs.lemmas.List.{get_or_append_left, get_or-append-add}
 use Rattle.rewriting.specs.Terms as math
-use Rattle.rewriting.specs.Variables.{variable_occurrences}
+use Rattle.rewriting.specs.Positions.{IsBefore}
 use Rattle.automata.specs.Runs.{Reach}
 use Rattle.term_core.specs.View.{view, views}
 use Rattle.term_core.specs.declared.terms.Term.{Term, Var, Fun}
 use Rattle.term_core.proofs.Views.{view-Var, view-Fun}
 use Rattle.rewriting.specs.Lists.{IsAmong}
+use Rattle.rewriting.proofs.Lists.{among_either, among_left, among_right}
 use Rattle.number_sets.specs.Relation.{row_of, Relates}
 use Rattle.number_sets.specs.declared.rows.NumberRelation.{NumberRelation}
 use Rattle.automaton_runs.specs.Counted.{Indexed, Finds}
-use Rattle.automaton_runs.specs.Choices.{choice_at}
+use Rattle.automaton_runs.specs.Choices.{AreOf, choices_of}
+use Rattle.automaton_runs.specs.Leaves.{AreAllStatesIn}
 use Rattle.automaton_runs.specs.Linear.{linear}
-use Rattle.automaton_runs.specs.Possible.{IsSpan, AreDigits, AreAllDigits, MayHave, MayReach, ArePossible}
-use Rattle.automaton_runs.specs.Reached.{IsReachedFrom}
+use Rattle.automaton_runs.specs.Possible.{IsAnywhere, MayHave, MayReach, ArePossible, AreChosen, AreFronts}
+use Rattle.automaton_runs.specs.Reached.{IsOneOf, IsReachedFrom}
 use Rattle.automaton_runs.proofs.NumberedLeaves.{AreGiven, linear_reach}
 use Rattle.automaton_runs.proofs.Evaluated.{reach_related}
-use Rattle.automaton_runs.proofs.Choices.{length_choice, choice_item, power_positive}
+use Rattle.automaton_runs.proofs.Shared.{one_of_all}
+use Rattle.automaton_runs.proofs.BatchParts.{front_place, behind_place}
+use Rattle.automaton_runs.proofs.ChoiceLists.{in_choices, of_choices, of_long, ordered_choices, among_place, place_among, pair_at}
+use Rattle.automaton_runs.proofs.Ordered.{IsOrdered, ordered_append, pairs_from_ordered}
 
--- the numbers of the choices of a batch
-pub in_batch : (x b : ℕ) → x / 4096 ≡ b → (b * 4096 ≤ x) × (x ≤ b * 4096 + 4095)
-in_batch x b e = (omega arith, omega arith)
+-- one more state with all numbers
+pub anywhere_more : (all qs : List ℕ) (q : ℕ) (more : List ℕ) (old new : NumberRelation) → more ≡ qs ++ q ∷ [] → IsAnywhere all qs old → ((p k : ℕ) → Relates new p k ↔ (Relates old p k ⊎ ((p ≡ q) × IsAmong k all))) → IsAnywhere all more new
+anywhere_more all qs q more old new is front put p k i n =
+    (put p k).1
+    (⊎_elim (λ h. inl (front p k h n)) (λ h. inr (⊎_elim (λ e. e) (λ f. absurd f) h, n)) (among_either p qs (q ∷ []) (subst (IsAmong p) is i)))
 
-pub batch_is : (x b : ℕ) → 4096 * b ≤ x → x < 4096 * b + 4096 → x / 4096 ≡ b
-batch_is x b h l = omega arith
-
-div_grows : (x y w : ℕ) → 0 < w → x ≤ y → x / w ≤ y / w
-div_grows x y w pos h = let least = div-mul-le_self x w in le-div (x / w) y w pos (omega arith)
-
-pub span_narrow : (n w b : ℕ) → 0 < w → IsSpan n w b (b * 4096 / w) ((b * 4096 + 4095) / w + 1)
-span_narrow n w b pos x e =
-    let i = in_batch x b e in
-    let low : b * 4096 / w ≤ x / w = div_grows (b * 4096) x w pos i.0 in
-    let high : x / w ≤ (b * 4096 + 4095) / w = div_grows x (b * 4096 + 4095) w pos i.1 in
-    (x / w, low, omega arith, refl)
-
-pub span_wide : (n w b : ℕ) → 0 < n → IsSpan n w b 0 n
-span_wide n w b pos x e = let low = mod-lt (x / w) pos in ((x / w) % n, omega arith, low, mod-eq_of_lt low)
-
--- one more batch
-pub digits_more : (n w b first end : ℕ) (old new : NumberRelation) → AreDigits n w b old → IsSpan n w b first end → ((q k : ℕ) → Relates old q k → Relates new q k)
-    → ((d : ℕ) → first ≤ d → d < end → Relates new (d % n) b) → AreDigits n w (b + 1) new
-digits_more n w b first end old new had span kept put x h =
-    ⊎_elim (λ (l : x < 4096 * b). kept ((x / w) % n) (x / 4096) (had x l))
-    (λ (l : 4096 * b ≤ x).
-    let here = batch_is x b l (omega arith) in
-    let (d, from, to, same) = span x here in
-    subst (λ (q : ℕ). Relates new q (x / 4096)) same (subst (λ (k : ℕ). Relates new (d % n) k) (sym here) (put d from to)))
-    (cases_lt x (4096 * b))
-
--- one more number with its remainder
-pub remainder_more : (n batch first number state : ℕ) (old new : NumberRelation) → ((p q : ℕ) → Relates new p q ↔ (Relates old p q ⊎ ((p ≡ state) × (q ≡ batch)))) → state ≡ number % n
-    → ((d : ℕ) → first ≤ d → d < number → Relates old (d % n) batch) → (d : ℕ) → first ≤ d → d < number + 1 → Relates new (d % n) batch
-remainder_more n batch first number state old new made is had d from to =
-    ⊎_elim (λ (l : d < number). (made (d % n) batch).1 (inl (had d from l)))
-    (λ (l : number ≤ d). let same : d ≡ number = omega arith in (made (d % n) batch).1 (inr (ap (λ (x : ℕ). x % n) same ∙ sym is, refl)))
-    (cases_lt d number)
+-- one more pool
+pub all_anywhere : {X Y : Type 0} (R : X → Y → Type 0) (xs : List X) (x : X) (ys : List Y) (y : Y) → AllZip R xs ys → R x y → AllZip R (xs ++ x ∷ []) (ys ++ y ∷ [])
+all_anywhere R [] x [] y z h = (h, tt)
+all_anywhere R [] x (d ∷ ys) y z h = absurd z
+all_anywhere R (u ∷ xs) x [] y z h = absurd z
+all_anywhere R (u ∷ xs) x (d ∷ ys) y z h = (z.0, all_anywhere R xs x ys y z.1 h)
 
 -- what the rows up to one have
 pub rights_more : (r : NumberRelation) (left : ℕ) (row old new : List ℕ) → row ≡ row_of r left → ((q : ℕ) → IsAmong q new ↔ (IsAmong q old ⊎ IsAmong q row))
@@ -76,64 +54,119 @@ rights_none r left set is had p q l h =
     (λ (high : left ≤ p). let same : p ≡ left = omega arith in absurd (subst (IsAmong q) (sym is) (subst (λ (s : ℕ). IsAmong q (row_of r s)) same h)))
     (cases_lt p left)
 
--- the relations give the states of each choice in some batches
-digits_give : (n m batches : ℕ) (rs : List NumberRelation) (x : ℕ) → AreAllDigits n m batches rs → x < 4096 * batches → AreGiven (MayHave rs (x / 4096)) 0 (choice_at n m x)
-digits_give n m batches rs x each low j h =
-    let long = length_choice n m x in
-    let (r, at, digits) = each j (omega arith) in
-    let state = get_or_from_slice_get (choice_at n m x) j ((x / n ^ (m - 1 - j)) % n) 0 (choice_item n m x j (omega arith)) in
-    let place : j ≡ 0 + j = omega arith in
-    subst (λ (p : ℕ). MayHave rs (x / 4096) p (get_or (choice_at n m x) j 0)) place (r, at, subst (λ (q : ℕ). Relates r q (x / 4096)) (sym state) (digits x low))
+-- the element beside one
+beside : {X Y : Type 0} (R : X → Y → Type 0) (xs : List X) (ys : List Y) (m : ℕ) (y : Y) → AllZip R xs ys → slice_get ys m ≡ Some y → (x : X) × (slice_get xs m ≡ Some x) × R x y
+beside R [] [] m y z e = absurd (cc)
+beside R [] (v ∷ ys) m y z e = absurd z
+beside R (u ∷ xs) [] m y z e = absurd z
+beside {Y = Y} R (u ∷ xs) (v ∷ ys) zero y z e = (u, refl, subst (λ (w : Y). R u w) (same_Some v y e) z.0)
+beside R (u ∷ xs) (v ∷ ys) (suc m) y z e = beside R xs ys m y z.1 e
 
-pub possible : (a : Indexed) (t u : math.Term) (batches : ℕ) (all : List ℕ) (rs : List NumberRelation) (r : NumberRelation) (set : List ℕ) → u ≡ linear 0 t
-    → ((number : ℕ) → (number < batches) ↔ (4096 * number < a.automaton.states ^ length (variable_occurrences t))) → ((k : ℕ) → IsAmong k all ↔ (k < batches))
-    → AreAllDigits a.automaton.states (length (variable_occurrences t)) batches rs → MayReach a all rs u r → ((p q : ℕ) → Relates r p q → IsAmong q set) → ArePossible a t set
-possible a t u batches all rs r set numbered count is each may rights k q inside reach =
-    let within : k / 4096 < batches = (count (k / 4096)).1 (omega arith) in
-    let low : k < 4096 * batches = omega arith in
-    let cs = choice_at a.automaton.states (length (variable_occurrences t)) k in
-    let linked = linear_reach (MayHave rs (k / 4096)) (Finds a) 0 t cs q (digits_give a.automaton.states (length (variable_occurrences t)) batches rs k each low) reach in
-    rights q (k / 4096) (may q (k / 4096) ((is (k / 4096)).1 within) (subst (λ (w : math.Term). Reach (Finds a) (MayHave rs (k / 4096)) w q) (sym numbered) linked))
+-- the other way round
+facing : {X Y : Type 0} (R : X → Y → Type 0) (xs : List X) (ys : List Y) (m : ℕ) (x : X) → AllZip R xs ys → slice_get xs m ≡ Some x → (y : Y) × (slice_get ys m ≡ Some y) × R x y
+facing R [] [] m x z e = absurd (cc)
+facing R [] (v ∷ ys) m x z e = absurd z
+facing R (u ∷ xs) [] m x z e = absurd z
+facing {X = X} R (u ∷ xs) (v ∷ ys) zero x z e = (v, refl, subst (λ (w : X). R w v) (same_Some u x e) z.0)
+facing R (u ∷ xs) (v ∷ ys) (suc m) x z e = facing R xs ys m x z.1 e
 
-pub all_possible : (a : Indexed) (t : math.Term) (batches : ℕ) (all : List ℕ) → ((number : ℕ) → (number < batches) ↔ (4096 * number < a.automaton.states ^ length (variable_occurrences t))) → ((k : ℕ) → IsAmong k all ↔ (k < batches)) → ArePossible a t all
-all_possible a t batches all count is k q inside reach = (is (k / 4096)).1 ((count (k / 4096)).1 (omega arith))
+there_is : {X : Type 0} (xs : List X) (i : ℕ) → i < length xs → (x : X) × (slice_get xs i ≡ Some x)
+there_is [] i h = absurd (omega arith)
+there_is (x ∷ xs) zero h = (x, refl)
+there_is (x ∷ xs) (suc i) h = there_is xs i (omega arith)
 
--- more than one batch has more than one state
-pub some_states : (n m : ℕ) → 1 < n ^ m → 0 < n
-some_states n zero h = let e : n ^ 0 ≡ 1 = pow-zero n in absurd (omega arith)
-some_states n (suc m) h = (power_positive n m 1 h).0
+-- the relations give the states of each choice with a front
+module _ (fronts pools : List (List ℕ)) (rs made : List NumberRelation) (all : List ℕ) (each : AreAllStatesIn fronts rs) (anywhere : AllZip (IsAnywhere all) pools made) where
+  fronts_give : (j : ℕ) (front cs : List ℕ) → slice_get fronts j ≡ Some front → length rs ≡ length front → IsAmong j all → AreOf pools cs → AreGiven (MayHave (rs ++ made) j) 0 (front ++ cs)
+  fronts_give j front cs at long number of i h =
+      let place : i ≡ 0 + i = omega arith in
+      subst (λ (p : ℕ). MayHave (rs ++ made) j p (get_or (front ++ cs) i 0)) place
+      (⊎_elim (λ (l : i < length front). in_front i l) (λ (l : length front ≤ i). let m : length rs + (i - length front) ≡ i = omega arith in let n : length front + (i - length front) ≡ i = omega arith in
+      subst (λ (p : ℕ). MayHave (rs ++ made) j p (get_or (front ++ cs) i 0)) m (subst (λ (p : ℕ). MayHave (rs ++ made) j (length rs + (i - length front)) (get_or (front ++ cs) p 0)) n
+      (behind (i - length front) (omega (arith, length-append front cs))))) (cases_lt i (length front)))
+    where
+      in_front : (i : ℕ) → i < length front → MayHave (rs ++ made) j i (get_or (front ++ cs) i 0)
+      in_front i l =
+          let r = there_is rs i (omega arith) in
+          let state : slice_get front i ≡ Some (get_or (front ++ cs) i 0) = slice_get-get_or front i 0 l ∙ ap Some (sym (get_or_append_left front cs 0 i l)) in
+          (r.0, front_place rs made i (omega arith) ∙ r.1, (each i r.0 r.1 (get_or (front ++ cs) i 0) j).1 (front, at, state))
 
--- each place of a list of relations has one
-pub all_digits : (n m batches : ℕ) (rs : List NumberRelation) → length rs ≡ m → ((place : ℕ) (r : NumberRelation) → slice_get rs place ≡ Some r → AreDigits n (n ^ (m - 1 - place)) batches r) → AreAllDigits n m batches rs
-all_digits n m batches rs long each place h = let (r, at) = there rs place (omega arith) in (r, at, each place r at)
-  where
-    there : (rs : List NumberRelation) (i : ℕ) → i < length rs → (r : NumberRelation) × (slice_get rs i ≡ Some r)
-    there [] i h = absurd (omega arith)
-    there (r ∷ rs) zero h = (r, refl)
-    there (r ∷ rs) (suc i) h = there rs i (omega arith)
+      behind : (m : ℕ) → m < length cs → MayHave (rs ++ made) j (length rs + m) (get_or (front ++ cs) (length front + m) 0)
+      behind m l =
+          let pool = beside (λ qs c. IsAmong c qs) pools cs m (get_or cs m 0) of (slice_get-get_or cs m 0 l) in
+          let r = facing (IsAnywhere all) pools made m pool.0 anywhere pool.1 in
+          subst (MayHave (rs ++ made) j (length rs + m)) (sym (get_or-append-add front cs m 0)) (r.0, behind_place rs made m ∙ r.1, r.2 (get_or cs m 0) j pool.2 number)
 
-pub weight_positive : (n i w : ℕ) → 0 < n → w ≡ n ^ i → 0 < w
-weight_positive n i w pos is = let some : 1 ≤ n ^ i = one-le-pow i n pos in omega arith
+  pub possible_are : (a : Indexed) (t u : math.Term) (start : ℕ) (places : List NumberRelation) (r : NumberRelation) (set : List ℕ) → places ≡ rs ++ made → u ≡ linear 0 t → length rs ≡ start → ((k : ℕ) → IsAmong k all ↔ (k < length fronts))
+      → ((front : List ℕ) → IsAmong front fronts → length front ≡ start) → MayReach a all places u r → ((p q : ℕ) → Relates r p q → IsAmong q set) → ArePossible a t fronts pools set
+  possible_are a t u start places r set is numbered long numbers alike may rights j q front cs at of reach =
+      let within = slice_get_within fronts j front at in
+      let number = (numbers j).1 within in
+      let same : length rs ≡ length front = long ∙ sym (alike front (place_among fronts j front at)) in
+      let linked = linear_reach (MayHave (rs ++ made) j) (Finds a) 0 t (front ++ cs) q (fronts_give j front cs at same number of) reach in
+      rights q j (may q j number (subst (λ (l : List NumberRelation). Reach (Finds a) (MayHave l j) u q) (sym is) (subst (λ (w : math.Term). Reach (Finds a) (MayHave (rs ++ made) j) w q) (sym numbered) linked)))
 
--- what `get` tells of a place
-pub got_place : (rs : List NumberRelation) (i : ℕ) (r : NumberRelation) → true ≡ ltb i (length rs) → r ≡ get_or rs i r → slice_get rs i ≡ Some r
-got_place rs i r inside is = there rs i (ltb-true i (length rs) (sym inside)) is
-  where
-    there : (rs : List NumberRelation) (i : ℕ) → i < length rs → r ≡ get_or rs i r → slice_get rs i ≡ Some r
-    there [] i h is = absurd (omega arith)
-    there (s ∷ rs) zero h is = ap Some (sym is)
-    there (s ∷ rs) (suc i) h is = there rs i (omega arith) is
+-- lists that are chosen by their numbers
+pub record AreChosenBelow (lists : List (List ℕ)) (set : List ℕ) (n : ℕ) (made : List (List ℕ)) : Type 0 where
+  pub among : (list : List ℕ) → IsAmong list made → (j : ℕ) × (j < n) × (slice_get lists j ≡ Some list)
+  pub kept : (j : ℕ) (list : List ℕ) → j < n → slice_get lists j ≡ Some list → IsAmong j set → IsAmong list made
+  pub ordered : AllPairs IsBefore lists → IsOrdered IsBefore made
 
-pub no_place : (rs : List NumberRelation) (i : ℕ) (r : NumberRelation) → false ≡ ltb i (length rs) → slice_get rs i ≡ Some r → ⊥
-no_place rs i r outside is = let low = slice_get_within rs i r is in let high = ltb-false i (length rs) (sym outside) in omega arith
+module _ (lists : List (List ℕ)) (set : List ℕ) (n : ℕ) (old : List (List ℕ)) (front : AreChosenBelow lists set n old) where
+  pub chosen_more : (list : List ℕ) (new : List (List ℕ)) → slice_get lists n ≡ Some list → new ≡ old ++ list ∷ [] → AreChosenBelow lists set (n + 1) new
+  chosen_more list new at is = record {
+    among = λ l h. ⊎_elim (λ i. let r = front.among l i in let low = r.1 in (r.0, omega arith, r.2)) (λ i. (n, omega arith, ⊎_elim (λ e. at ∙ ap Some (sym e)) (λ f. absurd f) i)) (among_either l old (list ∷ []) (subst (IsAmong l) is h));
+    kept = λ j l low e i. subst (IsAmong l) (sym is)
+        (⊎_elim (λ (h : j < n). among_left l old (list ∷ []) (front.kept j l h e i))
+        (λ (h : n ≤ j). let same : j ≡ n = omega arith in among_right l old (list ∷ []) (inl (same_Some l list (sym e ∙ ap (slice_get lists) same ∙ at)))) (cases_lt j n));
+    ordered = λ h. subst (IsOrdered IsBefore) (sym is)
+        (ordered_append IsBefore old (list ∷ []) (front.ordered h) (λ y f. absurd f, tt)
+        (λ x y i k. let r = front.among x i in ⊎_elim (λ e. subst (IsBefore x) (sym e) (pair_at IsBefore lists r.0 n x list h r.1 r.2 at)) (λ f. absurd f) k));
+  }
+
+  pub chosen_skip : (IsAmong n set → ⊥) → AreChosenBelow lists set (n + 1) old
+  chosen_skip never = record {
+    among = λ l h. let r = front.among l h in let low = r.1 in (r.0, omega arith, r.2);
+    kept = λ j l low e i. ⊎_elim (λ (h : j < n). front.kept j l h e i) (λ (h : n ≤ j). let same : j ≡ n = omega arith in absurd (never (subst (λ (k : ℕ). IsAmong k set) same i))) (cases_lt j n);
+    ordered = front.ordered;
+  }
+
+pub chosen_all : (lists : List (List ℕ)) (set : List ℕ) (n : ℕ) (made : List (List ℕ)) → AreChosenBelow lists set n made → length lists ≤ n → AreChosen lists set made
+chosen_all lists set n made h past = record {
+  among = λ l i. let r = h.among l i in place_among lists r.0 l r.2;
+  kept = λ j l e i. let low = slice_get_within lists j l e in h.kept j l (omega arith) e i;
+  ordered = λ o. pairs_from_ordered IsBefore made (h.ordered o);
+}
+
+-- all choices of the first pools are fronts, and so are those of them that are possible
+module _ (a : Indexed) (t : math.Term) (firsts others all : List (List ℕ)) (is : all ≡ choices_of firsts) where
+  front_of : (front : List ℕ) → IsAmong front all → AreOf firsts front
+  front_of front i = of_choices firsts front (subst (λ (l : List (List ℕ)). IsAmong front l) is i)
+
+  pub all_fronts : AreFronts a t firsts others all
+  all_fronts = record {
+    among = front_of;
+    complete = λ front cs q of rest h. subst (λ (l : List (List ℕ)). IsAmong front l) (sym is) (in_choices firsts front of);
+    ordered = λ up. subst (AllPairs IsBefore) (sym is) (pairs_from_ordered IsBefore (choices_of firsts) (ordered_choices firsts up));
+  }
+
+  pub front_long : (front : List ℕ) → IsAmong front all → length front ≡ length firsts
+  front_long front i = of_long firsts front (front_of front i)
+
+  pub chosen_fronts : (set : List ℕ) (fronts : List (List ℕ)) → ArePossible a t all others set → AreChosen all set fronts → AreFronts a t firsts others fronts
+  chosen_fronts set fronts possible chosen = record {
+    among = λ front i. front_of front (chosen.among front i);
+    complete = λ front cs q of rest h. let j = among_place front all (all_fronts.complete front cs q of rest h) in chosen.kept j.0 front j.1 (possible j.0 q front cs j.1 rest h);
+    ordered = λ up. chosen.ordered (all_fronts.ordered up);
+  }
 
 module _ (a : Indexed) (all : List ℕ) (places : List NumberRelation) where
   pub may_symbol : (t : Term) (f : ℕ) (v : Vec Term Global) (ts : List Term) (made : List NumberRelation) (r : NumberRelation) → t ≡ Fun f v → ts ≡ v.items → AllZip (λ t r. MayReach a all places (view t) r) ts made
-      → ((q k : ℕ) → Relates r q k ↔ (IsAmong k all × IsReachedFrom a f made q k)) → MayReach a all places (view t) r
+      → ((q k : ℕ) → Relates r q k ↔ (IsOneOf made all k × IsReachedFrom a f made q k)) → MayReach a all places (view t) r
   may_symbol t f v ts made r is items z from q k i h =
       let shown : view t ≡ math.app f (views ts) = ap view is ∙ view-Fun f v ∙ ap (λ (l : List Term). math.app f (views l)) (sym items) in
       let p = subst (λ (u : math.Term). Reach (Finds a) (MayHave places k) u q) shown h in
-      (from q k).1 (i, (p.0, p.1, reach_related (Finds a) (MayHave places k) (λ t r. MayReach a all places (view t) r) k (λ t r q m h. m q k i h) ts made p.0 z p.2))
+      (from q k).1 (one_of_all made all k i, (p.0, p.1, reach_related (Finds a) (MayHave places k) (λ t r. MayReach a all places (view t) r) k (λ t r q m h. m q k i h) ts made p.0 z p.2))
 
   pub may_variable : (t : Term) (x : ℕ) (s : NumberRelation) → t ≡ Var x → ((r : NumberRelation) → slice_get places x ≡ Some r → (q k : ℕ) → Relates r q k → Relates s q k) → MayReach a all places (view t) s
   may_variable t x s is copied q k i h =

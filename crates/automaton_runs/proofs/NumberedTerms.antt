@@ -1,5 +1,5 @@
 -- A term with its occurrences numbered, argument by argument, and the states that it reaches.
-use Rattle.std.proofs.Common.{◌≡◌, ◌↔◌, ℕ, zero, suc, ◌+◌, ◌*◌, ◌<◌, ◌≤◌, List, [], ◌∷◌, ◌++◌, length, get_or, take, drop, Vec, Global, refl, ap, ap₂, sym, subst, ◌∙◌, arith, append_assoc, length-append}
+use Rattle.std.proofs.Common.{◌≡◌, ◌↔◌, ℕ, zero, suc, ◌+◌, ◌<◌, ◌≤◌, List, [], ◌∷◌, ◌++◌, length, get_or, take, drop, Vec, Global, refl, ap, ap₂, sym, subst, ◌∙◌, arith, append_assoc, length-append}
 use Rattle.std.proofs.lemmas.List.{take_more, take-append-drop}
 use Rattle.rewriting.specs.Terms as math
 use Rattle.rewriting.specs.Terms.{size, size_all}
@@ -10,27 +10,25 @@ use Rattle.term_core.specs.View.{view, views}
 use Rattle.term_core.specs.declared.terms.Term.{Term, Fun}
 use Rattle.term_core.proofs.Views.{view-Fun}
 use Rattle.number_sets.specs.Sets.{below}
-use Rattle.number_sets.specs.Relation.{Relates}
 use Rattle.number_sets.specs.declared.rows.NumberRelation.{NumberRelation}
 use Rattle.automaton_runs.specs.Counted.{Indexed, Finds}
-use Rattle.automaton_runs.specs.Choices.{Batch, Holds, choice_of}
+use Rattle.automaton_runs.specs.Choices.{Batch, Holds, choice_of, occurrences_of}
 use Rattle.automaton_runs.specs.Linear.{linear, linear_all}
 use Rattle.automaton_runs.specs.Reached.{AreWhere, Reaches}
-use Rattle.automaton_runs.proofs.Choices.{length_choice}
 use Rattle.automaton_runs.proofs.NumberedLeaves.{reach_linear}
 
 -- with the numbers of its occurrences for names
-pub where_occurrences : (a : Indexed) (b : Batch) (t u : math.Term) (names : List ℕ) (r : NumberRelation) → b.length ≡ length (variable_occurrences t) → names ≡ below b.length → u ≡ linear 0 t → AreWhere b (Reaches a names u) r
-    → AreWhere b (ReachBy (Finds a) t) r
-where_occurrences a b t u names r long is numbered h q k =
-    let cs = choice_of b k in
-    let count : length cs ≡ b.length = length_choice b.states b.length (4096 * b.number + k) in
-    let same = reach_linear (Finds a) t cs q (count ∙ long) in
-    let named : names ≡ below (length cs) = is ∙ ap below (sym count) in
-    let here : Relates r q k ↔ (Holds b k × Reach (Finds a) (at (state_of (below (length cs)) cs)) (linear 0 t) q) =
-    subst (λ (l : List ℕ). Relates r q k ↔ (Holds b k × Reach (Finds a) (at (state_of l cs)) (linear 0 t) q)) named
-    (subst (λ (w : math.Term). Relates r q k ↔ (Holds b k × Reach (Finds a) (at (state_of names cs)) w q)) numbered (h q k)) in
-    (λ x. let y = here.0 x in (y.0, same.0 y.1), λ y. here.1 (y.0, same.1 y.1))
+pub where_occurrences : (a : Indexed) (b : Batch) (t u : math.Term) (names : List ℕ) (r : NumberRelation) → occurrences_of b ≡ length (variable_occurrences t) → ((k : ℕ) → Holds b k → length (choice_of b k) ≡ occurrences_of b)
+    → names ≡ below (occurrences_of b) → u ≡ linear 0 t → AreWhere b (Reaches a names u) r → AreWhere b (ReachBy (Finds a) t) r
+where_occurrences a b t u names r long wide is numbered h q k =
+    (λ x. let y = (h q k).0 x in (y.0, (same y.0).0 y.1), λ y. (h q k).1 (y.0, (same y.0).1 y.1))
+  where
+    same : Holds b k → Reach (Finds a) (at (state_of names (choice_of b k))) u q ↔ ReachBy (Finds a) t (choice_of b k) q
+    same holds =
+        let named : names ≡ below (length (choice_of b k)) = is ∙ ap below (sym (wide k holds)) in
+        subst (λ (l : List ℕ). Reach (Finds a) (at (state_of l (choice_of b k))) u q ↔ ReachBy (Finds a) t (choice_of b k) q) (sym named)
+        (subst (λ (w : math.Term). Reach (Finds a) (at (state_of (below (length (choice_of b k))) (choice_of b k))) w q ↔ ReachBy (Finds a) t (choice_of b k) q) (sym numbered)
+        (reach_linear (Finds a) t (choice_of b k) q (wide k holds ∙ long)))
 
 -- there are no more occurrences than nodes
 mutual

@@ -1,14 +1,21 @@
--- The numbers that each of some relations has at the state at its place.
-use Rattle.std.proofs.Common.{◌≡◌, ◌↔◌, ℕ, ◌+◌, ◌<◌, ◌≤◌, List, [], length, get_or, take, Option, None, Bor, ap, sym, subst, ◌∙◌, arith}
+-- The numbers that each of some relations has at the state at its place, and where they are put.
+use Rattle.std.proofs.Common.{◌≡◌, ◌↔◌, ◌⊎◌, inl, inr, ⊎_elim, ℕ, suc, ◌+◌, ◌<◌, ◌≤◌, List, [], ◌∷◌, length, get_or, take, drop, Option, None, Bor, ap, sym, subst, ◌∙◌, arith}
+use Rattle.std.proofs.lemmas.List.{get_or-map}
 use Rattle.rewriting.specs.Lists.{IsAmong}
 use Rattle.number_sets.specs.Relation.{Relates, row_of, members_at}
 use Rattle.number_sets.specs.declared.rows.NumberRelation.{NumberRelation}
 use Rattle.number_sets.specs.declared.words.NumberSet.{NumberSet}
-use Rattle.automaton_runs.specs.Reached.{AreRelated}
+use Rattle.automaton_runs.specs.Reached.{AreRelated, IsOneOf}
+use Rattle.automaton_runs.specs.Relations.{relation_of, relations}
+use Rattle.automaton_runs.specs.declared.relations.Evaluated.{Evaluated}
 use Rattle.automaton_runs.proofs.Zips.{zip_length, zip_step, zip_all, zip_at, any_default}
 
 pub at_is : (qs : List ℕ) (i : ℕ) → i < length qs → get_or qs i 0 ≡ get_or qs i (get_or qs i 0)
 at_is qs i h = any_default qs i 0 (get_or qs i 0) h
+
+-- the relation at a place
+pub relation_at : (es : List Evaluated) (i : ℕ) (e : Evaluated) (r : NumberRelation) → i < length es → e ≡ get_or es i e → r ≡ relation_of e → r ≡ get_or (relations es) i r
+relation_at es i e r inside is same = same ∙ ap relation_of is ∙ sym (get_or-map relation_of es i e r inside)
 
 module _ (all : List ℕ) (rs : List NumberRelation) (qs : List ℕ) where
   module _ (alike : length rs ≡ length qs) (i : ℕ) (r : NumberRelation) (inside : i < length rs) (is : r ≡ get_or rs i r) where
@@ -40,3 +47,41 @@ not_related rs qs i r inside is never alike k z = never (k, zip_at (λ r q. Rela
 
 pub as_many : (rs : List NumberRelation) (qs : List ℕ) (k : ℕ) → AreRelated rs qs k → length rs ≡ length qs
 as_many rs qs k z = zip_length (λ r q. Relates r q k) rs qs z
+
+-- what is put to a target
+module _ {S T : ℕ → Type 0} (old : NumberRelation) (target : ℕ) where
+  pub put_as : (new : NumberRelation) → ((q k : ℕ) → Relates new q k ↔ (Relates old q k ⊎ ((q ≡ target) × S k))) → ((k : ℕ) → S k ↔ T k) → (q k : ℕ) → Relates new q k ↔ (Relates old q k ⊎ ((q ≡ target) × T k))
+  put_as new put same q k = (λ h. ⊎_elim inl (λ (e, s). inr (e, (same k).0 s)) ((put q k).0 h), λ h. (put q k).1 (⊎_elim inl (λ (e, t). inr (e, (same k).1 t)) h))
+
+-- by the first relation and the others
+pub first_state : (qs : List ℕ) (n s : ℕ) → suc n ≡ length qs → s ≡ get_or qs 0 s → qs ≡ s ∷ drop 1 qs
+first_state [] n s long is = absurd (omega arith)
+first_state (q ∷ qs) n s long is = ap (λ (p : ℕ). p ∷ qs) (sym is)
+
+module _ (r : NumberRelation) (rs : List NumberRelation) (qs : List ℕ) (n s : ℕ) (long : suc n ≡ length qs) (is : s ≡ get_or qs 0 s) where
+  pub related_first : (row : List ℕ) → row ≡ row_of r s → (k : ℕ) → (IsAmong k row × AreRelated rs (drop 1 qs) k) ↔ AreRelated (r ∷ rs) qs k
+  related_first row here k =
+      subst (λ (ps : List ℕ). (IsAmong k row × AreRelated rs (drop 1 qs) k) ↔ AreRelated (r ∷ rs) ps k) (sym (first_state qs n s long is))
+      (λ h. (subst (IsAmong k) here h.0, h.1), λ h. (subst (IsAmong k) (sym here) h.0, h.1))
+
+pub no_others : (qs : List ℕ) (k : ℕ) → 0 ≡ length qs → AreRelated [] qs k
+no_others [] k long = tt
+no_others (q ∷ qs) k long = absurd (omega arith)
+
+-- one row, and one more
+pub row_alone : (row qs : List ℕ) (k : ℕ) → 0 ≡ length qs → IsAmong k row ↔ (IsAmong k row × AreRelated [] qs k)
+row_alone row qs k long = (λ h. (h, no_others qs k long), λ h. h.0)
+
+pub row_and_one : (row second qs : List ℕ) (r : NumberRelation) (s k : ℕ) → 1 ≡ length qs → s ≡ get_or qs 0 s → second ≡ row_of r s → (IsAmong k row × IsAmong k second) ↔ (IsAmong k row × AreRelated (r ∷ []) qs k)
+row_and_one row second qs r s k long is here =
+    let rest : 0 ≡ length (drop 1 qs) = no_more qs long in
+    let both = related_first r [] qs 0 s long is second here k in
+    (λ h. (h.0, both.0 (h.1, no_others (drop 1 qs) k rest)), λ h. (h.0, (both.1 h.1).0))
+  where
+    no_more : (ps : List ℕ) → 1 ≡ length ps → 0 ≡ length (drop 1 ps)
+    no_more [] e = absurd (omega arith)
+    no_more (p ∷ ps) e = omega arith
+
+pub one_of_all : (rs : List NumberRelation) (all : List ℕ) (k : ℕ) → IsAmong k all → IsOneOf rs all k
+one_of_all [] all k h = h
+one_of_all (r ∷ rs) all k h = tt

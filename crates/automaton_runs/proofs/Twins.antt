@@ -79,11 +79,11 @@ pub in_inserted : (ks : List Known) (k : Known) (u : Transition) → IsAmong u (
 in_inserted [] k u = (λ h. ⊎_elim (λ f. inr f) (λ g. absurd g) h, λ h. ⊎_elim (λ g. absurd g) (λ f. inl f) h)
 in_inserted (x ∷ xs) k u = inserted k x xs (insert_key compare_known xs k) u (in_inserted xs k u) (compare_known k x) refl
 
-or_first : (a b : Bool) → a ≡ true → (a || b) ≡ true
+pub or_first : (a b : Bool) → a ≡ true → (a || b) ≡ true
 or_first true b e = refl
 or_first false b e = absurd (false≢true e)
 
-or_second : (a b : Bool) → b ≡ true → (a || b) ≡ true
+pub or_second : (a b : Bool) → b ≡ true → (a || b) ≡ true
 or_second true b e = refl
 or_second false b e = e
 

@@ -1,5 +1,5 @@
 -- Lists side by side.
-use Rattle.std.proofs.Common.{◌≡◌, ◌↔◌, ℕ, zero, suc, ◌+◌, ◌<◌, ◌≤◌, List, [], ◌∷◌, ◌++◌, length, get_or, take, refl, ap, sym, subst, ◌∙◌, arith}
+use Rattle.std.proofs.Common.{◌≡◌, ◌↔◌, ℕ, zero, suc, ◌+◌, ◌<◌, ◌≤◌, List, [], ◌∷◌, ◌++◌, length, get_or, take, drop, refl, ap, sym, subst, ◌∙◌, arith}
 use Rattle.std.specs.List.{AllZip}
 use Rattle.std.proofs.lemmas.List.{take_more}
 use Rattle.automaton_runs.proofs.Twins.{all_of}
@@ -50,3 +50,13 @@ zip_at R [] ys i x y h e f z = absurd (omega arith)
 zip_at R (u ∷ xs) [] i x y h e f z = absurd z
 zip_at R (u ∷ xs) (v ∷ ys) zero x y h e f z = subst (λ w. R x w) (sym f) (subst (λ w. R w v) (sym e) z.0)
 zip_at R (u ∷ xs) (v ∷ ys) (suc i) x y h e f z = zip_at R xs ys i x y (omega arith) e f z.1
+
+-- a list by its first element
+pub first_and_rest : {X : Type 0} (xs : List X) (x : X) → 1 ≤ length xs → x ≡ get_or xs 0 x → xs ≡ x ∷ drop 1 xs
+first_and_rest [] x h e = absurd (omega arith)
+first_and_rest (y ∷ ys) x h e = ap (λ z. z ∷ ys) (sym e)
+
+pub one_alone : {X : Type 0} (xs : List X) (x : X) → 1 ≤ length xs → length xs < 2 → x ≡ get_or xs 0 x → xs ≡ x ∷ []
+one_alone [] x h l e = absurd (omega arith)
+one_alone (y ∷ []) x h l e = ap (λ z. z ∷ []) (sym e)
+one_alone (y ∷ z ∷ zs) x h l e = absurd (omega arith)

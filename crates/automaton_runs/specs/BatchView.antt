@@ -1,7 +1,5 @@
--- The batch of choices that a `Batch` stands for.
+-- The choices that a `Batch` stands for.
 use Rattle.std.specs.Prelude.{ℕ, ◌≡◌, ◌≢◌, ◌↔◌, ◌<◌, List, length, Option, None, Some, slice_get, slice_index}
-use Rattle.rewriting.specs.Lists.{IsAmong}
-use Rattle.number_sets.specs.Sets.{members}
 use Rattle.number_sets.specs.Relation.{Relates}
 use Rattle.number_sets.specs.declared.rows.NumberRelation.{NumberRelation}
 use Rattle.automaton_runs.specs.Choices as choices
@@ -9,18 +7,15 @@ use Rattle.automaton_runs.specs.Choices.{Holds, choice_of}
 use Rattle.automaton_runs.specs.declared.batch.Batch.TheInside.{Inside}
 
 abbrev pub batch_view : Inside → choices.Batch
-batch_view i = record { states = i.states; length = i.length; number = i.number }
+batch_view i = record { front = i.front.now; width = i.tails.now.width; tails = i.tails.now.lists }
 
 -- the relation has the states that the choices have at a place
 abbrev pub AreStatesAt : choices.Batch → ℕ → NumberRelation → Type 0
 AreStatesAt b place r = (q k : ℕ) → Relates r q k ↔ (Holds b k × (slice_get (choice_of b k) place ≡ Some q))
 
 pub record IsBatch (i : Inside) : Type 0 where
-  pub count : (k : ℕ) → (k < i.count) ↔ Holds (batch_view i) k
-  pub all : (k : ℕ) → IsAmong k (members i.all) ↔ Holds (batch_view i) k
-  pub places : length i.leaves.items ≡ i.length
+  pub places : length i.leaves.items ≡ length i.front.now
   pub leaves : (place : ℕ) (r : NumberRelation) → slice_get i.leaves.items place ≡ Some r → AreStatesAt (batch_view i) place r
-  pub zeros : (q k : ℕ) → Relates i.zeros q k ↔ (Holds (batch_view i) k × (q ≡ 0))
 
 -- the first place of a name, if it has one
 abbrev pub IsFirstPlace : List ℕ → ℕ → Option ℕ → Type 0

@@ -4,8 +4,13 @@ pub mod Counting
 pub mod Indexed
 pub mod IndexView
 pub mod Arrivals
+pub mod Pools
 pub mod Choices
+pub mod Leaves
+pub mod TailsView
 pub mod BatchView
+pub mod ChoicesView
+pub mod Relations
 pub mod Linear
 pub mod Reached
 pub mod Twins

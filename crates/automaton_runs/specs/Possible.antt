@@ -1,34 +1,46 @@
--- Batches of choices by which a term may arrive: more than one state is possible at a place.
-use Rattle.std.specs.Prelude.{ℕ, ◌≡◌, ◌-◌, ◌*◌, ◌/◌, ◌%◌, ◌^◌, ◌<◌, ◌≤◌, List, length, Some, slice_get}
+-- Fronts of choices by which a term may arrive: behind a front any states of the pools are possible at the same time.
+use Rattle.std.specs.Prelude.{ℕ, ◌≡◌, ◌<◌, ◌++◌, List, Some, slice_get, AllPairs}
+use Rattle.std.specs.List.{AllZip}
 use Rattle.rewriting.specs.Terms.{Term}
-use Rattle.rewriting.specs.Variables.{variable_occurrences}
+use Rattle.rewriting.specs.Positions.{IsBefore}
 use Rattle.automata.specs.Runs.{Reach, ReachBy}
 use Rattle.rewriting.specs.Lists.{IsAmong}
 use Rattle.number_sets.specs.Relation.{Relates}
 use Rattle.number_sets.specs.declared.rows.NumberRelation.{NumberRelation}
 use Rattle.automaton_runs.specs.Counted.{Indexed, Finds}
-use Rattle.automaton_runs.specs.Choices.{choice_at}
+use Rattle.automaton_runs.specs.Choices.{AreOf}
 
--- the numbers from first on and below end have as remainders the states at the place of a weight by each choice of the batch
-abbrev pub IsSpan : ℕ → ℕ → ℕ → ℕ → ℕ → Type 0
-IsSpan n weight batch first end = (x : ℕ) → x / 4096 ≡ batch → (d : ℕ) × (first ≤ d) × (d < end) × (d % n ≡ (x / weight) % n)
+-- the relation has each of some states with all numbers
+abbrev pub IsAnywhere : List ℕ → List ℕ → NumberRelation → Type 0
+IsAnywhere all qs r = (q k : ℕ) → IsAmong q qs → IsAmong k all → Relates r q k
 
--- the relation has the states at the place of a weight by each choice of some batches, with the number of its batch
-abbrev pub AreDigits : ℕ → ℕ → ℕ → NumberRelation → Type 0
-AreDigits n weight batches r = (x : ℕ) → x < 4096 * batches → Relates r ((x / weight) % n) (x / 4096)
+-- such a relation for each pool stands last
+abbrev pub AreAnywhere : List (List ℕ) → List ℕ → List NumberRelation → List NumberRelation → Type 0
+AreAnywhere pools all old new = (made : List NumberRelation) × (new ≡ old ++ made) × AllZip (IsAnywhere all) pools made
 
--- there is such a relation for each of m places
-abbrev pub AreAllDigits : ℕ → ℕ → ℕ → List NumberRelation → Type 0
-AreAllDigits n m batches rs = (place : ℕ) → place < m → (r : NumberRelation) × (slice_get rs place ≡ Some r) × AreDigits n (n ^ (m - 1 - place)) batches r
-
--- the relation at a variable's place has the state in the k-th batch
+-- the relation at a variable's place has the state with the number k
 abbrev pub MayHave : List NumberRelation → ℕ → ℕ → ℕ → Type 0
 MayHave rs k x q = (r : NumberRelation) × (slice_get rs x ≡ Some r) × Relates r q k
 
--- the relation has the states that the term reaches by states that its variables may have in one batch
+-- the relation has the states that the term reaches by states that its variables may have with one number
 abbrev pub MayReach : Indexed → List ℕ → List NumberRelation → Term → NumberRelation → Type 0
 MayReach a all rs t r = (q k : ℕ) → IsAmong k all → Reach (Finds a) (MayHave rs k) t q → Relates r q k
 
--- by the choices of other batches the term arrives nowhere
-abbrev pub ArePossible : Indexed → Term → List ℕ → Type 0
-ArePossible a t set = (k q : ℕ) → k < a.automaton.states ^ length (variable_occurrences t) → ReachBy (Finds a) t (choice_at a.automaton.states (length (variable_occurrences t)) k) q → IsAmong (k / 4096) set
+-- with other fronts, and states of the pools, the term arrives nowhere
+abbrev pub ArePossible : Indexed → Term → List (List ℕ) → List (List ℕ) → List ℕ → Type 0
+ArePossible a t fronts pools set = (j q : ℕ) (front cs : List ℕ) → slice_get fronts j ≡ Some front → AreOf pools cs → ReachBy (Finds a) t (front ++ cs) q → IsAmong j set
+
+-- the lists whose numbers are in a set, as they stand
+pub record AreChosen (lists : List (List ℕ)) (set : List ℕ) (made : List (List ℕ)) : Type 0 where
+  pub among : (list : List ℕ) → IsAmong list made → IsAmong list lists
+  pub kept : (j : ℕ) (list : List ℕ) → slice_get lists j ≡ Some list → IsAmong j set → IsAmong list made
+  pub ordered : AllPairs IsBefore lists → AllPairs IsBefore made
+
+abbrev pub AreAscending : List (List ℕ) → Type 0
+AreAscending pools = (qs : List ℕ) → IsAmong qs pools → AllPairs (λ x y. x < y) qs
+
+-- choices of the first pools, in order; by no others, with states of the other pools, does the term arrive
+pub record AreFronts (a : Indexed) (t : Term) (firsts others fronts : List (List ℕ)) : Type 0 where
+  pub among : (front : List ℕ) → IsAmong front fronts → AreOf firsts front
+  pub complete : (front cs : List ℕ) (q : ℕ) → AreOf firsts front → AreOf others cs → ReachBy (Finds a) t (front ++ cs) q → IsAmong front fronts
+  pub ordered : AreAscending firsts → AllPairs IsBefore fronts

@@ -1,5 +1,5 @@
 -- The states that a term reaches by the choices of a batch.
-use Rattle.std.specs.Prelude.{ℕ, ◌≡◌, ◌↔◌, List, Some, filter}
+use Rattle.std.specs.Prelude.{ℕ, ◌≡◌, ◌↔◌, List, [], ◌∷◌, Some, filter}
 use Rattle.std.specs.List.{AllZip}
 use Rattle.rewriting.specs.Terms.{Term}
 use Rattle.certificates.specs.Evidence.{Transition}
@@ -24,10 +24,15 @@ Reaches a names t cs q = Reach (Finds a) (at (state_of names cs)) t q
 abbrev pub AreRelated : List NumberRelation → List ℕ → ℕ → Type 0
 AreRelated rs qs k = AllZip (λ r q. Relates r q k) rs qs
 
--- the transition leads by the symbol to q from states that the relations relate to k, one of some numbers
+-- k is one of some numbers, where there is no relation that tells it
+abbrev pub IsOneOf : List NumberRelation → List ℕ → ℕ → Type 0
+IsOneOf [] all k = IsAmong k all
+IsOneOf (r ∷ rs) all k = Unit {0}
+
+-- the transition leads by the symbol to q from states that the relations relate to k
 pub record Leads (f : ℕ) (all : List ℕ) (rs : List NumberRelation) (t : Transition) (q k : ℕ) : Type 0 where
   pub symbol : t.symbol ≡ Some f
-  pub number : IsAmong k all
+  pub number : IsOneOf rs all k
   pub arguments : AreRelated rs t.arguments k
   pub target : q ≡ t.target
 

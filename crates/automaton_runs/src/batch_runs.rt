@@ -8,28 +8,31 @@ ghost use Rattle.term_core.specs.View.{view};
 ghost use Rattle.rewriting.specs.Lists.{IsAmong};
 ghost use Rattle.number_sets.specs.Sets.{members};
 ghost use Rattle.number_sets.specs.Relation.{Relates};
+ghost use Rattle.automaton_runs.specs.Choices.{occurrences_of};
 ghost use Rattle.automaton_runs.specs.Counted.{Finds};
 ghost use Rattle.automaton_runs.specs.Indexed.{pointed};
-ghost use Rattle.automaton_runs.specs.Reached.{AreWhere, Reaches, AreRelated, Leads, HaveLeads, HaveLeadsByFirst, IsReachedFrom};
+ghost use Rattle.automaton_runs.specs.Relations.{relation_of, relations};
+ghost use Rattle.automaton_runs.specs.Reached.{AreWhere, Reaches, IsOneOf, AreRelated, Leads, HaveLeads, HaveLeadsByFirst, IsReachedFrom};
 
 use crate::batch::Batch;
 use crate::index::AutomatonIndex;
 use crate::linear::{linear, numbers};
+use crate::relations::Evaluated;
 use cert_model::Transition;
 use number_sets::{NumberRelation, NumberSet};
 use std::alloc::Global;
 use term_core::{NoMemory, Term};
 
 // Whether each of some relations has the state at its place: else they share no number, and no set need be made.
-fn are_lefts(args: &[NumberRelation], states: &[u32]) -> bool
-    ensures asked { (k : ℕ) → AreRelated args.now states.now k → IsTrue result }
+fn are_lefts(args: &[Evaluated<'_>], states: &[u32]) -> bool
+    ensures asked { (k : ℕ) → AreRelated (relations args.now) states.now k → IsTrue result }
     ensures alike { IsTrue result → length args.now ≡ length states.now }
 {
     if args.len() != states.len() {
         return false;
     }
     for place in 0..args.len() {
-        if !args[place].has_left(states[place]) {
+        if !args[place].relation().has_left(states[place]) {
             return false;
         }
     }
@@ -40,20 +43,63 @@ fn are_lefts(args: &[NumberRelation], states: &[u32]) -> bool
 fn shared(
     alloc: Global,
     all: &NumberSet,
-    args: &[NumberRelation],
+    args: &[Evaluated<'_>],
     states: &[u32],
 ) -> Result<NumberSet, NoMemory>
     requires { length args.now ≡ length states.now }
-    ensures { IfOk result (λ set. (k : ℕ) → IsAmong k (members set) ↔ (IsAmong k (members all.now) × AreRelated args.now states.now k)) }
+    ensures { IfOk result (λ set. (k : ℕ) → IsAmong k (members set) ↔ (IsAmong k (members all.now) × AreRelated (relations args.now) states.now k)) }
 {
     let mut set = all.copy(alloc)?;
     for place in 0..args.len() {
-        match args[place].row(states[place]) {
+        match args[place].relation().row(states[place]) {
             Some(row) => set.keep_shared(row),
             None => return Ok(NumberSet::new(alloc)),
         }
     }
     Ok(set)
+}
+
+// Relates the target to the numbers of a row that each of the other relations has at its state.
+fn put_row(
+    alloc: Global,
+    target: u32,
+    row: &NumberSet,
+    others: &[Evaluated<'_>],
+    states: &[u32],
+    made: &mut NumberRelation,
+) -> Result<(), NoMemory>
+    requires { length others.now ≡ length states.now }
+    ensures { OnOk result ((q k : ℕ) → Relates made.new q k ↔ (Relates made.old q k ⊎ ((q ≡ target) × (IsAmong k (members row.now) × AreRelated (relations others.now) states.now k)))) }
+{
+    match others {
+        [] => made.insert_all(alloc, target, row),
+        [other] => match other.relation().row(states[0]) {
+            Some(second) => made.insert_shared(alloc, target, row, second),
+            None => Ok(()),
+        },
+        _ => made.insert_all(alloc, target, &shared(alloc, row, others, states)?),
+    }
+}
+
+// The same for all relations; where there is none, the numbers are those of a set.
+fn put_shared(
+    alloc: Global,
+    target: u32,
+    all: &NumberSet,
+    args: &[Evaluated<'_>],
+    states: &[u32],
+    made: &mut NumberRelation,
+) -> Result<(), NoMemory>
+    requires { length args.now ≡ length states.now }
+    ensures { OnOk result ((q k : ℕ) → Relates made.new q k ↔ (Relates made.old q k ⊎ ((q ≡ target) × (IsOneOf (relations args.now) (members all.now) k × AreRelated (relations args.now) states.now k)))) }
+{
+    match args {
+        [] => made.insert_all(alloc, target, all),
+        [first, others @ ..] => match first.relation().row(states[0]) {
+            Some(row) => put_row(alloc, target, row, others, &states[1..], made),
+            None => Ok(()),
+        },
+    }
 }
 
 // Relates the target of a transition to the numbers by which the symbol leads to it.
@@ -62,16 +108,13 @@ fn put_transition(
     transition: &Transition,
     f: u32,
     all: &NumberSet,
-    args: &[NumberRelation],
+    args: &[Evaluated<'_>],
     made: &mut NumberRelation,
 ) -> Result<(), NoMemory>
-    ensures { OnOk result ((q k : ℕ) → Relates made.new q k ↔ (Relates made.old q k ⊎ Leads f (members all.now) args.now (transition_view transition.now) q k)) }
+    ensures { OnOk result ((q k : ℕ) → Relates made.new q k ↔ (Relates made.old q k ⊎ Leads f (members all.now) (relations args.now) (transition_view transition.now) q k)) }
 {
     if transition.symbol == Some(f) && are_lefts(args, &transition.args) {
-        let set = shared(alloc, all, args, &transition.args)?;
-        if !set.is_empty() {
-            made.insert_all(alloc, transition.target, &set)?;
-        }
+        put_shared(alloc, transition.target, all, args, &transition.args, made)?;
     }
     Ok(())
 }
@@ -82,10 +125,10 @@ fn put_transitions(
     transitions: &[&Transition],
     f: u32,
     all: &NumberSet,
-    args: &[NumberRelation],
+    args: &[Evaluated<'_>],
     made: &mut NumberRelation,
 ) -> Result<(), NoMemory>
-    ensures { OnOk result ((q k : ℕ) → Relates made.new q k ↔ (Relates made.old q k ⊎ HaveLeads f (members all.now) args.now (pointed transitions.now) q k)) }
+    ensures { OnOk result ((q k : ℕ) → Relates made.new q k ↔ (Relates made.old q k ⊎ HaveLeads f (members all.now) (relations args.now) (pointed transitions.now) q k)) }
 {
     for transition in transitions {
         put_transition(alloc, transition, f, all, args, made)?;
@@ -100,10 +143,10 @@ fn put_by_first(
     first: &NumberRelation,
     f: u32,
     all: &NumberSet,
-    args: &[NumberRelation],
+    args: &[Evaluated<'_>],
     made: &mut NumberRelation,
 ) -> Result<(), NoMemory>
-    ensures { OnOk result ((q k : ℕ) → Relates made.new q k ↔ (Relates made.old q k ⊎ HaveLeadsByFirst index.now first.now f (members all.now) args.now q k)) }
+    ensures { OnOk result ((q k : ℕ) → Relates made.new q k ↔ (Relates made.old q k ⊎ HaveLeadsByFirst index.now first.now f (members all.now) (relations args.now) q k)) }
 {
     for state in 0..first.lefts() {
         let state = state as u32;
@@ -114,72 +157,108 @@ fn put_by_first(
     Ok(())
 }
 
+// Whether a relation has few states against so many transitions: then their first arguments are looked up.
+fn has_few_lefts(relation: &NumberRelation, transitions: usize) -> bool {
+    let most = transitions / 16;
+    let mut found: usize = 0;
+    for left in 0..relation.lefts() {
+        if relation.has_left(left as u32) {
+            if found >= most {
+                return false;
+            }
+            found += 1;
+        }
+    }
+    true
+}
+
 // The states to which the symbol leads, by each of the numbers.
 pub(crate) fn reached_from(
     alloc: Global,
     index: &AutomatonIndex<'_>,
     f: u32,
     all: &NumberSet,
-    args: &[NumberRelation],
+    args: &[Evaluated<'_>],
 ) -> Result<NumberRelation, NoMemory>
-    ensures { IfOk result (λ r. (q k : ℕ) → Relates r q k ↔ (IsAmong k (members all.now) × IsReachedFrom index.now f args.now q k)) }
+    ensures { IfOk result (λ r. (q k : ℕ) → Relates r q k ↔ (IsOneOf (relations args.now) (members all.now) k × IsReachedFrom index.now f (relations args.now) q k)) }
 {
     let mut made = NumberRelation::new(alloc);
+    let transitions = index.with_symbol(f);
     match args.first() {
-        None => put_transitions(alloc, index.with_symbol(f), f, all, args, &mut made)?,
-        Some(first) => put_by_first(alloc, index, first, f, all, args, &mut made)?,
+        Some(first) if has_few_lefts(first.relation(), transitions.len()) => {
+            put_by_first(alloc, index, first.relation(), f, all, args, &mut made)?;
+        }
+        _ => put_transitions(alloc, transitions, f, all, args, &mut made)?,
+    }
+    Ok(made)
+}
+
+// The states that a term reaches by the choices of a batch, where each variable has the state of its first name, or 0.
+#[cycle(evaluate)]
+fn evaluate<'a>(
+    alloc: Global,
+    index: &AutomatonIndex<'_>,
+    batch: &'a Batch<'_>,
+    names: &[u32],
+    t: &Term,
+) -> Result<Evaluated<'a>, NoMemory>
+    requires { length names.now ≡ occurrences_of batch.now }
+    ensures { IfOk result (λ e. AreWhere batch.now (Reaches index.now names.now (view t.now)) (relation_of e)) }
+{
+    match t {
+        Term::Var(x) => Ok(Evaluated::Stored(batch.states_of(names, *x))),
+        Term::Fun(f, args) => {
+            let args = evaluate_each(alloc, index, batch, names, args)?;
+            let made = reached_from(alloc, index, *f, batch.all(), &args)?;
+            Ok(Evaluated::Made(made))
+        }
+    }
+}
+
+#[cycle(evaluate)]
+fn evaluate_each<'a>(
+    alloc: Global,
+    index: &AutomatonIndex<'_>,
+    batch: &'a Batch<'_>,
+    names: &[u32],
+    args: &[Term],
+) -> Result<Vec<Evaluated<'a>>, NoMemory>
+    requires { length names.now ≡ occurrences_of batch.now }
+    ensures { IfOk result (λ made. AllZip (λ t e. AreWhere batch.now (Reaches index.now names.now (view t)) (relation_of e)) args.now made.items) }
+{
+    let mut made = Vec::with_capacity(alloc, args.len())?;
+    for arg in args {
+        made.push(evaluate(alloc, index, batch, names, arg)?)?;
     }
     Ok(made)
 }
 
 /// The states that a term reaches by the choices of a batch, where each variable has the state of its first name, or 0.
-#[cycle(reached)]
 pub fn reached(
     alloc: Global,
     index: &AutomatonIndex<'_>,
-    batch: &Batch,
+    batch: &Batch<'_>,
     names: &[u32],
     t: &Term,
 ) -> Result<NumberRelation, NoMemory>
-    requires { length names.now ≡ batch.now.length }
+    requires { length names.now ≡ occurrences_of batch.now }
     ensures { IfOk result (AreWhere batch.now (Reaches index.now names.now (view t.now))) }
 {
-    match t {
-        Term::Var(x) => batch.states_of(names, *x).copy(alloc),
-        Term::Fun(f, args) => {
-            let args = reached_by_each(alloc, index, batch, names, args)?;
-            reached_from(alloc, index, *f, batch.all(), &args)
-        }
+    match evaluate(alloc, index, batch, names, t)? {
+        Evaluated::Stored(relation) => relation.copy(alloc),
+        Evaluated::Made(relation) => Ok(relation),
     }
-}
-
-#[cycle(reached)]
-fn reached_by_each(
-    alloc: Global,
-    index: &AutomatonIndex<'_>,
-    batch: &Batch,
-    names: &[u32],
-    args: &[Term],
-) -> Result<Vec<NumberRelation>, NoMemory>
-    requires { length names.now ≡ batch.now.length }
-    ensures { IfOk result (λ made. AllZip (λ t r. AreWhere batch.now (Reaches index.now names.now (view t)) r) args.now made.items) }
-{
-    let mut made = Vec::with_capacity(alloc, args.len())?;
-    for arg in args {
-        made.push(reached(alloc, index, batch, names, arg)?)?;
-    }
-    Ok(made)
 }
 
 /// The states that a term reaches by the choices of a batch, where each variable occurrence has a state of its own.
 pub fn reached_by_occurrences(
     alloc: Global,
     index: &AutomatonIndex<'_>,
-    batch: &Batch,
+    batch: &Batch<'_>,
     t: &Term,
 ) -> Result<NumberRelation, NoMemory>
     requires fits { math.Fits (view t.now) }
-    requires length { batch.now.length ≡ length (variable_occurrences (view t.now)) }
+    requires length { occurrences_of batch.now ≡ length (variable_occurrences (view t.now)) }
     ensures { IfOk result (AreWhere batch.now (ReachBy (Finds index.now) (view t.now))) }
 {
     let names = numbers(alloc, batch.occurrences())?;

@@ -3,16 +3,21 @@
 
 mod batch;
 mod batch_runs;
+mod choices;
 mod groups;
 mod index;
 mod linear;
+mod listing;
+mod pools;
 mod possible;
+mod relations;
 mod runs;
+mod tails;
 mod width;
 
-pub use batch::{Batch, batches};
+pub use batch::Batch;
 pub use batch_runs::{reached, reached_by_occurrences};
+pub use choices::Choices;
 pub use index::AutomatonIndex;
-pub use possible::possible_batches;
 pub use runs::{Arrival, arrivals};
 pub use width::{has_more_choices, occurrences};

@@ -1,127 +1,86 @@
-ghost use Rattle.std.specs.Prelude.{◌≡◌, ◌↔◌, ◌<◌, ◌≤◌, ◌*◌, ◌+◌, ◌/◌, ◌%◌, ◌^◌, ℕ, length, IfOk, OnOk};
+ghost use Rattle.std.specs.Prelude.{◌≡◌, ◌<◌, ◌≤◌, ◌^◌, ℕ, List, drop, length, take, IfOk, OnOk};
 ghost use Rattle.std.specs.List.{AllZip};
 ghost use Rattle.rewriting.specs.Terms as math;
-ghost use Rattle.rewriting.specs.Variables.{variable_occurrences};
 ghost use Rattle.term_core.specs.View.{view};
 ghost use Rattle.rewriting.specs.Lists.{IsAmong};
 ghost use Rattle.number_sets.specs.Sets.{members};
 ghost use Rattle.number_sets.specs.Relation.{Relates};
-ghost use Rattle.automaton_runs.specs.Possible.{IsSpan, AreDigits, AreAllDigits, MayReach, ArePossible};
+ghost use Rattle.automaton_runs.specs.Choices.{as_lists};
+ghost use Rattle.automaton_runs.specs.Relations.{relation_of};
+ghost use Rattle.automaton_runs.specs.Possible.{IsAnywhere, AreAnywhere, MayReach, ArePossible, AreChosen, AreFronts};
 
-use crate::batch::{BATCH, batches, powers};
 use crate::batch_runs::reached_from;
 use crate::index::AutomatonIndex;
 use crate::linear::linear;
+use crate::listing::choices;
+use crate::relations::Evaluated;
+use crate::tails::leaves;
 use number_sets::{NumberRelation, NumberSet};
 use std::alloc::Global;
 use term_core::{NoMemory, Term};
 
-// Numbers, from the first on and below the second, that have as remainders the states at the place of a weight
-// by the choices of a batch.
-fn span(states: u32, weight: u32, batch: u32) -> (u64, u64)
-    requires states { 0 < states }
-    requires weight { 0 < weight }
-    ensures { IsSpan states weight batch result.0 result.1 }
-{
-    let start = u64::from(batch) * u64::from(BATCH);
-    let first = start / u64::from(weight);
-    let last = (start + u64::from(BATCH - 1)) / u64::from(weight);
-    if last - first < u64::from(states) {
-        (first, last + 1)
-    } else {
-        (0, u64::from(states))
-    }
-}
+// The most fronts that are looked at together.
+const MAX_FRONTS: usize = 1_000_000;
 
-// Relates the remainders of numbers to a batch.
-fn put_remainders(
-    alloc: Global,
-    states: u32,
-    first: u64,
-    end: u64,
-    batch: u32,
-    made: &mut NumberRelation,
-) -> Result<(), NoMemory>
-    requires { 0 < states }
-    ensures kept { OnOk result ((q k : ℕ) → Relates made.old q k → Relates made.new q k) }
-    ensures put { OnOk result ((d : ℕ) → first ≤ d → d < end → Relates made.new (d % states) batch) }
-{
-    for number in first..end {
-        made.insert(alloc, (number % u64::from(states)) as u32, batch)?;
-    }
-    Ok(())
-}
-
-// The states at the place of a weight, with the numbers of the batches in which choices have them.
-fn states_at(
-    alloc: Global,
-    states: u32,
-    weight: u32,
-    batches: u32,
-) -> Result<NumberRelation, NoMemory>
-    requires states { 0 < states }
-    requires weight { 0 < weight }
-    ensures { IfOk result (AreDigits states weight batches) }
+// The states of a pool with all numbers.
+fn anywhere(alloc: Global, pool: &[u32], all: &NumberSet) -> Result<NumberRelation, NoMemory>
+    ensures { IfOk result (IsAnywhere (members all.now) pool.now) }
 {
     let mut made = NumberRelation::new(alloc);
-    for batch in 0..batches {
-        let (first, end) = span(states, weight, batch);
-        put_remainders(alloc, states, first, end, batch, &mut made)?;
+    for state in pool {
+        made.insert_all(alloc, *state, all)?;
     }
     Ok(made)
 }
 
-// The same for each place.
-fn states_at_each(
+// Puts the same for each pool last.
+fn put_anywhere(
     alloc: Global,
-    states: u32,
-    length: usize,
-    batches: u32,
-) -> Result<Vec<NumberRelation>, NoMemory>
-    requires states { 0 < states }
-    requires few { states ^ length ≤ 1000000 }
-    ensures { IfOk result (λ places. AreAllDigits states length batches places.items) }
+    pools: &[Vec<u32>],
+    all: &NumberSet,
+    places: &mut Vec<NumberRelation>,
+) -> Result<(), NoMemory>
+    ensures { OnOk result (AreAnywhere (as_lists pools.now) (members all.now) places.old.items places.new.items) }
 {
-    let powers = powers(alloc, states, length)?;
-    let mut places = Vec::with_capacity(alloc, length)?;
-    for place in 0..length {
-        places.push(states_at(alloc, states, powers[length - 1 - place], batches)?)?;
+    for pool in pools {
+        places.push(anywhere(alloc, pool, all)?)?;
     }
-    Ok(places)
+    Ok(())
 }
 
-// The states that a term may reach in each of the batches, where each variable has a place.
+// The states that a term may reach with each of the numbers, where each variable has a place.
 #[cycle(may_reach)]
-fn may_reach(
+fn may_reach<'a>(
     alloc: Global,
     index: &AutomatonIndex<'_>,
     all: &NumberSet,
-    places: &[NumberRelation],
+    places: &'a [NumberRelation],
     t: &Term,
-) -> Result<NumberRelation, NoMemory>
-    ensures { IfOk result (MayReach index.now (members all.now) places.now (view t.now)) }
+) -> Result<Evaluated<'a>, NoMemory>
+    ensures { IfOk result (λ e. MayReach index.now (members all.now) places.now (view t.now) (relation_of e)) }
 {
     match t {
         Term::Var(x) => match places.get(*x as usize) {
-            Some(states) => states.copy(alloc),
-            None => Ok(NumberRelation::new(alloc)),
+            Some(states) => Ok(Evaluated::Stored(states)),
+            None => Ok(Evaluated::Made(NumberRelation::new(alloc))),
         },
         Term::Fun(f, args) => {
             let args = may_reach_each(alloc, index, all, places, args)?;
-            reached_from(alloc, index, *f, all, &args)
+            let made = reached_from(alloc, index, *f, all, &args)?;
+            Ok(Evaluated::Made(made))
         }
     }
 }
 
 #[cycle(may_reach)]
-fn may_reach_each(
+fn may_reach_each<'a>(
     alloc: Global,
     index: &AutomatonIndex<'_>,
     all: &NumberSet,
-    places: &[NumberRelation],
+    places: &'a [NumberRelation],
     args: &[Term],
-) -> Result<Vec<NumberRelation>, NoMemory>
-    ensures { IfOk result (λ made. AllZip (λ t r. MayReach index.now (members all.now) places.now (view t) r) args.now made.items) }
+) -> Result<Vec<Evaluated<'a>>, NoMemory>
+    ensures { IfOk result (λ made. AllZip (λ t e. MayReach index.now (members all.now) places.now (view t) (relation_of e)) args.now made.items) }
 {
     let mut made = Vec::with_capacity(alloc, args.len())?;
     for arg in args {
@@ -143,25 +102,58 @@ fn rights(alloc: Global, relation: &NumberRelation) -> Result<NumberSet, NoMemor
     Ok(set)
 }
 
-/// Numbers of batches: by the choices of other batches a term arrives nowhere. Where an automaton has few transitions
-/// for its states, most batches need not be made.
-pub fn possible_batches(
+// Numbers of fronts: with other fronts, and states of the pools behind them, a term arrives nowhere.
+fn possible(
     alloc: Global,
     index: &AutomatonIndex<'_>,
     t: &Term,
-    occurrences: usize,
+    fronts: &[Vec<u32>],
+    start: usize,
+    pools: &[Vec<u32>],
 ) -> Result<NumberSet, NoMemory>
     requires fits { math.Fits (view t.now) }
-    requires length { occurrences ≡ length (variable_occurrences (view t.now)) }
-    requires few { index.now.automaton.states ^ occurrences ≤ 1000000 }
-    ensures { IfOk result (λ set. ArePossible index.now (view t.now) (members set)) }
+    requires few { length fronts.now < 2 ^ 32 }
+    requires long { (front : List ℕ) → IsAmong front (as_lists fronts.now) → length front ≡ start }
+    ensures { IfOk result (λ set. ArePossible index.now (view t.now) (as_lists fronts.now) (as_lists pools.now) (members set)) }
 {
-    let count = batches(index.states(), occurrences);
-    let all = NumberSet::below(alloc, count)?;
-    if count <= 1 {
+    let all = NumberSet::below(alloc, fronts.len() as u32)?;
+    let mut places = leaves(alloc, fronts, start)?;
+    put_anywhere(alloc, pools, &all, &mut places)?;
+    let reached = may_reach(alloc, index, &all, &places, &linear(alloc, t)?)?;
+    rights(alloc, reached.relation())
+}
+
+// The lists whose numbers are in a set.
+fn chosen(alloc: Global, lists: &[Vec<u32>], set: &NumberSet) -> Result<Vec<Vec<u32>>, NoMemory>
+    requires { length lists.now < 2 ^ 32 }
+    ensures { IfOk result (λ made. AreChosen (as_lists lists.now) (members set.now) (as_lists made.items)) }
+{
+    let mut made = Vec::new(alloc);
+    for number in 0..lists.len() {
+        if set.has(number as u32) {
+            made.push(Vec::from_slice(alloc, &lists[number])?)?;
+        }
+    }
+    Ok(made)
+}
+
+/// Choices for the first pools, up to one: with others, and states of the pools behind them, a term arrives nowhere.
+/// Where an automaton has few transitions for its states, few are left.
+pub(crate) fn possible_fronts(
+    alloc: Global,
+    index: &AutomatonIndex<'_>,
+    t: &Term,
+    pools: &[Vec<u32>],
+    start: usize,
+) -> Result<Vec<Vec<u32>>, NoMemory>
+    requires fits { math.Fits (view t.now) }
+    requires within { start ≤ length pools.now }
+    ensures { IfOk result (λ fronts. AreFronts index.now (view t.now) (take start (as_lists pools.now)) (drop start (as_lists pools.now)) (as_lists fronts.items)) }
+{
+    let all = choices(alloc, &pools[..start])?;
+    if all.len() <= 1 || all.len() > MAX_FRONTS {
         return Ok(all);
     }
-    let places = states_at_each(alloc, index.states(), occurrences, count)?;
-    let reached = may_reach(alloc, index, &all, &places, &linear(alloc, t)?)?;
-    rights(alloc, &reached)
+    let set = possible(alloc, index, t, &all, start, &pools[start..])?;
+    chosen(alloc, &all, &set)
 }

@@ -1,14 +1,15 @@
-ghost use Rattle.std.specs.Prelude.{◌≡◌, ◌≤◌, ◌^◌, ◌+◌, ◌++◌, length, IfOk, OnOk, map};
+ghost use Rattle.std.specs.Prelude.{◌≡◌, ◌≤◌, ◌^◌, ◌++◌, [], length, AllPairs, IfOk, OnOk, map};
 ghost use Rattle.rewriting.specs.Terms as math;
+ghost use Rattle.rewriting.specs.Positions.{IsBefore};
 ghost use Rattle.rewriting.specs.Variables.{variable_occurrences};
 ghost use Rattle.term_core.specs.View.{view};
-ghost use Rattle.automaton_runs.specs.Arrivals.{arrival_view, AreArrivals, AreArrivalsBelow};
-ghost use Rattle.automaton_runs.specs.Choices.{start};
+ghost use Rattle.automaton_runs.specs.Arrivals.{arrival_view, AreArrivals, HaveBatchArrivals};
+ghost use Rattle.automaton_runs.specs.Choices.{AreChoices, occurrences_of};
 
-use crate::batch::{Batch, batches};
+use crate::batch::Batch;
 use crate::batch_runs::reached_by_occurrences;
+use crate::choices::Choices;
 use crate::index::AutomatonIndex;
-use crate::width::occurrences;
 use std::alloc::Global;
 use term_core::{NoMemory, Term};
 
@@ -42,16 +43,14 @@ fn put_arrivals(
 fn put_batch(
     alloc: Global,
     index: &AutomatonIndex<'_>,
-    batch: &Batch,
+    batch: &Batch<'_>,
     t: &Term,
     rows: &mut Vec<Arrival>,
 ) -> Result<(), NoMemory>
     requires fits { math.Fits (view t.now) }
-    requires states { batch.now.states ≡ index.now.automaton.states }
-    requires length { batch.now.length ≡ length (variable_occurrences (view t.now)) }
-    requires few { index.now.automaton.states ^ length (variable_occurrences (view t.now)) ≤ 1000000 }
-    requires before { AreArrivalsBelow index.now (view t.now) (start batch.now) (map arrival_view rows.old.items) }
-    ensures { OnOk result (AreArrivalsBelow index.now (view t.now) (start batch.now + 4096) (map arrival_view rows.new.items)) }
+    requires length { occurrences_of batch.now ≡ length (variable_occurrences (view t.now)) }
+    requires ordered { AllPairs IsBefore batch.now.tails }
+    ensures { OnOk result (HaveBatchArrivals index.now (view t.now) batch.now (length batch.now.tails) (map arrival_view rows.old.items) (map arrival_view rows.new.items)) }
 {
     let by_choice = reached_by_occurrences(alloc, index, batch, t)?.converse(alloc)?;
     for k in 0..batch.len() {
@@ -59,6 +58,26 @@ fn put_batch(
             let choice = batch.choice(alloc, k)?;
             put_arrivals(alloc, &choice, &states.numbers(alloc)?, rows)?;
         }
+    }
+    Ok(())
+}
+
+// Puts the arrivals by all choices last.
+fn put_all(
+    alloc: Global,
+    index: &AutomatonIndex<'_>,
+    choices: &Choices,
+    t: &Term,
+    rows: &mut Vec<Arrival>,
+) -> Result<(), NoMemory>
+    requires fits { math.Fits (view t.now) }
+    requires choices { AreChoices index.now (view t.now) choices.now }
+    requires none { map arrival_view rows.old.items ≡ [] }
+    ensures { OnOk result (AreArrivals index.now (view t.now) (map arrival_view rows.new.items)) }
+{
+    for front in choices.fronts() {
+        let batch = choices.batch(alloc, front)?;
+        put_batch(alloc, index, &batch, t, rows)?;
     }
     Ok(())
 }
@@ -74,11 +93,8 @@ pub fn arrivals(
     requires few { index.now.automaton.states ^ length (variable_occurrences (view t.now)) ≤ 1000000 }
     ensures { IfOk result (λ rows. AreArrivals index.now (view t.now) (map arrival_view rows.items)) }
 {
-    let length = occurrences(alloc, t)?.len();
+    let choices = Choices::new(alloc, index, t)?;
     let mut rows = Vec::new(alloc);
-    for number in 0..batches(index.states(), length) {
-        let batch = Batch::new(alloc, index.states(), length, number)?;
-        put_batch(alloc, index, &batch, t, &mut rows)?;
-    }
+    put_all(alloc, index, &choices, t, &mut rows)?;
     Ok(rows)
 }

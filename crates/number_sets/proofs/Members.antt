@@ -6,7 +6,7 @@ use Rattle.std.proofs.lemmas.Bool.{cases_lt}
 use Rattle.std.proofs.lemmas.List.{get_or_append_left, get_or_push}
 use Rattle.std.proofs.lemmas.List.Kept.{AllPairs-from_increasing, IsStrictlyIncreasing-filter}
 use Rattle.rewriting.specs.Lists.{IsAmong}
-use Rattle.rewriting.proofs.Lists.{among_left, among_right}
+use Rattle.rewriting.proofs.Lists.{among_left, among_right, among_either}
 use Rattle.number_sets.specs.Sets.{below, is_set, members}
 use Rattle.number_sets.specs.declared.words.NumberSet.{NumberSet}
 
@@ -43,6 +43,10 @@ in_below zero k h = absurd (omega arith)
 in_below (suc n) k h =
     ⊎_elim (λ (l : k < n). among_left k (below n) (n ∷ []) (in_below n k l)) (λ l. let here : k ≡ n = omega arith in among_right k (below n) (n ∷ []) (inl here)) (cases_lt k n)
 
+pub of_below : (n k : ℕ) → IsAmong k (below n) → k < n
+of_below zero k h = absurd h
+of_below (suc n) k h = ⊎_elim (λ i. let low = of_below n k i in omega arith) (λ i. ⊎_elim (λ (e : k ≡ n). omega arith) (λ f. absurd f) i) (among_either k (below n) (n ∷ []) h)
+
 length-below : (n : ℕ) → length (below n) ≡ n
 length-below zero = refl
 length-below (suc n) = omega (arith, length-append (below n) (n ∷ []), length-below n)
@@ -60,11 +64,14 @@ increasing_below n k h =
     let two = get_or-below n (k + 1) (omega arith) in
     omega arith
 
-pub members_increasing : (s : NumberSet) → IsStrictlyIncreasing (members s)
-members_increasing s = IsStrictlyIncreasing-filter (is_set s.words.items) (below (64 * length s.words.items)) (increasing_below (64 * length s.words.items))
+pub below_ascending : (n : ℕ) → AllPairs ◌<◌ (below n)
+below_ascending n = AllPairs-from_increasing (below n) (increasing_below n)
+
+pub filtered_ascending : (p : ℕ → Bool) (n : ℕ) → AllPairs ◌<◌ (filter p (below n))
+filtered_ascending p n = AllPairs-from_increasing (filter p (below n)) (IsStrictlyIncreasing-filter p (below n) (increasing_below n))
 
 pub members_ascending : (s : NumberSet) → AllPairs ◌<◌ (members s)
-members_ascending s = AllPairs-from_increasing (members s) (members_increasing s)
+members_ascending s = filtered_ascending (is_set s.words.items) (64 * length s.words.items)
 
 -- lists in order with the same numbers
 above_first : (x : ℕ) (xs : List ℕ) → AllPairs ◌<◌ (x ∷ xs) → (q : ℕ) → IsAmong q xs → x < q

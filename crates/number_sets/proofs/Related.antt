@@ -213,3 +213,32 @@ turned_all r made n low front p q = (
 -- a row that is not there
 pub none_found : (numbers : List ℕ) → [] ≡ numbers → (q : ℕ) → IsAmong q numbers → ⊥
 none_found numbers e q i = subst (λ (l : List ℕ). IsAmong q l) (sym e) i
+
+-- the row at a place
+at_place : (rows : List NumberSet) (i : ℕ) (row : NumberSet) → i < length rows → row ≡ get_or rows i row → members_in rows i ≡ members row
+at_place [] i row inside is = absurd (omega arith)
+at_place (r ∷ rows) zero row inside is = ap members (sym is)
+at_place (r ∷ rows) (suc i) row inside is = at_place rows i row (omega arith) is
+
+past : (rows : List NumberSet) (p : ℕ) → length rows ≤ p → members_in rows p ≡ []
+past [] p h = refl
+past (r ∷ rows) zero h = absurd (omega arith)
+past (r ∷ rows) (suc p) h = past rows p (omega arith)
+
+-- rows that are all empty, one row more at a time, and one that is not
+pub row_none : (rows : List NumberSet) (i : ℕ) (row : NumberSet) → i < length rows → row ≡ get_or rows i row → members row ≡ [] → ((p q : ℕ) → p < i → IsAmong q (members_in rows p) → ⊥)
+    → (p q : ℕ) → p < i + 1 → IsAmong q (members_in rows p) → ⊥
+row_none rows i row inside is none front p q low h =
+    ⊎_elim (λ (l : p < i). front p q l h)
+    (λ (l : i ≤ p). let same : p ≡ i = omega arith in subst (λ (l : List ℕ). IsAmong q l) (at_place rows i row inside is ∙ none) (subst (λ (k : ℕ). IsAmong q (members_in rows k)) same h)) (cases_lt p i)
+
+pub rows_none : (r : NumberRelation) (rows : List NumberSet) → rows ≡ r.rows.items → (i : ℕ) → length rows ≤ i → ((p q : ℕ) → p < i → IsAmong q (members_in rows p) → ⊥) → (p q : ℕ) → Relates r p q → ⊥
+rows_none r rows same i long front p q h =
+    let there = subst (λ (l : List NumberSet). IsAmong q (members_in l p)) (sym same) h in
+    ⊎_elim (λ (l : p < i). front p q l there) (λ (l : i ≤ p). subst (λ (l : List ℕ). IsAmong q l) (past rows p (omega arith)) there) (cases_lt p i)
+
+pub row_here : (r : NumberRelation) (rows : List NumberSet) → rows ≡ r.rows.items → (i : ℕ) (row : NumberSet) → i < length rows → row ≡ get_or rows i row → (b : Bool) → IsTrue b ↔ (members row ≡ []) → b ≡ false
+    → ((p q : ℕ) → Relates r p q → ⊥) → ⊥
+row_here r rows same i row inside is b empty full none =
+    let there = (has_some (members row) (members_in rows i) b empty (sym (at_place rows i row inside is))).0 (ap not full) in
+    none i there.0 (subst (λ (l : List NumberSet). IsAmong there.0 (members_in l i)) same there.1)

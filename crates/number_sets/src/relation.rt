@@ -64,6 +64,18 @@ impl NumberRelation {
         }
     }
 
+    /// Whether no number is related to any.
+    pub fn is_empty(&self) -> bool
+        ensures { IsTrue result ↔ ((p q : ℕ) → Relates self.now p q → ⊥) }
+    {
+        for row in &self.rows {
+            if !row.is_empty() {
+                return false;
+            }
+        }
+        true
+    }
+
     // Makes place for so many rows.
     fn lengthen(&mut self, alloc: Global, count: usize) -> Result<(), NoMemory>
         requires { count ≤ 4294967296 }
@@ -92,6 +104,21 @@ impl NumberRelation {
         let place = left as usize;
         self.lengthen(alloc, place + 1)?;
         self.rows[place].insert_all(set)
+    }
+
+    /// Relates a number to all that two sets share.
+    pub fn insert_shared(
+        &mut self,
+        alloc: Global,
+        left: u32,
+        first: &NumberSet,
+        second: &NumberSet,
+    ) -> Result<(), NoMemory>
+        ensures { OnOk result ((p q : ℕ) → Relates self.new p q ↔ (Relates self.old p q ⊎ ((p ≡ left) × (IsAmong q (members first.now) × IsAmong q (members second.now))))) }
+    {
+        let place = left as usize;
+        self.lengthen(alloc, place + 1)?;
+        self.rows[place].insert_shared(first, second)
     }
 
     // The first number to which one is related here and not in the other.

@@ -123,6 +123,18 @@ impl NumberSet {
         Ok(())
     }
 
+    /// Puts the numbers that two other sets share into the set.
+    pub fn insert_shared(&mut self, first: &NumberSet, second: &NumberSet) -> Result<(), NoMemory>
+        ensures { OnOk result ((q : ℕ) → IsAmong q (members self.new) ↔ (IsAmong q (members self.old) ⊎ (IsAmong q (members first.now) × IsAmong q (members second.now)))) }
+    {
+        let count = first.words.len().min(second.words.len());
+        self.lengthen(count)?;
+        for place in 0..count {
+            self.words[place] |= first.words[place] & second.words[place];
+        }
+        Ok(())
+    }
+
     /// Leaves out the numbers that another set has not.
     pub fn keep_shared(&mut self, other: &NumberSet)
         ensures { (q : ℕ) → IsAmong q (members self.new) ↔ (IsAmong q (members self.old) × IsAmong q (members other.now)) }

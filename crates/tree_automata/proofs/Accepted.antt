@@ -1,5 +1,5 @@
 -- Accepted states, marks, and the states 0.
-use Rattle.std.proofs.Common.{◌≡◌, ◌↔◌, ℕ, zero, suc, ◌+◌, ◌<◌, ◌≤◌, ◌^◌, ◌⊎◌, inl, inr, ⊎_elim, Bool, true, List, [], ◌∷◌, length, get_or, slice_get, take, replicate, Option, Some, IsTrue, Bor, refl, ap, ap₂, sym, subst, ◌∙◌, arith}
+use Rattle.std.proofs.Common.{◌≡◌, ◌↔◌, ℕ, zero, suc, ◌+◌, ◌<◌, ◌≤◌, ◌⊎◌, inl, inr, ⊎_elim, Bool, true, List, [], ◌∷◌, length, get_or, slice_get, take, replicate, Option, Some, IsTrue, Bor, refl, ap, sym, subst, ◌∙◌, arith}
 use Rattle.std.proofs.Math.ListN.{set}
 use Rattle.std.specs.List.{filter}
 use Rattle.std.proofs.lemmas.Bool.{cases_lt}
@@ -127,12 +127,11 @@ abbrev pub AreFrom0 : Indexed → Term → NumberRelation → Type 0
 AreFrom0 a t r = (q k : ℕ) → Relates r q k ↔ ((k ≡ 0) × Reach (Finds a) (at (λ x. 0)) t q)
 
 -- the one choice for no occurrences
-pub from_0 : (a : Indexed) (t : Term) (b : Batch) (r : NumberRelation) → b.states ≡ 1 → b.length ≡ 0 → b.number ≡ 0 → AreWhere b (Reaches a [] t) r → AreFrom0 a t r
-from_0 a t b r states long first where_ q k =
-    let one : b.states ^ b.length ≡ 1 = ap₂ (λ (n m : ℕ). n ^ m) states long in (
-      λ h. let there = (where_ q k).0 h in let low = there.0.1 in (omega arith, there.1),
-      λ h. let zero_is = h.0 in (where_ q k).1 ((omega arith, omega arith), h.1),
-    )
+pub from_0 : (a : Indexed) (t : Term) (b : Batch) (r : NumberRelation) → length b.tails ≡ 1 → AreWhere b (Reaches a [] t) r → AreFrom0 a t r
+from_0 a t b r one where_ q k = (
+  λ h. let there = (where_ q k).0 h in let low = there.0 in (omega arith, there.1),
+  λ h. let zero_is = h.0 in (where_ q k).1 (omega arith, h.1),
+)
 
 pub accepted_is : (a : Automaton) (i : Indexed) (t : Term) (r : NumberRelation) (b : Bool) → i.automaton ≡ a → AreFrom0 i t r → (IsTrue b ↔ IsOneAccepting a r) → IsTrue b ↔ IsAccepted i.symbols a t
 accepted_is a i t r b same all one =

@@ -1,5 +1,5 @@
 -- Right sides that are kept, and the first that is not.
-use Rattle.std.proofs.Common.{◌≡◌, ◌↔◌, ℕ, ◌<◌, if◌then◌else◌, List, [], ◌∷◌, Option, Some, None, refl, sym, subst, arith}
+use Rattle.std.proofs.Common.{◌≡◌, ◌↔◌, ℕ, ◌<◌, List, Option, Some, None, refl, sym, subst, arith}
 use Rattle.std.specs.List.{All}
 use Rattle.rewriting.specs.Terms.{Term, var, app, Terms}
 use Rattle.rewriting.specs.Rules.{Rule}

@@ -6,3 +6,4 @@ pub mod Kept
 pub mod Conditions
 pub mod Accepted
 pub mod Listed
+pub mod Fronts

@@ -1,24 +1,27 @@
 -- The first right side that is not kept.
-use Rattle.std.proofs.Common.{◌≡◌, ℕ, zero, suc, ◌+◌, ◌<◌, ◌≤◌, ⊎_elim, List, [], ◌∷◌, length, map, get_or, Some, slice_get, refl, ap, subst, arith}
+use Rattle.std.proofs.Common.{◌≡◌, ℕ, zero, suc, ◌+◌, ◌<◌, ◌≤◌, ⊎_elim, List, [], length, map, get_or, take, Some, slice_get, refl, ap, sym, subst, subst₂, ◌∙◌, arith}
 use Rattle.std.specs.List.{All, filter}
 use Rattle.std.proofs.lemmas.Bool.{cases_lt}
 use Rattle.std.proofs.lemmas.Option.{slice_get_within}
 use Rattle.std.proofs.lemmas.List.Elements.{All-head}
 use Rattle.rewriting.specs.Terms as math
 use Rattle.rewriting.specs.Rules.{Rule, System, rule_at}
+use Rattle.rewriting.specs.Variables.{variable_occurrences}
 use Rattle.rewriting.proofs.Systems.{is_rule_at}
 use Rattle.certificates.specs.Evidence.{Transition, Automaton}
 use Rattle.automata.specs.Runs.{ReachBy}
-use Rattle.automata.specs.Closed.{IsChoice, Includes, IsRuleKept, HasOver, IsClosed, IsFirstOpen, IsWide, IsFirstWide}
+use Rattle.automata.specs.Closed.{IsChoice, state_of, Includes, IsKept, IsRuleKept, HasOver, IsClosed, IsFirstOpen, IsWide, IsFirstWide}
 use Rattle.automaton_runs.specs.Counted.{Indexed, Finds, under}
 use Rattle.rewriting.specs.Lists.{IsAmong}
 use Rattle.automaton_runs.specs.Counting.{chosen, target_key}
-use Rattle.tree_automata.specs.Open.{IsRuleClosed, IsOpenAt, HaveTwins}
+use Rattle.tree_automata.specs.Open.{HaveSides, IsRuleClosed, AreClosed, IsOpenAt, HaveTwins}
 use Rattle.std.proofs.lemmas.List.{length-map}
 use Rattle.rewriting.specs.Systems.{IsSystem}
+use Rattle.term_core.specs.View.{view}
 use Rattle.term_core.specs.RuleView.{rule_view}
 use Rattle.term_core.specs.declared.systems.Rule as data_rule
-use Rattle.tree_automata.proofs.Lists.{mapped_at}
+use Rattle.rewriting.proofs.Lists.{among_map, among_of_map}
+use Rattle.tree_automata.proofs.Lists.{mapped_at, in_front, place_in_front}
 use Rattle.automaton_runs.proofs.Looked.{looked_to}
 
 -- a state that a term reaches is one of the automaton
@@ -26,12 +29,33 @@ pub reached_state : (a : Indexed) (t : math.Term) (cs : List ℕ) (q : ℕ) → 
 reached_state a (math.var x) cs q choice r = All-head (λ p. p < a.automaton.states) q [] (subst (All (λ p. p < a.automaton.states)) r choice.states)
 reached_state a (math.app f ts) cs q choice (qs, has, r) = has.target
 
+-- a rule with the sides of one whose right side is kept
+pub closed_alike : (a : Indexed) (rule : Rule) (rules : List data_rule.Rule) → AreClosed a (map rule_view rules) → HaveSides (map rule_view rules) rule → IsRuleClosed a rule
+closed_alike a rule rules closed (r, i, left, right) cs q = subst₂ (λ (l m : math.Term). IsChoice a.automaton.states l cs → ReachBy (Finds a) l cs q → IsKept (Finds a) (state_of (variable_occurrences l) cs) m q) left right (closed r i cs q)
+
+-- one rule more, whose sides are others
+pub other_sides : (rules : List data_rule.Rule) (i : ℕ) (other : data_rule.Rule) (rule : Rule) → i < length rules → other ≡ get_or rules i other → (HaveSides (map rule_view (take i rules)) rule → ⊥)
+    → (view other.left ≡ rule.left → view other.right ≡ rule.right → ⊥) → HaveSides (map rule_view (take (i + 1) rules)) rule → ⊥
+other_sides rules i other rule inside is before here (r, h, left, right) =
+    let b = among_of_map rule_view r (take (i + 1) rules) h in
+    ⊎_elim (λ k. before (r, subst (λ (s : Rule). IsAmong s (map rule_view (take i rules))) (sym b.2) (among_map rule_view b.0 (take i rules) k), left, right))
+    (λ e.
+    let same : rule_view other ≡ r = sym (b.2 ∙ ap rule_view e) in
+    here (ap (λ (s : Rule). s.left) same ∙ left) (ap (λ (s : Rule). s.right) same ∙ right))
+    (in_front rules i other b.0 inside is b.1)
+
 module _ (P : Rule → Type 0) where
   pub each_more : (rs : List Rule) (i : ℕ) (r : Rule) → slice_get rs i ≡ Some r → P r → ((k : ℕ) (q : Rule) → k < i → slice_get rs k ≡ Some q → P q)
       → (k : ℕ) (q : Rule) → k < i + 1 → slice_get rs k ≡ Some q → P q
   each_more rs i r e here front k q l f =
       ⊎_elim (λ (h : k < i). front k q h f)
       (λ (h : i ≤ k). let same : k ≡ i = omega arith in let at : slice_get rs i ≡ Some q = subst (λ (j : ℕ). slice_get rs j ≡ Some q) same f in let one : r ≡ q = cc in subst P one here) (cases_lt k i)
+
+  pub each_in_front : (sys : System) (rules : List data_rule.Rule) (i n : ℕ) → map rule_view rules ≡ sys.rules → n ≡ i → ((k : ℕ) (q : Rule) → k < i → slice_get sys.rules k ≡ Some q → P q) → (r : Rule) → IsAmong r (map rule_view (take n rules)) → P r
+  each_in_front sys rules i n same c front r h =
+      let k = place_in_front rule_view rules n r h in
+      let low = k.1 in
+      front k.0 r (omega arith) (subst (λ (l : List Rule). slice_get l k.0 ≡ Some r) same k.2)
 
   pub each_all : (sys : System) (i : ℕ) → length sys.rules ≤ i → ((k : ℕ) (q : Rule) → k < i → slice_get sys.rules k ≡ Some q → P q) → (n : ℕ) (q : Rule) → rule_at sys n ≡ Some q → P q
   each_all sys i l front zero q e = absurd (cc)

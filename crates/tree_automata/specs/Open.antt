@@ -1,5 +1,5 @@
 -- Rules at whose arrivals the right side is kept, and the first that is not.
-use Rattle.std.specs.Prelude.{ℕ, List, Option, None, Some}
+use Rattle.std.specs.Prelude.{ℕ, ◌≡◌, List, Option, None, Some}
 use Rattle.rewriting.specs.Rules.{Rule, System}
 use Rattle.certificates.specs.Evidence.{Transition, Automaton}
 use Rattle.certificates.specs.Reasons.{EvidenceReason, auto_wide, auto_not_closed}
@@ -22,9 +22,16 @@ IsOpenJudged sys a None = IsClosed sys a
 IsOpenJudged sys a (Some (auto_not_closed i cs q)) = IsFirstOpen sys a i cs q
 IsOpenJudged sys a (Some _) = ⊥
 
+-- one of the rules has the same sides
+abbrev pub HaveSides : List Rule → Rule → Type 0
+HaveSides rs rule = (r : Rule) × IsAmong r rs × (r.left ≡ rule.left) × (r.right ≡ rule.right)
+
 -- the right side of the rule is kept at all arrivals of its left side
 abbrev pub IsRuleClosed : Indexed → Rule → Type 0
 IsRuleClosed a r = (cs : List ℕ) (q : ℕ) → IsChoice a.automaton.states r.left cs → ReachBy (Finds a) r.left cs q → IsRuleKept (Finds a) r cs q
+
+abbrev pub AreClosed : Indexed → List Rule → Type 0
+AreClosed a rs = (r : Rule) → IsAmong r rs → IsRuleClosed a r
 
 -- with these states the left side reaches q, and the right side is not kept there, first among its arrivals
 pub record IsOpenAt (a : Indexed) (r : Rule) (cs : List ℕ) (q : ℕ) : Type 0 where

@@ -10,7 +10,7 @@ ghost use Rattle.cert_model.specs.EvidenceView.{automaton_view};
 ghost use Rattle.automaton_runs.specs.Counted.{Finds};
 ghost use Rattle.tree_automata.specs.Accepts.{IsMarked, IsOneAccepting};
 
-use automaton_runs::{AutomatonIndex, Batch, reached};
+use automaton_runs::{AutomatonIndex, Choices, reached};
 use cert_model::Automaton;
 use number_sets::NumberRelation;
 use std::alloc::Global;
@@ -75,7 +75,8 @@ fn reached_from_0(
 ) -> Result<NumberRelation, NoMemory>
     ensures { IfOk result (λ r. (q k : ℕ) → Relates r q k ↔ ((k ≡ 0) × Reach (Finds index.now) (at (λ x. 0)) (view t.now) q)) }
 {
-    let batch = Batch::new(alloc, 1, 0, 0)?;
+    let choices = Choices::zeros(alloc, 0)?;
+    let batch = choices.batch(alloc, &[])?;
     reached(alloc, index, &batch, &[], t)
 }
 

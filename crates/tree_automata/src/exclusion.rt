@@ -1,45 +1,40 @@
-ghost use Rattle.std.specs.Prelude.{◌≡◌, ◌↔◌, ◌≤◌, ◌*◌, ◌^◌, ℕ, None, length, IfOk, IsTrue};
+ghost use Rattle.std.specs.Prelude.{◌≡◌, ◌↔◌, None, IfOk, IsTrue};
 ghost use Rattle.rewriting.specs.Terms as math;
-ghost use Rattle.rewriting.specs.Variables.{variable_occurrences};
 ghost use Rattle.automata.specs.Evidence.{IsExclusionJudged};
 ghost use Rattle.automata.specs.Closed.{Excludes};
 ghost use Rattle.term_core.specs.View.{view};
 ghost use Rattle.cert_model.specs.EvidenceView.{automaton_view};
 ghost use Rattle.refuter.specs.Answers.{RefutesAnswers};
+ghost use Rattle.automaton_runs.specs.Choices.{AreChoices};
 
 use crate::accepts::is_one_accepting;
 use crate::width::MAX_CHOICES;
 use automaton_runs::{
-    AutomatonIndex, Batch, batches, has_more_choices, occurrences, possible_batches,
-    reached_by_occurrences,
+    AutomatonIndex, Choices, has_more_choices, occurrences, reached_by_occurrences,
 };
 use cert_model::{Automaton, EvidenceReason};
 use refuter::Refusal;
 use std::alloc::Global;
 use term_core::{NoMemory, Term};
 
-// Whether no choice of states for so many variable occurrences brings a term to an accepting state.
+// Whether no choice of states for its variable occurrences brings a term to an accepting state.
 fn is_excluded(
     alloc: Global,
     index: &AutomatonIndex<'_>,
     a: &Automaton,
     t: &Term,
-    occurrences: usize,
+    choices: &Choices,
 ) -> Result<bool, NoMemory>
     requires fits { math.Fits (view t.now) }
     requires index { index.now.automaton ≡ automaton_view a.now }
-    requires length { occurrences ≡ length (variable_occurrences (view t.now)) }
-    requires few { index.now.automaton.states ^ occurrences ≤ 1000000 }
+    requires choices { AreChoices index.now (view t.now) choices.now }
     ensures { IfOk result (λ yes. IsTrue yes ↔ Excludes index.now.symbols (automaton_view a.now) (view t.now)) }
 {
-    let possible = possible_batches(alloc, index, t, occurrences)?;
-    for number in 0..batches(index.states(), occurrences) {
-        if possible.has(number) {
-            let batch = Batch::new(alloc, index.states(), occurrences, number)?;
-            let reached = reached_by_occurrences(alloc, index, &batch, t)?;
-            if is_one_accepting(&reached, a) {
-                return Ok(false);
-            }
+    for front in choices.fronts() {
+        let batch = choices.batch(alloc, front)?;
+        let reached = reached_by_occurrences(alloc, index, &batch, t)?;
+        if is_one_accepting(&reached, a) {
+            return Ok(false);
         }
     }
     Ok(true)
@@ -60,7 +55,8 @@ pub(crate) fn judge_exclusion(
     if has_more_choices(a.states, length, MAX_CHOICES) {
         return Err(Refusal::Reason(EvidenceReason::AutoWideRight));
     }
-    if !is_excluded(alloc, index, a, t, length)? {
+    let choices = Choices::new(alloc, index, t)?;
+    if !is_excluded(alloc, index, a, t, &choices)? {
         return Err(Refusal::Reason(EvidenceReason::AutoReaches));
     }
     Ok(())

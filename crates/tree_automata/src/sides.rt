@@ -2,6 +2,7 @@ ghost use Rattle.std.specs.Prelude.{◌≡◌, ◌↔◌, length, IfOk, IsTrue};
 ghost use Rattle.number_sets.specs.Sets.{members};
 ghost use Rattle.automata.specs.Closed.{Includes};
 ghost use Rattle.term_core.specs.View.{view};
+ghost use Rattle.automaton_runs.specs.Choices.{occurrences_of};
 ghost use Rattle.automaton_runs.specs.Counted.{Finds};
 ghost use Rattle.automaton_runs.specs.Reached.{AreWhere};
 ghost use Rattle.tree_automata.specs.Kept.{AreIncluding, IsInclusion, IsInclusionIfAsked, IsVariable, IsKeptBy};
@@ -77,11 +78,11 @@ pub(crate) fn kept(
     alloc: Global,
     index: &AutomatonIndex<'_>,
     inclusion: &NumberRelation,
-    batch: &Batch,
+    batch: &Batch<'_>,
     names: &[u32],
     right: &Term,
 ) -> Result<NumberRelation, NoMemory>
-    requires { length names.now ≡ batch.now.length }
+    requires { length names.now ≡ occurrences_of batch.now }
     ensures { IfOk result (AreWhere batch.now (IsKeptBy inclusion.now index.now names.now (view right.now))) }
 {
     let reached = reached(alloc, index, batch, names, right)?;

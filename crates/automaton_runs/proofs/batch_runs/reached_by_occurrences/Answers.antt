@@ -13,13 +13,14 @@ pub numbers-requires : goal.numbers-requires
 numbers-requires c =
     let low = c.requires.fits.nodes in
     let long = c.requires.length in
-    let is = c.occurrences.ensures in
+    let is = c.occurrences.ensures.count in
     omega (arith, leaves_few (view c.args.t.now))
 
 pub reached-requires : goal.reached-requires
-reached-requires c = ap length (c.deref.ensures.value ∙ c.in_ok-names.ensures) ∙ length_below c.occurrences.result ∙ c.occurrences.ensures
+reached-requires c = ap length (c.deref.ensures.value ∙ c.in_ok-names.ensures) ∙ length_below c.occurrences.result ∙ c.occurrences.ensures.count
 
 pub returns : goal.returns
 returns c =
     IfOk-weaker c.reached.result _ (AreWhere c.args.batch.now (ReachBy (Finds c.args.index.now) (view c.args.t.now)))
-    (λ r. where_occurrences c.args.index.now c.args.batch.now (view c.args.t.now) (view c.in_ok-linear.field-0) c.deref.result.now r c.requires.length (c.deref.ensures.value ∙ c.in_ok-names.ensures ∙ ap below c.occurrences.ensures) c.in_ok-linear.ensures) c.reached.ensures
+    (λ r. where_occurrences c.args.index.now c.args.batch.now (view c.args.t.now) (view c.in_ok-linear.field-0) c.deref.result.now r c.requires.length c.occurrences.ensures.wide
+    (c.deref.ensures.value ∙ c.in_ok-names.ensures ∙ ap below c.occurrences.ensures.count) c.in_ok-linear.ensures) c.reached.ensures

@@ -2,7 +2,8 @@ use Rattle.std.proofs.Common.{◌↔◌, ℕ, take}
 use Rattle.rewriting.specs.Lists.{IsAmong}
 use Rattle.number_sets.specs.Sets.{members}
 use Rattle.automaton_runs.specs.Reached.{AreRelated}
+use Rattle.automaton_runs.specs.Relations.{relations}
 use Rattle.automaton_runs.proofs.batch_runs.shared.Given as goal
 
 abbrev pub invariant-loop-place : goal.invariant-loop-place
-invariant-loop-place l = (k : ℕ) → IsAmong k (members l.set) ↔ (IsAmong k (members l.all) × AreRelated (take l.place l.args) (take l.place l.states) k)
+invariant-loop-place l = (k : ℕ) → IsAmong k (members l.set) ↔ (IsAmong k (members l.all) × AreRelated (take l.place (relations l.args)) (take l.place l.states) k)

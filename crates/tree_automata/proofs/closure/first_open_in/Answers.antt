@@ -1,30 +1,43 @@
-use Rattle.std.proofs.Common.{◌∙◌, List, ℕ, length, ap, sym, subst, arith}
+use Rattle.std.proofs.Common.{Option, subst}
+use Rattle.std.specs.Prelude.{IfSome}
+use Rattle.std.specs.Borrow.{Bor}
+use Rattle.std.proofs.lemmas.Result.{IfOk-weaker}
 use Rattle.term_core.specs.View.{view}
+use Rattle.number_sets.specs.declared.rows.NumberRelation.{NumberRelation}
+use Rattle.automaton_runs.specs.Reached.{AreWhere}
 use Rattle.tree_automata.specs.Kept.{IsKeptBy}
-use Rattle.tree_automata.specs.Batches.{IsFirstFailure}
-use Rattle.tree_automata.proofs.Batches.{batch_kept, batch_empty, batch_failure}
+use Rattle.tree_automata.specs.Batches.{LackingAtAnswers, FailureInAnswers}
+use Rattle.tree_automata.proofs.Batches.{in_empty, in_answers}
 use Rattle.tree_automata.proofs.closure.first_open_in.Goals as goal
 
-pub returns-in-None : goal.returns-in-None
-returns-in-None c =
+pub returns-then-is_empty : goal.returns-then-is_empty
+returns-then-is_empty c =
     let a = c.args.index.now in
-    batch_kept a (view c.args.rule.now.left) c.args.batch.now c.requires.states (c.requires.length ∙ ap length c.requires.names) c.in_ok-left.left c.in_ok-left.ensures (IsKeptBy c.args.inclusion.now a c.args.names.now (view c.args.rule.now.right))
-    c.in_ok-right.right c.in_ok-right.ensures c.requires.before c.in-None.ensures
+    let P = IsKeptBy c.args.inclusion.now a c.args.names.now (view c.args.rule.now.right) in
+    in_empty a (view c.args.rule.now.left) P c.args.batch.now c.in_ok-left.left c.in_ok-left.ensures (c.is_empty.ensures.0 c.if-is_empty.true)
 
-pub choice-requires-clause-within : goal.choice-requires-clause-within
-choice-requires-clause-within c = ((c.in_ok-left.ensures c.in-Some.state c.in-Some.k).0 c.in-Some.ensures.inside).0
+pub first_lacking-requires : goal.first_lacking-requires
+first_lacking-requires c = λ q k h. ((c.in_ok-left.ensures q k).0 h).0
+
+pub returns-in-Some : goal.returns-in-Some
+returns-in-Some c =
+    let a = c.args.index.now in
+    let t = view c.args.rule.now.left in
+    let b = c.args.batch.now in
+    let P = IsKeptBy c.args.inclusion.now a c.args.names.now (view c.args.rule.now.right) in
+    let right = c.in-Some.right.now in
+    let kept = subst (λ (o : Option (Bor NumberRelation)). IfSome o (λ r. AreWhere b P r.now)) c.in-Some.is c.requires.known in
+    IfOk-weaker c.first_lacking.result (LackingAtAnswers b c.in_ok-left.left right) (FailureInAnswers a t P b) (in_answers a t P b c.in_ok-left.left c.in_ok-left.ensures right kept) c.first_lacking.ensures
+
+pub first_lacking-requires-in-None : goal.first_lacking-requires-in-None
+first_lacking-requires-in-None c = λ q k h. ((c.in_ok-left.ensures q k).0 h).0
 
 pub returns : goal.returns
 returns c =
     let a = c.args.index.now in
     let t = view c.args.rule.now.left in
+    let b = c.args.batch.now in
     let P = IsKeptBy c.args.inclusion.now a c.args.names.now (view c.args.rule.now.right) in
-    subst (λ (cs : List ℕ). IsFirstFailure a t P cs c.in-Some.state) (sym c.in_ok-choice-in-Some.ensures)
-    (batch_failure a t c.args.batch.now c.requires.states (c.requires.length ∙ ap length c.requires.names) c.in_ok-left.left c.in_ok-left.ensures P c.in_ok-right.right c.in_ok-right.ensures c.requires.before c.in-Some.state c.in-Some.k
-    c.in-Some.ensures)
-
-pub returns-then-lefts-eq0 : goal.returns-then-lefts-eq0
-returns-then-lefts-eq0 c =
-    let a = c.args.index.now in
-    batch_empty a (view c.args.rule.now.left) c.args.batch.now c.requires.states (c.requires.length ∙ ap length c.requires.names) c.in_ok-left.left c.in_ok-left.ensures (IsKeptBy c.args.inclusion.now a c.args.names.now (view c.args.rule.now.right))
-    c.requires.before (λ q k h. let low = c.lefts.ensures.above q k h in let none = c.if-lefts-eq0.true in omega arith)
+    let right = c.in_ok-right-in-None.right in
+    IfOk-weaker c.first_lacking-in-None.result (LackingAtAnswers b c.in_ok-left.left right) (FailureInAnswers a t P b) (in_answers a t P b c.in_ok-left.left c.in_ok-left.ensures right c.in_ok-right-in-None.ensures)
+    c.first_lacking-in-None.ensures

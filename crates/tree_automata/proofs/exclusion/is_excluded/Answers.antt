@@ -1,50 +1,63 @@
-use Rattle.std.proofs.Common.{◌≡◌, ◌≤◌, ◌*◌, ◌^◌, ◌∙◌, ℕ, length, refl, ap₂, sym, subst}
+use Rattle.std.proofs.Common.{◌≡◌, ◌+◌, ◌≤◌, ◌∙◌, ℕ, List, Some, length, slice_get, refl, ap, sym, subst, arith}
 use Rattle.std.proofs.lemmas.Bool.{false≢true}
-use Rattle.rewriting.specs.Variables.{variable_occurrences}
+use Rattle.std.proofs.lemmas.List.{length-map}
 use Rattle.certificates.specs.Evidence.{Automaton}
+use Rattle.automata.specs.Runs.{ReachBy}
 use Rattle.automata.specs.Closed.{Excludes}
 use Rattle.term_core.specs.View.{view}
-use Rattle.number_sets.specs.Sets.{members}
+use Rattle.automaton_runs.specs.Counted.{Finds}
+use Rattle.automaton_runs.specs.Choices.{Batch, occurrences_of}
+use Rattle.automaton_runs.specs.Reached.{AreWhere}
+use Rattle.automaton_runs.proofs.BatchParts.{list_at}
+use Rattle.automaton_runs.proofs.ChoiceLists.{place_among}
 use Rattle.tree_automata.specs.Accepts.{IsOneAccepting}
-use Rattle.tree_automata.proofs.Batches.{IsNot, throughout, below_passed, past_all, excluded, batch_accepts, batch_accepts_none}
+use Rattle.tree_automata.specs.Batches.{batch_at}
+use Rattle.tree_automata.proofs.Batches.{IsNot, below_more, throughout, excluded, not_excluded, none_in}
 use Rattle.tree_automata.proofs.exclusion.is_excluded.Goals as goal
-use Rattle.tree_automata.proofs.exclusion.is_excluded.Goals.{then-has+in_ok-batch+in_ok-reached+else-is_one_accepting, else-has}
+
+pub reached_by_occurrences-requires-clause-length : goal.reached_by_occurrences-requires-clause-length
+reached_by_occurrences-requires-clause-length c =
+    let at = subst (λ (fs : List (List ℕ)). slice_get fs c.loop-front.front-index ≡ Some c.front-item.result.items) c.fronts-front-items.ensures
+    (list_at c.fronts-front-items.result.now c.loop-front.front-index c.front-item.result c.loop-front-test.true c.front-item.is) in
+    let long = c.requires.choices.long c.front-item.result.items (place_among c.args.choices.now.fronts c.loop-front.front-index c.front-item.result.items at) in
+    ap occurrences_of c.in_ok-batch.ensures ∙ ap (λ (f : List ℕ). length f + c.args.choices.now.width) c.deref.ensures.value ∙ long
 
 pub returns-then-is_one_accepting : goal.returns-then-is_one_accepting
 returns-then-is_one_accepting c =
     let a = c.args.index.now in
     let t = view c.args.t.now in
-    let b = c.in_ok-batch in (
+    let front = c.front-item.result.items in
+    let at = subst (λ (fs : List (List ℕ)). slice_get fs c.loop-front.front-index ≡ Some c.front-item.result.items) c.fronts-front-items.ensures
+    (list_at c.fronts-front-items.result.now c.loop-front.front-index c.front-item.result c.loop-front-test.true c.front-item.is) in
+    let is : c.in_ok-batch.batch ≡ batch_at c.args.choices.now c.front-item.result.items = c.in_ok-batch.ensures ∙ ap (batch_at c.args.choices.now) c.deref.ensures.value in (
       λ h. absurd (false≢true h),
       λ ex.
           absurd
-          (batch_accepts a t b.batch (b.ensures.states ∙ c.states-then-has.ensures) (b.ensures.length ∙ c.requires.length) c.in_ok-reached.reached c.in_ok-reached.ensures
+          (not_excluded a t c.args.choices.now c.requires.choices front (place_among c.args.choices.now.fronts c.loop-front.front-index front at) c.in_ok-reached.reached
+          (subst (λ (b : Batch). AreWhere b (ReachBy (Finds a) t) c.in_ok-reached.reached) is c.in_ok-reached.ensures)
           (subst (λ (x : Automaton). IsOneAccepting x c.in_ok-reached.reached) (sym c.requires.index) (c.if-is_one_accepting.ensures.0 refl)) (subst (λ (x : Automaton). Excludes a.symbols x t) (sym c.requires.index) ex)),
     )
 
-pub loop-number-preserved : goal.loop-number-preserved
-loop-number-preserved c =
+pub loop-front-preserved : goal.loop-front-preserved
+loop-front-preserved c =
     let a = c.args.index.now in
     let t = view c.args.t.now in
-    elim c.if-has.branch [
-      | then-has+in_ok-batch+in_ok-reached+else-is_one_accepting w ↦
-          let b = w.in_ok-batch in
-          batch_accepts_none a t b.batch (b.ensures.states ∙ w.states-then-has.ensures) (b.ensures.length ∙ c.requires.length) w.in_ok-reached.reached w.in_ok-reached.ensures c.loop-number.number b.ensures.number c.loop-number.invariant
-          (λ h. false≢true (sym w.if-is_one_accepting.false ∙ w.is_one_accepting.ensures.1 (subst (λ (x : Automaton). IsOneAccepting x w.in_ok-reached.reached) c.requires.index h)))
-      | else-has w ↦
-          below_passed a t (IsNot a t) (members c.in_ok-possible.possible) c.loop-number.number c.in_ok-possible.ensures (λ h. false≢true (sym w.if-has.false ∙ c.has.ensures.1 h)) c.loop-number.invariant
-    ]
+    let front = c.front-item.result.items in
+    let at = subst (λ (fs : List (List ℕ)). slice_get fs c.loop-front.front-index ≡ Some c.front-item.result.items) c.fronts-front-items.ensures
+    (list_at c.fronts-front-items.result.now c.loop-front.front-index c.front-item.result c.loop-front-test.true c.front-item.is) in
+    let is : c.in_ok-batch.batch ≡ batch_at c.args.choices.now c.front-item.result.items = c.in_ok-batch.ensures ∙ ap (batch_at c.args.choices.now) c.deref.ensures.value in
+    below_more a t (IsNot a t) c.args.choices.now c.requires.choices c.loop-front.front-index front at c.loop-front.invariant
+    (none_in a t c.args.choices.now c.requires.choices front (place_among c.args.choices.now.fronts c.loop-front.front-index front at) c.in_ok-reached.reached
+    (subst (λ (b : Batch). AreWhere b (ReachBy (Finds a) t) c.in_ok-reached.reached) is c.in_ok-reached.ensures)
+    (λ h. false≢true (c.if-is_one_accepting.ensures.1 (subst (λ (x : Automaton). IsOneAccepting x c.in_ok-reached.reached) c.requires.index h))))
 
 pub returns : goal.returns
 returns c =
     let a = c.args.index.now in
     let t = view c.args.t.now in
-    let count : c.states.result ^ c.args.occurrences ≡ a.automaton.states ^ length (variable_occurrences t) = ap₂ (λ (n m : ℕ). n ^ m) c.states.ensures c.requires.length in (
+    let past : length c.args.choices.now.fronts ≤ c.loop-front.front-index = omega (arith, c.loop-front-test.false, ap length c.fronts-front-items.ensures, length-map c.fronts-front-items.result.now (λ v. v.items)) in (
       λ _.
           subst (λ (x : Automaton). Excludes a.symbols x t) c.requires.index
-          (excluded a t
-          (throughout a t (IsNot a t) (4096 * c.loop-number.number)
-          (subst (λ (n : ℕ). n ≤ 4096 * c.loop-number.number) count (past_all c.batches-number-end.result (c.states.result ^ c.args.occurrences) c.loop-number.number c.batches-number-end.ensures c.loop-number-test.false))
-          c.loop-number.invariant)),
+          (excluded a t (throughout a t (IsNot a t) c.args.choices.now c.requires.choices c.loop-front.front-index past c.loop-front.invariant)),
       λ _. refl,
     )

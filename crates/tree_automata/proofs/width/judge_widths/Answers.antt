@@ -1,4 +1,4 @@
-use Rattle.std.proofs.Common.{◌+◌, ◌<◌, ◌^◌, ◌∙◌, ℕ, refl, ap}
+use Rattle.std.proofs.Common.{◌+◌, ◌∙◌, ℕ, refl, ap}
 use Rattle.rewriting.specs.Rules.{Rule}
 use Rattle.automata.specs.Closed.{IsWide}
 use Rattle.term_core.specs.View.{view}
