@@ -2,12 +2,12 @@
 //! states or none.
 
 use crate::runs::{print_rows, print_runs};
-use automaton_runs::{AutomatonIndex, Batch, has_more_choices, occurrences, reached};
+use automaton_runs::{AutomatonIndex, Choices, has_more_choices, occurrences, reached};
 use cert_model::{Automaton, Transition};
 use cops_read::read_system;
 use std::alloc::Global;
 use std::io;
-use term_core::{NoMemory, Term};
+use term_core::{NoMemory, Term, fits};
 
 // Of a line with a symbol, or a word that is no number, the target and the states of the arguments.
 fn transition_of(alloc: Global, line: &str) -> Result<Transition, NoMemory> {
@@ -105,19 +105,31 @@ fn print_named(rt: &HostRuntime, index: &AutomatonIndex<'_>, t: &Term) -> io::Re
     let Ok(names) = occurrences(alloc, t) else {
         return println!(rt; "no memory");
     };
-    if has_more_choices(index.states(), names.len(), 1_000_000) {
+    if !fits(t) || has_more_choices(index.states(), names.len(), 1_000_000) {
         return Ok(());
     }
-    let Ok(batch) = Batch::new(alloc, index.states(), names.len(), 0) else {
-        return println!(rt; "no memory");
-    };
-    match first_names(alloc, &names) {
-        Ok(firsts) if firsts.len() == batch.occurrences() => {
-            match reached(alloc, index, &batch, &firsts, t) {
-                Ok(found) => print_rows(rt, "by the first name", index.states(), &found),
-                Err(_) => println!(rt; "no memory"),
-            }
-        }
+    match (Choices::new(alloc, index, t), first_names(alloc, &names)) {
+        (Ok(choices), Ok(firsts)) => print_firsts(rt, index, &choices, &firsts, t),
         _ => println!(rt; "no memory"),
     }
+}
+
+fn print_firsts(
+    rt: &HostRuntime,
+    index: &AutomatonIndex<'_>,
+    choices: &Choices,
+    firsts: &[u32],
+    t: &Term,
+) -> io::Result<()> {
+    for front in choices.fronts() {
+        match choices.batch(rt.alloc(), front) {
+            Ok(batch) if firsts.len() == batch.occurrences() => {
+                if let Ok(found) = reached(rt.alloc(), index, &batch, firsts, t) {
+                    print_rows(rt, "by the first name", index.states(), &found)?;
+                }
+            }
+            _ => println!(rt; "no batch")?,
+        }
+    }
+    Ok(())
 }

@@ -45,13 +45,17 @@ fn print_members(rt: &HostRuntime, set: &NumberSet, text: &str) -> io::Result<()
     Ok(())
 }
 
-// What two sets share, and what is in one of them.
+// What two sets share, also put to other numbers, and what is in one of them.
 fn print_joined(rt: &HostRuntime, set: NumberSet, other: &NumberSet) -> io::Result<()> {
     let alloc = rt.alloc();
     let mut all = set;
     if let Ok(mut shared) = all.copy(alloc) {
         shared.keep_shared(other);
         println!(rt; "shared: {:?}", shared.numbers(alloc))?;
+    }
+    if let Ok(mut put) = NumberSet::alone(alloc, 64) {
+        let told = put.insert_shared(&all, other);
+        println!(rt; "shared, put to 64: {told:?} {:?}", put.numbers(alloc))?;
     }
     let told = all.insert_all(other);
     println!(rt; "joined: {told:?} {:?}", all.numbers(alloc))
@@ -92,6 +96,9 @@ pub fn print_relations(rt: &HostRuntime, first: &str, second: &str) -> io::Resul
             if let Ok(converse) = relation.converse(alloc) {
                 print_relation(rt, "converse", &converse)?;
             }
+            if let Ok(shared) = shared(alloc, &relation, &by) {
+                print_relation(rt, "shared", &shared)?;
+            }
             match joined(alloc, &relation, &by) {
                 Ok(joined) => print_relation(rt, "joined", &joined),
                 Err(_) => println!(rt; "no memory"),
@@ -99,6 +106,22 @@ pub fn print_relations(rt: &HostRuntime, first: &str, second: &str) -> io::Resul
         }
         _ => println!(rt; "no memory"),
     }
+}
+
+// The relation, and at half of each number what its row shares with that of another.
+fn shared(
+    alloc: Global,
+    relation: &NumberRelation,
+    other: &NumberRelation,
+) -> Result<NumberRelation, NoMemory> {
+    let mut shared = relation.copy(alloc)?;
+    for left in 0..other.lefts() {
+        let left = left as u32;
+        if let (Some(first), Some(second)) = (relation.row(left), other.row(left)) {
+            shared.insert_shared(alloc, left / 2, first, second)?;
+        }
+    }
+    Ok(shared)
 }
 
 fn joined(
@@ -117,7 +140,11 @@ fn joined(
 
 // The numbers that are related to some number, with theirs.
 fn print_relation(rt: &HostRuntime, name: &str, relation: &NumberRelation) -> io::Result<()> {
-    println!(rt; "{name} of numbers below {}", relation.lefts())?;
+    let empty = relation.is_empty();
+    println!(rt;
+        "{name} of numbers below {}, empty {empty}",
+        relation.lefts()
+    )?;
     for left in 0..relation.lefts() {
         print_row(rt, left as u32, relation)?;
     }

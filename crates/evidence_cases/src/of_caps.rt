@@ -5,9 +5,11 @@ ghost use Rattle.term_core.specs.View.{view};
 
 use refuter::Refuter;
 use rule_index::IndexedSystem;
+use std::alloc::Global;
 use std::io;
 use tcap_infeasible::{
-    IndexedTcap, TcapEvidence, compare_caps, compare_rigid_caps, rigid_cap, tcap,
+    Cap, IndexedTcap, TcapEvidence, compare_caps, compare_rigid_caps, made_caps_clash, rigid_cap,
+    tcap,
 };
 use term_core::{Cond, System, Term, fits, size, try_clone};
 
@@ -43,7 +45,39 @@ pub fn print_caps(rt: &HostRuntime, title: &str, sys: &System, t: &Term) -> io::
     if is_below(t, fresh) {
         println!(rt; "rigid cap: {:?}", rigid_cap(rt.alloc(), &sys, t, fresh))?;
     }
-    print_compared(rt, &sys, t)
+    print_compared(rt, &sys, t, fresh)
+}
+
+// The rigid cap of a term with holes from a number on, where it can have them.
+fn made_cap(alloc: Global, sys: &IndexedSystem, t: &Term, fresh: u32) -> Option<Term> {
+    if !fits(t) || u64::from(fresh) + u64::from(size(t)) > 4294967296 {
+        return None;
+    }
+    if !is_below(t, fresh) {
+        return None;
+    }
+    match rigid_cap(alloc, sys, t, fresh) {
+        Ok(Cap::Capped(cap)) => Some(cap),
+        _ => None,
+    }
+}
+
+// Whether the rigid caps of two terms clash that are made one after the other.
+fn print_made(
+    rt: &HostRuntime,
+    sys: &IndexedSystem,
+    u: &Term,
+    v: &Term,
+    fresh: u32,
+) -> io::Result<()> {
+    let Some(first) = made_cap(rt.alloc(), sys, u, fresh) else {
+        return Ok(());
+    };
+    let Some(second) = made_cap(rt.alloc(), sys, v, fresh) else {
+        return Ok(());
+    };
+    let clash = made_caps_clash(&first, &second, fresh);
+    println!(rt; "made rigid caps of the arguments clash: {clash}")
 }
 
 // What the evidence by caps is judged to be with the system's index, and with one of its own.
@@ -61,7 +95,7 @@ fn print_evidence(rt: &HostRuntime, sys: &IndexedSystem, u: &Term, v: &Term) -> 
     println!(rt; "evidence by caps: {indexed:?}, with an index of its own: {alone:?}")
 }
 
-fn print_compared(rt: &HostRuntime, sys: &IndexedSystem, t: &Term) -> io::Result<()> {
+fn print_compared(rt: &HostRuntime, sys: &IndexedSystem, t: &Term, fresh: u32) -> io::Result<()> {
     let Term::Fun(_, args) = t else {
         return Ok(());
     };
@@ -79,5 +113,6 @@ fn print_compared(rt: &HostRuntime, sys: &IndexedSystem, t: &Term) -> io::Result
         "rigid caps of the arguments: {:?}",
         compare_rigid_caps(rt.alloc(), sys, u, v)
     )?;
+    print_made(rt, sys, u, v, fresh)?;
     print_evidence(rt, sys, u, v)
 }

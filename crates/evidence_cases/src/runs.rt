@@ -2,7 +2,7 @@
 
 use automaton_grow::grow;
 use automaton_runs::{
-    AutomatonIndex, Batch, arrivals, has_more_choices, occurrences, possible_batches, reached,
+    AutomatonIndex, Choices, arrivals, has_more_choices, occurrences, reached,
     reached_by_occurrences,
 };
 use cert_model::Automaton;
@@ -23,10 +23,7 @@ pub fn print_runs(rt: &HostRuntime, sys: &System, a: &Automaton, t: &Term) -> io
         println!(rt; "accepts, marks: {:?}", marks(rt.alloc(), a, t))?;
     }
     match AutomatonIndex::new(rt.alloc(), None, a) {
-        Ok(index) => {
-            print_arrivals(rt, &index, t)?;
-            print_reached(rt, &index, t)
-        }
+        Ok(index) => print_arrivals(rt, &index, t),
         Err(_) => println!(rt; "no memory"),
     }
 }
@@ -44,7 +41,7 @@ fn marks(alloc: Global, a: &Automaton, t: &Term) -> Result<(bool, Vec<bool>), No
     Ok((accepted, marks))
 }
 
-// The arrivals of a term, and the batches by which there are some.
+// The arrivals of a term, and the choices by which there may be some.
 fn print_arrivals(rt: &HostRuntime, index: &AutomatonIndex<'_>, t: &Term) -> io::Result<()> {
     let alloc = rt.alloc();
     let Ok(names) = occurrences(alloc, t) else {
@@ -54,24 +51,39 @@ fn print_arrivals(rt: &HostRuntime, index: &AutomatonIndex<'_>, t: &Term) -> io:
         return println!(rt; "many choices");
     }
     println!(rt; "arrivals: {:?}", arrivals(alloc, index, t))?;
-    match possible_batches(alloc, index, t, names.len()) {
-        Ok(possible) => println!(rt; "possible batches: {:?}", possible.numbers(alloc)),
-        Err(_) => println!(rt; "no memory"),
+    let Ok(choices) = Choices::new(alloc, index, t) else {
+        return println!(rt; "no memory");
+    };
+    println!(rt; "{} fronts", choices.fronts().len())?;
+    for front in choices.fronts().iter().take(3) {
+        print_batch(rt, index, &choices, front, t)?;
     }
+    Ok(())
 }
 
-// The states that a term reaches by the choices of the first batch, for its occurrences of variables and for its variables.
-fn print_reached(rt: &HostRuntime, index: &AutomatonIndex<'_>, t: &Term) -> io::Result<()> {
+// Some of the choices with a front, and the states that a term reaches by them, for its occurrences of variables and for its
+// variables.
+fn print_batch(
+    rt: &HostRuntime,
+    index: &AutomatonIndex<'_>,
+    choices: &Choices,
+    front: &[u32],
+    t: &Term,
+) -> io::Result<()> {
     let alloc = rt.alloc();
+    let Ok(batch) = choices.batch(alloc, front) else {
+        return println!(rt; "no memory");
+    };
     let Ok(names) = occurrences(alloc, t) else {
         return println!(rt; "no memory");
     };
-    if !fits(t) || has_more_choices(index.states(), names.len(), 1_000_000) {
-        return println!(rt; "many choices");
+    println!(rt; "{} choices with {front:?}", batch.len())?;
+    for k in 0..batch.len().min(2) {
+        println!(rt; "{k}: {:?}", batch.choice(alloc, k))?;
     }
-    let Ok(batch) = Batch::new(alloc, index.states(), names.len(), 0) else {
-        return println!(rt; "no memory");
-    };
+    if !fits(t) || batch.occurrences() != names.len() {
+        return println!(rt; "other names");
+    }
     if let Ok(found) = reached_by_occurrences(alloc, index, &batch, t) {
         print_rows(rt, "by occurrences", index.states(), &found)?;
     }

@@ -8,10 +8,8 @@ use Rattle.rewriting.specs.Terms.{Term}
 use Rattle.rewriting.specs.Rules.{System}
 use Rattle.rewriting.specs.Systems.{IsWellFormed}
 use Rattle.rewriting.proofs.Lists.{among_left, among_right, among_middle}
-use Rattle.unifier_run.specs.Run.{Binding, unifier, clash, too_large}
-use Rattle.caps.specs.Caps.{kept}
-use Rattle.caps.specs.Evidence.{IsPairOutcome, IsRigidOutcome, IsPairLarge}
-use Rattle.caps.proofs.Unique.{one_outcome}
+use Rattle.unifier_run.specs.Run.{clash}
+use Rattle.caps.specs.Evidence.{IsRigidOutcome}
 use Rattle.certificates.specs.Certificates as math
 use Rattle.certificates.specs.Certificates.{Apartness, by_normal_forms, by_rigid_caps, Certificate}
 use Rattle.certificates.specs.Judging.{Derives}
@@ -30,12 +28,8 @@ use Rattle.search_spaces.specs.PeakItems.{IsFirstRefuted, TriesApart, try_ends, 
 use Rattle.search_spaces.specs.Texts.{HasText}
 use Rattle.search_spaces.proofs.PeakOnce.{apart_once}
 use Rattle.noncon_search.specs.Refuted.{RefutedAnswers}
-use Rattle.tcap_infeasible.specs.Compared.{PairAnswers}
-use Rattle.tcap_infeasible.specs.declared.comparing.ComparedCaps.{ComparedCaps}
-use Rattle.tcap_infeasible.specs.declared.comparing.ComparedCaps.TheVariants.{Unify, TooLarge}
-use Rattle.noncon_search.specs.Ends.{IsOpen, HasHole}
+use Rattle.noncon_search.specs.Ends.{IsOpen}
 use Rattle.noncon_search.specs.Answers.{peak_of}
-use Rattle.noncon_search.proofs.Clashing.{never_first, never_second}
 use Rattle.noncon_search.proofs.Moving.{refuted_as, firsts_as, firsts_append}
 
 -- a term with a redex that has no evidence
@@ -122,28 +116,8 @@ module _ (sys : System) (u v : Term) where
 
   -- where caps do not clash, and only caps are tried
   module _ (tries : TriesApart sys u v by_rigid_caps) where
-    not_by_caps : (IsRigidOutcome sys u v clash → ⊥) → (a : Apartness) → TriesApart sys u v a → AreShownApart sys u v a → ⊥
+    pub not_by_caps : (IsRigidOutcome sys u v clash → ⊥) → (a : Apartness) → TriesApart sys u v a → AreShownApart sys u v a → ⊥
     not_by_caps never a t s = never (subst (AreShownApart sys u v) (apart_once sys u v a by_rigid_caps t tries) s)
-
-    pub hole_first : HasHole sys u → (a : Apartness) → TriesApart sys u v a → AreShownApart sys u v a → ⊥
-    hole_first h = not_by_caps (λ o. never_first sys u v o h)
-
-    pub hole_second : HasHole sys v → (a : Apartness) → TriesApart sys u v a → AreShownApart sys u v a → ⊥
-    hole_second h = not_by_caps (λ o. never_second sys u v o h)
-
-    unify_none : (b : List Binding) → IsPairOutcome sys kept u v (unifier b) → IsRigidOutcome sys u v clash → ⊥
-    unify_none b h k = let same = (one_outcome sys kept u v).one clash (unifier b) k h in cc
-
-    large_none : IsPairLarge sys kept u v → IsRigidOutcome sys u v clash → ⊥
-    large_none (inl (inl h)) k = ((one_outcome sys kept u v).never_both clash k).0 h
-    large_none (inl (inr h)) k = ((one_outcome sys kept u v).never_both clash k).1 h
-    large_none (inr h) k = let same = (one_outcome sys kept u v).one clash too_large k h in cc
-
-    pub caps_unify : (r : ComparedCaps) → r ≡ Unify → PairAnswers sys kept u v (Ok r) → (a : Apartness) → TriesApart sys u v a → AreShownApart sys u v a → ⊥
-    caps_unify r is h = let w = subst (λ z. PairAnswers sys kept u v (Ok z)) is h in not_by_caps (unify_none w.0 w.1)
-
-    pub caps_too_large : (r : ComparedCaps) → r ≡ TooLarge → PairAnswers sys kept u v (Ok r) → (a : Apartness) → TriesApart sys u v a → AreShownApart sys u v a → ⊥
-    caps_too_large r is h = not_by_caps (large_none (subst (λ z. PairAnswers sys kept u v (Ok z)) is h))
 
 -- the certificate of two listed terms
 module _ (names : NameTable) (sys : System) (t : Term) (x y : Reached) (first : Derives sys [] t x.by x.term) (second : Derives sys [] t y.by y.term) where

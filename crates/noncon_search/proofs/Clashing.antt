@@ -1,57 +1,48 @@
--- A rigid cap that is a hole clashes with no other.
-use Rattle.std.proofs.Common.{ℕ, ◌≡◌, ◌<◌, ◌≤◌, inl, inr, true, sym, ap, ◌∙◌, subst, eq-eqb, arith}
-use Rattle.rewriting.specs.Terms.{Term, var, app, nil, cons}
-use Rattle.rewriting.specs.Substitutions.{apply}
-use Rattle.rewriting.specs.Variables.{occurs}
-use Rattle.rewriting.specs.Unifiers.{even, odd}
+-- Whether rigid caps clash, by what stands for them.
+use Rattle.std.proofs.Common.{◌≡◌, ◌^◌, inl, inr, Bool, true, false, List, Option, None, Some, Ok, sym, ap, ◌∙◌, arith}
+use Rattle.std.specs.Prelude.{IfSome}
+use Rattle.std.proofs.lemmas.Bool.{false≢true}
+use Rattle.rewriting.specs.Terms.{Term}
 use Rattle.rewriting.specs.Rules.{System}
-use Rattle.rewriting.proofs.Unifiers.{both, apply-even, apply-odd}
-use Rattle.unifier_run.specs.Run.{clash}
-use Rattle.unifier_run.proofs.General.{no_unifier}
-use Rattle.caps.specs.Caps.{Cap, hole, kept, node, filled, frozen_from, IsCapOf}
-use Rattle.caps.specs.Evidence.{past_both, IsRigidOutcome}
-use Rattle.caps.proofs.Reducts.{apply-var}
-use Rattle.caps.proofs.Unique.{cap_same, one_outcome}
-use Rattle.noncon_search.specs.Ends.{HasHole, IsVariableFrom}
+use Rattle.unifier_run.specs.Run.{Binding, unifier, clash, too_large}
+use Rattle.caps.specs.Caps.{kept}
+use Rattle.caps.specs.Evidence.{IsRigidOutcome, IsPairLarge}
+use Rattle.caps.proofs.Unique.{one_outcome}
+use Rattle.term_core.specs.View.{view}
+use Rattle.term_core.specs.declared.terms.Term as program
+use Rattle.tcap_infeasible.specs.Clashes.{do_clash}
+use Rattle.tcap_infeasible.proofs.Clashes.{first_open, second_open}
+use Rattle.tcap_infeasible.proofs.Made.{made_answers}
+use Rattle.noncon_search.specs.Ends.{StandsForCap}
+use Rattle.noncon_search.specs.Laying.{DoMeet}
+use Rattle.noncon_search.specs.Answers.{CapsAnswers}
 
-module _ (sys : System) (u v : Term) (o : IsRigidOutcome sys u v clash) where
-  abbrev start : Term
-  start = frozen_from (past_both sys o.first o.second) o.first
+-- there is one outcome
+module _ (sys : System) (u v : Term) where
+  pub unify_none : (b : List Binding) → IsRigidOutcome sys u v (unifier b) → IsRigidOutcome sys u v clash → ⊥
+  unify_none b h k = let same = (one_outcome sys kept u v).one clash (unifier b) k h in cc
 
-  abbrev other : Term
-  other = frozen_from (past_both sys o.first o.second) o.second
+  pub large_none : IsPairLarge sys kept u v → IsRigidOutcome sys u v clash → ⊥
+  large_none (inl (inl h)) k = ((one_outcome sys kept u v).never_both clash k).0 h
+  large_none (inl (inr h)) k = ((one_outcome sys kept u v).never_both clash k).1 h
+  large_none (inr h) k = let same = (one_outcome sys kept u v).one clash too_large k h in cc
 
-  hole_first : IsCapOf sys kept u hole → ⊥
-  hole_first h =
-      let opens : apply (λ x. other) start ≡ other = ap (λ c. apply (λ (x : ℕ). other) (frozen_from (past_both sys o.first o.second) c)) (cap_same sys kept u o.first hole o.is_first h) in
-      no_unifier (cons (apply even start) nil) (cons (apply odd other) nil) o.outcome (both (λ x. other) var)
-      (ap (λ z. cons z nil) (apply-even (λ x. other) var start ∙ (opens ∙ sym (apply-odd (λ x. other) var other ∙ apply-var other))))
+module _ (sys : System) (u v c d : Term) where
+  never_clash : StandsForCap sys u c → StandsForCap sys v d → do_clash (2 ^ 31) c d ≡ false → IsRigidOutcome sys u v clash → ⊥
+  never_clash (inl h) (inl k) e o = let run = made_answers sys (2 ^ 31) u v c d h k false (sym e) in unify_none sys u v run.0 run.1 o
+  never_clash (inl h) (inr (large, is)) e o = large_none sys u v (inl (inr large)) o
+  never_clash (inr (large, is)) k e o = large_none sys u v (inl (inl large)) o
 
-  hole_second : IsCapOf sys kept v hole → ⊥
-  hole_second h =
-      let opens : apply (λ x. start) other ≡ start = ap (λ c. apply (λ (x : ℕ). start) (frozen_from (past_both sys o.first o.second) c)) (cap_same sys kept v o.second hole o.is_second h) in
-      no_unifier (cons (apply even start) nil) (cons (apply odd other) nil) o.outcome (both var (λ x. start))
-      (ap (λ z. cons z nil) ((apply-even var (λ x. start) start ∙ apply-var start) ∙ sym (apply-odd var (λ x. start) other ∙ opens)))
+  does_clash : StandsForCap sys u c → StandsForCap sys v d → do_clash (2 ^ 31) c d ≡ true → IsRigidOutcome sys u v clash
+  does_clash (inl h) (inl k) e = made_answers sys (2 ^ 31) u v c d h k true (sym e)
+  does_clash (inl h) (inr (large, is)) e = absurd (false≢true (sym (second_open (2 ^ 31) c (2 ^ 31) (omega arith)) ∙ ap (do_clash (2 ^ 31) c) (sym is) ∙ e))
+  does_clash (inr (large, is)) k e = absurd (false≢true (sym (first_open (2 ^ 31) (2 ^ 31) d (omega arith)) ∙ ap (λ z. do_clash (2 ^ 31) z d) (sym is) ∙ e))
 
-  pub never_first : HasHole sys u → ⊥
-  never_first (inl h) = hole_first h
-  never_first (inr h) = ((one_outcome sys kept u v).never_both clash o).0 h
+  pub caps_answer : StandsForCap sys u c → StandsForCap sys v d → (b : Bool) → b ≡ do_clash (2 ^ 31) c d → CapsAnswers sys u v (Ok b)
+  caps_answer h k true e = does_clash h k (sym e)
+  caps_answer h k false e = never_clash h k (sym e)
 
-  pub never_second : HasHole sys v → ⊥
-  never_second (inl h) = hole_second h
-  never_second (inr h) = ((one_outcome sys kept u v).never_both clash o).1 h
-
--- a variable that stays is one of the term
-stays : (sys : System) (t : Term) (x : ℕ) → IsCapOf sys kept t (kept x) → occurs x t ≡ true
-stays sys (var y) x e = let same : x ≡ y = cc in eq-eqb x y same
-stays sys (app f ts) x (cs, are, inl (h, e)) = cc
-stays sys (app f ts) x (cs, are, inr (h, e)) = cc
-
--- a cap that is a variable past those of the term is a hole
-pub hole_of : (sys : System) (t u : Term) (n : ℕ) → ((x : ℕ) → occurs x t ≡ true → x < n) → IsVariableFrom n u → (c : Cap) → IsCapOf sys kept t c → u ≡ filled var n c → HasHole sys t
-hole_of sys t u n below past hole is e = inl is
-hole_of sys t u n below past (kept x) is e =
-    let low = below x (stays sys t x is) in
-    let high : n ≤ x = subst (IsVariableFrom n) e past in
-    absurd (omega (arith, low, high))
-hole_of sys t u n below past (node f cs) is e = absurd (subst (IsVariableFrom n) e past)
+pub never_met : (sys : System) (u v : Term) (o p : Option program.Term) → IfSome o (λ c. StandsForCap sys u (view c)) → IfSome p (λ d. StandsForCap sys v (view d)) → DoMeet o p → IsRigidOutcome sys u v clash → ⊥
+never_met sys u v None p h k m = absurd m
+never_met sys u v (Some c) None h k m = absurd m
+never_met sys u v (Some c) (Some d) h k m = never_clash sys u v (view c) (view d) h k m

@@ -1,5 +1,8 @@
 pub mod Walking
 pub mod Clashing
+pub mod Laid
+pub mod Placed
+pub mod Meeting
 pub mod Moving
 pub mod Apart
 pub mod Listed

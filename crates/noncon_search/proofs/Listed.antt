@@ -29,7 +29,7 @@ use Rattle.reach.proofs.Rests.{rest_first}
 use Rattle.search_spaces.specs.Listings.{listing, pairs_of}
 use Rattle.search_spaces.specs.PeakItems.{try_ends, peak_items_of, peak_items}
 use Rattle.noncon_search.specs.declared.ends.End.{End}
-use Rattle.noncon_search.specs.Ends.{end_view, ends_view, IsEnd, AreEnds}
+use Rattle.noncon_search.specs.Ends.{end_view, ends_view, IsEnd, AreMet, AreEnds}
 use Rattle.noncon_search.specs.Answers.{pairs_with, pair_items}
 
 -- the items of a list that are left from a place on
@@ -77,6 +77,7 @@ module _ (sys : System) (t : Term) where
       let no = or_parts (is_same (end_view y).term (end_view x).term) (is_listed (end_view x).term (ends_view rest)) h.once.0 in
       record {
         each = (h.each.0, (h.each.1.0, tt));
+        met = ((h.met.0.0, tt), (tt, tt));
         derived = (h.derived.0, (h.derived.1.0, tt));
         once = (or_from (is_same (end_view y).term (end_view x).term) false no.0 refl, (refl, tt));
       }
@@ -84,10 +85,10 @@ module _ (sys : System) (t : Term) where
   pub skip_next : (x y : End) (rest : List End) → AreEnds sys t (x ∷ y ∷ rest) → AreEnds sys t (x ∷ rest)
   skip_next x y rest h =
       let no = or_parts (is_same (end_view y).term (end_view x).term) (is_listed (end_view x).term (ends_view rest)) h.once.0 in
-      record { each = (h.each.0, h.each.1.1); derived = (h.derived.0, h.derived.1.1); once = (no.1, h.once.1.1) }
+      record { each = (h.each.0, h.each.1.1); met = (h.met.0.1, h.met.1.1); derived = (h.derived.0, h.derived.1.1); once = (no.1, h.once.1.1) }
 
   pub without_first : (x : End) (rest : List End) → AreEnds sys t (x ∷ rest) → AreEnds sys t rest
-  without_first x rest h = record { each = h.each.1; derived = h.derived.1; once = h.once.1 }
+  without_first x rest h = record { each = h.each.1; met = h.met.1; derived = h.derived.1; once = h.once.1 }
 
   pub differ : (x y : End) → AreEnds sys t (x ∷ y ∷ []) → (end_view x).term ≡ (end_view y).term → ⊥
   differ x y h e = false≢true (sym h.once.0 ∙ ap (λ b. b || false) (equal_same (end_view y).term (end_view x).term (sym e)))
@@ -100,11 +101,12 @@ module _ (sys : System) (t : Term) where
   later_left first later j y h e are = subst (λ z. AreEnds sys t (first ∷ z)) (rest_splits later j y h e) are
 
   -- the ends of a listing
-  pub ends_are : Fits t → (list : List Reached) → list ≡ listing sys [] t → (es : List End) → ends_view es ≡ list → EachOf (IsEnd sys) es → AreEnds sys t es
-  ends_are fits list is es same each =
+  pub ends_are : Fits t → (list : List Reached) → list ≡ listing sys [] t → (es : List End) → ends_view es ≡ list → EachOf (IsEnd sys) es → AreMet sys es → AreEnds sys t es
+  ends_are fits list is es same each met =
       let all : listing sys [] t ≡ ends_view es = sym (same ∙ is) in
       record {
         each = each;
+        met = met;
         derived = subst (EachOf (λ r. Derives sys [] t r.by r.term)) all (listed_derived sys [] 5 2 t);
         once = subst IsWithoutRepetition all (none_twice sys [] 5 2 t);
       }

@@ -1,8 +1,10 @@
 -- What the parts of the search answer.
-use Rattle.std.specs.Prelude.{ℕ, ◌≡◌, List, map, Option, None, Some, Result, Ok, Err, Vec}
+use Rattle.std.specs.Prelude.{ℕ, ◌≡◌, Bool, true, false, List, map, Option, None, Some, Result, Ok, Err, Vec}
 use Rattle.std.specs.Global.{Global}
 use Rattle.rewriting.specs.Terms.{Term}
 use Rattle.rewriting.specs.Rules.{System}
+use Rattle.unifier_run.specs.Run.{clash}
+use Rattle.caps.specs.Evidence.{IsRigidOutcome}
 use Rattle.certificates.specs.Certificates as math
 use Rattle.certificates.specs.Certificates.{by_normal_forms, by_rigid_caps, peak_certificate}
 use Rattle.cops_names.specs.NameTable.{NameTable}
@@ -37,6 +39,12 @@ abbrev pub EntriesAnswers : System → Term → Term → Result (Option (Vec Red
 EntriesAnswers sys u v (Ok (Some es)) = TriesApart sys u v (by_normal_forms (map redex_view es.items))
 EntriesAnswers sys u v (Ok None) = TriesApart sys u v by_rigid_caps
 EntriesAnswers sys u v (Err e) = Unit {0}
+
+-- whether the rigid caps of two terms clash
+abbrev pub CapsAnswers : System → Term → Term → Result Bool NoMemory → Type 0
+CapsAnswers sys u v (Ok true) = IsRigidOutcome sys u v clash
+CapsAnswers sys u v (Ok false) = IsRigidOutcome sys u v clash → ⊥
+CapsAnswers sys u v (Err e) = Unit {0}
 
 -- how two terms are shown to be apart; or what is tried does not show it
 abbrev pub ApartAnswers : System → Term → Term → Result (Option NonJoin) NoMemory → Type 0

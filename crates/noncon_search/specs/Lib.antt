@@ -1,4 +1,5 @@
 pub mod Given
+pub mod Laying
 pub mod Ends
 pub mod Answers
 pub mod Refuted

@@ -1,14 +1,16 @@
 // The certificate that two listed terms of a start make.
 ghost use Rattle.std.specs.Prelude.{◌≡◌, ◌∷◌, [], IfOk};
+ghost use Rattle.rewriting.specs.Terms as math;
 ghost use Rattle.certificates.specs.Certificates.{by_rigid_caps};
 ghost use Rattle.term_core.specs.View.{view};
 ghost use Rattle.cert_model.specs.CertificateView.{certificate_view, apart_view};
 ghost use Rattle.reach.specs.ReachedView.{reached_view};
 ghost use Rattle.search_spaces.specs.PeakItems.{try_ends, TriesApart};
-ghost use Rattle.noncon_search.specs.Ends.{end_view, AreEnds};
-ghost use Rattle.noncon_search.specs.Answers.{peak_of, EntriesAnswers, ApartAnswers, CandidateAnswers};
+ghost use Rattle.noncon_search.specs.Ends.{end_view, IsEnd, AreEnds};
+ghost use Rattle.noncon_search.specs.Answers.{peak_of, EntriesAnswers, CapsAnswers, ApartAnswers, CandidateAnswers};
 
 use crate::ends::End;
+use crate::made_caps::FIRST_HOLE;
 use crate::redexes::refute_redexes;
 use cert_limits::has_text;
 use cert_model::{Certificate, NonJoin, Peak, Redex};
@@ -16,7 +18,7 @@ use cops_names::Names;
 use reach::Reached;
 use rule_index::IndexedSystem;
 use std::alloc::Global;
-use tcap_infeasible::{ComparedCaps, compare_rigid_caps};
+use tcap_infeasible::{ComparedCaps, compare_rigid_caps, made_caps_clash};
 use term_core::{NoMemory, Term, try_clone};
 
 // An entry with valid evidence for each redex of both ends, the first that is tried; none where a redex has none.
@@ -48,7 +50,42 @@ fn entries_for(
     Ok(Some(entries))
 }
 
-// Whether the rigid caps show that ends are apart. Where one is a hole, that is known before they are compared.
+// Whether the rigid caps of two terms clash, which are made for this.
+fn whole_caps_clash(
+    alloc: Global,
+    sys: &IndexedSystem<'_>,
+    u: &Term,
+    v: &Term,
+) -> Result<bool, NoMemory>
+    requires first { math.Fits (view u.now) }
+    requires second { math.Fits (view v.now) }
+    ensures { CapsAnswers sys.now (view u.now) (view v.now) result }
+{
+    match compare_rigid_caps(alloc, sys, u, v)? {
+        ComparedCaps::Clash => Ok(true),
+        ComparedCaps::Unify => Ok(false),
+        ComparedCaps::TooLarge => Ok(false),
+    }
+}
+
+// Whether the rigid caps of two ends clash. Where one was not made, both are made for this.
+fn caps_clash(
+    alloc: Global,
+    sys: &IndexedSystem<'_>,
+    first: &End<'_>,
+    second: &End<'_>,
+) -> Result<bool, NoMemory>
+    requires first { IsEnd sys.now first.now }
+    requires second { IsEnd sys.now second.now }
+    ensures { CapsAnswers sys.now (view first.now.listed.now.term) (view second.now.listed.now.term) result }
+{
+    match (&first.cap, &second.cap) {
+        (Some(cap), Some(other)) => Ok(made_caps_clash(cap, other, FIRST_HOLE)),
+        _ => whole_caps_clash(alloc, sys, &first.listed.term, &second.listed.term),
+    }
+}
+
+// Whether the rigid caps show that ends are apart.
 fn by_caps(
     alloc: Global,
     sys: &IndexedSystem<'_>,
@@ -60,16 +97,13 @@ fn by_caps(
     requires tries { TriesApart sys.now (view first.now.listed.now.term) (view second.now.listed.now.term) by_rigid_caps }
     ensures { ApartAnswers sys.now (view first.now.listed.now.term) (view second.now.listed.now.term) result }
 {
-    if first.has_hole {
+    if second.is_met {
         return Ok(None);
     }
-    if second.has_hole {
-        return Ok(None);
-    }
-    match compare_rigid_caps(alloc, sys, &first.listed.term, &second.listed.term)? {
-        ComparedCaps::Clash => Ok(Some(NonJoin::Caps)),
-        ComparedCaps::Unify => Ok(None),
-        ComparedCaps::TooLarge => Ok(None),
+    if caps_clash(alloc, sys, first, second)? {
+        Ok(Some(NonJoin::Caps))
+    } else {
+        Ok(None)
     }
 }
 

@@ -14,5 +14,6 @@ pub mod Keyed
 pub mod Named
 pub mod Places
 pub mod Pairs
+pub mod Made
 pub mod Lying
 pub mod Thawed

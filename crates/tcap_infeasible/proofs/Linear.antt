@@ -1,6 +1,7 @@
 -- Runs for linear terms that fit and share no variable: each variable is bound once and never looked up, so that no term of
 -- the run is larger than these, and the run clashes exactly where two symbols do.
 use Rattle.std.proofs.Common.{ℕ, ◌≡◌, ◌≢◌, inl, inr, ◌||◌, Bool, true, false, nat_eq, if◌then◌else◌, List, [], ◌∷◌, ◌++◌, Ok, refl, sym, ap, ap₂, ◌∙◌, subst, arith, eqb-true, eq-eqb}
+use Rattle.std.proofs.lemmas.Bool.{false≢true}
 use Rattle.rewriting.specs.Terms.{Term, Terms, var, app, nil, cons, count, Fits}
 use Rattle.rewriting.specs.Systems.{Each}
 use Rattle.rewriting.specs.Substitutions.{apply}
@@ -15,6 +16,7 @@ use Rattle.unification.specs.declared.solving.Progress.TheVariants.{Solved}
 use Rattle.unification.specs.Solving.{IsGood, AreSolved}
 use Rattle.unification.proofs.Solve.{ends_roots, bound_left, bound_right}
 use Rattle.tcap_infeasible.specs.Clashes.{do_clash, do_any_clash}
+use Rattle.tcap_infeasible.proofs.Clashes.{first_open, second_open}
 
 -- the variable is not bound, and occurs in no bound term
 abbrev pub IsNew : List Binding → ℕ → Type 0
@@ -171,9 +173,9 @@ met_right b f ts x m =
 
 -- the cases of two symbols
 data Roots (f g : ℕ) (ts us : Terms) : Type 0 where
-  other_symbols : f ≢ g → do_clash (app f ts) (app g us) ≡ true → Roots f g ts us
-  other_counts : count ts ≢ count us → do_clash (app f ts) (app g us) ≡ true → Roots f g ts us
-  same_roots : f ≡ g → count ts ≡ count us → do_clash (app f ts) (app g us) ≡ do_any_clash ts us → Roots f g ts us
+  other_symbols : f ≢ g → do_clash 0 (app f ts) (app g us) ≡ true → Roots f g ts us
+  other_counts : count ts ≢ count us → do_clash 0 (app f ts) (app g us) ≡ true → Roots f g ts us
+  same_roots : f ≡ g → count ts ≡ count us → do_clash 0 (app f ts) (app g us) ≡ do_any_clash 0 ts us → Roots f g ts us
 
 roots : (f g : ℕ) (ts us : Terms) → Roots f g ts us
 roots f g ts us = go (nat_eq f g) refl (nat_eq (count ts) (count us)) refl
@@ -196,22 +198,22 @@ opened b c f g ts us m e k d =
 
 -- without a clash all is solved
 mutual
-  solved : (b : List Binding) (t u : Term) → Meet b t u → do_clash t u ≡ false → (c : List Binding) × Met b c (cons t nil) (cons u nil)
+  solved : (b : List Binding) (t u : Term) → Meet b t u → do_clash 0 t u ≡ false → (c : List Binding) × Met b c (cons t nil) (cons u nil)
   solved b (var x) u m n = (_, met_left b x u m)
   solved b (app f ts) (var y) m n = (_, met_right b f ts y m)
   solved b (app f ts) (app g us) m n = go (roots f g ts us) (λ k e. all_solved b ts us (inside b f g ts us m) k e)
     where
-      go : Roots f g ts us → (count ts ≡ count us → do_any_clash ts us ≡ false → (c : List Binding) × Met b c ts us) → (c : List Binding) × Met b c (cons (app f ts) nil) (cons (app g us) nil)
+      go : Roots f g ts us → (count ts ≡ count us → do_any_clash 0 ts us ≡ false → (c : List Binding) × Met b c ts us) → (c : List Binding) × Met b c (cons (app f ts) nil) (cons (app g us) nil)
       go (other_symbols d e) h = absurd (cc)
       go (other_counts d e) h = absurd (cc)
       go (same_roots e k s) h = (let d = h k (sym s ∙ n) in (d.0, opened b d.0 f g ts us m e k d.1))
 
-  all_solved : (b : List Binding) (ts us : Terms) → AllMeet b ts us → count ts ≡ count us → do_any_clash ts us ≡ false → (c : List Binding) × Met b c ts us
+  all_solved : (b : List Binding) (ts us : Terms) → AllMeet b ts us → count ts ≡ count us → do_any_clash 0 ts us ≡ false → (c : List Binding) × Met b c ts us
   all_solved b nil nil m k n = (b, record { runs = λ vs ws o r. r; good = m.good; new = λ x h o p. h })
   all_solved b nil (cons u us) m k n = absurd (omega (arith, k))
   all_solved b (cons t ts) nil m k n = absurd (omega (arith, k))
   all_solved b (cons t ts) (cons u us) m k n =
-      (let none = neither (do_clash t u) (do_any_clash ts us) n in
+      (let none = neither (do_clash 0 t u) (do_any_clash 0 ts us) n in
       let d = solved b t u (first b t u ts us m) none.0 in
       let e = all_solved d.0 ts us (rest b d.0 t u ts us m d.1) (omega (arith, k)) none.1 in (
         e.0,
@@ -224,29 +226,29 @@ mutual
 
 -- and the first clash ends the run
 mutual
-  ended : (b : List Binding) (t u : Term) → Meet b t u → do_clash t u ≡ true → (vs ws : Terms) → Runs b (cons t vs) (cons u ws) clash
-  ended b (var x) u m n vs ws = absurd (cc)
-  ended b (app f ts) (var y) m n vs ws = absurd (cc)
+  ended : (b : List Binding) (t u : Term) → Meet b t u → do_clash 0 t u ≡ true → (vs ws : Terms) → Runs b (cons t vs) (cons u ws) clash
+  ended b (var x) u m n vs ws = absurd (false≢true (sym (first_open 0 x u (omega arith)) ∙ n))
+  ended b (app f ts) (var y) m n vs ws = absurd (false≢true (sym (second_open 0 (app f ts) y (omega arith)) ∙ n))
   ended b (app f ts) (app g us) m n vs ws = go (roots f g ts us) (λ k e. all_ended b ts us (inside b f g ts us m) k e vs ws)
     where
-      go : Roots f g ts us → (count ts ≡ count us → do_any_clash ts us ≡ true → Runs b (append ts vs) (append us ws) clash) → Runs b (cons (app f ts) vs) (cons (app g us) ws) clash
+      go : Roots f g ts us → (count ts ≡ count us → do_any_clash 0 ts us ≡ true → Runs b (append ts vs) (append us ws) clash) → Runs b (cons (app f ts) vs) (cons (app g us) ws) clash
       go (other_symbols d e) h = ends_roots b b f g ts us (both_fit b (app f ts) (app g us) m) (inl d) vs ws
       go (other_counts d e) h = ends_roots b b f g ts us (both_fit b (app f ts) (app g us) m) (inr d) vs ws
       go (same_roots e k s) h =
           subst (λ z. Runs b (cons (app f ts) vs) (cons (app z us) ws) clash) e
           (open_equation b f ts us vs ws clash m.good.settled (subst (λ z. Fits (apply (value b) (app f ts)) × Fits (apply (value b) (app z us))) (sym e) (both_fit b (app f ts) (app g us) m)) k (h k (sym s ∙ n)))
 
-  all_ended : (b : List Binding) (ts us : Terms) → AllMeet b ts us → count ts ≡ count us → do_any_clash ts us ≡ true → (vs ws : Terms) → Runs b (append ts vs) (append us ws) clash
+  all_ended : (b : List Binding) (ts us : Terms) → AllMeet b ts us → count ts ≡ count us → do_any_clash 0 ts us ≡ true → (vs ws : Terms) → Runs b (append ts vs) (append us ws) clash
   all_ended b nil us m k n vs ws = absurd (cc)
   all_ended b (cons t ts) nil m k n vs ws = absurd (cc)
   all_ended b (cons t ts) (cons u us) m k n vs ws =
-      go (do_clash t u) refl (λ e. ended b t u (first b t u ts us m) e (append ts vs) (append us ws)) (λ c d e. all_ended c ts us (rest b c t u ts us m d) (omega (arith, k)) e vs ws)
+      go (do_clash 0 t u) refl (λ e. ended b t u (first b t u ts us m) e (append ts vs) (append us ws)) (λ c d e. all_ended c ts us (rest b c t u ts us m d) (omega (arith, k)) e vs ws)
     where
-      go : (a : Bool) → do_clash t u ≡ a → (do_clash t u ≡ true → Runs b (cons t (append ts vs)) (cons u (append us ws)) clash)
-          → ((c : List Binding) → Met b c (cons t nil) (cons u nil) → do_any_clash ts us ≡ true → Runs c (append ts vs) (append us ws) clash) → Runs b (cons t (append ts vs)) (cons u (append us ws)) clash
+      go : (a : Bool) → do_clash 0 t u ≡ a → (do_clash 0 t u ≡ true → Runs b (cons t (append ts vs)) (cons u (append us ws)) clash)
+          → ((c : List Binding) → Met b c (cons t nil) (cons u nil) → do_any_clash 0 ts us ≡ true → Runs c (append ts vs) (append us ws) clash) → Runs b (cons t (append ts vs)) (cons u (append us ws)) clash
       go true e f g = f e
       go false e f g =
-          (let d = solved b t u (first b t u ts us m) e in d.1.runs (append ts vs) (append us ws) clash (g d.0 d.1 (subst (λ q. (q || do_any_clash ts us) ≡ true) e n)))
+          (let d = solved b t u (first b t u ts us m) e in d.1.runs (append ts vs) (append us ws) clash (g d.0 d.1 (subst (λ q. (q || do_any_clash 0 ts us) ≡ true) e n)))
 
 -- terms that fit, are linear and share no variable
 pub record AreLinearApart (t u : Term) : Type 0 where
@@ -269,8 +271,8 @@ start t u h =
       right_fits = h.right_fits;
     }
 
-pub clash_outcome : (t u : Term) → AreLinearApart t u → do_clash t u ≡ true → IsOutcome (cons t nil) (cons u nil) clash
+pub clash_outcome : (t u : Term) → AreLinearApart t u → do_clash 0 t u ≡ true → IsOutcome (cons t nil) (cons u nil) clash
 clash_outcome t u h e = ended [] t u (start t u h) e nil nil
 
-pub unifier_outcome : (t u : Term) → AreLinearApart t u → do_clash t u ≡ false → (b : List Binding) × IsOutcome (cons t nil) (cons u nil) (unifier b)
+pub unifier_outcome : (t u : Term) → AreLinearApart t u → do_clash 0 t u ≡ false → (b : List Binding) × IsOutcome (cons t nil) (cons u nil) (unifier b)
 unifier_outcome t u h e = (let d = solved [] t u (start t u h) e in (d.0, d.1.runs nil nil (unifier d.0) no_equation))

@@ -193,24 +193,34 @@ module _ (base : ℕ) (rho g : ℕ → ℕ) (start limit : ℕ) (same : (j : ℕ
         (let more : start + j + holes c ≡ start + (j + holes c) = omega arith in
         ap₂ cons (filled_to j c (omega (arith, h))) (ap (λ z. apply_all (names rho) (all_filled (constants base) z cs)) more ∙ all_filled_to (j + holes c) cs (omega (arith, h))))
 
+-- caps of two terms with holes in one row and constants past the symbols of both, to caps with holes of their own
+pub woven_outcome : (sys : System) (leaf : ℕ → Cap) (u v : Term) (c d : Cap) → IsCapOf sys leaf u c → IsCapOf sys leaf v d → (o : Outcome)
+    → IsOutcome (cons (filled (constants (past_both sys c d)) (2 ^ 31) c) nil) (cons (filled (constants (past_both sys c d)) (2 ^ 31 + holes c) d) nil) o
+    → IsPairOutcome sys leaf u v (renamed_outcome (woven (holes c)) stays o)
+woven_outcome sys leaf u v c d is are o run =
+    let first_start : 2 ^ 31 ≡ 2 ^ 31 + 0 = omega arith in
+    let second_start : 2 ^ 31 + holes c ≡ 2 ^ 31 + holes c + 0 = omega arith in
+    let base = past_both sys c d in
+    record {
+      first = c;
+      second = d;
+      is_first = is;
+      is_second = are;
+      outcome = subst₂ (λ p q. IsOutcome (cons p nil) (cons q nil) (renamed_outcome (woven (holes c)) stays o))
+          (ap (λ z. apply (names (woven (holes c))) (filled (constants base) z c)) first_start
+          ∙ filled_to base (woven (holes c)) (λ k. 2 * k) (2 ^ 31) (holes c) (λ j less. woven_first (holes c) j less) 0 c (omega arith))
+          (ap (λ z. apply (names (woven (holes c))) (filled (constants base) z d)) second_start
+          ∙ filled_to base (woven (holes c)) (λ k. 2 * k + 1) (2 ^ 31 + holes c) (holes d) (λ j less. woven_second (holes c) j) 0 d (omega arith))
+          (runs_with_names (woven (holes c)) (woven_one (holes c)) run);
+    }
+
 module _ (sys : System) (u v : Term) where
   opened_outcome : (o : Outcome) → (h : IsFrozenOutcome sys Hole u v o) → IsPairOutcome sys any u v (renamed_outcome (woven (holes h.first)) stays o)
   opened_outcome o h =
-      let first_start : 2 ^ 31 ≡ 2 ^ 31 + 0 = omega arith in
-      let second_start : 2 ^ 31 + holes h.first ≡ 2 ^ 31 + holes h.first + 0 = omega arith in
       let base = past_both sys h.first h.second in
-      record {
-        first = h.first;
-        second = h.second;
-        is_first = h.is_first;
-        is_second = h.is_second;
-        outcome = subst₂ (λ p q. IsOutcome (cons p nil) (cons q nil) (renamed_outcome (woven (holes h.first)) stays o))
-            (ap (apply (names (woven (holes h.first)))) (holes_alone sys u h.first var (constants base) (2 ^ 31) h.is_first ∙ ap (λ z. filled (constants base) z h.first) first_start)
-            ∙ filled_to base (woven (holes h.first)) (λ k. 2 * k) (2 ^ 31) (holes h.first) (λ j less. woven_first (holes h.first) j less) 0 h.first (omega arith))
-            (ap (apply (names (woven (holes h.first)))) (holes_alone sys v h.second var (constants base) (2 ^ 31 + holes h.first) h.is_second ∙ ap (λ z. filled (constants base) z h.second) second_start)
-            ∙ filled_to base (woven (holes h.first)) (λ k. 2 * k + 1) (2 ^ 31 + holes h.first) (holes h.second) (λ j less. woven_second (holes h.first) j) 0 h.second (omega arith))
-            (runs_with_names (woven (holes h.first)) (woven_one (holes h.first)) h.outcome);
-      }
+      woven_outcome sys any u v h.first h.second h.is_first h.is_second o
+      (subst₂ (λ p q. IsOutcome (cons p nil) (cons q nil) o) (holes_alone sys u h.first var (constants base) (2 ^ 31) h.is_first)
+      (holes_alone sys v h.second var (constants base) (2 ^ 31 + holes h.first) h.is_second) h.outcome)
 
   pub opened_answers : (r : Result ComparedCaps NoMemory) → FrozenPairAnswers sys Hole u v r → PairAnswers sys any u v r
   opened_answers (Ok Clash) h = opened_outcome clash h

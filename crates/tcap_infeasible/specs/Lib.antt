@@ -6,3 +6,4 @@ pub mod Keys
 pub mod Compared
 pub mod Thawing
 pub mod Reducts
+pub mod Made

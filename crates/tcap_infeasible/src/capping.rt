@@ -33,19 +33,21 @@ pub enum Top {
     Passes,
 }
 
-/// Whether two terms clash: at a position of both there are other symbols, or other numbers of arguments. It ends at the first.
-pub fn clashes(first: &Term, second: &Term) -> bool
-    ensures { result ≡ do_clash (view first.now) (view second.now) }
+/// Whether two terms clash: at a position of both there are other symbols, or other numbers of arguments. The variables below
+/// `constants` are constants. It ends at the first clash.
+pub fn clashes(first: &Term, second: &Term, constants: u32) -> bool
+    ensures { result ≡ do_clash constants (view first.now) (view second.now) }
 {
     match (first, second) {
-        (Term::Var(_), _) => false,
-        (Term::Fun(_, _), Term::Var(_)) => false,
+        (Term::Var(x), Term::Var(y)) => *x < constants && *y < constants && *x != *y,
+        (Term::Var(x), Term::Fun(_, _)) => *x < constants,
+        (Term::Fun(_, _), Term::Var(y)) => *y < constants,
         (Term::Fun(f, xs), Term::Fun(g, ys)) => {
             if *f != *g || xs.len() != ys.len() {
                 return true;
             }
             for i in 0..xs.len() {
-                if clashes(&xs[i], &ys[i]) {
+                if clashes(&xs[i], &ys[i], constants) {
                     return true;
                 }
             }
@@ -65,7 +67,7 @@ fn judge_left(alloc: Global, left: &Term, is_linear: bool, part: &Term) -> Resul
     ensures { LeftAnswers (view left.now) (view part.now) result }
 {
     if is_linear {
-        return Ok(if clashes(left, part) {
+        return Ok(if clashes(left, part, 0) {
             Top::Stays
         } else {
             Top::Opens

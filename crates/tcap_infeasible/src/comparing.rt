@@ -1,11 +1,14 @@
 // Two terms compared by their caps.
 ghost use Rattle.std.specs.Prelude.{◌≡◌, length};
 ghost use Rattle.rewriting.specs.Terms as math;
+ghost use Rattle.rewriting.specs.Rules.{System};
 ghost use Rattle.rewriting.specs.Systems.{IsSystem};
 ghost use Rattle.caps.specs.Caps.{any, kept};
 ghost use Rattle.term_core.specs.View.{view};
+ghost use Rattle.tcap_infeasible.specs.Clashes.{do_clash};
 ghost use Rattle.tcap_infeasible.specs.Frozen.{HasConstants};
 ghost use Rattle.tcap_infeasible.specs.Compared.{PairAnswers, KeepsInstancesApart, GivesApart, FrozenPairAnswers};
+ghost use Rattle.tcap_infeasible.specs.Made.{IsMadeCap, MadeAnswers};
 
 use crate::Cap;
 use crate::capping::{FIRST_HOLE, Leaf, clashes, frozen_cap};
@@ -46,7 +49,7 @@ fn compare_frozen(
     let Cap::Capped(second) = frozen_cap(alloc, sys, v, leaf, &mut next)? else {
         return Ok(ComparedCaps::TooLarge);
     };
-    if clashes(&first, &second) {
+    if clashes(&first, &second, 0) {
         Ok(ComparedCaps::Clash)
     } else {
         Ok(ComparedCaps::Unify)
@@ -98,4 +101,12 @@ pub fn compare_rigid_caps(
     let second = keyed(alloc, symbols, &mut foreign, &mut variables, v)?;
     let base = symbols + foreign.len() as u32;
     compare_frozen(alloc, sys, &first, &second, Leaf::Kept(base))
+}
+
+/// Whether the rigid caps of two terms clash that were made before, both with holes from `fresh` on. No memory is asked for.
+pub fn made_caps_clash(first: &Term, second: &Term, fresh: u32) -> bool
+    ensures walk { result ≡ do_clash fresh (view first.now) (view second.now) }
+    ensures answer { (sys : System) (u v : math.Term) → IsMadeCap sys fresh u (view first.now) → IsMadeCap sys fresh v (view second.now) → MadeAnswers sys u v result }
+{
+    clashes(first, second, fresh)
 }

@@ -7,7 +7,7 @@ mod evidence;
 mod keys;
 mod thawing;
 
-pub use comparing::{ComparedCaps, compare_caps, compare_rigid_caps};
+pub use comparing::{ComparedCaps, compare_caps, compare_rigid_caps, made_caps_clash};
 pub use evidence::{IndexedTcap, TcapEvidence};
 use term_core::Term;
 pub use thawing::{rigid_cap, tcap};

@@ -8,5 +8,5 @@ returns-clause-end c =
     record {
       fits = c.requires.fits;
       is_open = λ e. open_of c.args.sys.now 1 (view c.args.listed.now.term) c.in_ok-entries.entries c.in_ok-entries.ensures (let same = c.is_some.ensures in cc);
-      in_hole = c.in_ok-has_hole.ensures;
+      capped = c.in_ok-cap.ensures;
     }

@@ -8,4 +8,4 @@ abbrev pub decreases-clashes : goal.decreases-clashes
 decreases-clashes l = size (view l.first.now)
 
 abbrev pub invariant-loop-i : goal.invariant-loop-i
-invariant-loop-i l = do_any_clash (views l.xs.items) (views l.ys.items) ≡ do_any_clash (views (drop l.i l.xs.items)) (views (drop l.i l.ys.items))
+invariant-loop-i l = do_any_clash l.constants (views l.xs.items) (views l.ys.items) ≡ do_any_clash l.constants (views (drop l.i l.xs.items)) (views (drop l.i l.ys.items))

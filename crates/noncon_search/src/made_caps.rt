@@ -1,0 +1,46 @@
+// The rigid caps of listed terms, each made once for all pairs.
+ghost use Rattle.std.specs.Prelude.{◌≡◌, ◌<◌, ◌^◌, ℕ, true, IfOk, IfSome, IsTrue};
+ghost use Rattle.rewriting.specs.Terms as math;
+ghost use Rattle.rewriting.specs.Variables.{occurs};
+ghost use Rattle.term_core.specs.View.{view};
+ghost use Rattle.noncon_search.specs.Ends.{StandsForCap};
+
+use rule_index::IndexedSystem;
+use std::alloc::Global;
+use tcap_infeasible::{Cap, rigid_cap};
+use term_core::{NoMemory, Term};
+
+/// The number of the first hole of a cap. The variables of listed terms are below, unless a rule has a thousand million of them.
+pub const FIRST_HOLE: u32 = 1 << 31;
+
+// Whether the variables of a term are below a number.
+fn is_below(t: &Term, bound: u32) -> bool
+    ensures { IsTrue result → (k : ℕ) → occurs k (view t.now) ≡ true → k < bound }
+{
+    match t {
+        Term::Var(k) => *k < bound,
+        Term::Fun(_, args) => {
+            for arg in args {
+                if !is_below(arg, bound) {
+                    return false;
+                }
+            }
+            true
+        }
+    }
+}
+
+/// The rigid cap of a term, with holes from `FIRST_HOLE` on. Where there is none, a hole stands for it, since neither clashes
+/// with any other cap. It is not made where the term has such variables itself.
+pub fn cap_of(alloc: Global, sys: &IndexedSystem<'_>, t: &Term) -> Result<Option<Term>, NoMemory>
+    requires { math.Fits (view t.now) }
+    ensures { IfOk result (λ o. IfSome o (λ u. StandsForCap sys.now (view t.now) (view u))) }
+{
+    if !is_below(t, FIRST_HOLE) {
+        return Ok(None);
+    }
+    match rigid_cap(alloc, sys, t, FIRST_HOLE)? {
+        Cap::Capped(cap) => Ok(Some(cap)),
+        Cap::TooLarge => Ok(Some(Term::Var(FIRST_HOLE))),
+    }
+}
