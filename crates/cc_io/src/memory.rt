@@ -1,5 +1,5 @@
 //! Files and a sink in memory, which fail at the calls that they are told to fail at.
-ghost use Rattle.std.specs.Prelude.{◌≡◌, ◌<◌, ◌≤◌, ◌+◌, ◌-◌, ◌⊎◌, ◌↔◌, min, [], ◌∷◌, Some, None, List, ℕ, Option, Contains, length, take, drop, IfOk, IfErr, OnOk, OnErr, IfSome, OnSome, IfNone, IsTrue, IsErr, IsSome, is_ok, if◌then◌else◌, vec_len, vec_capacity};
+ghost use Rattle.std.specs.Prelude.{◌≡◌, ◌<◌, ◌≤◌, ◌+◌, ◌-◌, ◌⊎◌, ◌↔◌, min, [], Some, None, List, ℕ, Option, Contains, length, take, drop, IfOk, OnOk, OnErr, IfSome, IfNone, IsTrue, IsErr, IsSome, is_ok, if◌then◌else◌, vec_capacity};
 ghost use Rattle.cc_io.specs.Faults.{Rose, raised, top};
 ghost use Rattle.cc_io.specs.Memory.{bytes_at};
 

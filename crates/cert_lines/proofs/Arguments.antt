@@ -1,5 +1,5 @@
 -- Terms and their arguments as they are read, within levels and nodes.
-use Rattle.std.proofs.Common.{Bool, true, false, ◌==◌, ◌≡◌, ℕ, suc, ◌+◌, ◌-◌, ◌<◌, ◌≤◌, ◌⊎◌, List, [], ◌∷◌, ◌++◌, length, refl, sym, ap, ◌∙◌, subst, decimal, codes, arith, append_assoc, append-nil}
+use Rattle.std.proofs.Common.{Bool, true, false, ◌==◌, ◌≡◌, ℕ, suc, ◌+◌, ◌-◌, ◌<◌, ◌≤◌, List, [], ◌∷◌, ◌++◌, length, refl, sym, ap, ◌∙◌, subst, decimal, codes, arith, append_assoc, append-nil}
 use Rattle.std.proofs.lemmas.List.{length_push, append_cancel_left}
 use Rattle.rewriting.specs.Terms.{Term, var, app, Terms, nil, cons, count, size, size_all, depth, depth_all, terms_of}
 use Rattle.cops_names.specs.NameTable.{NameTable}

@@ -1,5 +1,5 @@
 -- Numbers behind marks: lines of numbers, and states in brackets.
-use Rattle.std.proofs.Common.{◌≡◌, ℕ, ◌<◌, ◌≤◌, List, [], ◌∷◌, ◌++◌, le_refl, le_trans, refl, sym, ap, ◌∙◌, subst, decimal, codes, append_assoc}
+use Rattle.std.proofs.Common.{◌≡◌, ℕ, ◌≤◌, List, [], ◌∷◌, ◌++◌, le_refl, le_trans, refl, sym, ap, ◌∙◌, subst, decimal, codes, append_assoc}
 use Rattle.cert_grammar.specs.Words.{largest}
 use Rattle.cert_grammar.specs.Reading.{Lacks}
 use Rattle.cert_grammar.specs.EvidenceText.{numbers_text, further_states_text, states_text, AreAtMost}

@@ -1,4 +1,4 @@
-ghost use Rattle.std.specs.Prelude.{◌≡◌, ◌++◌, ℕ, MatchOption};
+ghost use Rattle.std.specs.Prelude.{◌≡◌, ℕ, MatchOption};
 ghost use Rattle.file_text.specs.Bytes as text;
 ghost use Rattle.term_core.specs.View.{view, views};
 ghost use Rattle.cert_grammar.specs.Words.{IsNamed};

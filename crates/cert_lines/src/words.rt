@@ -1,4 +1,4 @@
-ghost use Rattle.std.specs.Prelude.{◌≡◌, ◌<◌, ◌↔◌, ℕ, IsTrue, MatchOption, ◌⊎◌, ◌==◌, ◌++◌, List, length, position};
+ghost use Rattle.std.specs.Prelude.{◌≡◌, ◌<◌, ◌↔◌, ℕ, IsTrue, MatchOption, ◌⊎◌, ◌==◌, length, position};
 ghost use Rattle.cert_grammar.specs.Reading.{Lacks, IsCut, IsNumber, IsPlace, IsPosition, NumberBefore, PositionBefore};
 ghost use Rattle.cert_lines.specs.ReadingParts as spec;
 ghost use Rattle.cert_lines.specs.ReadingParts.{PartAt, NumberAt, MarkedNumbers, NumbersLine};

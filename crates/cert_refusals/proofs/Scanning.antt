@@ -1,5 +1,5 @@
 -- How far words are read at a place inside bytes.
-use Rattle.std.proofs.Common.{◌≡◌, ◌+◌, ◌<◌, ℕ, suc, List, [], ◌∷◌, Option, Some, None, option_map, length, drop, get_or, sym, ap, ◌∙◌, add-one, arith}
+use Rattle.std.proofs.Common.{◌≡◌, ◌+◌, ◌<◌, ℕ, suc, List, ◌∷◌, Option, Some, None, option_map, length, drop, get_or, sym, ap, ◌∙◌, add-one, arith}
 use Rattle.std.proofs.Math.Seq.{drop-cons}
 use Rattle.cert_refusals.specs.declared.scans.Mode as code
 use Rattle.cert_grammar.specs.Scans.{Mode, Scan, scan, scan_next, next}

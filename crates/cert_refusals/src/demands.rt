@@ -1,6 +1,6 @@
 //! What words must meet.
 
-ghost use Rattle.std.specs.Prelude.{◌≡◌, ◌≤◌, ◌<◌, ◌∷◌, ◌+◌, ◌↔◌, [], ℕ, None, Some, suc, option_and_then, length, IsTrue, IfOk, OnOk, IfErr, IfSome, MatchOption, MatchResult};
+ghost use Rattle.std.specs.Prelude.{◌≡◌, ◌≤◌, ◌<◌, ◌∷◌, ◌+◌, [], ℕ, None, Some, suc, option_and_then, length, IfOk, OnOk, IfErr, IfSome, MatchOption};
 ghost use Rattle.cops_names.specs.NameTable.{NameTable, number_of, arity_at};
 ghost use Rattle.cert_grammar.specs.Words.{largest, IsIdentifier};
 ghost use Rattle.cert_grammar.specs.Marks as spec;

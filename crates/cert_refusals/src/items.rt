@@ -1,6 +1,6 @@
 //! The parts of a certificate's text that are still to be read, and with what each can begin.
 
-ghost use Rattle.std.specs.Prelude.{◌≡◌, ◌≤◌, MatchOption, length, map, take, drop, true, false};
+ghost use Rattle.std.specs.Prelude.{◌≡◌, ◌≤◌, MatchOption, length, map, true, false};
 ghost use Rattle.cert_grammar.specs.FirstRefusal as spec;
 ghost use Rattle.cert_refusals.specs.ReaderView.{mode_view, text_view, bare, IsLeadRead};
 

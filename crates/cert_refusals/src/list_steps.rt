@@ -3,7 +3,6 @@
 ghost use Rattle.std.specs.Prelude.{◌≡◌, ◌≤◌, ◌+◌, ◌∷◌, ◌++◌, [], ℕ, List, suc, length, map, true, false, None, Some, OnOk, IfErr};
 ghost use Rattle.cops_names.specs.NameTable.{NameTable};
 ghost use Rattle.cert_grammar.specs.Items as spec;
-ghost use Rattle.cert_grammar.specs.Items.{between_text};
 ghost use Rattle.cert_grammar.specs.Marks as marks;
 ghost use Rattle.cert_grammar.specs.Marks.{syntax, is_few, pairs, entries};
 ghost use Rattle.cert_refusals.specs.declared.items.Item as items;

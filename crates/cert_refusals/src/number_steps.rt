@@ -1,12 +1,10 @@
 //! Steps at numbers, positions and measured names.
 
-ghost use Rattle.std.specs.Prelude.{◌≡◌, ◌≤◌, ◌<◌, ◌+◌, ◌∷◌, ◌++◌, [], ℕ, List, suc, length, map, take, drop, Some, None, false, true, OnOk, IfOk, IfErr, MatchResult};
+ghost use Rattle.std.specs.Prelude.{◌≡◌, ◌≤◌, ◌+◌, ◌∷◌, ◌++◌, suc, length, Some, None, OnOk, IfErr};
 ghost use Rattle.cops_names.specs.NameTable.{NameTable};
 ghost use Rattle.cert_grammar.specs.Items as spec;
-ghost use Rattle.cert_grammar.specs.Marks.{syntax, in_range};
 ghost use Rattle.cert_grammar.specs.Scans as scans;
-ghost use Rattle.cert_grammar.specs.FirstRefusal.{is_there, longest};
-ghost use Rattle.cert_refusals.specs.ReaderView.{bare, told, IsTold, IsLeadRead, text_view, between_view, frames_view, item_view, items_view, automaton_view, term_view, Demands, IsFixed, IsNumber, StepAnswers, step_at};
+ghost use Rattle.cert_refusals.specs.ReaderView.{between_view, items_view, IsNumber, StepAnswers, step_at};
 ghost use Rattle.cert_refusals.specs.declared.error.CertError.TheVariants.{NoMemory};
 
 use crate::demands::{few, known, one_more, position, short};

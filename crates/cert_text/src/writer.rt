@@ -1,4 +1,4 @@
-ghost use Rattle.std.specs.Prelude.{◌≡◌, ◌++◌, ℕ, List, OnOk, OnErr};
+ghost use Rattle.std.specs.Prelude.{◌≡◌, ◌++◌, OnOk, OnErr};
 ghost use Rattle.certificates.specs.Certificates as math;
 ghost use Rattle.cops_names.specs.NameTable.{NameTable};
 ghost use Rattle.cert_model.specs.CertificateView.{certificate_view};

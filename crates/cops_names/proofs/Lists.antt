@@ -1,7 +1,7 @@
 -- The place of the first member that passes a test, and lists that begin with a list.
 use Prim.Native.Nat.compare
 use lib.Dec.{is_le}
-use Rattle.std.proofs.Common.{◌≡◌, ℕ, zero, suc, ◌≤◌, Bool, true, false, cond, List, [], ◌∷◌, ◌++◌, length, Option, Some, None, refl, sym, ap, ◌∙◌, arith, append_assoc, append-nil, length-append, lt-ltb}
+use Rattle.std.proofs.Common.{◌≡◌, ℕ, zero, suc, Bool, true, false, cond, List, [], ◌∷◌, ◌++◌, length, Option, Some, None, refl, sym, ap, ◌∙◌, arith, append_assoc, append-nil, lt-ltb}
 use Rattle.std.specs.Prelude.{position, option_map, nat_lt, slice_get, if◌then◌else◌}
 use Rattle.std.specs.List.{position_or_len, list_any}
 

@@ -1,4 +1,4 @@
-ghost use Rattle.std.specs.Prelude.{◌≡◌, ◌<◌, [], Some, IfOk, OnOk, length, map};
+ghost use Rattle.std.specs.Prelude.{◌≡◌, [], Some, IfOk, OnOk, length, map};
 ghost use Rattle.cops_names.specs.NameLists.{name_index, is_among, with_name};
 ghost use Rattle.cops_names.specs.NamesView.{texts_of};
 

@@ -1,5 +1,5 @@
 -- A text spells one system or has one refusal, and never both.
-use Rattle.std.proofs.Common.{◌≡◌, ℕ, List, Option, Some, None, refl, sym, ap, subst, ◌∙◌, ◌⊎◌, inl, inr}
+use Rattle.std.proofs.Common.{◌≡◌, ℕ, List, Option, Some, None, refl, ap, subst, ◌∙◌, ◌⊎◌, inl, inr}
 use Rattle.file_text.specs.Syntax.{FileTree}
 use Rattle.file_text.specs.declared.Token.{Token}
 use Rattle.file_text.specs.Tokens.{Spells, TokenCause, HasNoTokens}

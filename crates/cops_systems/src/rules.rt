@@ -1,4 +1,4 @@
-ghost use Rattle.std.specs.Prelude.{◌≡◌, ◌+◌, ◌<◌, ◌≤◌, ◌^◌, [], List, OnOk, length};
+ghost use Rattle.std.specs.Prelude.{◌≡◌, ◌+◌, ◌<◌, ◌≤◌, [], List, OnOk, length};
 ghost use Rattle.file_text.specs.Syntax as syntax;
 ghost use Rattle.cops_trees.specs.View.{IsTerm, IsCondition, AreConditions, IsRule, AreRules};
 ghost use Rattle.cops_systems.specs.Uses.{side_of};

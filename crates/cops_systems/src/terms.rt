@@ -1,6 +1,6 @@
 ghost use Rattle.std.specs.Prelude.{◌≡◌, ◌≤◌, ◌++◌, List, OnOk, drop, length};
 ghost use Rattle.file_text.specs.Syntax as syntax;
-ghost use Rattle.cops_trees.specs.View.{nodes_view, IsTerm};
+ghost use Rattle.cops_trees.specs.View.{nodes_view};
 ghost use Rattle.cops_systems.specs.Heads.{side_at};
 ghost use Rattle.cops_systems.specs.Texts.{IsTermThere, AreTermsThere};
 ghost use Rattle.cops_systems.specs.Steps.{TermAnswers, ArgumentsAnswers};

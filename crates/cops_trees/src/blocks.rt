@@ -2,7 +2,7 @@ ghost use Rattle.std.specs.Prelude.{◌≡◌, IfOk, option_map};
 ghost use Rattle.cops_trees.specs.Flat as flat;
 ghost use Rattle.cops_trees.specs.Flat.{CanStep};
 ghost use Rattle.cops_trees.specs.View.{names_view};
-ghost use Rattle.cops_trees.specs.States.{word_view, rules_view, stage_view, blocks_view, cause_of, passed, file_view, ended_file};
+ghost use Rattle.cops_trees.specs.States.{word_view, rules_view, stage_view, blocks_view, passed, ended_file};
 
 use crate::rules::Reading;
 use crate::tree::{FileText, Name, RuleText};

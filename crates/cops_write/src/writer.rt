@@ -7,7 +7,7 @@ ghost use Rattle.cops_names.specs.NameLists.{with_names};
 ghost use Rattle.cops_write.specs.Grows.{Grows};
 ghost use Rattle.cops_write.specs.Laws.{WrittenIsRead};
 ghost use Rattle.cops_write.specs.Numbered.{AreNumbered};
-ghost use Rattle.cops_write.specs.Text.{term_text, condition_text, conditions_text, rule_text, rules_text, rule_names, names_from, variable_names, spaced, block_text, has_conditions, type_text, system_text};
+ghost use Rattle.cops_write.specs.Text.{term_text, condition_text, conditions_text, rule_text, rules_text, rule_names, names_from, spaced, block_text, has_conditions, type_text, system_text};
 
 use crate::terms::{put, put_term, variable_name};
 use cops_names::{NameSet, Names};

@@ -1,10 +1,9 @@
 // Where a search for overlaps stands.
-ghost use Rattle.std.specs.Prelude.{◌≡◌, ◌<◌, ◌^◌, [], IfOk, OnOk, map, length};
+ghost use Rattle.std.specs.Prelude.{◌≡◌, ◌<◌, ◌^◌, []};
 ghost use Rattle.rewriting.specs.Terms.{Fits};
 ghost use Rattle.rule_index.specs.Index.{listed};
 ghost use Rattle.term_core.specs.View.{view};
 ghost use Rattle.critical_pairs.specs.Offers.{DoesPass};
-ghost use Rattle.critical_pairs.specs.Places.{place_view, places_of};
 ghost use Rattle.critical_pairs.specs.Cursors.{rest_of, IsCursor, CandidateAnswers, StandAnswers, EnterAnswers, SettleAnswers};
 ghost use Rattle.critical_pairs.specs.Sides.{AreSides};
 

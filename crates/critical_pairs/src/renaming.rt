@@ -2,7 +2,6 @@
 ghost use Rattle.std.specs.Prelude.{◌≡◌, ◌≤◌, IfOk, map};
 ghost use Rattle.rewriting.specs.Rules.{sides};
 ghost use Rattle.rewriting.specs.Systems.{terms_of_rule, AreRules};
-ghost use Rattle.rewriting.specs.Signatures.{Signature};
 ghost use Rattle.rewriting.specs.Overlaps.{conditions_under};
 ghost use Rattle.term_core.specs.RuleView.{condition_view, rule_view};
 ghost use Rattle.unification.specs.Answers.{renaming as by};

@@ -3,7 +3,7 @@ use Rattle.std.proofs.Common.{ℕ, suc, ◌≡◌, inl, inr, ◌+◌, Bool, true
 use Rattle.std.proofs.lemmas.Bool.{false≢true, true≢false, or_left}
 use Rattle.std.specs.List.{take-map}
 use Rattle.rewriting.specs.Terms as math
-use Rattle.rewriting.specs.Terms.{var, app, nil, cons}
+use Rattle.rewriting.specs.Terms.{cons}
 use Rattle.rewriting.specs.Variables.{occurs, occurs_in, variable_occurrences}
 use Rattle.rewriting.specs.Rules.{Condition, left_sides, right_sides, sides}
 use Rattle.rewriting.specs.Classes.{known}

@@ -9,7 +9,7 @@ use Rattle.std.proofs.lemmas.List.{length-map, drop-map}
 use Rattle.rewriting.specs.Terms.{nil, cons}
 use Rattle.rewriting.specs.Variables.{occurs, occurs_in, IsWithin, variable_occurrences}
 use Rattle.rewriting.specs.Rules as rules
-use Rattle.rewriting.specs.Rules.{Condition, right_sides, sides, rule_at, EachRule}
+use Rattle.rewriting.specs.Rules.{Condition, right_sides, sides, rule_at}
 use Rattle.rewriting.specs.Systems.{IsRule, AreRules}
 use Rattle.rewriting.specs.Classes.{IsAt, known, IsExtendedOrientedRule}
 use Rattle.rewriting.proofs.Instances.{or_right, or_cases}

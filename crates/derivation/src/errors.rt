@@ -1,4 +1,4 @@
-ghost use Rattle.std.specs.Prelude.{◌≡◌, [], IfOk};
+ghost use Rattle.std.specs.Prelude.{◌≡◌};
 ghost use Rattle.cert_model.specs.ReasonView.{step_reason_view};
 ghost use Rattle.derivation.specs.Errors.{IsBelow, IsHere};
 

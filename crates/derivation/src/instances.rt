@@ -1,8 +1,7 @@
 ghost use Rattle.std.specs.Prelude.{◌≡◌, [], option_map, IfSome};
 ghost use Rattle.rewriting.specs.Terms as math;
 ghost use Rattle.rewriting.specs.Rules as rules;
-ghost use Rattle.rewriting.specs.Substitutions.{apply, values_of};
-ghost use Rattle.rewriting.specs.Matching.{Covers};
+ghost use Rattle.rewriting.specs.Substitutions.{apply};
 ghost use Rattle.certificates.specs.Reasons.{no_redex};
 ghost use Rattle.term_core.specs.View.{view};
 ghost use Rattle.term_core.specs.RuleView.{rule_view};

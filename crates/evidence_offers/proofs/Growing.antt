@@ -3,7 +3,7 @@ use Rattle.std.proofs.Common.{ℕ, zero, suc, ◌≡◌, List, [], ◌∷◌, Op
 use Rattle.std.specs.Prelude.{slice_get}
 use Rattle.rewriting.specs.Terms.{Fits}
 use Rattle.rewriting.specs.Rules.{Condition, System}
-use Rattle.rewriting.proofs.Once.{same_some, some_or_none}
+use Rattle.rewriting.proofs.Once.{same_some}
 use Rattle.certificates.specs.Evidence.{Automaton, by_automaton}
 use Rattle.certificates.specs.Judging.{hypothesis_at}
 use Rattle.certificates.specs.Sizes.{DoConditionsFit}

@@ -47,6 +47,41 @@ module _ {A B : Type 0} (Gives : A → B → Type 0) where
           up_to = let e = f.up_to in let sum = cost_append cost xs f.before in omega (arith, e, sum);
         }
 
+    -- what is first stays first, whatever follows; and so does where a walk stopped
+    pub first_left : (xs ys : List A) (b : B) (n : ℕ) → IsFirst cost Gives xs b n → IsFirst cost Gives (xs ++ ys) b n
+    first_left xs ys b n f =
+        record {
+          before = f.before;
+          item = f.item;
+          behind = f.behind ++ ys;
+          split = ap (λ (zs : List A). zs ++ ys) f.split ∙ append_assoc f.before (f.item ∷ f.behind) ys;
+          none = f.none;
+          gives = f.gives;
+          up_to = f.up_to;
+        }
+
+    pub stopped_left : (xs ys : List A) (n : ℕ) → IsStopped cost Gives xs n → IsStopped cost Gives (xs ++ ys) n
+    stopped_left xs ys n s =
+        record {
+          before = s.before;
+          item = s.item;
+          behind = s.behind ++ ys;
+          split = ap (λ (zs : List A). zs ++ ys) s.split ∙ append_assoc s.before (s.item ∷ s.behind) ys;
+          none = s.none;
+          short = s.short;
+        }
+
+    pub stopped_right : (xs ys : List A) (n : ℕ) → NoneGives Gives xs → IsStopped cost Gives ys n → IsStopped cost Gives (xs ++ ys) (cost_of cost xs + n)
+    stopped_right xs ys n none s =
+        record {
+          before = xs ++ s.before;
+          item = s.item;
+          behind = s.behind;
+          split = ap (λ (zs : List A). xs ++ zs) s.split ∙ sym (append_assoc xs s.before (s.item ∷ s.behind));
+          none = none_append xs s.before none s.none;
+          short = let less = s.short in let sum = cost_append cost xs s.before in omega (arith, less, sum);
+        }
+
     -- the first of a list is its head, or the first of the rest
     pub first_cases : (a : A) (rest : List A) (b : B) (n : ℕ) → IsFirst cost Gives (a ∷ rest) b n
         → (Gives a b × (n ≡ cost a)) ⊎ (GivesNothing Gives a × ((m : ℕ) × IsFirst cost Gives rest b m × (n ≡ cost a + m)))

@@ -1,5 +1,5 @@
 -- Whether the sides of an unraveled system fit.
-use Rattle.std.specs.Prelude.{ℕ, zero, suc, ◌≡◌, ◌+◌, ◌<◌, List, [], ◌∷◌, Some, length, take}
+use Rattle.std.specs.Prelude.{ℕ, zero, suc, ◌≡◌, ◌+◌, ◌<◌, Some, length, take}
 use Rattle.rewriting.specs.Rules.{Rule, System, rule_at}
 use Rattle.rewriting.specs.Systems.{DoSidesFit, condition_count}
 use Rattle.rewriting.specs.Unraveling.{unraveled_rule}

@@ -1,5 +1,5 @@
 // Whether an interpretation has the right entries, and whether their numbers are good.
-ghost use Rattle.std.specs.Prelude.{◌≡◌, ◌≤◌, ◌<◌, ◌+◌, ◌^◌, ◌↔◌, ℕ, IsTrue, map, length};
+ghost use Rattle.std.specs.Prelude.{◌≡◌, ◌<◌, ◌+◌, ◌↔◌, IsTrue, map, length};
 ghost use Rattle.term_core.specs.HeadView.{head_view};
 ghost use Rattle.cert_model.specs.CertificateView.{linear_entry_view};
 ghost use Rattle.linear_interp.specs.Entries.{IsEntryAt, is_wrong_at, MisshapenAnswers, IsNumberGood, AreGoodBelow, BadAnswers};

@@ -1,4 +1,4 @@
-ghost use Rattle.std.specs.Prelude.{◌↔◌, ◌≡◌, IsTrue, map};
+ghost use Rattle.std.specs.Prelude.{◌↔◌, IsTrue, map};
 ghost use Rattle.rewriting.specs.NormalForms.{IsNormalForm};
 ghost use Rattle.term_core.specs.View.{view};
 ghost use Rattle.term_core.specs.RuleView.{rule_view};

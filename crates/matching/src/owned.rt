@@ -1,4 +1,4 @@
-ghost use Rattle.std.specs.Prelude.{◌≡◌, IfOk, MatchBool};
+ghost use Rattle.std.specs.Prelude.{IfOk, MatchBool};
 ghost use Rattle.rewriting.specs.Matching.{IsLeastMatch, HasNoMatch};
 ghost use Rattle.term_core.specs.View.{view, views};
 ghost use Rattle.matching.specs.Lists.{AreLeastMatches, HaveNoMatches};

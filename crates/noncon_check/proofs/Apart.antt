@@ -1,11 +1,10 @@
 -- From the redexes of both ends to the answer.
-use Rattle.std.proofs.Common.{◌≡◌, ◌≢◌, ◌⊎◌, inl, inr, ℕ, zero, suc, ◌+◌, ◌<◌, ◌≤◌, List, [], ◌∷◌, ◌++◌, map, length, drop, get_or, slice_get, Option, None, Some, Result, Ok, Err, OnOk, refl, sym, ap, ap₂, ◌∙◌, subst, arith}
+use Rattle.std.proofs.Common.{◌≡◌, ◌≢◌, inl, inr, ℕ, zero, suc, ◌+◌, ◌<◌, ◌≤◌, List, [], ◌∷◌, ◌++◌, length, drop, slice_get, Option, None, Some, Result, Ok, Err, OnOk, refl, sym, ap, ap₂, ◌∙◌, subst, arith}
 use Rattle.std.proofs.lemmas.Option.{slice_get_within, get_or_from_slice_get}
 use Rattle.std.proofs.lemmas.List.{drop_more}
 use Rattle.rewriting.specs.Signatures.{IsOver}
-use Rattle.rewriting.specs.Systems.{IsSystem, IsWellFormed, AreRules}
-use Rattle.rewriting.specs.Terms.{size}
-use Rattle.rewriting.proofs.Common.{Term, System, apply, with_variables}
+use Rattle.rewriting.specs.Systems.{IsSystem, IsWellFormed}
+use Rattle.rewriting.proofs.Common.{Term, System, apply}
 use Rattle.rewriting.proofs.Laws.{well_formed}
 use Rattle.certificates.specs.Certificates.{Redex, Peak, by_normal_forms}
 use Rattle.certificates.specs.Evidence.{InfeasibilityEvidence}
@@ -14,23 +13,18 @@ use Rattle.certificates.specs.Reasons.{EvidenceReason, Rejection, redex_extra}
 use Rattle.cert_model.specs.ReasonView.{rejected_view}
 use Rattle.rewriting.specs.Lists.{IsAmong, AreDistinct}
 use Rattle.renumbering.specs.Rows.{naming}
-use Rattle.term_core.specs.RuleView.{rule_view, AreCounted}
-use Rattle.term_core.specs.SystemView.{AreSound}
 use Rattle.term_core.specs.declared.systems.Rule as program
 use Rattle.validity.specs.declared.CheckError.{CheckError}
 use Rattle.validity.specs.declared.CheckError.TheVariants.{Rejected, NoMemory}
-use Rattle.valid_certificates.specs.Peaks.{RedexPlace, IsRedex, IsEarlierRedex, AreRedexes, chosen, IsRedexJudged, AreRefuted, AreNotRefuted, IsMissed, AreNotShownApart, LeadsTo, IsPeakRejected, first_fails, second_fails, not_apart}
+use Rattle.valid_certificates.specs.Peaks.{RedexPlace, chosen, IsRedexJudged, AreRefuted, AreNotRefuted, IsMissed, AreNotShownApart, LeadsTo, IsPeakRejected, first_fails, second_fails, not_apart}
 use Rattle.valid_certificates.specs.Laws.{ReachesApart, ValidPeaksReachApart}
 use Rattle.validity.specs.Answers.{PeakAnswers}
 use Rattle.redex_conditions.specs.Judged.{IsJudgedAt}
 use Rattle.redex_conditions.specs.Redexes.{redexes, AreRedexesOf}
 use Rattle.noncon_check.specs.Walks.{Judgement, IsEntry, IsAbsent, Pass, Fail, PlacesAnswer}
 use Rattle.noncon_check.specs.Ends.{FirstAnswers, SecondAnswers, ApartAnswers, AreJudgedFrom, EndAnswers}
-use Rattle.rewriting.proofs.Lengths.{variables_length}
-use Rattle.rewriting.proofs.Lists.{among_left, among_right, among_either, sorted_append}
 use Rattle.redex_conditions.proofs.Numbers.{AreBelow, redex_judged, same_redexes}
 use Rattle.redex_conditions.proofs.Places.{redexes_are}
-use Rattle.unifier_run.proofs.Renamed.{size-names}
 use Rattle.noncon_check.proofs.Walks.{pass_append, pass_fail, fail_append, pass_to, fail_to, answers_to}
 use Rattle.redex_conditions.proofs.Ends.{both}
 

@@ -1,32 +1,21 @@
 -- Entries for redexes, rule by rule at a part, and part by part in a term.
-use Rattle.std.proofs.Common.{ℕ, ◌≡◌, ◌<◌, ◌≤◌, ◌+◌, inl, inr, refl, sym, ap, ◌∙◌, subst, List, [], ◌∷◌, ◌++◌, map, flat_map, length, get_or, drop, Bool, true, false, if◌then◌else◌, Option, Some, Result, Ok, Err}
-use Rattle.std.specs.Borrow.{Bor}
-use Rattle.std.specs.FinMap.{empty}
-use Rattle.std.proofs.lemmas.List.{map-append, get_or_default}
+use Rattle.std.proofs.Common.{ℕ, ◌≡◌, ◌<◌, ◌≤◌, ◌+◌, refl, sym, subst, List, [], ◌∷◌, ◌++◌, flat_map, length, get_or, drop, Option, Result, Ok, Err}
 use Rattle.rewriting.specs.Terms as math
 use Rattle.rewriting.specs.Lists.{IsAmong}
-use Rattle.rewriting.specs.Positions.{Position, subterm}
-use Rattle.rewriting.specs.Rules.{Rule, System, rule_at}
-use Rattle.rewriting.specs.Substitutions.{Bindings}
-use Rattle.rewriting.specs.Matching.{IsLeastMatch}
-use Rattle.rewriting.proofs.Lists.{among_of_map}
-use Rattle.rule_index.specs.Roots.{rules_at}
-use Rattle.rule_index.specs.Parts.{Part, part, parts, IsNext}
-use Rattle.rule_index.proofs.Standing.{part_stands}
+use Rattle.rewriting.specs.Rules.{System}
+use Rattle.rule_index.specs.Parts.{Part, parts}
 use Rattle.certificates.specs.Certificates.{Redex}
 use Rattle.certificates.specs.Evidence.{InfeasibilityEvidence}
-use Rattle.certificates.specs.Judging.{RuleMatches}
 use Rattle.certificates.specs.Reasons.{EvidenceReason}
-use Rattle.term_core.specs.View.{view}
 use Rattle.term_core.specs.declared.terms.Term.{Term}
 use Rattle.validity.specs.declared.CheckError.{CheckError}
 use Rattle.valid_certificates.specs.Peaks.{RedexPlace}
 use Rattle.redex_conditions.specs.Judged.{IsJudgedOn, IsJudgedAt}
-use Rattle.redex_conditions.specs.Redexes.{place, places, hits, is_hit, part_redexes}
+use Rattle.redex_conditions.specs.Redexes.{places, part_redexes}
 use Rattle.noncon_check.specs.Walks.{Judgement, Pass, PlacesAnswer}
-use Rattle.redex_conditions.proofs.Completing.{drop_first, drop_end}
+use Rattle.redex_conditions.proofs.Completing.{drop_end}
 use Rattle.noncon_check.proofs.Walks.{rest_answers, first_answers, answers_to}
-use Rattle.redex_conditions.proofs.Parts.{places_split, AreAhead, ahead_first, ahead_rest, matches_in}
+use Rattle.redex_conditions.proofs.Parts.{places_split, AreAhead, ahead_first, matches_in}
 
 module _ (J : Judgement) (es : List Redex) (sys : System) (w : ℕ) (q : Part) (ns : List ℕ) (i n : ℕ) (low : i < length ns) (here : n ≡ get_or ns i 0) where
   abbrev those : List ℕ → List RedexPlace

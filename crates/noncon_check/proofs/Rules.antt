@@ -1,21 +1,16 @@
 -- Entries of a certificate by their numbers, and those for a rule at a part.
-use Rattle.std.proofs.Common.{◌≡◌, ℕ, zero, suc, ◌-◌, ◌<◌, List, [], ◌∷◌, length, get_or, map, Option, Some, IsSome, slice_get, refl, sym, ap, ◌∙◌, subst, arith, inl, inr, Bool, true, false, if◌then◌else◌, Result}
+use Rattle.std.proofs.Common.{◌≡◌, ℕ, ◌<◌, List, [], ◌∷◌, length, map, Option, Some, slice_get, refl, sym, subst, arith, inl, inr, Result}
 use Rattle.std.proofs.lemmas.Option.{slice_get_within}
 use Rattle.std.proofs.lemmas.List.{length-map}
 use Rattle.std.specs.FinMap.{empty}
 use Rattle.rewriting.specs.Lists.{IsAmong}
 use Rattle.rewriting.specs.Matching.{IsLeastMatch, HasNoMatch}
-use Rattle.rewriting.proofs.Common.{Term, Bindings, values_of, Rule, System, rule_at, Signature}
-use Rattle.rewriting.proofs.Matching.{solved_instance}
+use Rattle.rewriting.proofs.Common.{Term, Bindings, Rule, System, rule_at}
 use Rattle.certificates.specs.Certificates as math
-use Rattle.term_core.specs.RuleView.{rule_view}
-use Rattle.term_core.specs.SystemView.{IsSound, AreSound}
 use Rattle.term_core.specs.declared.systems.Rule as program
 use Rattle.cert_model.specs.CertificateView.{redex_view}
 use Rattle.cert_model.specs.declared.model.Redex as program_redex
-use Rattle.rewriting.proofs.Matched.{instance_matched}
 use Rattle.rule_index.specs.Parts.{part}
-use Rattle.rule_index.proofs.Numbers.{number_low}
 use Rattle.rewriting.specs.Positions.{Position}
 use Rattle.rewriting.specs.Overlaps.{conditions_under}
 use Rattle.certificates.specs.Evidence.{InfeasibilityEvidence}
@@ -25,8 +20,7 @@ use Rattle.valid_certificates.specs.Peaks.{RedexPlace}
 use Rattle.redex_conditions.specs.Judged.{match_or_new, AreJudged, IsJudgedOn}
 use Rattle.noncon_check.specs.Walks.{Judgement, Pass, PlacesAnswer}
 use Rattle.noncon_check.proofs.Walks.{answers_to}
-use Rattle.redex_conditions.specs.Redexes.{hits, is_hit, place, places}
-use Rattle.redex_conditions.proofs.Deciding.{match_decided, match_found}
+use Rattle.redex_conditions.specs.Redexes.{place, places}
 use Rattle.redex_conditions.proofs.Rules.{hit_yes, hit_no}
 
 -- entries

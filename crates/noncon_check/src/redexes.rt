@@ -4,7 +4,7 @@ ghost use Rattle.rewriting.specs.Rules.{rule_at};
 ghost use Rattle.rewriting.specs.Overlaps.{conditions_under};
 ghost use Rattle.rule_index.specs.Parts as parts;
 ghost use Rattle.term_core.specs.View.{view};
-ghost use Rattle.term_core.specs.RuleView.{rule_view, condition_view};
+ghost use Rattle.term_core.specs.RuleView.{condition_view};
 ghost use Rattle.term_core.specs.SystemView.{IsSound};
 ghost use Rattle.cert_model.specs.CertificateView.{redex_view};
 ghost use Rattle.valid_certificates.specs.Peaks.{entry_place};

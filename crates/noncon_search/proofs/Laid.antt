@@ -1,5 +1,5 @@
 -- What clashes with caps that lie one upon the other.
-use Rattle.std.proofs.Common.{ℕ, suc, ◌≡◌, ◌<◌, ◌≤◌, ◌^◌, Bool, true, false, nat_eq, nat_lt, if◌then◌else◌, Option, None, Some, refl, sym, ap, ◌∙◌, subst, arith, eq-eqb, eqb-true}
+use Rattle.std.proofs.Common.{ℕ, suc, ◌≡◌, ◌^◌, Bool, true, false, nat_eq, nat_lt, if◌then◌else◌, Option, None, Some, refl, sym, ap, ◌∙◌, subst, arith, eq-eqb, eqb-true}
 use Rattle.std.proofs.lemmas.Bool.{false≢true, ltb-false, or_parts, or_from}
 use Rattle.rewriting.specs.Terms.{Term, Terms, var, app, nil, cons, count}
 use Rattle.term_core.specs.View.{view}
@@ -7,7 +7,7 @@ use Rattle.term_core.specs.declared.terms.Term as program
 use Rattle.tcap_infeasible.specs.Clashes.{do_clash, do_any_clash}
 use Rattle.tcap_infeasible.proofs.Clashes.{first_open}
 use Rattle.noncon_search.specs.declared.overlay.Overlay.{Overlay}
-use Rattle.noncon_search.specs.Laying.{laid, all_laid, LiesIn, IsUnder, DoMeet, IsLaid}
+use Rattle.noncon_search.specs.Laying.{laid, all_laid, LiesIn, DoMeet, IsLaid}
 
 module _ (n : ℕ) where
   -- two symbols over arguments that meet
@@ -77,15 +77,6 @@ module _ (n : ℕ) where
           or_from (do_clash n t v) (do_any_clash n ts vs) first.0 rest.0,
           or_from (do_clash n u v) (do_any_clash n us vs) first.1 rest.1,
         ))
-
--- a closed overlay says nothing
-pub laid_closed : (before after : Overlay) (cap : Option program.Term) → after.is_open ≡ false → IsLaid before after cap false
-laid_closed before after cap e =
-    record {
-      kept = λ c h open_now. absurd (false≢true (sym e ∙ open_now));
-      added = λ open_now. absurd (false≢true (sym e ∙ open_now));
-      met = λ said. absurd (false≢true said);
-    }
 
 -- a cap that does not clash with the whole is laid there
 module _ (before after : Overlay) (d : program.Term) (open_then : before.is_open ≡ true) (meets : do_clash (2 ^ 31) (view before.whole) (view d) ≡ false)

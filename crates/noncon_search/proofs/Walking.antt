@@ -15,46 +15,10 @@ use Rattle.cc_count.specs.Counts.{Counts, Spends}
 use Rattle.reach_lists.specs.Solutions.{Reached}
 use Rattle.reach.proofs.Paying.{spends_none, spends_both, spends_same}
 use Rattle.first_found.specs.Items.{GivesNothing, NoneGives, cost_of, IsFirst, IsStopped}
-use Rattle.first_found.proofs.Items.{cost_append, none_append, first_right}
+use Rattle.first_found.proofs.Items.{cost_append, none_append, first_left, first_right, stopped_left, stopped_right}
 use Rattle.search_spaces.specs.Listings.{listing, listing_cost}
 use Rattle.search_spaces.specs.PeakItems.{PeakItem, make_listing, try_ends, peak_item_cost, peak_items_of, GivesPeak}
 use Rattle.noncon_search.specs.Answers.{pair_items, WalkAnswers}
-
--- what a walk through a part of the items comes to, it comes to in all
-module _ {A B : Type 0} (cost : A → ℕ) (Gives : A → B → Type 0) (xs ys : List A) where
-  first_left : (b : B) (n : ℕ) → IsFirst cost Gives xs b n → IsFirst cost Gives (xs ++ ys) b n
-  first_left b n f =
-      record {
-        before = f.before;
-        item = f.item;
-        behind = f.behind ++ ys;
-        split = ap (λ (zs : List A). zs ++ ys) f.split ∙ append_assoc f.before (f.item ∷ f.behind) ys;
-        none = f.none;
-        gives = f.gives;
-        up_to = f.up_to;
-      }
-
-  stopped_left : (n : ℕ) → IsStopped cost Gives xs n → IsStopped cost Gives (xs ++ ys) n
-  stopped_left n s =
-      record {
-        before = s.before;
-        item = s.item;
-        behind = s.behind ++ ys;
-        split = ap (λ (zs : List A). zs ++ ys) s.split ∙ append_assoc s.before (s.item ∷ s.behind) ys;
-        none = s.none;
-        short = s.short;
-      }
-
-  stopped_right : (n : ℕ) → NoneGives Gives xs → IsStopped cost Gives ys n → IsStopped cost Gives (xs ++ ys) (cost_of cost xs + n)
-  stopped_right n none s =
-      record {
-        before = xs ++ s.before;
-        item = s.item;
-        behind = s.behind;
-        split = ap (λ (zs : List A). xs ++ zs) s.split ∙ sym (append_assoc xs s.before (s.item ∷ s.behind));
-        none = none_append Gives xs s.before none s.none;
-        short = let less = s.short in let sum = cost_append cost xs s.before in omega (arith, less, sum);
-      }
 
 -- some of the items are done: they gave nothing, and were paid; the rest is left
 pub record Walking (names : NameTable) (sys : System) (items : List PeakItem) (start here : Counts) (rest : List PeakItem) : Type 0 where
@@ -93,7 +57,7 @@ module _ (names : NameTable) (sys : System) (items : List PeakItem) where
       cost_of peak_item_cost w.done + n,
       both_paid n s,
       subst (λ z. IsFirst peak_item_cost Gives z (certificate_view cert) (cost_of peak_item_cost w.done + n)) (sym whole)
-          (first_right Gives peak_item_cost w.done (xs ++ ys) (certificate_view cert) n w.none (first_left peak_item_cost Gives xs ys (certificate_view cert) n f)),
+          (first_right Gives peak_item_cost w.done (xs ++ ys) (certificate_view cert) n w.none (first_left Gives peak_item_cost xs ys (certificate_view cert) n f)),
     )
     ends Nothing other h = absurd (other refl)
     ends Spent other (n, s, end, stopped) = (
@@ -101,7 +65,7 @@ module _ (names : NameTable) (sys : System) (items : List PeakItem) where
       both_paid n s,
       end,
       subst (λ z. IsStopped peak_item_cost Gives z (cost_of peak_item_cost w.done + n)) (sym whole)
-          (stopped_right peak_item_cost Gives w.done (xs ++ ys) n w.none (stopped_left peak_item_cost Gives xs ys n stopped)),
+          (stopped_right Gives peak_item_cost w.done (xs ++ ys) n w.none (stopped_left Gives peak_item_cost xs ys n stopped)),
     )
 
     pub fails : (r : Result Search NoMemory) → IsErr r → (n : ℕ) × Spends b n c → WalkAnswers names sys items a c r

@@ -1,5 +1,5 @@
 -- Places for rules and for hypotheses.
-use Rattle.std.proofs.Common.{◌≡◌, ℕ, zero, suc, ◌+◌, ◌-◌, ◌<◌, Bool, cond, List, [], ◌∷◌, ◌++◌, map, length, get_or, drop, Some, option_to_list, refl, sym, ap, ◌∙◌, append_assoc, append-nil, add-one, Result, Ok, Err, OnOk, arith}
+use Rattle.std.proofs.Common.{◌≡◌, ℕ, zero, suc, ◌+◌, ◌<◌, Bool, cond, List, [], ◌∷◌, ◌++◌, map, length, get_or, drop, Some, option_to_list, refl, sym, ap, ◌∙◌, append_assoc, append-nil, add-one, Result, Ok, Err, OnOk, arith}
 use Rattle.std.proofs.lemmas.Bool.{false_from_ne_true}
 use Rattle.std.specs.FinMap.{empty}
 use Rattle.rewriting.specs.Terms as math

@@ -1,5 +1,5 @@
 //! Terms as keys of an index: their cells in preorder, two numbers a node.
-ghost use Rattle.std.specs.Prelude.{◌≡◌, ◌≤◌, ◌++◌, [], IfOk, OnOk, option_map, option_and_then};
+ghost use Rattle.std.specs.Prelude.{◌≡◌, ◌≤◌, ◌++◌, IfOk, OnOk, option_and_then};
 ghost use Rattle.rewriting.specs.Terms as math;
 ghost use Rattle.rewriting.specs.Positions as position;
 ghost use Rattle.term_core.specs.View.{view, views};

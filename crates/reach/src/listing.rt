@@ -1,5 +1,5 @@
 //! A list of terms with their derivations that finds its terms by an index.
-ghost use Rattle.std.specs.Prelude.{◌≡◌, ◌↔◌, false, IsTrue, ◌<◌, ◌≤◌, ◌++◌, ◌∷◌, [], Some, None, IfOk, OnOk, OnErr, IfSome, length, slice_get};
+ghost use Rattle.std.specs.Prelude.{◌≡◌, ◌↔◌, false, IsTrue, ◌<◌, ◌≤◌, ◌++◌, ◌∷◌, [], Some, IfOk, OnOk, length, slice_get};
 ghost use Rattle.rewriting.specs.Terms as math;
 ghost use Rattle.reach_lists.specs.Lists as lists;
 ghost use Rattle.term_core.specs.View.{view};

@@ -1,15 +1,14 @@
 -- The list that is made level by level is the one of a queue.
-use Rattle.std.proofs.Common.{◌≡◌, ◌⊎◌, inl, inr, ℕ, zero, suc, ◌+◌, ◌≤◌, ◌<◌, nat_lt, Bool, true, false, cond, List, [], ◌∷◌, ◌++◌, length, map, flat_map, drop, slice_get, Option, None, Some, refl, sym, ap, ◌∙◌, subst, append_assoc, append-nil, length-append, drop_at, le_refl, arith}
+use Rattle.std.proofs.Common.{◌≡◌, ℕ, zero, suc, ◌+◌, ◌≤◌, ◌<◌, nat_lt, Bool, true, false, List, [], ◌∷◌, ◌++◌, length, flat_map, drop, slice_get, Option, None, Some, refl, sym, ap, ◌∙◌, subst, append_assoc, append-nil, length-append, drop_at, le_refl, arith}
 use Rattle.std.proofs.lemmas.List.{length-map, map-append}
 use Rattle.std.proofs.lemmas.Bool.{cond-true, cond-false, lt-ltb, le-ltb}
 use Rattle.rewriting.specs.Terms.{Term}
-use Rattle.rewriting.specs.Rules.{Condition, System}
 use Rattle.certificates.specs.Derivations.{no_steps}
 use Rattle.reach_lists.specs.Solutions.{Reached}
 use Rattle.reach_lists.specs.Lists.{takes, with_term, with_terms, successors, condition_list, breadth_first, expanded}
 use Rattle.reach_lists.specs.Laws.{EachOf, ListsAreThoseOfQueues}
 use Rattle.reach_lists.specs.Queue.{Queued, queued_terms, at_distance, with_queued, with_all_queued, handled, queue_from, queue}
-use Rattle.reach_lists.proofs.Each.{each_append, each_last}
+use Rattle.reach_lists.proofs.Each.{each_append}
 use Rattle.reach_lists.proofs.Equations.{no_rounds}
 use Rattle.reach_lists.proofs.Growing.{expanded_first, round, short, with_terms-append}
 

@@ -1,10 +1,10 @@
 -- The derivations of listed terms are short.
-use Rattle.std.proofs.Common.{◌≡◌, ℕ, zero, suc, ◌≤◌, ◌<◌, ◌^◌, List, [], ◌∷◌, ◌++◌, map, flat_map, filter_map, option_to_list, option_map, Option, None, Some, refl, sym, subst, arith}
+use Rattle.std.proofs.Common.{◌≡◌, ℕ, zero, suc, ◌≤◌, ◌<◌, ◌^◌, List, [], ◌∷◌, ◌++◌, flat_map, filter_map, option_to_list, option_map, Option, None, Some, refl, sym, subst, arith}
 use Rattle.std.proofs.lemmas.Bool.{leb-true}
 use Rattle.rewriting.specs.Terms.{Term, size}
-use Rattle.rewriting.specs.Positions.{Position, positions, replace}
+use Rattle.rewriting.specs.Positions.{Position, replace}
 use Rattle.rewriting.specs.Substitutions.{Bindings, apply, values_of}
-use Rattle.rewriting.specs.Rules.{Condition, Rule, System}
+use Rattle.rewriting.specs.Rules.{Condition, System}
 use Rattle.certificates.specs.Derivations.{Derivation, no_steps, first_step, Step, by_rule, by_hypothesis, derivations_of}
 use Rattle.certificates.specs.Sizes.{step_count, AreStepsShort, IsStepShort, AreShort, IsShort}
 use Rattle.rewriting.specs.Tests.{is_covered, match_onto}
@@ -12,7 +12,7 @@ use Rattle.reach_lists.specs.Sites.{Site, rule_site, hypothesis_site, sites}
 use Rattle.reach_lists.specs.Solutions.{Reached, then_step, Solution, starts, extended, extensions, solutions}
 use Rattle.reach_lists.specs.Lists.{stepped, by_solution, unconditional, at_site, successors, breadth_first, condition_list}
 use Rattle.reach_lists.specs.Laws.{EachOf, ListedDerivationsAreShort}
-use Rattle.reach_lists.proofs.Each.{each_append, each_to, each_flat_map, each_map, each_of_option, each_filter_map, each_if, each_any}
+use Rattle.reach_lists.proofs.Each.{each_append, each_to, each_flat_map, each_map, each_filter_map, each_if, each_any}
 use Rattle.reach_lists.proofs.Equations.{no_rounds, one_round, no_depth, one_deeper}
 use Rattle.reach_lists.proofs.Growing.{each_with_all}
 

@@ -3,7 +3,7 @@
 //! f(x7, g(x3, x7)) becomes f(x0, g(x1, x0)), and the row 7, 3 tells what the numbers stand for.
 #![tactic(auto)]
 
-ghost use Rattle.std.specs.Prelude.{◌≡◌, ◌<◌, ℕ, true, [], Some, IfOk, OnOk, length, slice_get, get_or};
+ghost use Rattle.std.specs.Prelude.{◌≡◌, ◌<◌, ℕ, true, [], Some, IfOk, OnOk, length, slice_get};
 ghost use Rattle.rewriting.specs.Variables.{occurs, with_new, with_variables};
 ghost use Rattle.rewriting.specs.Substitutions.{apply};
 ghost use Rattle.rewriting.specs.Unifiers.{odd};

@@ -4,7 +4,7 @@
 mod indexed;
 mod parts;
 
-ghost use Rattle.std.specs.Prelude.{◌≡◌, ◌<◌, ◌+◌, ◌^◌, ◌++◌, ◌∷◌, ℕ, [], IfOk, OnOk, if◌then◌else◌, map, length};
+ghost use Rattle.std.specs.Prelude.{◌≡◌, ◌<◌, ◌^◌, ◌++◌, ◌∷◌, ℕ, [], IfOk, OnOk, if◌then◌else◌, map, length};
 ghost use Rattle.rule_index.specs.Roots.{has_root, numbers_with_root};
 ghost use Rattle.rule_index.specs.Index.{listed, listed_at, IsIndexOf, IsRootBelow, AreRootsBelow};
 ghost use Rattle.term_core.specs.View.{view};

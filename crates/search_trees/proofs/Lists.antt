@@ -1,24 +1,11 @@
 -- Lists of items that cost one each, and lists of items that are made of others.
-use Rattle.std.proofs.Common.{ℕ, ◌≡◌, ◌+◌, ◌⊎◌, inl, inr, List, [], ◌∷◌, ◌++◌, map, length, refl, sym, ap, ◌∙◌, subst, arith, append_assoc}
+use Rattle.std.proofs.Common.{ℕ, ◌≡◌, ◌+◌, ◌⊎◌, inl, inr, List, [], ◌∷◌, ◌++◌, map, length, refl, sym, subst, arith}
 use Rattle.first_found.specs.Items.{GivesNothing, NoneGives, cost_of, IsFirst, one}
 use Rattle.first_found.proofs.Items.{first_here, first_right, first_cases}
 
 pub cost_of_ones : {A : Type 0} (xs : List A) → cost_of one xs ≡ length xs
 cost_of_ones [] = refl
 cost_of_ones (x ∷ xs) = let e = cost_of_ones xs in omega (arith, e)
-
--- what is first stays first, whatever follows
-pub first_left : {A B : Type 0} (Gives : A → B → Type 0) (xs ys : List A) (b : B) (n : ℕ) → IsFirst one Gives xs b n → IsFirst one Gives (xs ++ ys) b n
-first_left {A = A} Gives xs ys b n f =
-    record {
-      before = f.before;
-      item = f.item;
-      behind = f.behind ++ ys;
-      split = ap (λ (zs : List A). zs ++ ys) f.split ∙ append_assoc f.before (f.item ∷ f.behind) ys;
-      none = f.none;
-      gives = f.gives;
-      up_to = f.up_to;
-    }
 
 -- items that are made of others by f, and give the same
 module _ {A B P : Type 0} (f : A → P) (From : P → B → Type 0) (To : A → B → Type 0) where

@@ -1,9 +1,8 @@
 -- The first leaf of a tree that gives something: it is the first of the list of leaves, and the units are at most its place.
 use Rattle.std.proofs.Common.{ℕ, zero, suc, ◌≡◌, ◌+◌, ◌<◌, ◌≤◌, inl, inr, List, [], ◌∷◌, flat_map, length, refl, sym, ◌∙◌, arith}
 use Rattle.first_found.specs.Items.{NoneGives, cost_of, IsFirst, one}
-use Rattle.first_found.proofs.Items.{cost_append, none_append, first_here, first_right}
+use Rattle.first_found.proofs.Items.{cost_append, none_append, first_here, first_left, first_right}
 use Rattle.search_trees.specs.Trees.{leaves, HaveTogether, IsOneBehind, IsBarrenBelow, IsFirstBelow, StopsBelow}
-use Rattle.search_trees.proofs.Lists.{first_left}
 
 -- each has the property
 abbrev pub EachNode : {P : Type 0} → (P → Type 0) → List P → Type 0
@@ -156,7 +155,7 @@ module _ {P B : Type 0} (next : P → List P) (Dead : P → Type 0) (Gives : P �
         → IsOneBehind (Barren d) (First b d) ps n → IsPlace b (flat_map (leaves next d) ps) n
     place_among d b below [] n full f = absurd f
     place_among d b below (p ∷ ps) n (full, rest) (inl f) =
-        let at = below p n full f in (at.0, first_left Gives (leaves next d p) (flat_map (leaves next d) ps) b at.0 at.1, at.2)
+        let at = below p n full f in (at.0, first_left Gives one (leaves next d p) (flat_map (leaves next d) ps) b at.0 at.1, at.2)
     place_among d b below (p ∷ ps) n (full, rest) (inr (i, j, x, f, e)) =
         let at = place_among d b below ps j rest f in
         let head = barren_within d p i full x in

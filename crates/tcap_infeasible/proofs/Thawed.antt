@@ -1,7 +1,7 @@
 -- The arguments of a frozen cap, thawed one after the other.
 use Rattle.std.proofs.Common.{ℕ, zero, suc, ◌≡◌, ◌+◌, ◌^◌, ◌<◌, ◌≤◌, ◌⊎◌, inl, inr, true, List, [], ◌∷◌, ◌++◌, length, drop, get_or, Vec, Global, Result, Ok, Err, refl, sym, ap, ap₂, ◌∙◌, subst, subst₂, arith}
 use Rattle.rewriting.specs.Terms as math
-use Rattle.rewriting.specs.Terms.{Terms, var, app, nil, cons, size, Fits}
+use Rattle.rewriting.specs.Terms.{Terms, var, app, nil, cons, size}
 use Rattle.rewriting.specs.Variables.{occurs}
 use Rattle.rewriting.specs.Rules.{System}
 use Rattle.rewriting.specs.Systems.{IsSystem}

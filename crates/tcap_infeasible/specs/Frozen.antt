@@ -1,7 +1,7 @@
 -- What the parts of a cap answer: holes are numbered from n on, and variables that stay are constants.
 use Rattle.std.specs.Prelude.{ℕ, ◌≡◌, ◌+◌, ◌<◌, ◌≤◌, ◌^◌, true, List, length, Result, Ok, Err}
 use Rattle.rewriting.specs.Terms as math
-use Rattle.rewriting.specs.Terms.{Fits, Terms, var, app, nil, cons}
+use Rattle.rewriting.specs.Terms.{Fits, Terms, var, nil, cons}
 use Rattle.rewriting.specs.Substitutions.{Substitution}
 use Rattle.rewriting.specs.Variables.{occurs}
 use Rattle.rewriting.specs.Rules.{System}

@@ -1,10 +1,10 @@
 // Conditions judged by the caps of their left sides.
-ghost use Rattle.std.specs.Prelude.{◌≡◌, ◌≤◌, ◌<◌, ◌+◌, ◌^◌, IfOk, OnOk, length, map};
+ghost use Rattle.std.specs.Prelude.{◌≤◌, IfOk, OnOk, length, map};
 ghost use Rattle.rewriting.specs.Rules.{right_sides};
 ghost use Rattle.rewriting.specs.Infeasibility.{IsInfeasible};
 ghost use Rattle.caps.specs.Evidence.{JudgedByCaps};
 ghost use Rattle.certificates.specs.Sizes.{DoConditionsFit};
-ghost use Rattle.term_core.specs.View.{view, views};
+ghost use Rattle.term_core.specs.View.{views};
 ghost use Rattle.term_core.specs.RuleView.{condition_view};
 ghost use Rattle.refuter.specs.Answers.{RefutesAnswers};
 ghost use Rattle.tcap_infeasible.specs.Comparing.{LeftsAnswer, HaveRow};

@@ -5,7 +5,7 @@ ghost use Rattle.rewriting.specs.Signatures.{IsOver};
 ghost use Rattle.rewriting.specs.Rules.{sides};
 ghost use Rattle.rewriting.specs.Systems.{Each, rule_variables};
 ghost use Rattle.rewriting.specs.Variables.{with_new, with_variables, with_variables_of};
-ghost use Rattle.term_core.specs.View.{view, views};
+ghost use Rattle.term_core.specs.View.{view};
 ghost use Rattle.term_core.specs.RuleView.{condition_view, rule_view};
 ghost use Rattle.term_core.specs.Numbering.{numbers_from, AreFirst, IsNumbered};
 ghost use Rattle.term_core.specs.SystemView.{HasSymbolsBelow, AreSymbolsKnown, AreTermsOver, IsSmall, FaultAnswers, FirstFaultAnswers};

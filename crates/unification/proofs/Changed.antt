@@ -1,5 +1,5 @@
 -- One bound term after the other changed in place.
-use Rattle.std.proofs.Common.{ℕ, zero, suc, ◌≡◌, ◌+◌, ◌<◌, ◌≤◌, List, [], ◌∷◌, ◌++◌, map, length, take, drop, get_or, set, refl, ap, ap₂, ◌∙◌, subst, arith, add-one}
+use Rattle.std.proofs.Common.{ℕ, zero, suc, ◌≡◌, ◌+◌, ◌<◌, List, [], ◌∷◌, ◌++◌, map, length, take, drop, get_or, set, refl, ap, ap₂, ◌∙◌, subst, arith, add-one}
 use Rattle.rewriting.specs.Terms.{Fits}
 use Rattle.unifier_run.specs.Run.{Binding, DoAllFit}
 use Rattle.term_core.specs.View.{view}

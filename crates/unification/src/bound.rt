@@ -1,5 +1,5 @@
 // Bound variables, and terms under them.
-ghost use Rattle.std.specs.Prelude.{◌≡◌, ◌≤◌, ◌<◌, ◌+◌, ◌↔◌, ◌⊎◌, IsTrue, IfOk, IfSome, IfNone, MatchOption, map};
+ghost use Rattle.std.specs.Prelude.{◌≡◌, ◌≤◌, ◌<◌, ◌+◌, ◌↔◌, ◌⊎◌, IsTrue, IfOk, IfSome, IfNone, MatchOption};
 ghost use Rattle.rewriting.specs.Terms as math;
 ghost use Rattle.rewriting.specs.Substitutions.{apply};
 ghost use Rattle.rewriting.specs.Variables.{occurs as occurs_in_term};

@@ -1,10 +1,10 @@
 // The run of unification, by recursion on the two sides of an equation. Equal sides are taken apart
 // like others, which binds nothing, and sides are measured only after a new binding.
-ghost use Rattle.std.specs.Prelude.{◌≡◌, ◌≢◌, ◌↔◌, IsTrue, IfOk, IfSome, IfNone, MatchOption, length};
+ghost use Rattle.std.specs.Prelude.{◌≡◌, ◌↔◌, IsTrue, IfOk, MatchOption, length};
 ghost use Rattle.rewriting.specs.Terms as math;
 ghost use Rattle.rewriting.specs.Systems.{Each};
 ghost use Rattle.rewriting.specs.Substitutions.{apply, apply_all};
-ghost use Rattle.unifier_run.specs.Run.{value, under, DoFit, DoAllFit};
+ghost use Rattle.unifier_run.specs.Run.{value, DoFit, DoAllFit};
 ghost use Rattle.term_core.specs.View.{view, views};
 ghost use Rattle.unification.specs.Solving.{bindings, IsGood, IsHead, PutAnswers, SolveAnswers, BindAnswers};
 

@@ -1,5 +1,5 @@
 -- Sizes of sides, places in a list, and variables one after the other.
-use Rattle.std.proofs.Common.{◌≡◌, ℕ, zero, suc, ◌+◌, ◌<◌, ◌≤◌, refl, ap, ◌∙◌, List, [], ◌∷◌, ◌++◌, map, length, get_or, drop, take, nat_eq, if◌then◌else◌, arith, add-one}
+use Rattle.std.proofs.Common.{◌≡◌, ℕ, zero, suc, ◌+◌, ◌<◌, ◌≤◌, refl, ap, ◌∙◌, List, [], ◌∷◌, map, length, get_or, drop, take, nat_eq, if◌then◌else◌, arith, add-one}
 use Rattle.rewriting.specs.Terms as math
 use Rattle.rewriting.specs.Terms.{Term, var, app, cons, terms_of, Fits}
 use Rattle.rewriting.specs.Substitutions.{apply, apply_all}

@@ -4,7 +4,7 @@ ghost use Rattle.rewriting.specs.Terms as math;
 ghost use Rattle.rewriting.specs.Rules.{sides};
 ghost use Rattle.rewriting.specs.Systems.{Each, terms_of_rule};
 ghost use Rattle.rewriting.specs.Variables.{variables};
-ghost use Rattle.rewriting.specs.Unraveling.{keeper_arities, all_keeper_arities, file_heads, condition_heads, auxiliary_heads, heads, unraveled};
+ghost use Rattle.rewriting.specs.Unraveling.{keeper_arities, all_keeper_arities, auxiliary_heads, heads, unraveled};
 ghost use Rattle.term_core.specs.View.{view};
 ghost use Rattle.term_core.specs.HeadView.{head_view};
 ghost use Rattle.term_core.specs.RuleView.{condition_view, rule_view};

@@ -1,4 +1,4 @@
-use Rattle.std.proofs.Common.{sym, ap, ◌∙◌, subst}
+use Rattle.std.proofs.Common.{sym, ap, subst}
 use Rattle.rewriting.specs.Terms.{Fits}
 use Rattle.rewriting.specs.Substitutions.{apply}
 use Rattle.unifier_run.specs.Run.{value}

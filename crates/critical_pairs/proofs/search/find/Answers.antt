@@ -8,7 +8,7 @@ use Rattle.critical_pairs.proofs.Passing.{pass_more, pass_one, fewer_left}
 use Rattle.critical_pairs.proofs.Rests.{cursor_kept, next_there, spot_there, place_within, is_there, few_candidates}
 use Rattle.critical_pairs.proofs.Finds.{found_here, refused_here}
 use Rattle.critical_pairs.proofs.search.find.Goals as goal
-use Rattle.critical_pairs.proofs.search.find.Goals.{After-settle, In-Some, After-deref, In_default-2}
+use Rattle.critical_pairs.proofs.search.find.Goals.{After-settle, In-Some, After-deref}
 
 -- the next inner rule
 passed : (c : After-settle) → DoesPass c.args.sides.now.sys.now (rest_of c.args.sides.now.sys.now c.args.cursor.now) (rest_of c.args.sides.now.sys.now c.settle.new.self)

@@ -2,7 +2,7 @@ use Rattle.std.proofs.Common.{rules, ◌+◌, ◌++◌, length, flat_map, drop, 
 use Rattle.certificates.specs.Sizes.{DoConditionsFit}
 use Rattle.reach_lists.specs.Lists as lists
 use Rattle.reach_lists.specs.Solutions as math_solutions
-use Rattle.reach_lists.specs.Lists.{total, condition_list, condition_cost, reach_list, reach_cost, successors, asked_from, at_site, asked_at}
+use Rattle.reach_lists.specs.Lists.{total, condition_list, condition_cost, successors, asked_from, at_site, asked_at}
 use Rattle.term_core.specs.View.{view}
 use Rattle.term_core.specs.RuleView.{condition_view}
 use Rattle.reach.specs.Parts.{DoesSiteFit, DoAllFit}
