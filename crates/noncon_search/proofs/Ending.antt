@@ -1,5 +1,5 @@
 -- How the search ends.
-use Rattle.std.proofs.Common.{ℕ, ◌≡◌, ◌++◌, inl, inr, List, map, Vec, Global, Bor, Option, None, Some, Result, Ok, Err, IsErr, refl, sym, ap₂, subst, arith}
+use Rattle.std.proofs.Common.{ℕ, ◌≡◌, ◌++◌, inl, inr, List, map, Bor, Option, None, Some, Result, Ok, Err, IsErr, refl, sym, ap₂, subst, arith}
 use Rattle.std.proofs.lemmas.Bool.{false≢true}
 use Rattle.std.proofs.lemmas.Grind.{flat_map-append}
 use Rattle.rewriting.specs.Terms.{Term}
@@ -9,15 +9,11 @@ use Rattle.unifier_run.specs.Overlaps.{AreOverlaps}
 use Rattle.certificates.specs.Certificates.{Certificate}
 use Rattle.cops_names.specs.NameTable.{NameTable}
 use Rattle.valid_certificates.specs.Certificates.{IsValid}
-use Rattle.valid_certificates.proofs.OneOverlaps.{overlaps_or_large, overlaps_or_many}
 use Rattle.term_core.specs.declared.terms.NoMemory.{NoMemory}
 use Rattle.term_core.specs.View.{view}
 use Rattle.term_core.specs.RuleView.{rule_view}
 use Rattle.term_core.specs.declared.systems.Rule.{Rule}
 use Rattle.cert_model.specs.CertificateView.{certificate_view}
-use Rattle.critical_pairs.specs.Answers.{OverlapsAnswers}
-use Rattle.critical_pairs.specs.declared.OverlapError.{OverlapError}
-use Rattle.critical_pairs.specs.declared.OverlapError.TheVariants.{PairTooLarge, TooManyPairs}
 use Rattle.critical_pairs.specs.View.{overlap_view}
 use Rattle.critical_pairs.specs.declared.Overlap.{Overlap}
 use Rattle.validity.specs.declared.Search.{Search}
@@ -112,10 +108,3 @@ module _ (sys : System) (rs : List Rule) (same : map rule_view rs ≡ sys.rules)
           last_part names sys (peak_items sys lefts ++ sources) a b c sources
               (goes_on names sys (peak_items sys lefts ++ sources) a a b (peak_items sys lefts ++ sources) (peak_items sys lefts) sources (begins names sys (peak_items sys lefts ++ sources) a (peak_items sys lefts ++ sources) refl) refl h) r k,
         )
-
--- where the overlaps are refused, they have no list
-pub large_none : (sys : System) (e : OverlapError) (i : ℕ) (p : Vec ℕ Global) (j : ℕ) → e ≡ PairTooLarge i p j → OverlapsAnswers sys (Err e) → (os : List math.Overlap) → AreOverlaps sys os → ⊥
-large_none sys e i p j is h os are = overlaps_or_large sys os i p.items j are (subst (λ z. OverlapsAnswers sys (Err z)) is h)
-
-pub many_none : (sys : System) (e : OverlapError) → e ≡ TooManyPairs → OverlapsAnswers sys (Err e) → (os : List math.Overlap) → AreOverlaps sys os → ⊥
-many_none sys e is h os are = overlaps_or_many sys os are (subst (λ z. OverlapsAnswers sys (Err z)) is h)

@@ -1,6 +1,6 @@
 -- Items one after the other.
 use Rattle.std.proofs.Common.{ℕ, ◌≡◌, ◌+◌, ◌<◌, List, [], ◌∷◌, ◌++◌, append_assoc, append-nil, Result, Ok, Err, IsErr, refl, sym, ap, ◌∙◌, subst, arith}
-use Rattle.std.specs.Prelude.{true, false, IsTrue}
+use Rattle.std.specs.Prelude.{true, false}
 use Rattle.std.proofs.lemmas.Bool.{false≢true}
 use Rattle.rewriting.specs.Terms.{Term}
 use Rattle.rewriting.specs.Rules.{System}
@@ -13,7 +13,7 @@ use Rattle.validity.specs.declared.Search.{Search}
 use Rattle.validity.specs.declared.Search.TheVariants.{Found, Nothing, Spent}
 use Rattle.cc_count.specs.Counts.{Counts, Spends}
 use Rattle.reach_lists.specs.Solutions.{Reached}
-use Rattle.reach.proofs.Paying.{spends_none, spends_both, spends_same}
+use Rattle.cc_count.proofs.Spending.{spends_none, spends_both, spends_same}
 use Rattle.first_found.specs.Items.{GivesNothing, NoneGives, cost_of, IsFirst, IsStopped}
 use Rattle.first_found.proofs.Items.{cost_append, none_append, first_left, first_right, stopped_left, stopped_right}
 use Rattle.search_spaces.specs.Listings.{listing, listing_cost}
@@ -84,10 +84,6 @@ module _ (names : NameTable) (sys : System) (items : List PeakItem) where
   last_part a b c rest w (Ok Nothing) h = finishes a c [] (goes_on a b c rest rest [] w (sym (append-nil rest)) h) refl
   last_part a b c rest w (Ok Spent) h = ends a b c rest rest [] w (sym (append-nil rest)) Spent (λ e. cc) h
   last_part a b c rest w (Err e) h = fails a b c rest rest [] w (sym (append-nil rest)) (Err e) refl h
-
--- where no unit could be taken, none is left
-pub none_left : (b : Counts) → (0 < b.left → IsTrue false) → b.left ≡ 0
-none_left b h = let not_some : 0 < b.left → ⊥ = λ l. (let e : false ≡ true = h l in cc) in omega (arith, not_some)
 
 -- one pair
 module _ (names : NameTable) (sys : System) (t : Term) (x y : Reached) (a b : Counts) where

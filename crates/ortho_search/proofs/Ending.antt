@@ -1,19 +1,14 @@
 -- How the search ends.
-use Rattle.std.proofs.Common.{ℕ, ◌≡◌, inl, inr, List, Vec, Global, Result, Ok, Err, refl, subst, arith}
+use Rattle.std.proofs.Common.{ℕ, ◌≡◌, inl, inr, List, Result, Ok, Err, refl, subst, arith}
 use Rattle.rewriting.specs.Rules.{System}
-use Rattle.unifier_run.specs.Overlaps.{Overlap, AreOverlaps, IsPairTooLarge, AreTooManyOverlaps}
-use Rattle.rewriting.specs.Positions.{Position}
+use Rattle.unifier_run.specs.Overlaps.{Overlap, AreOverlaps}
 use Rattle.certificates.specs.Certificates.{Certificate, PairEntry, ortho_certificate}
 use Rattle.cops_names.specs.NameTable.{NameTable}
 use Rattle.valid_certificates.specs.Certificates.{IsValid}
 use Rattle.valid_certificates.specs.Confluence.{IsInOrthoClasses}
 use Rattle.valid_certificates.specs.Kinds.{ortho}
-use Rattle.valid_certificates.proofs.OneOverlaps.{overlaps_or_large, overlaps_or_many}
 use Rattle.term_core.specs.declared.terms.NoMemory.{NoMemory}
 use Rattle.cert_model.specs.CertificateView.{certificate_view}
-use Rattle.critical_pairs.specs.Answers.{OverlapsAnswers}
-use Rattle.critical_pairs.specs.declared.OverlapError.{OverlapError}
-use Rattle.critical_pairs.specs.declared.OverlapError.TheVariants.{PairTooLarge, TooManyPairs}
 use Rattle.validity.specs.declared.Search.{Search}
 use Rattle.validity.specs.declared.Search.TheVariants.{Found, Nothing, Spent}
 use Rattle.cc_count.specs.Counts.{Counts, Spends}
@@ -25,9 +20,7 @@ use Rattle.search_spaces.specs.Ortho.{IsOrthoOpen, IsOrthoEntry, IsOrthoPaid, or
 use Rattle.search_spaces.specs.PairItems.{ortho_items}
 use Rattle.search_spaces.specs.Texts.{HasText}
 use Rattle.search_spaces.proofs.Ortho.{space_searched, ends_closed, ends_at_row, ends_found, ends_too_long, ends_spent}
-use Rattle.ortho_search.specs.Answers.{EntriesAnswers}
-use Rattle.ortho_search.specs.declared.entries.Entries.{Entries}
-use Rattle.ortho_search.proofs.Turns.{spends_nothing}
+use Rattle.cc_count.proofs.Spending.{spends_none}
 
 module _ (names : NameTable) (sys : System) where
   abbrev Searched : Counts → Counts → Result Search NoMemory → Type 0
@@ -53,19 +46,16 @@ module _ (names : NameTable) (sys : System) where
   -- where a class fails, or the overlaps are refused
   module _ (closed : (os : List Overlap) → IsOrthoOpen sys os → ⊥) where
     pub closed_searched : (b : Counts) → Searched b b (Ok Nothing)
-    closed_searched b = (0, spends_nothing b, ends_closed names sys closed b.left)
+    closed_searched b = (0, spends_none b, ends_closed names sys closed b.left)
 
     pub closed_paid : (b : Counts) → Paid b b
-    closed_paid b = (0, spends_nothing b, inr (closed, refl))
+    closed_paid b = (0, spends_none b, inr (closed, refl))
 
   pub closed_by_class : (IsInOrthoClasses sys → ⊥) → (os : List Overlap) → IsOrthoOpen sys os → ⊥
   closed_by_class no_class os h = no_class h.classes
 
-  pub closed_by_large : (i : ℕ) (p : Position) (j : ℕ) → IsPairTooLarge sys i p j → (os : List Overlap) → IsOrthoOpen sys os → ⊥
-  closed_by_large i p j large os h = overlaps_or_large sys os i p j h.overlaps large
-
-  pub closed_by_many : AreTooManyOverlaps sys → (os : List Overlap) → IsOrthoOpen sys os → ⊥
-  closed_by_many many os h = overlaps_or_many sys os h.overlaps many
+  pub closed_by_overlaps : ((os : List Overlap) → AreOverlaps sys os → ⊥) → (os : List Overlap) → IsOrthoOpen sys os → ⊥
+  closed_by_overlaps none os h = none os h.overlaps
 
   module _ (os : List Overlap) (classes : IsInOrthoClasses sys) (overlaps : AreOverlaps sys os) (before after : Counts) where
     is_open : IsOrthoOpen sys os
@@ -93,14 +83,3 @@ module _ (names : NameTable) (sys : System) where
         let units = spends.left in
         let all : n ≡ before.left = omega (arith, units, end) in
         (n, spends, subst (λ left. MayEndExactly (ortho_space names sys) left n spent) all (ends_spent names sys os is_open n stops))
-
--- why the overlaps have no list
-pub large_told : (sys : System) (e : OverlapError) (i : ℕ) (p : Vec ℕ Global) (j : ℕ) → e ≡ PairTooLarge i p j → OverlapsAnswers sys (Err e) → IsPairTooLarge sys i p.items j
-large_told sys e i p j is h = subst (λ z. OverlapsAnswers sys (Err z)) is h
-
-pub many_told : (sys : System) (e : OverlapError) → e ≡ TooManyPairs → OverlapsAnswers sys (Err e) → AreTooManyOverlaps sys
-many_told sys e is h = subst (λ z. OverlapsAnswers sys (Err z)) is h
-
--- what the walk over the overlaps told, of what it is known to be
-pub entries_told : (sys : System) (os : List Overlap) (before after : Counts) (f g : Entries) → f ≡ g → EntriesAnswers sys os before after (Ok f) → EntriesAnswers sys os before after (Ok g)
-entries_told sys os before after f g is h = subst (λ z. EntriesAnswers sys os before after (Ok z)) is h

@@ -1,51 +1,22 @@
 // The entries for all overlaps.
-ghost use Rattle.std.specs.Prelude.{ℕ, ◌≡◌, ◌++◌, ◌∷◌, [], OnOk, map};
-ghost use Rattle.cert_model.specs.CertificateView.{pair_entry_view};
-ghost use Rattle.cert_model.specs.EvidenceView.{pair_evidence_view};
+ghost use Rattle.std.specs.Prelude.{ℕ, map};
+ghost use Rattle.valid_certificates.specs.Kinds.{ortho};
 ghost use Rattle.critical_pairs.specs.View.{overlap_view};
 ghost use Rattle.pair_check.specs.Walk.{EachIsOverlap};
 ghost use Rattle.cc_count.specs.Counts.{Spends};
-ghost use Rattle.search_spaces.specs.Entries.{entry_for};
-ghost use Rattle.ortho_search.specs.Answers.{EntriesAnswers};
+ghost use Rattle.search_spaces.specs.PairItems.{ortho_items};
+ghost use Rattle.search_spaces.specs.Entries.{overlap_cost, StopsAtOverlap};
+ghost use Rattle.search_spaces.specs.Ortho.{IsOrthoEntry};
+ghost use Rattle.pair_search.specs.Answers.{EntriesAnswers};
 
-use crate::trying::{Walk, try_overlap};
+use crate::trying::try_overlap;
 use cc_count::Budget;
-use cert_model::{PairEntry, PairEvidence, copy_numbers};
 use critical_pairs::Overlap;
 use irreducible::LeftSides;
+use pair_search::{Entries, Walk, add_entry};
 use rule_index::IndexedSystem;
 use std::alloc::Global;
 use term_core::NoMemory;
-
-/// How the walk over the overlaps ends.
-#[derive(Debug, Drop)]
-pub enum Entries {
-    /// An entry for each overlap.
-    Whole(Vec<PairEntry>),
-    /// An overlap has no valid evidence.
-    Missing,
-    /// The budget was spent.
-    Spent,
-}
-
-// Puts the entry for an overlap last.
-fn add_entry(
-    alloc: Global,
-    entries: &mut Vec<PairEntry>,
-    overlap: &Overlap,
-    evidence: PairEvidence,
-) -> Result<(), NoMemory>
-    ensures { OnOk result (map pair_entry_view entries.new.items ≡ map pair_entry_view entries.old.items ++ entry_for (overlap_view overlap.now) (pair_evidence_view evidence) ∷ []) }
-{
-    let pos = copy_numbers(alloc, &overlap.pos)?;
-    entries.push(PairEntry {
-        inner: overlap.inner,
-        pos,
-        outer: overlap.outer,
-        evidence,
-    })?;
-    Ok(())
-}
 
 // For each overlap, in order, the first valid evidence; at the first that has none the walk ends.
 fn entries_for(
@@ -55,7 +26,7 @@ fn entries_for(
     budget: &mut Budget,
 ) -> Result<Entries, NoMemory>
     requires overlaps { EachIsOverlap sys.now (map overlap_view overlaps.now) }
-    ensures answer { EntriesAnswers sys.now (map overlap_view overlaps.now) budget.old budget.new result }
+    ensures answer { EntriesAnswers (IsOrthoEntry sys.now) (overlap_cost ortho_items) (StopsAtOverlap ortho sys.now ortho_items) (map overlap_view overlaps.now) budget.old budget.new result }
     ensures kept { (n : ℕ) × Spends budget.old n budget.new }
 {
     let mut entries = Vec::new(alloc);
@@ -78,7 +49,7 @@ pub fn entries_of(
     budget: &mut Budget,
 ) -> Result<Entries, NoMemory>
     requires overlaps { EachIsOverlap sys.now (map overlap_view overlaps.now) }
-    ensures answer { EntriesAnswers sys.now (map overlap_view overlaps.now) budget.old budget.new result }
+    ensures answer { EntriesAnswers (IsOrthoEntry sys.now) (overlap_cost ortho_items) (StopsAtOverlap ortho sys.now ortho_items) (map overlap_view overlaps.now) budget.old budget.new result }
     ensures kept { (n : ℕ) × Spends budget.old n budget.new }
 {
     let sides = LeftSides::new(alloc, sys)?;

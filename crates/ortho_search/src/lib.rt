@@ -15,13 +15,14 @@ mod entries;
 mod items;
 mod trying;
 
-use crate::entries::{Entries, entries_of};
+use crate::entries::entries_of;
 use cc_count::Budget;
 use cert_limits::has_text;
 use cert_model::Certificate;
 use cops_names::Names;
 use critical_pairs::{Overlap, OverlapError, overlaps};
 use ctrs_classes::{is_extended_oriented, is_left_linear, is_right_stable, is_type3};
+use pair_search::Entries;
 use rule_index::IndexedSystem;
 use std::alloc::Global;
 use term_core::{NoMemory, System};

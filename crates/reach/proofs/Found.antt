@@ -19,7 +19,7 @@ use Rattle.reach.specs.Keys.{cells, AreKeyed, keyed_view}
 use Rattle.reach.proofs.Cells.{one_term}
 
 -- keys are equal where the terms are
-key_tells : (t u : math.Term) (b : Bool) → is_same u t ≡ b → bytes_eq (cells t) (cells u) ≡ b
+pub key_tells : (t u : math.Term) (b : Bool) → is_same u t ≡ b → bytes_eq (cells t) (cells u) ≡ b
 key_tells t u true e = (bytes_eq-Decides (cells t) (cells u)).1 (ap cells (sym (same_is u t e)))
 key_tells t u false e =
     false_from_ne_true (bytes_eq (cells t) (cells u))
@@ -47,7 +47,7 @@ keyed_push : (es : List (Vec ℕ Global × Reached)) (e : Vec ℕ Global × Reac
 keyed_push [] e h k = (k, tt)
 keyed_push (x ∷ es) e (h, hs) k = (h, keyed_push es e hs k)
 
-abbrev same_key : Vec ℕ Global → Vec ℕ Global → Bool
+abbrev pub same_key : Vec ℕ Global → Vec ℕ Global → Bool
 same_key a b = bytes_eq a.items b.items
 
 module _ {S : Type 0} (m : HashMap (Vec ℕ Global) Reached S) (key : Vec ℕ Global) (r : Reached) (keyed : AreKeyed m.entries)

@@ -4,7 +4,7 @@ pub mod Taking
 pub mod Walks
 pub mod Offered
 pub mod Cells
-mod Found
+pub mod Found
 pub mod Placing
 pub mod Solving
 pub mod Places

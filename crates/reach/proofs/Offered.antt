@@ -32,7 +32,7 @@ use Rattle.reach.specs.ReachedView.{reached_view, list_view}
 use Rattle.reach.specs.Costs.{Costs}
 use Rattle.reach.specs.Offers.{added}
 use Rattle.reach.proofs.Rests.{rest_first}
-use Rattle.reach.proofs.Paying.{spends_none, spends_same}
+use Rattle.cc_count.proofs.Spending.{spends_none, spends_same}
 use Rattle.reach.proofs.Taking.{added-append, none_added}
 
 module _ (t : math.Term) (l : List Reached) (i : ℕ) (x : Reached) (low : i < length l) (is : x ≡ get_or l i x)

@@ -9,7 +9,8 @@ use Rattle.reach_lists.specs.Lists.{total, condition_list, condition_cost, reach
 use Rattle.reach_lists.proofs.Equations.{no_depth, no_cost, one_deeper, deeper_cost}
 use Rattle.reach.specs.declared.listed.ReachStop.{ReachStop}
 use Rattle.reach.specs.Costs.{Costs}
-use Rattle.reach.proofs.Paying.{Paying, stops, passed, spends_none, spends_same}
+use Rattle.cc_count.proofs.Spending.{spends_none, spends_same}
+use Rattle.reach.proofs.Paying.{Paying, stops, passed}
 use Rattle.reach.proofs.Searching.{total-append, no_extensions, no_prices}
 
 -- an error of a part is one of the whole

@@ -8,8 +8,8 @@ ghost use Rattle.reach.specs.Keys.{cells, all_cells, AreCellsOf, ArePut, AreAllP
 use std::alloc::Global;
 use term_core::{NoMemory, Term};
 
-// The key of a term.
-pub(crate) fn key_of(alloc: Global, t: &Term) -> Result<Vec<u32>, NoMemory>
+/// The key of a term.
+pub fn key_of(alloc: Global, t: &Term) -> Result<Vec<u32>, NoMemory>
     requires { math.size (view t.now) ≤ 10000 }
     ensures { IfOk result (λ key. key.items ≡ cells (view t.now)) }
 {

@@ -12,5 +12,6 @@ mod search;
 mod sites;
 mod solutions;
 
+pub use keys::key_of;
 pub use listed::{ReachStop, Reached};
 pub use search::{reach, reach_in};

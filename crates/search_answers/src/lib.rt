@@ -1,2 +1,2 @@
-//! What searches answer, as endings of the spaces that they search: definitions alone.
+//! What searches answer, as endings of the spaces that they search: definitions and lemmas alone.
 #![tactic(auto)]

@@ -1,4 +1,4 @@
-use Rattle.noncon_search.proofs.Ending.{large_none, many_none}
+use Rattle.search_answers.proofs.Refused.{large_none, many_none}
 use Rattle.noncon_search.proofs.overlaps_or_none.Goals as goal
 
 pub returns-in-Err-PairTooLarge : goal.returns-in-Err-PairTooLarge

@@ -1,4 +1,3 @@
-use Rattle.std.proofs.Common.{is_some}
 use Rattle.term_core.specs.View.{view}
 use Rattle.noncon_search.proofs.Apart.{open_of}
 use Rattle.noncon_search.proofs.ends.end_of.Goals as goal

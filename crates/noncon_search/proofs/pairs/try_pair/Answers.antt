@@ -1,9 +1,10 @@
+use Rattle.cc_count.proofs.Spending.{none_left}
 use Rattle.std.proofs.Common.{Ok, refl, subst}
 use Rattle.term_core.specs.View.{view}
 use Rattle.search_spaces.specs.PeakItems.{try_ends}
 use Rattle.noncon_search.specs.Answers.{CandidateAnswers}
 use Rattle.noncon_search.specs.Ends.{end_view}
-use Rattle.noncon_search.proofs.Walking.{none_left, pair_stops, pair_found}
+use Rattle.noncon_search.proofs.Walking.{pair_stops, pair_found}
 use Rattle.noncon_search.proofs.pairs.try_pair.Goals as goal
 
 pub returns-then-not-take : goal.returns-then-not-take

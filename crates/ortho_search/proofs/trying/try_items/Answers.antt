@@ -1,8 +1,9 @@
-use Rattle.std.proofs.Common.{◌≡◌, ◌+◌, suc, map, take, refl, arith}
+use Rattle.cc_count.proofs.Spending.{none_left}
+use Rattle.std.proofs.Common.{◌+◌, map, take, refl, arith}
 use Rattle.critical_pairs.specs.View.{overlap_view}
 use Rattle.first_found.specs.Items.{cost_of, one}
 use Rattle.ortho_search.specs.ItemView.{item_view}
-use Rattle.ortho_search.proofs.Turns.{none_left, paid_more, walk_stops, walk_finds, walk_none, walk_paid}
+use Rattle.ortho_search.proofs.Turns.{paid_more, walk_stops, walk_finds, walk_none, walk_paid}
 use Rattle.ortho_search.proofs.trying.try_items.Goals as goal
 
 pub returns-then-not-take-clause-answer : goal.returns-then-not-take-clause-answer
@@ -36,12 +37,11 @@ returns-in-Err-clause-kept c = (
 
 pub items-preserved : goal.items-preserved
 items-preserved c =
-    let next : c.items.item-index + 1 ≡ suc c.items.item-index = omega arith in
     let below = c.items-test.true in
     record {
       within = omega (arith, below);
       none = walk_none c.args.sys.now (overlap_view c.args.overlap.now) c.args.items.now c.items.item-index c.items-test.true c.args.budget.now c.items.budget c.take.new.self c.items.invariant.none c.items.invariant.paid
-          (c.if-not-take.ensures.taken refl) c.in-Ok-None.field-0 c.in-Ok-None.field-0-is c.in-Ok-None.ensures (c.items.item-index + 1) next;
+          (c.if-not-take.ensures.taken refl) c.in-Ok-None.field-0 c.in-Ok-None.field-0-is c.in-Ok-None.ensures;
       paid = walk_paid c.args.sys.now (overlap_view c.args.overlap.now) c.args.items.now c.items.item-index c.items-test.true c.args.budget.now c.items.budget c.take.new.self c.items.invariant.none c.items.invariant.paid
-          (c.if-not-take.ensures.taken refl) c.in-Ok-None.field-0 c.in-Ok-None.field-0-is c.in-Ok-None.ensures (c.items.item-index + 1) next;
+          (c.if-not-take.ensures.taken refl) c.in-Ok-None.field-0 c.in-Ok-None.field-0-is c.in-Ok-None.ensures;
     }

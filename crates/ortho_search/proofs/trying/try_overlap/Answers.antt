@@ -3,8 +3,10 @@ use Rattle.std.proofs.lemmas.List.{length-map}
 use Rattle.term_core.specs.RuleView.{condition_view}
 use Rattle.critical_pairs.specs.View.{overlap_view}
 use Rattle.pair_check.proofs.Ready.{ready}
-use Rattle.search_spaces.specs.PairItems.{PairItem, ortho_items, ortho_items_of}
-use Rattle.ortho_search.specs.Answers.{WalkAnswers}
+use Rattle.valid_certificates.specs.Kinds.{ortho}
+use Rattle.first_found.specs.Items.{one}
+use Rattle.search_spaces.specs.PairItems.{PairItem, GivesEvidence, ortho_items, ortho_items_of}
+use Rattle.pair_search.specs.Answers.{WalkAnswers}
 use Rattle.ortho_search.specs.ItemView.{item_view}
 use Rattle.ortho_search.specs.declared.items.Item.{Item}
 use Rattle.ortho_search.proofs.trying.try_overlap.Goals as goal
@@ -39,4 +41,4 @@ returns-in-Ok-clause-answer c =
     omega (arith, length-map c.args.overlap.now.conds.items condition_view, c.len.ensures, c.args.overlap.now.conds.ok.0) in
     let same : map item_view c.deref.result.now ≡ ortho_items o =
     ap (λ (xs : List Item). map item_view xs) c.deref.ensures.value ∙ c.in-Ok.ensures ∙ ap (λ n. ortho_items_of inner (n - inner)) long in
-    subst (λ (xs : List PairItem). WalkAnswers c.args.sys.now o xs c.args.budget.now c.try_items.new.budget c.try_items.result) same c.try_items.ensures.answer
+    subst (λ (xs : List PairItem). WalkAnswers one (GivesEvidence ortho c.args.sys.now o) xs c.args.budget.now c.try_items.new.budget c.try_items.result) same c.try_items.ensures.answer

@@ -11,7 +11,8 @@ use Rattle.reach.specs.SiteView.{site_view}
 use Rattle.reach.specs.SolutionView.{solution_view, solutions_view}
 use Rattle.reach.specs.Offers.{added}
 use Rattle.reach.proofs.Rests.{rest_first}
-use Rattle.reach.proofs.Paying.{paying_begins, paying_goes_on, passed, refused, spends_same, spends_none}
+use Rattle.cc_count.proofs.Spending.{spends_same, spends_none}
+use Rattle.reach.proofs.Paying.{paying_begins, paying_goes_on, passed, refused}
 use Rattle.reach.specs.declared.listed.ReachStop.TheVariants as stop
 use Rattle.reach.proofs.Offered.{loop_list}
 use Rattle.reach.proofs.Searching.{offer_part, offer_cost, costs_one, item_part, item_cost}

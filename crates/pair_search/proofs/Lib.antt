@@ -1,0 +1,4 @@
+pub mod Composed
+pub mod Judging
+pub mod Places
+pub mod Walking
