@@ -14,7 +14,6 @@ use Rattle.rewriting.specs.Lists.{IsAmong}
 use Rattle.rewriting.proofs.Variables.{variables_have_all}
 use Rattle.rewriting.proofs.Instances.{or_right}
 use Rattle.rewriting.proofs.Unraveled.{unraveled_well_formed}
-use Rattle.rewriting.proofs.Laws.{well_formed}
 use Rattle.interpretations.specs.Size.{DoesUnravelingFit}
 use Rattle.interpretations.specs.Linear.{Interpretation, IsEntry, HasShape, AreNumbersGood, AreAllNumbersGood, Falls, Overflows}
 use Rattle.interpretations.specs.Judged.{IsFirstMisshapen, IsFirstBad, FailsAt, IsFirstSmaller, IsConstantKept, IsInterpretationJudged}
@@ -121,14 +120,14 @@ each_ready : (es : Interpretation) (rs : List Rule) → AreCounted rs → ((i : 
 each_ready es [] counted h = tt
 each_ready es (r ∷ rs) counted h = (h 0 r refl counted.0, each_ready es rs counted.1 (λ i q e c. h (suc i) q e c))
 
-pub rules_ready : (sys system : math.System) (es : Interpretation) (rs : List Rule) → system ≡ unraveled sys → IsSystem sys → HasShape sys es → AreAllNumbersGood sys es → map rule_view rs ≡ system.rules → AreCounted rs → IsSystem system → AreRulesReady es rs
-rules_ready sys system es rs same own s numbers are counted sound =
+pub rules_ready : (sys system : math.System) (es : Interpretation) (rs : List Rule) → system ≡ unraveled sys → IsWellFormed sys → HasShape sys es → AreAllNumbersGood sys es → map rule_view rs ≡ system.rules → AreCounted rs → IsSystem system → AreRulesReady es rs
+rules_ready sys system es rs same well s numbers are counted sound =
     each_ready es rs counted
     (λ i r at count.
     let there : slice_get system.rules i ≡ Some (rule_view r) = subst (λ q. slice_get q i ≡ Some (rule_view r)) are at in
     let rule = rule_is system.arities system.rules i (rule_view r) sound.rules there in
     let here : rule_at (unraveled sys) (suc i) ≡ Some (rule_view r) = subst (λ z. rule_at z (suc i) ≡ Some (rule_view r)) same there in
-    let both = side_ready sys es s numbers (well_formed sys own) (suc i) (rule_view r) r.vars here rule.numbered count in
+    let both = side_ready sys es s numbers well (suc i) (rule_view r) r.vars here rule.numbered count in
     let few = rule.few_variables in
     record { few = omega (arith, few, count); left = both.0; right = both.1 })
 

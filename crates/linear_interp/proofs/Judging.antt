@@ -100,26 +100,31 @@ ready_rule es [] i r h lt is = absurd (omega (arith, lt))
 ready_rule es (q ∷ rs) zero r h lt is = subst (IsRuleReady es) (sym is) h.0
 ready_rule es (q ∷ rs) (suc i) r h lt is = ready_rule es rs i r h.1 (omega (arith, lt)) is
 
+-- all rules before a place have a property
+abbrev pub HoldsBefore : (math.Rule → Type 0) → List Rule → ℕ → Type 0
+HoldsBefore P rs i = (j : ℕ) (r : math.Rule) → j < i → slice_get (map rule_view rs) j ≡ Some r → P r
+
 -- all rules before a place fall
 abbrev pub DoFallBefore : Interpretation → List Rule → ℕ → Type 0
-DoFallBefore es rs i = (j : ℕ) (r : math.Rule) → j < i → slice_get (map rule_view rs) j ≡ Some r → Falls es r
+DoFallBefore es = HoldsBefore (Falls es)
 
-at_place : (rs : List Rule) (i : ℕ) (r : Rule) → i < length rs → r ≡ get_or rs i r → slice_get (map rule_view rs) i ≡ Some (rule_view r)
+pub at_place : (rs : List Rule) (i : ℕ) (r : Rule) → i < length rs → r ≡ get_or rs i r → slice_get (map rule_view rs) i ≡ Some (rule_view r)
 at_place rs i r h is = slice_get-map rule_view rs i ∙ ap (option_map rule_view) (slice_get_read rs (length rs) i r refl h is)
 
-pub one_more : (es : Interpretation) (rs : List Rule) (i : ℕ) (r : Rule) → DoFallBefore es rs i → i < length rs → r ≡ get_or rs i r → Falls es (rule_view r) → DoFallBefore es rs (i + 1)
-one_more es rs i r before lt is falls j q less at = by_case (cases_lt j i)
-  where
-    by_case : (j < i) ⊎ (i ≤ j) → Falls es q
-    by_case (inl h) = before j q h at
-    by_case (inr h) =
-        let same : i ≡ j = omega (arith, h, less) in
-        let there : slice_get (map rule_view rs) j ≡ Some (rule_view r) = subst (λ k. slice_get (map rule_view rs) k ≡ Some (rule_view r)) same (at_place rs i r lt is) in
-        let rule : rule_view r ≡ q = cc in
-        subst (Falls es) rule falls
+module _ (P : math.Rule → Type 0) (rs : List Rule) (i : ℕ) where
+  pub one_more : (r : Rule) → HoldsBefore P rs i → i < length rs → r ≡ get_or rs i r → P (rule_view r) → HoldsBefore P rs (i + 1)
+  one_more r before lt is holds j q less at = by_case (cases_lt j i)
+    where
+      by_case : (j < i) ⊎ (i ≤ j) → P q
+      by_case (inl h) = before j q h at
+      by_case (inr h) =
+          let same : i ≡ j = omega (arith, h, less) in
+          let there : slice_get (map rule_view rs) j ≡ Some (rule_view r) = subst (λ k. slice_get (map rule_view rs) k ≡ Some (rule_view r)) same (at_place rs i r lt is) in
+          let rule : rule_view r ≡ q = cc in
+          subst P rule holds
 
-pub all_fall : (es : Interpretation) (rs : List Rule) (i : ℕ) → DoFallBefore es rs i → length rs ≤ i → (j : ℕ) (r : math.Rule) → slice_get (map rule_view rs) j ≡ Some r → Falls es r
-all_fall es rs i before le j r at = let within = slice_get_within (map rule_view rs) j r at in let many = length-map rs rule_view in before j r (omega (arith, within, many, le)) at
+  pub all_hold : HoldsBefore P rs i → length rs ≤ i → (j : ℕ) (r : math.Rule) → slice_get (map rule_view rs) j ≡ Some r → P r
+  all_hold before le j r at = let within = slice_get_within (map rule_view rs) j r at in let many = length-map rs rule_view in before j r (omega (arith, within, many, le)) at
 
 pub failed : (es : Interpretation) (rs : List Rule) (i : ℕ) (r : Rule) (error : MeasureError) → DoFallBefore es rs i → i < length rs → r ≡ get_or rs i r → RuleAnswers es (rule_view r) (i + 1) (Err error) → RulesAnswers es (map rule_view rs) (Err error)
 failed es rs i r (Reason (reason.Overflow n)) before lt is h = record { place = i; is_number = (let a = h.0 in omega (arith, a)); rule = rule_view r; is_rule = at_place rs i r lt is; before = before; here = h.1 }

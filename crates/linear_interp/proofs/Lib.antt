@@ -4,3 +4,8 @@ pub mod Judging
 pub mod EntryChecks
 pub mod Final
 pub mod Positions
+pub mod Needed
+pub mod Completed
+pub mod Prefixes
+pub mod Walked
+pub mod Extending

@@ -1,6 +1,7 @@
 // Whether the value falls from the left side to the right at each rule of the unraveled system.
-ghost use Rattle.std.specs.Prelude.{◌≡◌, ◌<◌, ◌+◌, ◌^◌, length, map};
+ghost use Rattle.std.specs.Prelude.{◌≡◌, ◌<◌, ◌+◌, ◌^◌, ◌↔◌, IsTrue, IfOk, length, map};
 ghost use Rattle.rewriting.specs.Rules as math;
+ghost use Rattle.interpretations.specs.Linear.{Falls};
 ghost use Rattle.term_core.specs.RuleView.{rule_view};
 ghost use Rattle.cert_model.specs.CertificateView.{linear_entry_view};
 ghost use Rattle.linear_interp.specs.Falling.{SmallerAnswers, SumsDecide, AreRulesReady, RuleAnswers, RulesAnswers, IsRuleReady};
@@ -9,7 +10,7 @@ use crate::sums::sums_of;
 use cert_model::{LinearEntry, MeasureReason};
 use measure::MeasureError;
 use std::alloc::Global;
-use term_core::Rule;
+use term_core::{NoMemory, Rule};
 
 // The least variable whose coefficient is smaller on the left; the coefficient of x stands behind x others and the
 // constant.
@@ -65,8 +66,21 @@ fn judge_rule(
     compare(&left, &right, number)
 }
 
+/// Whether the value falls at a rule.
+pub fn does_fall(alloc: Global, entries: &[LinearEntry], rule: &Rule) -> Result<bool, NoMemory>
+    requires { IsRuleReady (map linear_entry_view entries.now) rule.now }
+    ensures { IfOk result (λ b. IsTrue b ↔ Falls (map linear_entry_view entries.now) (rule_view rule.now)) }
+{
+    // The number is for the reason alone, which is not told here.
+    match judge_rule(alloc, entries, rule, 0) {
+        Ok(()) => Ok(true),
+        Err(MeasureError::NoMemory) => Err(NoMemory),
+        Err(_) => Ok(false),
+    }
+}
+
 /// Judges the rules of an unraveled system.
-#[tactic(auto, using(crate::proofs::Judging::ready_rule, crate::proofs::Judging::one_more, crate::proofs::Judging::all_fall, crate::proofs::Judging::failed))]
+#[tactic(auto, using(crate::proofs::Judging::ready_rule, crate::proofs::Judging::failed))]
 pub fn judge_rules(
     alloc: Global,
     entries: &[LinearEntry],

@@ -33,6 +33,14 @@ impl From<NoMemory> for MeasureError {
     }
 }
 
+/// What the first part of a measure shows of all that extend it.
+#[derive(Clone, Copy, Debug, PartialEq, Eq)]
+pub enum Partial {
+    /// Nothing good extends it.
+    Dead,
+    Unknown,
+}
+
 /// A measure of terms over the unraveled system.
 pub trait Measure {
     /// What the measure is judged to be for a system: good, or the first reason, or that a side does not fit.

@@ -6,17 +6,20 @@ use Rattle.rewriting.specs.Positions.{Position, argument, argument_of, subterm}
 use Rattle.rewriting.specs.Rules.{Rule, System}
 use Rattle.rewriting.proofs.Positions.{within}
 use Rattle.certificates.specs.Certificates.{LinearEntry}
-use Rattle.interpretations.specs.Linear.{Interpretation, number_of, constant, constant_from, coefficient, coefficient_from, IsLarge, HasLargePart, Overflows, Falls, IsGood}
+use Rattle.interpretations.specs.Linear.{Interpretation, numbers_of, number_of, constant, constant_from, coefficient, coefficient_from, IsLarge, HasLargePart, Overflows, Falls, IsGood}
 use Rattle.measure_grid.specs.Dead.{HasEntries, HaveEntries, IsDead}
 
-get_left : {A : Type 0} (xs ys : List A) (i : ℕ) → i < length xs → slice_get (xs ++ ys) i ≡ slice_get xs i
+pub get_left : {A : Type 0} (xs ys : List A) (i : ℕ) → i < length xs → slice_get (xs ++ ys) i ≡ slice_get xs i
 get_left [] ys i l = absurd (omega (arith, l))
 get_left (x ∷ xs) ys zero l = refl
 get_left (x ∷ xs) ys (suc i) l = get_left xs ys i (omega (arith, l))
 
 module _ (es more : Interpretation) where
-  number_kept : (f k : ℕ) → f < length es → number_of (es ++ more) f k ≡ number_of es f k
-  number_kept f k l = ap (λ (o : Option LinearEntry). unwrap_or (slice_get (unwrap_or (option_map (λ e. e.coefficients) o) []) k) 0) (get_left es more f l)
+  pub numbers_kept : (f : ℕ) → f < length es → numbers_of (es ++ more) f ≡ numbers_of es f
+  numbers_kept f l = ap (λ (o : Option LinearEntry). unwrap_or (option_map (λ e. e.coefficients) o) []) (get_left es more f l)
+
+  pub number_kept : (f k : ℕ) → f < length es → number_of (es ++ more) f k ≡ number_of es f k
+  number_kept f k l = ap (λ ns. unwrap_or (slice_get ns k) 0) (numbers_kept f l)
 
   mutual
     constant_kept : (t : Term) → HasEntries es t → constant (es ++ more) t ≡ constant es t
@@ -55,18 +58,37 @@ module _ (es more : Interpretation) where
   large_kept t h (inl l) = inl (subst (λ n. 2 ^ 100 < n) (sym (constant_kept t h)) l)
   large_kept t h (inr (x, l)) = inr (x, subst (λ n. 2 ^ 100 < n) (sym (coefficient_kept x t h)) l)
 
-  large_part_kept : (t : Term) → HasEntries es t → HasLargePart es t → HasLargePart (es ++ more) t
+  pub large_part_kept : (t : Term) → HasEntries es t → HasLargePart es t → HasLargePart (es ++ more) t
   large_part_kept t h (p, u, at, l) = (p, u, at, large_kept u (part_has p t u h at) l)
+
+  pub large_before : (t : Term) → HasEntries es t → IsLarge (es ++ more) t → IsLarge es t
+  large_before t h (inl l) = inl (subst (λ n. 2 ^ 100 < n) (constant_kept t h) l)
+  large_before t h (inr (x, l)) = inr (x, subst (λ n. 2 ^ 100 < n) (coefficient_kept x t h) l)
+
+  large_part_before : (t : Term) → HasEntries es t → HasLargePart (es ++ more) t → HasLargePart es t
+  large_part_before t h (p, u, at, l) = (p, u, at, large_before u (part_has p t u h at) l)
 
   module _ (r : Rule) (left : HasEntries es r.left) (right : HasEntries es r.right) where
     overflow_kept : Overflows es r → Overflows (es ++ more) r
     overflow_kept (inl l) = inl (large_part_kept r.left left l)
     overflow_kept (inr l) = inr (large_part_kept r.right right l)
 
-    falls_before : Falls (es ++ more) r → Falls es r
+    overflow_before : Overflows (es ++ more) r → Overflows es r
+    overflow_before (inl l) = inl (large_part_before r.left left l)
+    overflow_before (inr l) = inr (large_part_before r.right right l)
+
+    pub falls_before : Falls (es ++ more) r → Falls es r
     falls_before f =
         record {
           bounded = λ o. f.bounded (overflow_kept o);
+          coefficients = λ x. let a = coefficient_kept x r.right right in let b = coefficient_kept x r.left left in let h = f.coefficients x in omega (arith, a, b, h);
+          constants = let a = constant_kept r.right right in let b = constant_kept r.left left in let h = f.constants in omega (arith, a, b, h);
+        }
+
+    pub falls_more : Falls es r → Falls (es ++ more) r
+    falls_more f =
+        record {
+          bounded = λ o. f.bounded (overflow_before o);
           coefficients = λ x. let a = coefficient_kept x r.right right in let b = coefficient_kept x r.left left in let h = f.coefficients x in omega (arith, a, b, h);
           constants = let a = constant_kept r.right right in let b = constant_kept r.left left in let h = f.constants in omega (arith, a, b, h);
         }

@@ -1,3 +1,5 @@
+pub mod Choices
+pub mod Chosen
 pub mod Dead
 pub mod Grid
 pub mod Pruned

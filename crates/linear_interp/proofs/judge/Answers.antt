@@ -1,5 +1,6 @@
 use Rattle.std.proofs.Common.{◌≡◌, map, length, None, Some, subst, ap, ◌∙◌, arith}
 use Rattle.rewriting.specs.Unraveling.{heads, unraveled}
+use Rattle.rewriting.proofs.Laws.{well_formed}
 use Rattle.term_core.specs.HeadView.{head_view}
 use Rattle.cert_model.specs.CertificateView.{linear_entry_view}
 use Rattle.linear_interp.specs.Entries.{BadAnswers}
@@ -53,7 +54,7 @@ judge_rules-requires-clause-ready c =
     let arities_are : c.arities-arities.result.now ≡ (unraveled sys).arities = c.arities-arities.ensures ∙ ap (λ z. z.arities) c.requires.system in
     let s = shape sys es (map head_view c.deref.result.now) c.arities-arities.result.now heads_are arities_are c.in_default.ensures in
     let numbers = all_good_numbers sys es (subst (λ xs. BadAnswers (length xs) es None) c.arities.ensures c.in_default-first_bad.ensures) in
-    rules_ready sys c.args.unraveled.now.system es c.rules-rules.result.now c.requires.system c.rules-own_rules.ensures.sound s numbers c.rules-rules.ensures.rules c.rules-rules.ensures.counted c.rules-rules.ensures.sound
+    rules_ready sys c.args.unraveled.now.system es c.rules-rules.result.now c.requires.system (well_formed sys c.rules-own_rules.ensures.sound) s numbers c.rules-rules.ensures.rules c.rules-rules.ensures.counted c.rules-rules.ensures.sound
 
 pub returns : goal.returns
 returns c =

@@ -1,0 +1,126 @@
+-- The first entries that terms and rules need, and the lists of rules by how many they need.
+use Rattle.std.proofs.Common.{◌≡◌, ◌≢◌, ℕ, zero, suc, ◌+◌, ◌<◌, ◌≤◌, Bool, true, false, nat_eq, if◌then◌else◌, eqb-true, eq-eqb, refl, sym, ap, ◌∙◌, subst, List, [], ◌∷◌, ◌++◌, length, set, get_or, slice_get, Some, Vec, Global, arith}
+use Rattle.std.proofs.lemmas.Bool.{eqb-false}
+use Rattle.std.proofs.lemmas.Option.{slice_get_within}
+use Rattle.rewriting.specs.Terms.{Term, var, app, Terms, nil, cons}
+use Rattle.rewriting.specs.Signatures.{Signature, IsOver, AreOver}
+use Rattle.rewriting.specs.Rules.{Rule, System}
+use Rattle.rewriting.specs.Systems.{AreRules, IsSystem}
+use Rattle.rewriting.specs.Unraveling as unraveling
+use Rattle.rewriting.specs.Unraveling.{unraveled, heads}
+use Rattle.interpretations.specs.Linear.{Interpretation}
+use Rattle.interpretations.proofs.Bound.{length-heads}
+use Rattle.measure_grid.specs.Dead.{HasEntries, HaveEntries}
+use Rattle.linear_interp.specs.Needed.{needed, needed_by, needed_at, DoNeedBelow, numbers_needing, listed}
+
+-- the number of a rule is put last in one list
+put_here : (lists : List (Vec ℕ Global)) (g n : ℕ) (b v : Vec ℕ Global) → g < length lists → v.items ≡ (get_or lists g b).items ++ n ∷ [] → listed (set lists g v) g ≡ listed lists g ++ n ∷ []
+put_here [] g n b v lt e = absurd (omega (arith, lt))
+put_here (x ∷ lists) zero n b v lt e = e
+put_here (x ∷ lists) (suc g) n b v lt e = put_here lists g n b v (omega (arith, lt)) e
+
+not_there : (lists : List (Vec ℕ Global)) (g k : ℕ) (v : Vec ℕ Global) → k ≢ g → listed (set lists g v) k ≡ listed lists k
+not_there [] g k v d = refl
+not_there (x ∷ lists) zero zero v d = absurd (d refl)
+not_there (x ∷ lists) zero (suc k) v d = refl
+not_there (x ∷ lists) (suc g) zero v d = refl
+not_there (x ∷ lists) (suc g) (suc k) v d = not_there lists g k v (λ e. d (ap suc e))
+
+pub number_put : (lists : List (Vec ℕ Global)) (g k n : ℕ) (b v : Vec ℕ Global) → g < length lists → v.items ≡ (get_or lists g b).items ++ n ∷ [] → listed (set lists g v) k ≡ (if nat_eq k g then (listed lists k ++ n ∷ []) else listed lists k)
+number_put lists g k n b v lt e = go (nat_eq k g) refl
+  where
+    go : (here : Bool) → nat_eq k g ≡ here → listed (set lists g v) k ≡ (if here then (listed lists k ++ n ∷ []) else listed lists k)
+    go true is = subst (λ i. listed (set lists g v) i ≡ listed lists i ++ n ∷ []) (sym (eqb-true k g is)) (put_here lists g n b v lt e)
+    go false is = not_there lists g k v (eqb-false k g is)
+
+module _ (es : Interpretation) where
+  mutual
+    pub has_needed : (t : Term) → needed t ≤ length es → HasEntries es t
+    has_needed (var x) le = tt
+    has_needed (app f ts) le = (omega (arith, le), have_needed ts (omega (arith, le)))
+
+    have_needed : (ts : Terms) → needed_by ts ≤ length es → HaveEntries es ts
+    have_needed nil le = tt
+    have_needed (cons t ts) le = (has_needed t (omega (arith, le)), have_needed ts (omega (arith, le)))
+
+  mutual
+    pub needed_of : (t : Term) → HasEntries es t → needed t ≤ length es
+    needed_of (var x) h = omega arith
+    needed_of (app f ts) (l, h) = let rest = needed_of_all ts h in omega (arith, l, rest)
+
+    needed_of_all : (ts : Terms) → HaveEntries es ts → needed_by ts ≤ length es
+    needed_of_all nil h = omega arith
+    needed_of_all (cons t ts) (h, hs) = let one = needed_of t h in let rest = needed_of_all ts hs in omega (arith, one, rest)
+
+-- terms over some symbols need at most as many entries
+mutual
+  needed_over : (arities : Signature) (t : Term) → IsOver arities t → needed t ≤ length arities
+  needed_over arities (var x) h = omega arith
+  needed_over arities (app f ts) (at, h) = let within = slice_get_within arities f _ at in let rest = needed_over_all arities ts h in omega (arith, within, rest)
+
+  needed_over_all : (arities : Signature) (ts : Terms) → AreOver arities ts → needed_by ts ≤ length arities
+  needed_over_all arities nil h = omega arith
+  needed_over_all arities (cons t ts) (h, hs) = let one = needed_over arities t h in let rest = needed_over_all arities ts hs in omega (arith, one, rest)
+
+rules_need : (arities : Signature) (n : ℕ) (rs : List Rule) → AreRules arities rs → length arities < n → DoNeedBelow n rs
+rules_need arities n [] h lt = tt
+rules_need arities n (r ∷ rs) (h, hs) lt =
+    let over = h.is_over.over in
+    let left = needed_over arities r.left over.0 in
+    let right = needed_over arities r.right over.1.0 in
+    (omega (arith, left, right, lt), rules_need arities n rs hs lt)
+
+-- so the rules of an unraveled system need no more than it has symbols
+pub unraveled_need : (sys system : System) (symbols : List unraveling.Head) (rules : List Rule) → system ≡ unraveled sys → symbols ≡ heads sys → IsSystem system → rules ≡ system.rules → DoNeedBelow (length symbols + 1) rules
+unraveled_need sys system symbols rules same heads_are sound are =
+    let many = length-heads sys in
+    let count = ap length heads_are in
+    let arities = ap (λ z. length z.arities) same in
+    subst (DoNeedBelow (length symbols + 1)) (sym are) (rules_need system.arities (length symbols + 1) system.rules sound.rules (omega (arith, many, count, arities)))
+
+-- the list with a number before it, or without
+abbrev chosen : Bool → ℕ → List ℕ → List ℕ
+chosen b n ns = if b then n ∷ ns else ns
+
+-- what holds of each number of the list of those that need so many entries holds of each such rule's number
+module _ (P : ℕ → Type 0) where
+  abbrev pub HoldsOfAll : List ℕ → Type 0
+  HoldsOfAll ns = (m : ℕ) → m < length ns → P (get_or ns m 0)
+
+  of_first : (n : ℕ) (ns : List ℕ) (b : Bool) → b ≡ true → HoldsOfAll (chosen b n ns) → P n
+  of_first n ns true e h = h 0 (omega arith)
+  of_first n ns false e h = absurd (cc)
+
+  of_others : (n : ℕ) (ns : List ℕ) (b : Bool) → HoldsOfAll (chosen b n ns) → HoldsOfAll ns
+  of_others n ns true h m lt = h (suc m) (omega (arith, lt))
+  of_others n ns false h m lt = h m lt
+
+  pub of_rules : (k n : ℕ) (rs : List Rule) → HoldsOfAll (numbers_needing k n rs) → (j : ℕ) (r : Rule) → slice_get rs j ≡ Some r → needed_at r ≡ k → P (n + j)
+  of_rules k n [] h j r at e = absurd (cc)
+  of_rules k n (q ∷ rs) h zero r at e =
+      let same : q ≡ r = cc in
+      let here : n ≡ n + 0 = omega arith in
+      subst P here (of_first n (numbers_needing k (suc n) rs) (nat_eq k (needed_at q)) (eq-eqb k (needed_at q) (sym (ap needed_at same ∙ e))) h)
+  of_rules k n (q ∷ rs) h (suc j) r at e =
+      let there : suc n + j ≡ n + suc j = omega arith in
+      subst P there (of_rules k (suc n) rs (of_others n (numbers_needing k (suc n) rs) (nat_eq k (needed_at q)) h) j r at e)
+
+-- each number of the list is that of a rule that needs so many
+pub record IsOf (k n : ℕ) (rs : List Rule) (i : ℕ) : Type 0 where
+  pub place : ℕ
+  pub rule : Rule
+  pub is_rule : slice_get rs place ≡ Some rule
+  pub needs : needed_at rule ≡ k
+  pub is_number : i ≡ n + place
+
+is_of_later : (k n : ℕ) (q : Rule) (rs : List Rule) (i : ℕ) → IsOf k (suc n) rs i → IsOf k n (q ∷ rs) i
+is_of_later k n q rs i h = record { place = suc h.place; rule = h.rule; is_rule = h.is_rule; needs = h.needs; is_number = (let e = h.is_number in omega (arith, e)) }
+
+is_of_chosen : (k n : ℕ) (q : Rule) (rs : List Rule) (ns : List ℕ) → ((m : ℕ) → m < length ns → IsOf k (suc n) rs (get_or ns m 0)) → (b : Bool) → nat_eq k (needed_at q) ≡ b → (m : ℕ) → m < length (chosen b n ns) → IsOf k n (q ∷ rs) (get_or (chosen b n ns) m 0)
+is_of_chosen k n q rs ns later true e zero lt = record { place = 0; rule = q; is_rule = refl; needs = sym (eqb-true k (needed_at q) e); is_number = omega arith }
+is_of_chosen k n q rs ns later true e (suc m) lt = is_of_later k n q rs _ (later m (omega (arith, lt)))
+is_of_chosen k n q rs ns later false e m lt = is_of_later k n q rs _ (later m lt)
+
+pub number_of_rule : (k n : ℕ) (rs : List Rule) (m : ℕ) → m < length (numbers_needing k n rs) → IsOf k n rs (get_or (numbers_needing k n rs) m 0)
+number_of_rule k n [] m lt = absurd (omega (arith, lt))
+number_of_rule k n (q ∷ rs) m lt = is_of_chosen k n q rs (numbers_needing k (suc n) rs) (λ i less. number_of_rule k (suc n) rs i less) (nat_eq k (needed_at q)) refl m lt

@@ -1,0 +1,9 @@
+use Rattle.std.proofs.Common.{◌≡◌, ℕ, [], length}
+use Rattle.linear_interp.specs.Needed.{listed}
+use Rattle.linear_interp.proofs.needs.empty_lists.Given as goal
+
+abbrev pub invariant-lists : goal.invariant-lists
+invariant-lists l = record {
+  empty : (k : ℕ) → listed l.lists.items k ≡ [];
+  count : length l.lists.items ≡ l.counter;
+}
