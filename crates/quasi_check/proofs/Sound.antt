@@ -7,16 +7,19 @@ use Rattle.rewriting.specs.Systems.{IsWellFormed, IsSystem}
 use Rattle.rewriting.proofs.Laws.{well_formed}
 use Rattle.unifier_run.specs.Run.{value}
 use Rattle.interpretations.specs.Judgement.{Judgement, good}
-use Rattle.certificates.specs.Certificates.{PairEntry}
+use Rattle.interpretations.proofs.Bound.{good_bounds}
+use Rattle.certificates.specs.Certificates.{MeasureCertificate, PairEntry, linear_measure}
 use Rattle.descent_theorem.specs.Bounded.{IsBoundedAndSettled, BoundedAndSettledSystemsAreConfluent}
 use Rattle.descent_theorem.specs.Evidence.{AreOverlapsSettled}
 use Rattle.std.specs.Prelude.{OnOk}
 use Rattle.validity.specs.declared.CheckError.{CheckError}
 use Rattle.valid_certificates.specs.Kinds.{quasi}
 use Rattle.validity.specs.Answers.{QuasiAnswers}
+use Rattle.valid_certificates.specs.Certificates.{IsMeasureJudged}
 use Rattle.valid_certificates.specs.Confluence.{IsValidQuasi}
 use Rattle.valid_certificates.specs.Entries.{DoSettle}
 use Rattle.valid_certificates.proofs.Settled.{settled}
+use Rattle.quasi_check.specs.Laws.{ValidMeasuredSystemsAreConfluent}
 use Rattle.quasi_check.proofs.SoundPairs.{pair_over}
 use Rattle.quasi_check.proofs.SoundEvidence.{none_unifies, judged_settles}
 
@@ -40,3 +43,10 @@ pub quasi_confluent : BoundedAndSettledSystemsAreConfluent → (Is : Judgement �
     → (a : Result (Unit {0}) CheckError) → QuasiAnswers Is sys es a → OnOk a (IsConfluent sys)
 quasi_confluent law Is sys es bounds kept (Ok _) valid = law sys (valid_is_bounded Is sys es bounds (well_formed sys kept) valid)
 quasi_confluent law Is sys es bounds kept (Err e) h = tt
+
+-- the same as a law of valid certificates
+measure_bounds : (sys : System) (m : MeasureCertificate) → IsWellFormed sys → IsMeasureJudged sys m good → AreDescentsBounded sys
+measure_bounds sys (linear_measure es) well judged = good_bounds sys es well judged.1
+
+pub measured_confluent : BoundedAndSettledSystemsAreConfluent → ValidMeasuredSystemsAreConfluent
+measured_confluent law sys m es well valid = law sys (valid_is_bounded (IsMeasureJudged sys m) sys es (measure_bounds sys m well) well valid)

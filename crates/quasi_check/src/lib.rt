@@ -4,5 +4,6 @@
 mod quasi;
 mod sides;
 
-pub use quasi::check_quasi;
+pub use quasi::{check_quasi, valid_measured_systems_are_confluent};
+pub use sides::are_right_sides_irreducible;
 pub use validity::CheckError;

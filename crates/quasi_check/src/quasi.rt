@@ -3,6 +3,7 @@ ghost use Rattle.rewriting.specs.Confluence.{IsConfluent};
 ghost use Rattle.cert_model.specs.CertificateView.{pair_entry_view};
 ghost use Rattle.valid_certificates.specs.Entries.{ArePairsShort};
 ghost use Rattle.validity.specs.Answers.{QuasiAnswers};
+ghost use Rattle.quasi_check.specs.Laws.{ValidMeasuredSystemsAreConfluent};
 ghost use Rattle.quasi_check.specs.Parts.{RulesAnswers, MeasureAnswers};
 
 use crate::sides::first_reducible;
@@ -88,4 +89,11 @@ pub fn check_quasi<M: Measure>(
     bounded_descents_are_confluent();
     let _rules = sys.rules();
     judge_quasi(alloc, sys, measure, pairs)
+}
+
+/// A system that has a valid certificate with a measure is confluent. This is a law of the definitions: nothing is checked here.
+pub fn valid_measured_systems_are_confluent()
+    ensures { ValidMeasuredSystemsAreConfluent }
+{
+    bounded_descents_are_confluent();
 }

@@ -1,6 +1,7 @@
 //! Right sides of conditions that are not absolutely irreducible.
-ghost use Rattle.std.specs.Prelude.{◌≤◌, IfOk, length, map};
+ghost use Rattle.std.specs.Prelude.{◌≤◌, ◌↔◌, IfOk, IsTrue, length, map};
 ghost use Rattle.term_core.specs.RuleView.{condition_view};
+ghost use Rattle.valid_certificates.specs.Confluence.{AreRightSidesIrreducible};
 ghost use Rattle.quasi_check.specs.Sides.{ConditionAnswers, SideAnswers};
 
 use irreducible::{LeftSides, do_all_clash};
@@ -47,4 +48,11 @@ pub(crate) fn first_reducible(
         }
     }
     Ok(None)
+}
+
+/// Whether the right side of each condition is absolutely irreducible.
+pub fn are_right_sides_irreducible(alloc: Global, sys: &LeftSides<'_>) -> Result<bool, NoMemory>
+    ensures { IfOk result (λ b. IsTrue b ↔ AreRightSidesIrreducible sys.now) }
+{
+    Ok(first_reducible(alloc, sys)?.is_none())
 }

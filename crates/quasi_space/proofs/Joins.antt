@@ -14,7 +14,7 @@ use Rattle.reach_lists.proofs.Laws.{listed_derived}
 use Rattle.search_spaces.specs.Listings.{listing}
 use Rattle.quasi_space.specs.Laws.{AreListedAt, JoinsAreSharedTerms}
 
-each_one : {A : Type 0} (P : A → Type 0) (xs : List A) (x : A) → EachOf P xs → IsAmong x xs → P x
+pub each_one : {A : Type 0} (P : A → Type 0) (xs : List A) (x : A) → EachOf P xs → IsAmong x xs → P x
 each_one P [] x h k = absurd k
 each_one P (y ∷ ys) x (h, hs) (inl e) = subst P (sym e) h
 each_one P (y ∷ ys) x (h, hs) (inr k) = each_one P ys x hs k

@@ -5,3 +5,4 @@ pub mod Entries
 pub mod Joins
 pub mod Measures
 pub mod Quasi
+pub mod Reducts

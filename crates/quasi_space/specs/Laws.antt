@@ -1,9 +1,13 @@
 -- Laws of the space of certificates with a measure.
-use Rattle.std.specs.Prelude.{ℕ, ◌≡◌, ◌↔◌, None}
+use Rattle.std.specs.Prelude.{ℕ, ◌≡◌, ◌↔◌, None, Some}
 use Rattle.rewriting.specs.Lists.{IsAmong}
-use Rattle.rewriting.specs.Rules.{System}
+use Rattle.rewriting.specs.Terms.{cons, nil}
+use Rattle.rewriting.specs.Rules.{Condition, System}
+use Rattle.unifier_run.specs.Run.{clash, IsOutcome}
+use Rattle.unifier_run.specs.Irreducible.{DoAllClash}
 use Rattle.unifier_run.specs.Overlaps.{Overlap}
-use Rattle.certificates.specs.Evidence.{joined_pair}
+use Rattle.certificates.specs.Evidence.{joined_pair, unfeasible_pair}
+use Rattle.certificates.specs.Judging.{hypothesis_at}
 use Rattle.certificates.specs.Certificates.{Certificate}
 use Rattle.cops_names.specs.NameTable.{NameTable}
 use Rattle.valid_certificates.specs.Kinds.{quasi}
@@ -26,6 +30,19 @@ pub record AreListedAt (sys : System) (o : Overlap) (x y : Reached) : Type 0 whe
 abbrev pub JoinsAreSharedTerms : Type 0
 JoinsAreSharedTerms =
     (sys : System) (o : Overlap) (x y : Reached) → AreListedAt sys o x y → IsPairJudged quasi sys o (joined_pair x.by y.by) None ↔ (x.term ≡ y.term)
+
+-- x is on the listing of the left side of condition k of the overlap
+pub record IsReductAt (sys : System) (o : Overlap) (k : ℕ) (x : Reached) : Type 0 where
+  pub condition : Condition
+  pub is_condition : hypothesis_at o.pair.conditions k ≡ Some condition
+  pub listed : IsAmong x (listing sys o.pair.conditions condition.left)
+
+-- derivations of two such terms show that condition k is never met exactly where these are absolutely irreducible, and their
+-- run of unification ends in a clash
+abbrev pub ClashingReductsAreUnfeasible : Type 0
+ClashingReductsAreUnfeasible =
+    (sys : System) (o : Overlap) (k : ℕ) (x y : Reached) → IsReductAt sys o k x → IsReductAt sys o k y
+    → IsPairJudged quasi sys o (unfeasible_pair k x.by y.by) None ↔ (DoAllClash sys x.term × DoAllClash sys y.term × IsOutcome (cons x.term nil) (cons y.term nil) clash)
 
 abbrev pub QuasiSpacesAreSearchable : Type 0
 QuasiSpacesAreSearchable = (names : NameTable) (sys : System) → IsSearchable sys (quasi_space names sys)

@@ -2,12 +2,18 @@
 //! space behind the two of `search_spaces`. No program speaks here.
 #![tactic(auto)]
 
-ghost use Rattle.quasi_space.specs.Laws.{JoinsAreSharedTerms, QuasiSpacesAreSearchable, PrunedSpacesAreSearchable, PrunedSearchesAreSearches};
+ghost use Rattle.quasi_space.specs.Laws.{JoinsAreSharedTerms, ClashingReductsAreUnfeasible, QuasiSpacesAreSearchable, PrunedSpacesAreSearchable, PrunedSearchesAreSearches};
 ghost use Rattle.quasi_space.specs.Laws.{AllSpacesAreSearchable, AllPrunedSpacesAreSearchable, AllPrunedSearchesAreSearches};
 
 /// Two listed terms join the sides of an overlap exactly where they are one term.
 pub fn joins_are_shared_terms()
     ensures joins { JoinsAreSharedTerms }
+{}
+
+/// Two listed terms of the left side of a condition show that it is never met exactly where they are absolutely irreducible
+/// and clash.
+pub fn clashing_reducts_are_unfeasible()
+    ensures reducts { ClashingReductsAreUnfeasible }
 {}
 
 /// What the space finds is valid, and nothing in it is valid where it finds nothing; it finds one certificate at most, at

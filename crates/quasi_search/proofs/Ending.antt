@@ -1,0 +1,128 @@
+-- How the search ends.
+use Rattle.std.proofs.Common.{ℕ, ◌≡◌, ◌+◌, ◌≤◌, inl, inr, List, Result, Ok, Err, subst, arith}
+use Rattle.rewriting.specs.Rules.{System}
+use Rattle.unifier_run.specs.Overlaps.{Overlap, AreOverlaps}
+use Rattle.certificates.specs.Certificates.{Certificate, MeasureCertificate, PairEntry, quasi_certificate}
+use Rattle.cops_names.specs.NameTable.{NameTable}
+use Rattle.valid_certificates.specs.Certificates.{IsValid}
+use Rattle.term_core.specs.declared.terms.NoMemory.{NoMemory}
+use Rattle.cert_model.specs.CertificateView.{certificate_view}
+use Rattle.validity.specs.declared.Search.{Search}
+use Rattle.validity.specs.declared.Search.TheVariants.{Found, Nothing, Spent}
+use Rattle.quasi_check.specs.Parts.{AreRulesGood}
+use Rattle.cc_count.specs.Counts.{Counts, Spends}
+use Rattle.first_found.specs.Rows.{AreFirsts, EndsAtRow, StopsInRow}
+use Rattle.first_found.specs.Spaces.{Space, spent}
+use Rattle.search_answers.specs.Answers.{ending_of, IfFound, IfNothing}
+use Rattle.search_spaces.specs.Texts.{HasText}
+use Rattle.measure_grid.specs.Pruned.{IsPrunedFirst, IsPrunedWhole, PrunedStops}
+use Rattle.measure_grid.proofs.Pruned.{firsts_are, first_or_barren, whole_once, stops_before_whole}
+use Rattle.quasi_space.specs.Endings.{MayEndLast}
+use Rattle.quasi_space.specs.Measures.{pruned_measures}
+use Rattle.quasi_space.specs.Quasi.{IsQuasiOpen, IsQuasiEntry, StopsAtQuasi, items_cost, quasi_space, quasi_space_by}
+use Rattle.quasi_space.proofs.AllSpaces.{each_searchable, pruned_search}
+use Rattle.quasi_space.proofs.Measures.{pruned_tried}
+use Rattle.quasi_space.proofs.Quasi.{ends_closed, ends_at_row, ends_in_row, ends_found, ends_too_long, ends_no_measure, ends_in_measures}
+use Rattle.cc_count.proofs.Spending.{spends_none, spends_both}
+use Rattle.grid_search.specs.Answers.{IsNoneGood, GridAnswers}
+use Rattle.grid_search.specs.declared.GridSearch.{GridSearch}
+use Rattle.quasi_search.specs.Answers.{Searches}
+
+-- what the search of the grid told, of what it is known to be
+pub grid_told : (here sys : System) (before after : Counts) (f g : GridSearch) → here ≡ sys → f ≡ g → GridAnswers here before after (Ok f) → GridAnswers sys before after (Ok g)
+grid_told here sys before after f g same is h = subst (λ s. GridAnswers s before after (Ok g)) same (subst (λ z. GridAnswers here before after (Ok z)) is h)
+
+module _ (names : NameTable) (sys : System) where
+  abbrev pub Pruned : Space Certificate
+  Pruned = quasi_space_by (pruned_measures sys) names sys
+
+  module _ (before after : Counts) where
+    -- what is answered with the pruned grid may be answered with the whole one
+    pub whole_searched : (r : Result Search NoMemory) → Searches Pruned before after r → Searches (quasi_space names sys) before after r
+    whole_searched (Ok answer) (n, s, e) = (n, s, pruned_search names sys before.left n (ending_of answer) e)
+    whole_searched (Err e) h = tt
+
+    -- what is found is valid, and where nothing is, nothing in the space is
+    valid_of : (r : Result Search NoMemory) → Searches (quasi_space names sys) before after r → IfFound r (IsValid sys)
+    valid_of (Ok (Found c)) (n, s, (k, f, most)) = ((each_searchable names sys).searched.held (certificate_view c) k f).1
+    valid_of (Ok Nothing) h = tt
+    valid_of (Ok Spent) h = tt
+    valid_of (Err e) h = tt
+
+    nothing_of : (r : Result Search NoMemory) → Searches (quasi_space names sys) before after r → IfNothing r ((c : Certificate) → (quasi_space names sys).Holds c → IsValid sys c → ⊥)
+    nothing_of (Ok (Found c)) h = tt
+    nothing_of (Ok Nothing) (n, s, (barren, most)) = (each_searchable names sys).searched.barren barren
+    nothing_of (Ok Spent) h = tt
+    nothing_of (Err e) h = tt
+
+    pub found_valid : (r : Result Search NoMemory) → Searches Pruned before after r → IfFound r (IsValid sys)
+    found_valid r h = valid_of r (whole_searched r h)
+
+    pub nothing_valid : (r : Result Search NoMemory) → Searches Pruned before after r → IfNothing r ((c : Certificate) → (quasi_space names sys).Holds c → IsValid sys c → ⊥)
+    nothing_valid r h = nothing_of r (whole_searched r h)
+
+  -- where a rule is not good, or the overlaps have no list
+  closed : ((os : List Overlap) → IsQuasiOpen sys os → ⊥) → (b : Counts) → Searches Pruned b b (Ok Nothing)
+  closed none b = (0, spends_none b, ends_closed names sys (pruned_measures sys) (pruned_tried sys) none b.left)
+
+  pub closed_by_rules : (AreRulesGood sys → ⊥) → (b : Counts) → Searches Pruned b b (Ok Nothing)
+  closed_by_rules bad = closed (λ os h. bad (record { deterministic = h.deterministic; irreducible = h.irreducible }))
+
+  pub closed_by_overlaps : ((os : List Overlap) → AreOverlaps sys os → ⊥) → (b : Counts) → Searches Pruned b b (Ok Nothing)
+  closed_by_overlaps none = closed (λ os h. none os h.overlaps)
+
+  -- where all units are spent
+  all_spent : (before after : Counts) (n : ℕ) → Spends before n after → after.left ≡ 0 → MayEndLast Pruned n n spent → Searches Pruned before after (Ok Spent)
+  all_spent before after n spends end stopped =
+      let units = spends.left in
+      let all : n ≡ before.left = omega (arith, units, end) in (n, spends, subst (λ left. MayEndLast Pruned left n spent) all stopped)
+
+  -- where no measure is good
+  none_first : (u : ℕ) → IsNoneGood sys u → (m : MeasureCertificate) (k : ℕ) → IsPrunedFirst sys m k → ⊥
+  none_first u (inl barren) m k f = first_or_barren sys m u k barren f
+  none_first u (inr (free, large)) m k f = large (firsts_are sys m k f).1.gives.1.0
+
+  none_within : (u : ℕ) → IsNoneGood sys u → (k : ℕ) → IsPrunedWhole sys k → u ≤ k
+  none_within u (inl barren) k h = let same = whole_once sys u k (inr barren) h in omega (arith, same)
+  none_within u (inr (free, large)) k h = omega (arith, free)
+
+  module _ (os : List Overlap) (rules : AreRulesGood sys) (overlaps : AreOverlaps sys os) where
+    is_open : IsQuasiOpen sys os
+    is_open = record { deterministic = rules.deterministic; irreducible = rules.irreducible; overlaps = overlaps }
+
+    module _ (before after : Counts) where
+      pub row_searched : (n : ℕ) × Spends before n after × EndsAtRow (IsQuasiEntry sys) (items_cost sys) os n → Searches Pruned before after (Ok Nothing)
+      row_searched (n, spends, ends) = (n, spends, ends_at_row names sys (pruned_measures sys) (pruned_tried sys) os is_open before.left n ends)
+
+      pub row_spent : (n : ℕ) × Spends before n after × (after.left ≡ 0) × StopsInRow (IsQuasiEntry sys) (StopsAtQuasi sys) os n → Searches Pruned before after (Ok Spent)
+      row_spent (n, spends, end, stops) = all_spent before after n spends end (ends_in_row names sys (pruned_measures sys) (pruned_tried sys) os is_open n stops)
+
+    -- every overlap has evidence, and the search goes on for a measure
+    module _ (before here after : Counts) (es : List PairEntry) (whole : (n : ℕ) × Spends before n here × AreFirsts (IsQuasiEntry sys) os es n) where
+      pub good_searched : (m : MeasureCertificate) → (u : ℕ) × Spends here u after × IsPrunedFirst sys m u → HasText names (quasi_certificate m es)
+          → (n : ℕ) × Spends before n after × ((k : ℕ) × Pruned.Finds (quasi_certificate m es) k × (n ≤ k))
+      good_searched m (u, spends, first) text = (
+        whole.0 + u,
+        spends_both before here after whole.0 u whole.1 spends,
+        ends_found names sys (pruned_measures sys) (pruned_tried sys) os is_open es whole.0 whole.2 before.left u m first text,
+      )
+
+      pub long_searched : (m : MeasureCertificate) → (u : ℕ) × Spends here u after × IsPrunedFirst sys m u → (HasText names (quasi_certificate m es) → ⊥) → Searches Pruned before after (Ok Nothing)
+      long_searched m (u, spends, first) long = (
+        whole.0 + u,
+        spends_both before here after whole.0 u whole.1 spends,
+        ends_too_long names sys (pruned_measures sys) (pruned_tried sys) os is_open es whole.0 whole.2 before.left u m first long,
+      )
+
+      pub none_searched : (u : ℕ) × Spends here u after × IsNoneGood sys u → Searches Pruned before after (Ok Nothing)
+      none_searched (u, spends, none) = (
+        whole.0 + u,
+        spends_both before here after whole.0 u whole.1 spends,
+        ends_no_measure names sys (pruned_measures sys) (pruned_tried sys) os is_open es whole.0 whole.2 before.left u (none_within u none) (none_first u none),
+      )
+
+      pub spent_searched : (u : ℕ) × Spends here u after × (after.left ≡ 0) × PrunedStops sys u → Searches Pruned before after (Ok Spent)
+      spent_searched (u, spends, end, stops) =
+          all_spent before after (whole.0 + u) (spends_both before here after whole.0 u whole.1 spends) end
+          (ends_in_measures names sys (pruned_measures sys) (pruned_tried sys) os is_open es whole.0 whole.2 u
+          (λ m k f. stops_before_whole sys u k stops (inl (m, f))) (λ k h. stops_before_whole sys u k stops h))

@@ -1,0 +1,6 @@
+pub mod Ending
+pub mod Growths
+pub mod Index
+pub mod Listings
+pub mod Pairs
+pub mod Shared

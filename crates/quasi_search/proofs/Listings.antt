@@ -1,0 +1,56 @@
+-- Listings that were made, and those that could not be paid.
+use Rattle.std.proofs.Common.{ℕ, ◌≡◌, ◌<◌, List, [], ◌∷◌, Vec, Global, Option, None, Some, Result, Ok, refl, sym, subst}
+use Rattle.rewriting.specs.Terms.{Term, Fits}
+use Rattle.rewriting.specs.Rules.{Condition, System}
+use Rattle.unifier_run.specs.Overlaps.{Overlap}
+use Rattle.cc_count.specs.Counts.{Counts, Spends}
+use Rattle.reach_lists.specs.Solutions as math
+use Rattle.reach_lists.specs.Lists.{successors, condition_list}
+use Rattle.reach_lists.specs.Laws.{IsWithoutRepetition}
+use Rattle.reach_lists.proofs.Laws.{none_twice}
+use Rattle.reach.specs.Parts.{DoAllFit}
+use Rattle.reach.specs.declared.listed.Reached.{Reached}
+use Rattle.reach.proofs.Fitting.{listed_fit}
+use Rattle.search_spaces.specs.Listings.{listing, listing_cost}
+use Rattle.term_core.specs.declared.terms.NoMemory.{NoMemory}
+use Rattle.pair_search.specs.Answers.{WalkAnswers}
+use Rattle.pair_search.specs.declared.walks.Walk.{Walk}
+use Rattle.pair_search.specs.declared.walks.Walk.TheVariants.{Spent}
+use Rattle.pair_search.proofs.Composed.{item_is_dear, item_bare, goes_behind}
+use Rattle.quasi_space.specs.QuasiItems.{QuasiItem, make_listing, quasi_item_cost, GivesQuasi}
+use Rattle.quasi_search.specs.Listed.{ListedAnswers}
+
+module _ (sys : System) (hyps : List Condition) (t : Term) (l : List math.Reached) (is : l ≡ listing sys hyps t) where
+  pub listing_fits : Fits t → DoAllFit l
+  listing_fits fits = subst DoAllFit (sym is) (listed_fit (successors sys hyps (condition_list sys hyps 2)) t fits 5)
+
+  pub listing_once : IsWithoutRepetition l
+  listing_once = subst IsWithoutRepetition (sym is) (none_twice sys hyps 5 2 t)
+
+module _ (sys : System) (o : Overlap) (t : Term) (a b : Counts) where
+  abbrev item : QuasiItem
+  item = make_listing (listing_cost sys o.pair.conditions t)
+
+  -- a listing that is made gives nothing, and the walk goes on
+  pub listing_made : (rest : List QuasiItem) (l : Vec Reached Global) → ListedAnswers sys o t a b (Ok (Some l)) → (c : Counts) (r : Result Walk NoMemory)
+      → WalkAnswers quasi_item_cost (GivesQuasi sys o) rest b c r → WalkAnswers quasi_item_cost (GivesQuasi sys o) (item ∷ rest) a c r
+  listing_made rest l (is, s) c r h =
+      goes_behind quasi_item_cost (GivesQuasi sys o) (item ∷ []) rest a b c r (item_bare quasi_item_cost (GivesQuasi sys o) item a b s (λ e g. g.0)) h
+
+  pub made_kept : (l : Vec Reached Global) → ListedAnswers sys o t a b (Ok (Some l)) → (n : ℕ) × Spends a n b
+  made_kept l (is, s) = (listing_cost sys o.pair.conditions t, s)
+
+  module _ (f : Option (Vec Reached Global)) (other : (l : Vec Reached Global) → f ≡ Some l → ⊥) (h : ListedAnswers sys o t a b (Ok f)) where
+    too_dear : (a.left < listing_cost sys o.pair.conditions t) × Spends a a.left b
+    too_dear = go f other h
+      where
+        go : (g : Option (Vec Reached Global)) → ((l : Vec Reached Global) → g ≡ Some l → ⊥) → ListedAnswers sys o t a b (Ok g)
+            → (a.left < listing_cost sys o.pair.conditions t) × Spends a a.left b
+        go None none k = k
+        go (Some l) none k = absurd (none l refl)
+
+    pub listing_stops : (rest : List QuasiItem) → WalkAnswers quasi_item_cost (GivesQuasi sys o) (item ∷ rest) a b (Ok Spent)
+    listing_stops rest = item_is_dear quasi_item_cost (GivesQuasi sys o) item a b rest too_dear.0 too_dear.1
+
+    pub stopped_kept : (n : ℕ) × Spends a n b
+    stopped_kept = (a.left, too_dear.1)

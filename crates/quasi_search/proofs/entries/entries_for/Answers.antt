@@ -1,0 +1,58 @@
+use Rattle.std.proofs.Common.{refl, arith}
+use Rattle.cert_model.specs.EvidenceView.{pair_evidence_view}
+use Rattle.critical_pairs.specs.View.{overlap_view}
+use Rattle.search_spaces.specs.Entries.{entry_for}
+use Rattle.quasi_space.specs.QuasiItems.{quasi_item_cost, GivesQuasi, quasi_items}
+use Rattle.quasi_space.specs.Quasi.{IsQuasiEntry, StopsAtQuasi, items_cost}
+use Rattle.quasi_space.proofs.Entries.{no_quasi_entry}
+use Rattle.pair_search.specs.declared.walks.Walk.TheVariants.{Given, Nothing, Spent}
+use Rattle.pair_search.proofs.Walking.{among_here, told, entry_more, row_ends, row_stops, kept_more}
+use Rattle.quasi_search.proofs.entries.entries_for.Goals as goal
+
+pub try_overlap-requires : goal.try_overlap-requires
+try_overlap-requires c = record {
+  overlap = c.requires.overlaps (overlap_view c.overlap-item.result) (among_here c.args.overlaps.now c.rows.overlap-index c.overlap-item.result c.rows-test.true c.overlap-item.is);
+}
+
+pub returns-in_err-add_entry-in-Ok-Given-clause-kept : goal.returns-in_err-add_entry-in-Ok-Given-clause-kept
+returns-in_err-add_entry-in-Ok-Given-clause-kept c =
+    kept_more (IsQuasiEntry c.args.sys.now) c.args.overlaps.now c.rows.overlap-index c.overlap-item.result c.rows-test.true c.overlap-item.is c.args.budget.now c.rows.budget c.try_overlap.new.budget c.rows.entries.items c.rows.invariant.far c.in-Ok-Given.ensures.kept
+
+pub returns-in-Ok-Nothing-clause-answer : goal.returns-in-Ok-Nothing-clause-answer
+returns-in-Ok-Nothing-clause-answer c =
+    let o = overlap_view c.overlap-item.result in
+    let w = told quasi_item_cost (GivesQuasi c.args.sys.now o) (quasi_items c.args.sys.now o) c.rows.budget c.try_overlap.new.budget c.in-Ok-Nothing.field-0 Nothing c.in-Ok-Nothing.field-0-is c.in-Ok-Nothing.ensures.answer in
+    row_ends (IsQuasiEntry c.args.sys.now) c.args.overlaps.now c.rows.overlap-index c.overlap-item.result c.rows-test.true c.overlap-item.is c.args.budget.now c.rows.budget c.try_overlap.new.budget c.rows.entries.items c.rows.invariant.far
+    (items_cost c.args.sys.now) w.0 (no_quasi_entry c.args.sys.now o w.1)
+
+pub returns-in-Ok-Nothing-clause-kept : goal.returns-in-Ok-Nothing-clause-kept
+returns-in-Ok-Nothing-clause-kept c =
+    kept_more (IsQuasiEntry c.args.sys.now) c.args.overlaps.now c.rows.overlap-index c.overlap-item.result c.rows-test.true c.overlap-item.is c.args.budget.now c.rows.budget c.try_overlap.new.budget c.rows.entries.items c.rows.invariant.far c.in-Ok-Nothing.ensures.kept
+
+pub returns-in-Ok-Spent-clause-answer : goal.returns-in-Ok-Spent-clause-answer
+returns-in-Ok-Spent-clause-answer c =
+    let o = overlap_view c.overlap-item.result in
+    row_stops (IsQuasiEntry c.args.sys.now) c.args.overlaps.now c.rows.overlap-index c.overlap-item.result c.rows-test.true c.overlap-item.is c.args.budget.now c.rows.budget c.try_overlap.new.budget c.rows.entries.items c.rows.invariant.far
+    (StopsAtQuasi c.args.sys.now)
+    (told quasi_item_cost (GivesQuasi c.args.sys.now o) (quasi_items c.args.sys.now o) c.rows.budget c.try_overlap.new.budget c.in-Ok-Spent.field-0 Spent c.in-Ok-Spent.field-0-is c.in-Ok-Spent.ensures.answer)
+
+pub returns-in-Ok-Spent-clause-kept : goal.returns-in-Ok-Spent-clause-kept
+returns-in-Ok-Spent-clause-kept c =
+    kept_more (IsQuasiEntry c.args.sys.now) c.args.overlaps.now c.rows.overlap-index c.overlap-item.result c.rows-test.true c.overlap-item.is c.args.budget.now c.rows.budget c.try_overlap.new.budget c.rows.entries.items c.rows.invariant.far c.in-Ok-Spent.ensures.kept
+
+pub returns-in-Err-clause-kept : goal.returns-in-Err-clause-kept
+returns-in-Err-clause-kept c =
+    kept_more (IsQuasiEntry c.args.sys.now) c.args.overlaps.now c.rows.overlap-index c.overlap-item.result c.rows-test.true c.overlap-item.is c.args.budget.now c.rows.budget c.try_overlap.new.budget c.rows.entries.items c.rows.invariant.far c.in-Err.ensures.kept
+
+pub rows-preserved : goal.rows-preserved
+rows-preserved c =
+    let below = c.rows-test.true in
+    let o = overlap_view c.overlap-item.result in
+    let e = pair_evidence_view c.in-Ok-Given.evidence in
+    let w =
+    told quasi_item_cost (GivesQuasi c.args.sys.now o) (quasi_items c.args.sys.now o) c.rows.budget c.try_overlap.new.budget c.in-Ok-Given.field-0 (Given c.in-Ok-Given.evidence) c.in-Ok-Given.field-0-is c.in-Ok-Given.ensures.answer in
+    record {
+      within = omega (arith, below);
+      far = entry_more (IsQuasiEntry c.args.sys.now) c.args.overlaps.now c.rows.overlap-index c.overlap-item.result c.rows-test.true c.overlap-item.is c.args.budget.now c.rows.budget c.try_overlap.new.budget c.rows.entries.items c.rows.invariant.far
+          (entry_for o e) (w.0, w.1, (e, w.2, refl)) c.add_entry.new.entries.items c.in_ok-add_entry-in-Ok-Given.ensures;
+    }

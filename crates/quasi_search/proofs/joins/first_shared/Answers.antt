@@ -1,0 +1,29 @@
+use Rattle.std.proofs.Common.{◌+◌, ◌∙◌, drop, subst}
+use Rattle.reach.specs.Parts.{DoAllFit}
+use Rattle.reach.specs.ReachedView.{reached_view, list_view}
+use Rattle.reach.proofs.Rests.{rest_first}
+use Rattle.term_core.specs.View.{view}
+use Rattle.quasi_search.proofs.Index.{none_found, unshared_goes_on, shared_here}
+use Rattle.quasi_search.proofs.joins.first_shared.Goals as goal
+
+pub returns-in-Some : goal.returns-in-Some
+returns-in-Some c =
+    let all = c.args.left.now in
+    let i = c.left.first-index in
+    let x = c.first-item.result in
+    let right = list_view c.args.right.now in
+    shared_here (list_view all) right (list_view (drop i all)) (reached_view x) (list_view (drop (i + 1) all)) c.left.invariant.unshared (rest_first reached_view all i x c.left-test.true c.first-item.is)
+    (reached_view c.in-Some.second.now) (c.in-Some.ensures right (view x.term) c.in_ok-index.ensures (c.deref.ensures.value ∙ c.in_ok-key.ensures))
+
+pub left-preserved : goal.left-preserved
+left-preserved c =
+    let all = c.args.left.now in
+    let i = c.left.first-index in
+    let x = c.first-item.result in
+    let right = list_view c.args.right.now in
+    let next = rest_first reached_view all i x c.left-test.true c.first-item.is in
+    record {
+      unshared = unshared_goes_on (list_view all) right (list_view (drop i all)) (reached_view x) (list_view (drop (i + 1) all)) c.left.invariant.unshared next
+          (none_found right (view x.term) c.listed_by.result c.in_default.not-Some (c.listed_by.ensures right (view x.term) c.in_ok-index.ensures (c.deref.ensures.value ∙ c.in_ok-key.ensures)));
+      fit = (subst DoAllFit next c.left.invariant.fit).1;
+    }

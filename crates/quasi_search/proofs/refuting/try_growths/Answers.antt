@@ -1,0 +1,69 @@
+use Rattle.std.proofs.Common.{◌≡◌, ◌+◌, ◌∷◌, [], length, map, Ok, subst, arith}
+use Rattle.critical_pairs.specs.View.{overlap_view}
+use Rattle.search_spaces.specs.Refuting.{try_growth, growths}
+use Rattle.cc_count.proofs.Spending.{spends_none, kept_on}
+use Rattle.pair_search.specs.Answers.{WalkAnswers}
+use Rattle.pair_search.specs.declared.walks.Walk.TheVariants.{Nothing}
+use Rattle.pair_search.proofs.Composed.{begins, goes_on, ends, finishes}
+use Rattle.quasi_space.specs.QuasiItems.{try_refuting, quasi_item_cost, GivesQuasi}
+use Rattle.quasi_search.proofs.Growths.{growths_behind, all_left, next_growth, none_behind, few_conditions, counted}
+use Rattle.quasi_search.proofs.refuting.try_growths.Goals as goal
+
+pub overflow_cast-count : goal.overflow_cast-count
+overflow_cast-count c =
+    let few = few_conditions c.args.sys.now c.args.overlap.now c.rules-rules.ensures.sound c.requires.overlap in
+    omega (arith, few, c.len-count.ensures, c.args.overlap.now.conds.ok.0)
+
+pub growths-init : goal.growths-init
+growths-init c =
+    record {
+      within = omega arith;
+      walking = begins quasi_item_cost (GivesQuasi c.args.sys.now (overlap_view c.args.overlap.now)) (map try_refuting (growths c.len-count.result)) c.args.budget.now
+          (growths_behind 0 c.len-count.result) (all_left c.len-count.result);
+      kept = (0, spends_none c.args.budget.now);
+    }
+
+pub returns-in_err-end-clause-kept : goal.returns-in_err-end-clause-kept
+returns-in_err-end-clause-kept c = kept_on c.args.budget.now c.growths.budget c.try_way.new.budget c.growths.invariant.kept c.in_err-end.ensures.kept
+
+pub returns-in_default : goal.returns-in_default
+returns-in_default c =
+    let n = c.len-count.result in
+    let i = c.growths.before in
+    let all : n ≡ length (overlap_view c.args.overlap.now).pair.conditions =
+    counted c.args.sys.now c.args.overlap.now c.rules-rules.ensures.sound c.requires.overlap n (omega (arith, c.len-count.ensures, c.args.overlap.now.conds.ok.0)) in
+    record {
+      answer = subst (λ m. WalkAnswers quasi_item_cost (GivesQuasi c.args.sys.now (overlap_view c.args.overlap.now)) (map try_refuting (growths m)) c.args.budget.now c.try_way.new.budget (Ok c.in_ok-end.end)) all
+          (ends quasi_item_cost (GivesQuasi c.args.sys.now (overlap_view c.args.overlap.now)) (map try_refuting (growths n)) c.args.budget.now c.growths.budget c.try_way.new.budget
+          (growths_behind i n) (try_refuting (try_growth (i + 1)) ∷ []) (growths_behind (i + 1) n) c.growths.invariant.walking (next_growth i n c.growths-test.true)
+          c.in_ok-end.end c.in_default.not-Nothing c.in_ok-end.ensures.answer);
+      kept = kept_on c.args.budget.now c.growths.budget c.try_way.new.budget c.growths.invariant.kept c.in_ok-end.ensures.kept;
+    }
+
+pub growths-preserved : goal.growths-preserved
+growths-preserved c =
+    let n = c.len-count.result in
+    let i = c.growths.before in
+    let below = c.growths-test.true in
+    record {
+      within = omega (arith, below);
+      walking = goes_on quasi_item_cost (GivesQuasi c.args.sys.now (overlap_view c.args.overlap.now)) (map try_refuting (growths n)) c.args.budget.now c.growths.budget c.try_way.new.budget
+          (growths_behind i n) (try_refuting (try_growth (i + 1)) ∷ []) (growths_behind (i + 1) n) c.growths.invariant.walking (next_growth i n c.growths-test.true)
+          (subst (λ z. WalkAnswers quasi_item_cost (GivesQuasi c.args.sys.now (overlap_view c.args.overlap.now)) (try_refuting (try_growth (i + 1)) ∷ []) c.growths.budget c.try_way.new.budget (Ok z)) c.in-Nothing.is
+          c.in_ok-end.ensures.answer);
+      kept = kept_on c.args.budget.now c.growths.budget c.try_way.new.budget c.growths.invariant.kept c.in_ok-end.ensures.kept;
+    }
+
+pub returns-clause-answer : goal.returns-clause-answer
+returns-clause-answer c =
+    let n = c.len-count.result in
+    let i = c.growths.before in
+    let over = c.growths-test.false in
+    let all : n ≡ length (overlap_view c.args.overlap.now).pair.conditions =
+    counted c.args.sys.now c.args.overlap.now c.rules-rules.ensures.sound c.requires.overlap n (omega (arith, c.len-count.ensures, c.args.overlap.now.conds.ok.0)) in
+    subst (λ m. WalkAnswers quasi_item_cost (GivesQuasi c.args.sys.now (overlap_view c.args.overlap.now)) (map try_refuting (growths m)) c.args.budget.now c.growths.budget (Ok Nothing)) all
+    (finishes quasi_item_cost (GivesQuasi c.args.sys.now (overlap_view c.args.overlap.now)) (map try_refuting (growths n)) c.args.budget.now c.growths.budget (growths_behind i n) c.growths.invariant.walking
+    (none_behind i n (omega (arith, over))))
+
+pub returns-clause-kept : goal.returns-clause-kept
+returns-clause-kept c = c.growths.invariant.kept

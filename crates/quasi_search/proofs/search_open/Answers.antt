@@ -1,0 +1,69 @@
+use Rattle.cc_count.proofs.Spending.{kept_on}
+use Rattle.std.proofs.Common.{map, refl}
+use Rattle.certificates.specs.Certificates.{linear_measure}
+use Rattle.cert_model.specs.CertificateView.{pair_entry_view, linear_entry_view}
+use Rattle.critical_pairs.specs.View.{overlap_view}
+use Rattle.pair_search.specs.declared.walks.Entries.TheVariants as entries
+use Rattle.pair_search.proofs.Walking.{entries_told}
+use Rattle.grid_search.specs.declared.GridSearch.TheVariants as grid
+use Rattle.quasi_space.specs.Quasi.{IsQuasiEntry, StopsAtQuasi, items_cost}
+use Rattle.quasi_search.proofs.Ending.{grid_told, row_searched, row_spent, good_searched, long_searched, none_searched, spent_searched}
+use Rattle.quasi_search.proofs.search_open.Goals as goal
+
+pub returns-in-Ok-Missing-clause-pruned : goal.returns-in-Ok-Missing-clause-pruned
+returns-in-Ok-Missing-clause-pruned c =
+    row_searched c.args.names.now c.args.sys.now (map overlap_view c.args.overlaps.now) c.requires.rules c.requires.overlaps c.args.budget.now c.entries_for.new.budget
+    (entries_told (IsQuasiEntry c.args.sys.now) (items_cost c.args.sys.now) (StopsAtQuasi c.args.sys.now) (map overlap_view c.args.overlaps.now) c.args.budget.now c.entries_for.new.budget c.in-Ok-Missing.field-0 entries.Missing c.in-Ok-Missing.field-0-is c.in-Ok-Missing.ensures.answer)
+
+pub returns-in-Ok-Spent-clause-pruned : goal.returns-in-Ok-Spent-clause-pruned
+returns-in-Ok-Spent-clause-pruned c =
+    row_spent c.args.names.now c.args.sys.now (map overlap_view c.args.overlaps.now) c.requires.rules c.requires.overlaps c.args.budget.now c.entries_for.new.budget
+    (entries_told (IsQuasiEntry c.args.sys.now) (items_cost c.args.sys.now) (StopsAtQuasi c.args.sys.now) (map overlap_view c.args.overlaps.now) c.args.budget.now c.entries_for.new.budget c.in-Ok-Spent.field-0 entries.Spent c.in-Ok-Spent.field-0-is c.in-Ok-Spent.ensures.answer)
+
+pub returns-then-has_text-clause-pruned : goal.returns-then-has_text-clause-pruned
+returns-then-has_text-clause-pruned c =
+    good_searched c.args.names.now c.args.sys.now (map overlap_view c.args.overlaps.now) c.requires.rules c.requires.overlaps c.args.budget.now c.entries_for.new.budget c.search_grid.new.budget (map pair_entry_view c.in-Ok-Whole.pairs.items)
+    (entries_told (IsQuasiEntry c.args.sys.now) (items_cost c.args.sys.now) (StopsAtQuasi c.args.sys.now) (map overlap_view c.args.overlaps.now) c.args.budget.now c.entries_for.new.budget c.in-Ok-Whole.field-0 (entries.Whole c.in-Ok-Whole.pairs) c.in-Ok-Whole.field-0-is c.in-Ok-Whole.ensures.answer)
+    (linear_measure (map linear_entry_view c.in-Ok-Good.linear.entries.items))
+    (grid_told c.system.result.now c.args.sys.now c.entries_for.new.budget c.search_grid.new.budget c.in-Ok-Good.field-0 (grid.Good c.in-Ok-Good.linear) c.system.ensures c.in-Ok-Good.field-0-is c.in-Ok-Good.ensures.answer)
+    (c.if-has_text.ensures.0 refl)
+
+pub returns-then-has_text-clause-kept : goal.returns-then-has_text-clause-kept
+returns-then-has_text-clause-kept c =
+    kept_on c.args.budget.now c.entries_for.new.budget c.search_grid.new.budget c.in-Ok-Whole.ensures.kept c.in-Ok-Good.ensures.kept
+
+pub returns-else-has_text-clause-pruned : goal.returns-else-has_text-clause-pruned
+returns-else-has_text-clause-pruned c =
+    long_searched c.args.names.now c.args.sys.now (map overlap_view c.args.overlaps.now) c.requires.rules c.requires.overlaps c.args.budget.now c.entries_for.new.budget c.search_grid.new.budget (map pair_entry_view c.in-Ok-Whole.pairs.items)
+    (entries_told (IsQuasiEntry c.args.sys.now) (items_cost c.args.sys.now) (StopsAtQuasi c.args.sys.now) (map overlap_view c.args.overlaps.now) c.args.budget.now c.entries_for.new.budget c.in-Ok-Whole.field-0 (entries.Whole c.in-Ok-Whole.pairs) c.in-Ok-Whole.field-0-is c.in-Ok-Whole.ensures.answer)
+    (linear_measure (map linear_entry_view c.in-Ok-Good.linear.entries.items))
+    (grid_told c.system.result.now c.args.sys.now c.entries_for.new.budget c.search_grid.new.budget c.in-Ok-Good.field-0 (grid.Good c.in-Ok-Good.linear) c.system.ensures c.in-Ok-Good.field-0-is c.in-Ok-Good.ensures.answer)
+    (λ t. (let e = c.if-has_text.ensures.1 t in cc))
+
+pub returns-else-has_text-clause-kept : goal.returns-else-has_text-clause-kept
+returns-else-has_text-clause-kept c =
+    kept_on c.args.budget.now c.entries_for.new.budget c.search_grid.new.budget c.in-Ok-Whole.ensures.kept c.in-Ok-Good.ensures.kept
+
+pub returns-in-Ok-NoneGood-clause-pruned : goal.returns-in-Ok-NoneGood-clause-pruned
+returns-in-Ok-NoneGood-clause-pruned c =
+    none_searched c.args.names.now c.args.sys.now (map overlap_view c.args.overlaps.now) c.requires.rules c.requires.overlaps c.args.budget.now c.entries_for.new.budget c.search_grid.new.budget (map pair_entry_view c.in-Ok-Whole.pairs.items)
+    (entries_told (IsQuasiEntry c.args.sys.now) (items_cost c.args.sys.now) (StopsAtQuasi c.args.sys.now) (map overlap_view c.args.overlaps.now) c.args.budget.now c.entries_for.new.budget c.in-Ok-Whole.field-0 (entries.Whole c.in-Ok-Whole.pairs) c.in-Ok-Whole.field-0-is c.in-Ok-Whole.ensures.answer)
+    (grid_told c.system.result.now c.args.sys.now c.entries_for.new.budget c.search_grid.new.budget c.in-Ok-NoneGood.field-0 grid.NoneGood c.system.ensures c.in-Ok-NoneGood.field-0-is c.in-Ok-NoneGood.ensures.answer)
+
+pub returns-in-Ok-NoneGood-clause-kept : goal.returns-in-Ok-NoneGood-clause-kept
+returns-in-Ok-NoneGood-clause-kept c =
+    kept_on c.args.budget.now c.entries_for.new.budget c.search_grid.new.budget c.in-Ok-Whole.ensures.kept c.in-Ok-NoneGood.ensures.kept
+
+pub returns-in-Ok-Spent-search_grid-clause-pruned : goal.returns-in-Ok-Spent-search_grid-clause-pruned
+returns-in-Ok-Spent-search_grid-clause-pruned c =
+    spent_searched c.args.names.now c.args.sys.now (map overlap_view c.args.overlaps.now) c.requires.rules c.requires.overlaps c.args.budget.now c.entries_for.new.budget c.search_grid.new.budget (map pair_entry_view c.in-Ok-Whole.pairs.items)
+    (entries_told (IsQuasiEntry c.args.sys.now) (items_cost c.args.sys.now) (StopsAtQuasi c.args.sys.now) (map overlap_view c.args.overlaps.now) c.args.budget.now c.entries_for.new.budget c.in-Ok-Whole.field-0 (entries.Whole c.in-Ok-Whole.pairs) c.in-Ok-Whole.field-0-is c.in-Ok-Whole.ensures.answer)
+    (grid_told c.system.result.now c.args.sys.now c.entries_for.new.budget c.search_grid.new.budget c.in-Ok-Spent-search_grid.field-0 grid.Spent c.system.ensures c.in-Ok-Spent-search_grid.field-0-is c.in-Ok-Spent-search_grid.ensures.answer)
+
+pub returns-in-Ok-Spent-search_grid-clause-kept : goal.returns-in-Ok-Spent-search_grid-clause-kept
+returns-in-Ok-Spent-search_grid-clause-kept c =
+    kept_on c.args.budget.now c.entries_for.new.budget c.search_grid.new.budget c.in-Ok-Whole.ensures.kept c.in-Ok-Spent-search_grid.ensures.kept
+
+pub returns-in-Err-search_grid-clause-kept : goal.returns-in-Err-search_grid-clause-kept
+returns-in-Err-search_grid-clause-kept c =
+    kept_on c.args.budget.now c.entries_for.new.budget c.search_grid.new.budget c.in-Ok-Whole.ensures.kept c.in-Err-search_grid.ensures.kept

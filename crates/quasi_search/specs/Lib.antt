@@ -1,0 +1,4 @@
+pub mod Answers
+pub mod Joins
+pub mod Listed
+pub mod Reducts

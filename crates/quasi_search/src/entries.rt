@@ -1,0 +1,38 @@
+// The entries for all overlaps.
+ghost use Rattle.std.specs.Prelude.{ℕ, map};
+ghost use Rattle.critical_pairs.specs.View.{overlap_view};
+ghost use Rattle.pair_check.specs.Walk.{EachIsOverlap};
+ghost use Rattle.cc_count.specs.Counts.{Spends};
+ghost use Rattle.quasi_space.specs.Quasi.{IsQuasiEntry, StopsAtQuasi, items_cost};
+ghost use Rattle.pair_search.specs.Answers.{EntriesAnswers};
+
+use crate::trying::try_overlap;
+use cc_count::Budget;
+use critical_pairs::Overlap;
+use irreducible::LeftSides;
+use pair_search::{Entries, Walk, add_entry};
+use std::alloc::Global;
+use term_core::NoMemory;
+
+/// For each overlap, in order, the first valid evidence; at the first that has none the walk ends.
+pub fn entries_for(
+    alloc: Global,
+    sys: &LeftSides<'_>,
+    overlaps: &[Overlap],
+    budget: &mut Budget,
+) -> Result<Entries, NoMemory>
+    requires overlaps { EachIsOverlap sys.now (map overlap_view overlaps.now) }
+    ensures answer { EntriesAnswers (IsQuasiEntry sys.now) (items_cost sys.now) (StopsAtQuasi sys.now) (map overlap_view overlaps.now) budget.old budget.new result }
+    ensures kept { (n : ℕ) × Spends budget.old n budget.new }
+{
+    let mut entries = Vec::new(alloc);
+    'rows: for overlap in overlaps {
+        match try_overlap(alloc, sys, overlap, budget) {
+            Ok(Walk::Given(evidence)) => add_entry(alloc, &mut entries, overlap, evidence)?,
+            Ok(Walk::Nothing) => return Ok(Entries::Missing),
+            Ok(Walk::Spent) => return Ok(Entries::Spent),
+            Err(e) => return Err(e),
+        }
+    }
+    Ok(Entries::Whole(entries))
+}

@@ -1,0 +1,109 @@
+// Terms that both sides of an overlap lead to.
+ghost use Rattle.std.specs.Prelude.{ℕ, ◌≡◌, IfOk, List};
+ghost use Rattle.rewriting.specs.Terms as terms;
+ghost use Rattle.unifier_run.specs.Overlaps.{IsOverlapOf};
+ghost use Rattle.certificates.specs.Evidence.{joined_pair};
+ghost use Rattle.cert_model.specs.DerivationView.{derivation_view};
+ghost use Rattle.cert_model.specs.EvidenceView.{pair_evidence_view};
+ghost use Rattle.critical_pairs.specs.View.{overlap_view};
+ghost use Rattle.cc_count.specs.Counts.{Spends};
+ghost use Rattle.reach_lists.specs.Solutions as math;
+ghost use Rattle.reach_lists.specs.Laws.{IsWithoutRepetition};
+ghost use Rattle.reach.specs.Keys.{cells};
+ghost use Rattle.reach.specs.Parts.{DoAllFit};
+ghost use Rattle.reach.specs.ReachedView.{list_view};
+ghost use Rattle.pair_search.specs.Answers.{WalkAnswers};
+ghost use Rattle.quasi_space.specs.QuasiItems.{quasi_item_cost, GivesQuasi, join_items};
+ghost use Rattle.quasi_search.specs.Joins.{IsIndexOf, FindAnswers, SharedAnswers};
+
+use crate::listed::listed_under;
+use cc_count::Budget;
+use cert_model::PairEvidence;
+use critical_pairs::Overlap;
+use indexmap::IndexMap;
+use irreducible::LeftSides;
+use pair_search::Walk;
+use reach::{Reached, key_of};
+use std::alloc::Global;
+use term_core::NoMemory;
+
+// The terms of a list by their keys.
+fn index_of<'a>(
+    alloc: Global,
+    list: &'a [Reached],
+) -> Result<IndexMap<Vec<u32>, &'a Reached>, NoMemory>
+    requires fit { DoAllFit (list_view list.now) }
+    requires once { IsWithoutRepetition (list_view list.now) }
+    ensures { IfOk result (λ index. IsIndexOf (list_view list.now) index.entries) }
+{
+    let mut index = IndexMap::new(alloc);
+    'list: for listed in list {
+        let key = key_of(alloc, &listed.term)?;
+        index.insert(key, listed)?;
+    }
+    Ok(index)
+}
+
+// The first listed term with a key.
+fn listed_by<'a>(index: &IndexMap<Vec<u32>, &'a Reached>, key: &[u32]) -> Option<&'a Reached>
+    ensures { (list : List math.Reached) (t : terms.Term) → IsIndexOf list index.now.entries → key.now ≡ cells t → FindAnswers list t result }
+{
+    match index.get(key) {
+        Some(listed) => Some(*listed),
+        None => None,
+    }
+}
+
+// The first term of the left list that is on the right one, too, as it is listed on both.
+fn first_shared<'a>(
+    alloc: Global,
+    left: &'a [Reached],
+    right: &'a [Reached],
+) -> Result<Option<(&'a Reached, &'a Reached)>, NoMemory>
+    requires left { DoAllFit (list_view left.now) }
+    requires right { DoAllFit (list_view right.now) }
+    requires once { IsWithoutRepetition (list_view right.now) }
+    ensures { SharedAnswers (list_view left.now) (list_view right.now) result }
+{
+    let index = index_of(alloc, right)?;
+    'left: for first in left {
+        let key = key_of(alloc, &first.term)?;
+        if let Some(second) = listed_by(&index, &key) {
+            return Ok(Some((first, second)));
+        }
+    }
+    Ok(None)
+}
+
+// The evidence that two listed terms are one.
+fn joined(alloc: Global, first: &Reached, second: &Reached) -> Result<PairEvidence, NoMemory>
+    ensures { IfOk result (λ e. pair_evidence_view e ≡ joined_pair (derivation_view first.now.by) (derivation_view second.now.by)) }
+{
+    Ok(PairEvidence::Join {
+        left: first.by.try_clone(alloc)?,
+        right: second.by.try_clone(alloc)?,
+    })
+}
+
+/// Lists the terms that the left side leads to, then those that the right side leads to, and takes the first shared one.
+pub fn try_joins(
+    alloc: Global,
+    sys: &LeftSides<'_>,
+    overlap: &Overlap,
+    budget: &mut Budget,
+) -> Result<Walk, NoMemory>
+    requires overlap { IsOverlapOf sys.now (overlap_view overlap.now) }
+    ensures answer { WalkAnswers quasi_item_cost (GivesQuasi sys.now (overlap_view overlap.now)) (join_items sys.now (overlap_view overlap.now)) budget.old budget.new result }
+    ensures kept { (n : ℕ) × Spends budget.old n budget.new }
+{
+    let Some(left) = listed_under(alloc, sys, overlap, &overlap.left, budget)? else {
+        return Ok(Walk::Spent);
+    };
+    let Some(right) = listed_under(alloc, sys, overlap, &overlap.right, budget)? else {
+        return Ok(Walk::Spent);
+    };
+    match first_shared(alloc, &left, &right)? {
+        Some((first, second)) => Ok(Walk::Given(joined(alloc, first, second)?)),
+        None => Ok(Walk::Nothing),
+    }
+}

@@ -1,0 +1,135 @@
+//! The search for a certificate that a system with a measure is confluent: evidence for each overlap, and a measure of a grid.
+#![tactic(auto)]
+
+ghost use Rattle.std.specs.Prelude.{ℕ, ◌↔◌, IfOk, IsTrue, map};
+ghost use Rattle.unifier_run.specs.Overlaps.{AreOverlaps};
+ghost use Rattle.certificates.specs.Certificates as math;
+ghost use Rattle.critical_pairs.specs.View.{overlap_view};
+ghost use Rattle.valid_certificates.specs.Certificates.{IsValid};
+ghost use Rattle.quasi_check.specs.Parts.{AreRulesGood};
+ghost use Rattle.cc_count.specs.Counts.{Spends};
+ghost use Rattle.search_answers.specs.Answers.{IfFound, IfNothing};
+ghost use Rattle.quasi_space.specs.Measures.{pruned_measures};
+ghost use Rattle.quasi_space.specs.Quasi.{quasi_space, quasi_space_by};
+ghost use Rattle.quasi_search.specs.Answers.{Searches};
+
+mod entries;
+mod joins;
+mod listed;
+mod reducts;
+mod refuting;
+mod trying;
+
+use crate::entries::entries_for;
+use cc_count::Budget;
+use cert_limits::has_text;
+use cert_model::{Certificate, MeasureCert};
+use cops_names::Names;
+use critical_pairs::{Overlap, OverlapError, overlaps};
+use ctrs_classes::is_deterministic;
+use grid_search::{GridSearch, search_grid};
+use irreducible::LeftSides;
+use pair_search::Entries;
+use quasi_check::are_right_sides_irreducible;
+use rule_index::IndexedSystem;
+use std::alloc::Global;
+use term_core::{NoMemory, System};
+pub use validity::Search;
+
+// Whether the system is deterministic, and the right side of each condition is absolutely irreducible.
+fn are_rules_good(alloc: Global, sys: &LeftSides<'_>) -> Result<bool, NoMemory>
+    ensures { IfOk result (λ b. IsTrue b ↔ AreRulesGood sys.now) }
+{
+    if !is_deterministic(sys.system()) {
+        return Ok(false);
+    }
+    are_right_sides_irreducible(alloc, sys)
+}
+
+// Searches where the rules are good: for the entries, and behind them for a measure.
+fn search_open(
+    alloc: Global,
+    sys: &LeftSides<'_>,
+    names: &Names,
+    overlaps: &[Overlap],
+    budget: &mut Budget,
+) -> Result<Search, NoMemory>
+    requires rules { AreRulesGood sys.now }
+    requires overlaps { AreOverlaps sys.now (map overlap_view overlaps.now) }
+    ensures pruned { Searches (quasi_space_by (pruned_measures sys.now) names.now sys.now) budget.old budget.new result }
+    ensures kept { (n : ℕ) × Spends budget.old n budget.new }
+{
+    let pairs = match entries_for(alloc, sys, overlaps, budget) {
+        Ok(Entries::Whole(pairs)) => pairs,
+        Ok(Entries::Missing) => return Ok(Search::Nothing),
+        Ok(Entries::Spent) => return Ok(Search::Spent),
+        Err(e) => return Err(e),
+    };
+    match search_grid(alloc, sys.system(), budget) {
+        Ok(GridSearch::Good(linear)) => {
+            let cert = Certificate::Quasi(MeasureCert::Linear(linear), pairs);
+            if has_text(names, &cert) {
+                Ok(Search::Found(cert))
+            } else {
+                Ok(Search::Nothing)
+            }
+        }
+        Ok(GridSearch::NoneGood) => Ok(Search::Nothing),
+        Ok(GridSearch::Spent) => Ok(Search::Spent),
+        Err(e) => Err(e),
+    }
+}
+
+/// The same as `search_quasi`, over an index and a list of the overlaps that were made before.
+pub fn search_quasi_over(
+    alloc: Global,
+    sys: &IndexedSystem<'_>,
+    names: &Names,
+    overlaps: &[Overlap],
+    budget: &mut Budget,
+) -> Result<Search, NoMemory>
+    requires overlaps { AreOverlaps sys.now (map overlap_view overlaps.now) }
+    ensures searched { Searches (quasi_space names.now sys.now) budget.old budget.new result }
+    ensures pruned { Searches (quasi_space_by (pruned_measures sys.now) names.now sys.now) budget.old budget.new result }
+    ensures nothing { IfNothing result ((c : math.Certificate) → (quasi_space names.now sys.now).Holds c → IsValid sys.now c → ⊥) }
+    ensures valid { IfFound result (IsValid sys.now) }
+    ensures kept { (n : ℕ) × Spends budget.old n budget.new }
+{
+    let sides = LeftSides::new(alloc, sys)?;
+    if are_rules_good(alloc, &sides)? {
+        search_open(alloc, &sides, names, overlaps, budget)
+    } else {
+        Ok(Search::Nothing)
+    }
+}
+
+/// Searches for a certificate with a measure. First there is to be an entry for each overlap, with the first valid evidence
+/// among caps and grown automata, common reducts of its sides, and two reducts of the left side of a condition that show that
+/// it is never met. Caps and each automaton cost a unit. Reducts are looked for in lists of what a term reaches in 5 steps with
+/// condition depth 2, a unit for each term that is listed; common ones cost no more, and each two of a condition a unit. The
+/// search ends at the first overlap that has no evidence.
+///
+/// Behind them the first good measure of a grid of linear interpretations is searched for, where nothing is tried behind a
+/// beginning that no good one has: a unit for each interpretation that is judged, and for each shorter beginning that is
+/// given up. Where the system is not deterministic, the right side of a condition is not absolutely irreducible, or the
+/// overlaps are refused, there is nothing to search, at no cost; nor is there a certificate where its text would be too long.
+pub fn search_quasi(
+    alloc: Global,
+    sys: &System,
+    names: &Names,
+    budget: &mut Budget,
+) -> Result<Search, NoMemory>
+    ensures searched { Searches (quasi_space names.now sys.now) budget.old budget.new result }
+    ensures pruned { Searches (quasi_space_by (pruned_measures sys.now) names.now sys.now) budget.old budget.new result }
+    ensures nothing { IfNothing result ((c : math.Certificate) → (quasi_space names.now sys.now).Holds c → IsValid sys.now c → ⊥) }
+    ensures valid { IfFound result (IsValid sys.now) }
+    ensures kept { (n : ℕ) × Spends budget.old n budget.new }
+{
+    let indexed = IndexedSystem::new(alloc, sys)?;
+    match overlaps(alloc, sys) {
+        Ok(found) => search_quasi_over(alloc, &indexed, names, &found, budget),
+        Err(OverlapError::PairTooLarge { .. }) => Ok(Search::Nothing),
+        Err(OverlapError::TooManyPairs) => Ok(Search::Nothing),
+        Err(OverlapError::NoMemory) => Err(NoMemory),
+    }
+}

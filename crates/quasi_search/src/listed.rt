@@ -1,0 +1,48 @@
+// Listings under the conditions of an overlap.
+ghost use Rattle.rewriting.specs.Terms as math;
+ghost use Rattle.unifier_run.specs.Overlaps.{IsOverlapOf};
+ghost use Rattle.term_core.specs.View.{view};
+ghost use Rattle.critical_pairs.specs.View.{overlap_view};
+ghost use Rattle.quasi_search.specs.Listed.{ListedAnswers};
+
+use cc_count::Budget;
+use critical_pairs::Overlap;
+use irreducible::LeftSides;
+use reach::{ReachStop, Reached, reach_in};
+use std::alloc::Global;
+use term_core::{NoMemory, Term};
+
+// The steps of a listing.
+const STEPS: u32 = 5;
+
+// Its condition depth.
+const COND_DEPTH: u32 = 2;
+
+/// The listing of a term with the conditions of an overlap as hypotheses; none where the budget is spent before.
+pub fn listed_under(
+    alloc: Global,
+    sys: &LeftSides<'_>,
+    overlap: &Overlap,
+    start: &Term,
+    budget: &mut Budget,
+) -> Result<Option<Vec<Reached>>, NoMemory>
+    requires overlap { IsOverlapOf sys.now (overlap_view overlap.now) }
+    requires start { math.Fits (view start.now) }
+    ensures { ListedAnswers sys.now (overlap_view overlap.now) (view start.now) budget.old budget.new result }
+{
+    // That conditions are few is known of the rules of a system.
+    let _rules = sys.rules();
+    match reach_in(
+        alloc,
+        sys.indexed(),
+        &overlap.conds,
+        start,
+        STEPS,
+        COND_DEPTH,
+        budget,
+    ) {
+        Ok(list) => Ok(Some(list)),
+        Err(ReachStop::Spent) => Ok(None),
+        Err(ReachStop::NoMemory) => Err(NoMemory),
+    }
+}

@@ -1,0 +1,80 @@
+// That the conditions of an overlap are never met, tried in order.
+ghost use Rattle.std.specs.Prelude.{ℕ, ◌∷◌, [], length, map};
+ghost use Rattle.unifier_run.specs.Overlaps.{IsOverlapOf};
+ghost use Rattle.critical_pairs.specs.View.{overlap_view};
+ghost use Rattle.cc_count.specs.Counts.{Spends};
+ghost use Rattle.search_spaces.specs.Refuting.{growths};
+ghost use Rattle.evidence_offers.specs.RefutingView.{refuting_view};
+ghost use Rattle.pair_search.specs.Answers.{WalkAnswers};
+ghost use Rattle.quasi_space.specs.QuasiItems.{try_refuting as refuting_item, quasi_item_cost, GivesQuasi, refuting_items};
+
+use cc_count::Budget;
+use critical_pairs::Overlap;
+use evidence_offers::Refuting;
+use irreducible::LeftSides;
+use pair_check::CertKind;
+use pair_search::{Walk, try_refuting};
+use std::alloc::Global;
+use term_core::NoMemory;
+
+// Tries one way, for a unit.
+fn try_way(
+    alloc: Global,
+    sys: &LeftSides<'_>,
+    overlap: &Overlap,
+    refuting: Refuting,
+    budget: &mut Budget,
+) -> Result<Walk, NoMemory>
+    requires overlap { IsOverlapOf sys.now (overlap_view overlap.now) }
+    ensures answer { WalkAnswers quasi_item_cost (GivesQuasi sys.now (overlap_view overlap.now)) (refuting_item (refuting_view refuting) ∷ []) budget.old budget.new result }
+    ensures kept { (n : ℕ) × Spends budget.old n budget.new }
+{
+    if !budget.take() {
+        return Ok(Walk::Spent);
+    }
+    match try_refuting(alloc, sys, CertKind::Quasi, overlap, refuting)? {
+        Some(evidence) => Ok(Walk::Given(evidence)),
+        None => Ok(Walk::Nothing),
+    }
+}
+
+// Tries the automata that grow from conditions.
+fn try_growths(
+    alloc: Global,
+    sys: &LeftSides<'_>,
+    overlap: &Overlap,
+    budget: &mut Budget,
+) -> Result<Walk, NoMemory>
+    requires overlap { IsOverlapOf sys.now (overlap_view overlap.now) }
+    ensures answer { WalkAnswers quasi_item_cost (GivesQuasi sys.now (overlap_view overlap.now)) (map refuting_item (growths (length (overlap_view overlap.now).pair.conditions))) budget.old budget.new result }
+    ensures kept { (n : ℕ) × Spends budget.old n budget.new }
+{
+    // That conditions are few is known of the rules of a system.
+    let _rules = sys.rules();
+    let count = overlap.conds.len() as u32;
+    'growths: for before in 0..count {
+        let growth = Refuting::Growth { cond: before + 1 };
+        match try_way(alloc, sys, overlap, growth, budget)? {
+            Walk::Nothing => {}
+            end => return Ok(end),
+        }
+    }
+    Ok(Walk::Nothing)
+}
+
+/// Tries caps, then the automata that grow from conditions.
+pub fn try_refutings(
+    alloc: Global,
+    sys: &LeftSides<'_>,
+    overlap: &Overlap,
+    budget: &mut Budget,
+) -> Result<Walk, NoMemory>
+    requires overlap { IsOverlapOf sys.now (overlap_view overlap.now) }
+    ensures answer { WalkAnswers quasi_item_cost (GivesQuasi sys.now (overlap_view overlap.now)) (refuting_items (length (overlap_view overlap.now).pair.conditions)) budget.old budget.new result }
+    ensures kept { (n : ℕ) × Spends budget.old n budget.new }
+{
+    match try_way(alloc, sys, overlap, Refuting::Caps, budget)? {
+        Walk::Nothing => try_growths(alloc, sys, overlap, budget),
+        end => Ok(end),
+    }
+}

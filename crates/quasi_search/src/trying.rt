@@ -1,0 +1,38 @@
+// The items of one overlap, one after the other.
+ghost use Rattle.std.specs.Prelude.{ℕ};
+ghost use Rattle.unifier_run.specs.Overlaps.{IsOverlapOf};
+ghost use Rattle.critical_pairs.specs.View.{overlap_view};
+ghost use Rattle.cc_count.specs.Counts.{Spends};
+ghost use Rattle.pair_search.specs.Answers.{WalkAnswers};
+ghost use Rattle.quasi_space.specs.QuasiItems.{quasi_item_cost, GivesQuasi, quasi_items};
+
+use crate::joins::try_joins;
+use crate::reducts::try_reducts;
+use crate::refuting::try_refutings;
+use cc_count::Budget;
+use critical_pairs::Overlap;
+use irreducible::LeftSides;
+use pair_search::Walk;
+use std::alloc::Global;
+use term_core::NoMemory;
+
+/// Tries all items of the overlap in order, up to the first that gives valid evidence.
+pub fn try_overlap(
+    alloc: Global,
+    sys: &LeftSides<'_>,
+    overlap: &Overlap,
+    budget: &mut Budget,
+) -> Result<Walk, NoMemory>
+    requires overlap { IsOverlapOf sys.now (overlap_view overlap.now) }
+    ensures answer { WalkAnswers quasi_item_cost (GivesQuasi sys.now (overlap_view overlap.now)) (quasi_items sys.now (overlap_view overlap.now)) budget.old budget.new result }
+    ensures kept { (n : ℕ) × Spends budget.old n budget.new }
+{
+    match try_refutings(alloc, sys, overlap, budget)? {
+        Walk::Nothing => {}
+        end => return Ok(end),
+    }
+    match try_joins(alloc, sys, overlap, budget)? {
+        Walk::Nothing => try_reducts(alloc, sys, overlap, budget),
+        end => Ok(end),
+    }
+}
