@@ -32,13 +32,13 @@ among_none xs n e = by (known_all [] xs n e)
     by (inr b) = b
 
 module _ (tree : FileTree) (sys : System) (names : NameTable) (m : IsSystemOf tree sys names) (have : RulesHaveNames tree.rules) where
-  abbrev block : Names
+  abbrev pub block : Names
   block = variables_of tree
 
-  abbrev lists : List Names
+  abbrev pub lists : List Names
   lists = map (rule_variables block) tree.rules
 
-  abbrev used : Names
+  abbrev pub used : Names
   used = with_names [] (joined lists)
 
   listed : AreListed names 1 lists
@@ -47,7 +47,7 @@ module _ (tree : FileTree) (sys : System) (names : NameTable) (m : IsSystemOf tr
   of_block : (n : List ℕ) → is_among used n ≡ true → (is_among block n ≡ true) × IsName n
   of_block n e = all_known block tree.rules n have (among_none (joined lists) n e)
 
-  same_text : system_text names sys ≡ file_text (some_guard tree.rules) used tree.rules
+  pub same_text : system_text names sys ≡ file_text (some_guard tree.rules) used tree.rules
   same_text =
       ap₂ (λ (b : Bool) (w : List ℕ). type_text b ++ w) (same_guards block names.symbols tree.rules sys.rules m.rules)
       (ap₂ (λ (xs : Names) (w : List ℕ). block_text xs ++ (codes "(RULES\n" ++ w)) (ap (with_names []) (same_names names 1 block tree.rules sys.rules listed m.rules))
@@ -85,7 +85,9 @@ module _ (tree : FileTree) (sys : System) (names : NameTable) (m : IsSystemOf tr
     file_again : IsFile (system_text names sys) sys names
     file_again = record { tree = w.tree; spelled = subst (λ (bytes : List ℕ). IsText bytes w.tree) (sym same_text) w.spelled; meant = means_it }
 
+-- what is written of the system that a tree means is a file of it, where each identifier of the tree is one of a text
+pub tree_is_written : (tree : FileTree) (sys : System) (names : NameTable) → IsSystemOf tree sys names → RulesHaveNames tree.rules → IsFile (system_text names sys) sys names
+tree_is_written tree sys names m have = file_again tree sys names m have (again tree sys names m have)
+
 pub read_back : WrittenIsRead
-read_back bytes sys names h =
-    let have = text_has bytes h.tree h.spelled in
-    file_again h.tree sys names h.meant have (again h.tree sys names h.meant have)
+read_back bytes sys names h = tree_is_written h.tree sys names h.meant (text_has bytes h.tree h.spelled)

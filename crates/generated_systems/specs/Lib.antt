@@ -1,0 +1,3 @@
+pub mod Generated
+pub mod Certificate
+pub mod Laws

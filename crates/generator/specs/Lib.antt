@@ -1,0 +1,2 @@
+pub mod RuleParts
+pub mod Laws
