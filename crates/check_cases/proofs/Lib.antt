@@ -1,1 +1,2 @@
 pub mod NoRules
+pub mod Ones

@@ -1,11 +1,13 @@
 //! Prints what is judged of systems and certificates that no run of the program judges: by a measure that is no interpretation,
-//! of an interpretation of a system that is not deterministic, and of a conflict by a right side that rules contract, since a
-//! certificate with it is rejected for its class. The cases of `run_cases` have all else.
+//! of an interpretation of a system that is not deterministic, of the first entries of an interpretation, and of a conflict by
+//! a right side that rules contract, since a certificate with it is rejected for its class. The cases of `run_cases` have all
+//! else.
 //!
 //! A case is a line `CALL: SYSTEM` of `data/cases.txt`. Other lines are printed as they are.
 #![tactic(auto)]
 
 mod measures;
+mod prefixes;
 
 use cert_model::PairEvidence;
 use cops_read::read_system;
@@ -14,6 +16,7 @@ use infeasible::JudgeByKind;
 use irreducible::LeftSides;
 use measures::{NoRules, print_linear};
 use pair_check::{CertKind, judge_evidence};
+use prefixes::print_prefixes;
 use quasi_check::check_quasi;
 use rule_index::IndexedSystem;
 use std::{fs, io};
@@ -50,6 +53,7 @@ fn print_case(rt: &HostRuntime, line: &str) -> io::Result<()> {
     match call {
         "quasi" => println!(rt; "{:?}", check_quasi(rt.alloc(), &sys, &NoRules, &[])),
         "linear" => print_linear(rt, &sys),
+        "prefix" => print_prefixes(rt, &sys),
         _ => print_conflict(rt, &sys),
     }
 }

@@ -1,10 +1,10 @@
 -- Words are one command at most.
-use Rattle.std.proofs.Common.{◌≡◌, ℕ, ◌<◌, ◌^◌, true, false, List, [], ◌∷◌, get_or, Result, Ok, Err, codes, decimal, inl, inr, sym, ap, ◌∙◌, arith}
+use Rattle.std.proofs.Common.{◌≡◌, ℕ, ◌<◌, ◌≤◌, ◌^◌, true, false, List, [], ◌∷◌, get_or, Result, Ok, Err, codes, decimal, ◌⊎◌, inl, inr, refl, sym, ap, ◌∙◌, arith}
 use Rattle.std.specs.Str.{bytes_eq}
 use Rattle.std.specs.Str.Parse.{ParsesUnsigned}
 use Rattle.std.proofs.lemmas.Slice.Eq.{bytes_eq-Decides}
 use Rattle.std.proofs.lemmas.Fmt.{decimal_injective, parse-decimal}
-use Rattle.concon_run.specs.Words.{IsCheck, IsBudget, IsProve, NamesFile, IsNoCommand}
+use Rattle.concon_run.specs.Words.{IsCheck, IsBudget, IsProve, IsSelftest, NamesFile, IsNoCommand}
 
 -- the number of a word
 wide : (n : ℕ) → n < 2 ^ 63 → n < 2 ^ 64
@@ -43,6 +43,10 @@ unfolding first_letter
 letter_of_prove words file budget (inl (e, b)) = ap first_letter e
 letter_of_prove words file budget (inr (number, e, b)) = ap first_letter e
 
+letter_of_test : (words : List (List ℕ)) (n : ℕ) → IsSelftest words n → first_letter words ≡ 115
+unfolding first_letter
+letter_of_test words n h = ap first_letter h.1
+
 -- words that ask for a check ask for no search
 pub check_or_prove : (words : List (List ℕ)) (file cert other : List ℕ) (budget : ℕ) → IsCheck words file cert → IsProve words other budget → ⊥
 check_or_prove words file cert other budget h k =
@@ -53,9 +57,19 @@ pub no_search : (words : List (List ℕ)) → ((file : List ℕ) → words ≡ c
 no_search words none never file budget (inl (e, b)) = none file e
 no_search words none never file budget (inr (number, e, b)) = never file number e
 
-pub no_command : (words : List (List ℕ)) → ((file cert : List ℕ) → IsCheck words file cert → ⊥) → ((file : List ℕ) (budget : ℕ) → IsProve words file budget → ⊥) → IsNoCommand words
-no_command words none never file (inl (cert, h)) = none file cert h
-no_command words none never file (inr (budget, h)) = never file budget h
+names_nothing : (words : List (List ℕ)) → ((file cert : List ℕ) → IsCheck words file cert → ⊥) → ((file : List ℕ) (budget : ℕ) → IsProve words file budget → ⊥)
+    → (file : List ℕ) → NamesFile words file → ⊥
+names_nothing words none never file (inl (cert, h)) = none file cert h
+names_nothing words none never file (inr (budget, h)) = never file budget h
+
+pub no_command : (words : List (List ℕ)) → ((file cert : List ℕ) → IsCheck words file cert → ⊥) → ((file : List ℕ) (budget : ℕ) → IsProve words file budget → ⊥)
+    → ((n : ℕ) → IsSelftest words n → ⊥) → IsNoCommand words
+no_command words none never untested = (names_nothing words none never, untested)
+
+-- words that ask for a test name no file
+pub file_or_test : (words : List (List ℕ)) (file : List ℕ) (n : ℕ) → NamesFile words file → IsSelftest words n → ⊥
+file_or_test words file n (inl (cert, h)) k = let a = letter_of_check words file cert h in let b = letter_of_test words n k in omega arith
+file_or_test words file n (inr (budget, h)) k = let a = letter_of_prove words file budget h in let b = letter_of_test words n k in omega arith
 
 -- which file a command names
 pub file_of_check : (words : List (List ℕ)) (file cert other : List ℕ) → IsCheck words file cert → NamesFile words other → other ≡ file
@@ -75,3 +89,15 @@ prove_once words file other a b (inr (number, e, h)) (inr (numeral, f, k)) = (cc
 pub file_of_prove : (words : List (List ℕ)) (file other : List ℕ) (budget : ℕ) → IsProve words file budget → NamesFile words other → other ≡ file
 file_of_prove words file other budget e (inl (cert, f)) = absurd (check_or_prove words other cert file budget f e)
 file_of_prove words file other budget e (inr (b, f)) = (prove_once words file other budget b e f).0
+
+-- the number of a test is in decimal, as that of a budget
+as_budget : (word : List ℕ) (n : ℕ) → word ≡ decimal n → n ≤ 200 → IsBudget word n
+as_budget word n e most = (e, omega arith)
+
+pub other_test : (word : List ℕ) (m : ℕ) → IsBudget word m → (m ≡ 0) ⊎ ((m ≡ 0 → ⊥) × (200 < m)) → (n : ℕ) → word ≡ decimal n → 1 ≤ n → n ≤ 200 → ⊥
+other_test word m b (inl none) n e least most = let same = same_budget word word n m refl (as_budget word n e most) b in omega (arith, same)
+other_test word m b (inr (some, more)) n e least most = let same = same_budget word word n m refl (as_budget word n e most) b in omega (arith, same)
+
+-- two tests that the words ask for are one
+pub test_once : (words : List (List ℕ)) (n m : ℕ) → IsSelftest words n → IsSelftest words m → m ≡ n
+test_once words n m (number, e, h, least, most) (numeral, f, k, low, high) = same_budget number numeral n m (cc) (as_budget number n h most) (as_budget numeral m k high)

@@ -11,5 +11,7 @@ pub mod Told
 pub mod SoundNo
 pub mod OneAnswer
 pub mod OneSearch
+pub mod OneTest
+pub mod Tests
 pub mod Meant
 pub mod SaidRefusals

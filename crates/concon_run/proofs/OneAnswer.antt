@@ -18,10 +18,10 @@ use Rattle.cert_lines.proofs.Whole.{same_certificate}
 use Rattle.concon_run.specs.Words.{IsCheck}
 use Rattle.concon_run.specs.Said.{Said, IsTold}
 use Rattle.concon_run.specs.Outcomes.{Bytes, CheckOutcome, no_system, no_certificate, rejected, shown, SpellsSystem, IsRefusedFile, SpellsCertificate, IsRefusedCertificate, ComesTo, status_of, said_of_outcome}
-use Rattle.concon_run.specs.Causes.{Run, Answer, usage, checked, searched, file_fault, cert_fault, no_memory, said_of, told_or_any, bytes_of, HasFailed, IsCaused}
+use Rattle.concon_run.specs.Causes.{Run, Answer, usage, checked, searched, self_tested, file_fault, cert_fault, no_memory, said_of, told_or_any, bytes_of, HasFailed, IsCaused}
 use Rattle.concon_run.specs.Rows.{CalmlyComesTo, IsUnlessHindered}
 use Rattle.concon_run.specs.declared.status.Status.{Status}
-use Rattle.concon_run.proofs.Commands.{check_or_prove, file_of_check}
+use Rattle.concon_run.proofs.Commands.{check_or_prove, file_or_test, file_of_check}
 use Rattle.concon_run.proofs.Told.{told_or_wanting}
 
 same_bytes : (told : Option (List ℕ)) (a b : List ℕ) → told ≡ Some a → told_or_any told b → b ≡ a
@@ -152,7 +152,7 @@ module _ (k : Known) (run : Run) (status : Status) (out_old out_new err_old err_
 
   pub exactly : (answer : Answer) → IsCaused run answer → Tells (said_of answer) → (file cert : List ℕ) (outcome : CheckOutcome) → CalmlyComesTo run file cert outcome
       → Tells (said_of_outcome file cert outcome) ⊎ Tells (said_of no_memory)
-  exactly usage caused told file cert outcome calm = absurd (caused file (inl (cert, calm.0)))
+  exactly usage caused told file cert outcome calm = absurd (caused.0 file (inl (cert, calm.0)))
   exactly (checked f c o) caused told file cert outcome calm =
       let files = same_file run.words file cert f c calm.0 caused.0 in
       let certs = same_cert run.words file cert f c calm.0 caused.0 in
@@ -160,6 +160,7 @@ module _ (k : Known) (run : Run) (status : Status) (out_old out_new err_old err_
       let same = one_outcome k (run.contents file) (run.contents cert) outcome o calm.1 here in
       inl (subst (λ p. Tells (said_of_outcome file cert p)) (sym same) (subst₂ (λ x y. Tells (said_of_outcome x y o)) files certs told))
   exactly (searched f b o) caused told file cert outcome calm = absurd (check_or_prove run.words file cert f b calm.0 caused.0)
+  exactly (self_tested n) caused told file cert outcome calm = absurd (file_or_test run.words file n (inl (cert, calm.0)) caused)
   exactly (file_fault f) caused told file cert outcome calm =
       absurd (calm.2 (subst (HasFailed run) (file_of_check run.words file cert f calm.0 caused.0) caused.1))
   exactly (cert_fault f c) caused told file cert outcome calm =

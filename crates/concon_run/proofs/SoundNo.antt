@@ -5,8 +5,8 @@ use Rattle.cc_io.specs.Bytes.{appended}
 use Rattle.concon_run.specs.Said.{IsTold, TakesPart}
 use Rattle.certificates.specs.Certificates.{ortho_certificate, quasi_certificate, peak_certificate}
 use Rattle.concon_run.specs.Outcomes.{no_system, no_certificate, rejected, shown}
-use Rattle.concon_run.specs.Searching.{bad_file, found, over_budget, not_built}
-use Rattle.concon_run.specs.Causes.{Run, Answer, usage, checked, searched, file_fault, cert_fault, no_memory, said_of, IsCaused, IsRight}
+use Rattle.concon_run.specs.Searching.{bad_file, found, over_budget, exhausted}
+use Rattle.concon_run.specs.Causes.{Run, Answer, usage, checked, searched, self_tested, file_fault, cert_fault, no_memory, said_of, IsCaused, IsRight}
 use Rattle.concon_run.specs.Rows.{NamesConfluentSystem, NamesPeakApart}
 use Rattle.cert_check.specs.declared.Verdict.TheVariants.{Yes, No}
 use Rattle.concon_run.specs.declared.status.Status.{Status}
@@ -20,7 +20,7 @@ front_begins (suc n) (y ∷ ys) t x e = (ys, cc)
 same_head : (a b : ℕ) (xs ys : List ℕ) → a ∷ xs ≡ b ∷ ys → a ≡ b
 same_head a b xs ys e = ap (λ (l : List ℕ). get_or l 0 0) e
 
--- the text of an answer for out begins with Y, N, M or R
+-- the text of an answer for out begins with Y, N, M, R or s
 begins : (a b : ℕ) (xs rest : List ℕ) → a ∷ xs ≡ b ∷ rest → (a ≡ b → ⊥) → ⊥
 begins a b xs rest e differ = differ (same_head a b xs rest e)
 
@@ -37,7 +37,8 @@ by_n run (searched file budget (found names (ortho_certificate pairs))) caused r
 by_n run (searched file budget (found names (quasi_certificate measure pairs))) caused right rest e = absurd (begins 89 78 _ rest e (λ q. omega (arith, q)))
 by_n run (searched file budget (found names (peak_certificate peak))) caused right rest e = inr (file, budget, caused.0, (right.0, names, peak, right.1, right.2))
 by_n run (searched file budget over_budget) caused right rest e = absurd (begins 77 78 _ rest e (λ q. omega (arith, q)))
-by_n run (searched file budget not_built) caused right rest e = absurd cc
+by_n run (searched file budget exhausted) caused right rest e = absurd (begins 77 78 _ rest e (λ q. omega (arith, q)))
+by_n run (self_tested n) caused right rest e = absurd (begins 115 78 _ rest e (λ q. omega (arith, q)))
 by_n run (file_fault file) caused right rest e = absurd cc
 by_n run (cert_fault file cert) caused right rest e = absurd cc
 by_n run no_memory caused right rest e = absurd cc
@@ -55,7 +56,8 @@ by_y run (searched file budget (found names (ortho_certificate pairs))) caused r
 by_y run (searched file budget (found names (quasi_certificate measure pairs))) caused right rest e = (file, inr (budget, caused.0), (right.0, names, right.1, right.2))
 by_y run (searched file budget (found names (peak_certificate peak))) caused right rest e = absurd (begins 78 89 _ rest e (λ q. omega (arith, q)))
 by_y run (searched file budget over_budget) caused right rest e = absurd (begins 77 89 _ rest e (λ q. omega (arith, q)))
-by_y run (searched file budget not_built) caused right rest e = absurd cc
+by_y run (searched file budget exhausted) caused right rest e = absurd (begins 77 89 _ rest e (λ q. omega (arith, q)))
+by_y run (self_tested n) caused right rest e = absurd (begins 115 89 _ rest e (λ q. omega (arith, q)))
 by_y run (file_fault file) caused right rest e = absurd cc
 by_y run (cert_fault file cert) caused right rest e = absurd cc
 by_y run no_memory caused right rest e = absurd cc

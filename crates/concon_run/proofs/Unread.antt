@@ -1,5 +1,6 @@
 -- What was read of a file that gives no system is the cause of the answer.
-use Rattle.std.specs.Prelude.{List, ℕ, Option, Some, None, IfSome, Err}
+use Rattle.std.proofs.Common.{List, ℕ, Option, Some, None, Err, inl}
+use Rattle.std.specs.Prelude.{IfSome}
 use Rattle.concon_run.specs.Words.{NamesFile}
 use Rattle.cc_io.specs.Errors.{IsBegunIfAny}
 use Rattle.cc_io.specs.declared.shelf.ReadAllError.TheVariants as reading
@@ -14,12 +15,12 @@ module _ (run : Run) (file : List ℕ) (refused : FileRefusal → Answer) where
   module _ (names : NamesFile run.words file) (caused : (r : FileRefusal) → IsRefusedFile (bytes_of run file) r → IsCaused run (refused r)) where
     refusal_caused : (o : Option FileRefusal) → IfSome o (IsRefusedFile (bytes_of run file)) → IsCaused run (refused_answer refused o)
     refusal_caused (Some r) h = caused r h
-    refusal_caused None h = (file, names)
+    refusal_caused None h = inl (file, names)
 
     pub no_system_caused : (e : NoSystem) → SystemAnswers (bytes_of run file) (HasFailed run file) (Err e) → IsCaused run (no_system_answer file refused e)
     no_system_caused (Unread reading.ReadFault) h = (names, h)
     no_system_caused (Unread (reading.TooLong n)) h = caused long_file h
-    no_system_caused (Unread reading.NoMemory) h = (file, names)
+    no_system_caused (Unread reading.NoMemory) h = inl (file, names)
     no_system_caused (Refused e) h = refusal_caused (file_refusal_of e) h
 
   -- such an answer says nothing of the system

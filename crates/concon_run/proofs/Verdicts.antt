@@ -45,14 +45,14 @@ module _ (run : Run) (file cert : List ℕ) where
     module _ (sys : System) (names : NameTable) (f : SpellsSystem (bytes_of run file) sys names) where
       refused_cert_caused : (o : Option CertRefusal) → IfSome o (IsRefusedCertificate (bytes_of run cert) names) → IsCaused run (refused_answer (λ r. checked file cert (no_certificate r)) o)
       refused_cert_caused (Some r) h = (form, (sys, names, f, h))
-      refused_cert_caused None h = (file, inl (cert, form))
+      refused_cert_caused None h = inl (file, inl (cert, form))
 
       -- the file gives a system, and the certificate was not read
       pub unread_certificate : (failed : Type 0) → (failed → HasFailed run cert) → (e : NoVerdict) → CertificateAnswers (bytes_of run cert) failed names (Err e) → IsCaused run (answer_of file cert (Err e))
       unread_certificate failed rose (no_verdict.NoSystem e) h = absurd h
       unread_certificate failed rose (no_verdict.CertUnread reading.ReadFault) h = (form, rose h, (sys, names, f))
       unread_certificate failed rose (no_verdict.CertUnread (reading.TooLong n)) h = (form, (sys, names, f, h))
-      unread_certificate failed rose (no_verdict.CertUnread reading.NoMemory) h = (file, inl (cert, form))
+      unread_certificate failed rose (no_verdict.CertUnread reading.NoMemory) h = inl (file, inl (cert, form))
       unread_certificate failed rose (no_verdict.CertRefused e) h = refused_cert_caused (cert_refusal_of e) h
       unread_certificate failed rose (no_verdict.Rejected others reason) h = absurd h
       unread_certificate failed rose no_verdict.NoMemory h = absurd h
@@ -65,7 +65,7 @@ module _ (run : Run) (file cert : List ℕ) where
       judged c t (Err (no_verdict.CertRefused e)) h = absurd h
       judged c t (Err (no_verdict.Rejected others reason)) h =
           (form, (sys, c, subst (SpellsSystem (bytes_of run file) sys) (sym h.0) f, subst (λ n. SpellsCertificate (bytes_of run cert) n c) (sym h.0) t, h.1))
-      judged c t (Err no_verdict.NoMemory) h = (file, inl (cert, form))
+      judged c t (Err no_verdict.NoMemory) h = inl (file, inl (cert, form))
 
   -- what a certificate shows of the system is true of the texts
   true_of : (sys : System) (names : NameTable) (c : Certificate) → SpellsSystem (bytes_of run file) sys names → SpellsCertificate (bytes_of run cert) names c

@@ -8,7 +8,7 @@ use Rattle.cert_model.specs.CertificateView.{certificate_view}
 use Rattle.cert_model.specs.ReasonView.{rejected_view}
 use Rattle.cert_model.specs.declared.model.Certificate.{Certificate}
 use Rattle.first_found.specs.Spaces.{IsDearer}
-use Rattle.search_spaces.specs.Whole.{whole_space}
+use Rattle.quasi_space.specs.AllSpaces.{pruned_spaces}
 use Rattle.term_core.specs.declared.terms.NoMemory.{NoMemory}
 use Rattle.portfolio.specs.declared.Outcome.{Outcome}
 use Rattle.portfolio.specs.declared.Outcome.TheVariants as outcome
@@ -18,7 +18,7 @@ use Rattle.cc_io.specs.declared.shelf.ReadAllError.TheVariants as reading
 use Rattle.concon_run.specs.FileRefusals.{FileRefusal, long_file, file_refusal_of}
 use Rattle.concon_run.specs.CertRefusals.{long_certificate, cert_refusal_of}
 use Rattle.concon_run.specs.Outcomes.{Bytes, no_system, no_certificate, rejected, shown, SpellsSystem, IsRefusedFile, SpellsCertificate, IsRefusedCertificate, IsShown}
-use Rattle.concon_run.specs.Searching.{SearchOutcome, bad_file, found, over_budget, not_built, IsFirstValid, HoldsNone}
+use Rattle.concon_run.specs.Searching.{SearchOutcome, bad_file, found, over_budget, exhausted, IsFirstValid, HoldsNone}
 use Rattle.concon_run.specs.Causes.{Answer, checked, searched, file_fault, cert_fault, no_memory}
 use Rattle.concon_run.specs.declared.files.NoSystem.{NoSystem}
 use Rattle.concon_run.specs.declared.files.NoSystem.TheVariants as none
@@ -53,8 +53,8 @@ CheckAnswers sys names c (Err _) = ⊥
 -- the first valid certificate and what it shows, that the budget is too small, or that none is valid
 abbrev pub SearchAnswers : System → NameTable → ℕ → Result Outcome NoMemory → Type 0
 SearchAnswers sys names budget (Ok (outcome.Found c)) = IsFirstValid names sys (certificate_view c) × IsShown sys (certificate_view c) (verdict_of (certificate_view c))
-SearchAnswers sys names budget (Ok outcome.NotBuilt) = HoldsNone names sys
-SearchAnswers sys names budget (Ok outcome.Spent) = IsDearer (whole_space names sys) budget
+SearchAnswers sys names budget (Ok outcome.Exhausted) = HoldsNone names sys
+SearchAnswers sys names budget (Ok outcome.Spent) = IsDearer (pruned_spaces names sys) budget
 SearchAnswers sys names budget (Err e) = Unit {0}
 
 -- the answer where a text is refused, unless it was for want of memory
@@ -83,7 +83,7 @@ answer_of file cert (Err why.NoMemory) = no_memory
 -- how the search ended, with the names of the file
 abbrev pub outcome_of : NameTable → Outcome → SearchOutcome
 outcome_of names (outcome.Found c) = found names (certificate_view c)
-outcome_of names outcome.NotBuilt = not_built
+outcome_of names outcome.Exhausted = exhausted
 outcome_of names outcome.Spent = over_budget
 
 -- the answer to the search for a file with this name

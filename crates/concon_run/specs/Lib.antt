@@ -9,6 +9,7 @@ pub mod FileRefusals
 pub mod CertRefusals
 pub mod Outcomes
 pub mod Searching
+pub mod Tests
 pub mod Causes
 pub mod Answered
 pub mod Replies

@@ -1,7 +1,7 @@
 -- What the pieces of a text spell.
 use Rattle.std.specs.Prelude.{◌++◌, ◌∷◌, ℕ, List, [], decimal}
 use Rattle.concon_run.specs.declared.pieces.Piece.{Piece}
-use Rattle.concon_run.specs.declared.pieces.Piece.TheVariants.{Text, Number, Place, Path, Position, States, Name}
+use Rattle.concon_run.specs.declared.pieces.Piece.TheVariants.{Text, Number, Place, Count, Path, Position, States, Name}
 use Rattle.cert_grammar.specs.Words.{each_behind, position_text}
 use Rattle.concon_run.specs.Paths.{path_text}
 
@@ -9,6 +9,7 @@ abbrev pub piece_text : Piece → List ℕ
 piece_text (Text bytes) = bytes.now
 piece_text (Number n) = decimal n
 piece_text (Place at) = decimal at
+piece_text (Count n) = decimal n
 piece_text (Path numbers) = path_text numbers.now
 piece_text (Position numbers) = position_text numbers.now
 piece_text (States numbers) = each_behind 32 numbers.now

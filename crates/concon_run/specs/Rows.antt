@@ -5,14 +5,15 @@ use Rattle.certificates.specs.Certificates.{Certificate}
 use Rattle.certificates.specs.Reasons.{Rejection}
 use Rattle.cert_check.specs.Kinds.{verdict_of}
 use Rattle.cert_check.specs.declared.Verdict.{Verdict}
+use Rattle.cert_check.specs.declared.Verdict.TheVariants.{Yes}
 use Rattle.cops_read.specs.NameTable.{NameTable}
 use Rattle.cc_io.specs.Bytes.{appended}
-use Rattle.concon_run.specs.Words.{IsCheck, IsProve, NamesFile}
+use Rattle.concon_run.specs.Words.{IsCheck, IsProve, IsSelftest, NamesFile}
 use Rattle.concon_run.specs.Said.{TakesPart}
 use Rattle.concon_run.specs.FileRefusals.{FileRefusal}
 use Rattle.concon_run.specs.CertRefusals.{CertRefusal}
 use Rattle.concon_run.specs.Outcomes.{CheckOutcome, no_certificate, rejected, shown, ComesTo, SpellsSystem, IsRefusedFile, IsConfirmed, IsRefuted, IsDisproved}
-use Rattle.concon_run.specs.Searching.{SearchOutcome, found, IsFirstValid, SearchComesTo, SearchMustComeTo, proof_text}
+use Rattle.concon_run.specs.Searching.{SearchOutcome, found, exhausted, over_budget, IsFirstValid, SearchComesTo, SearchMustComeTo, proof_text}
 use Rattle.concon_run.specs.Causes.{Run, bytes_of, told_bytes, HasFailed, Answer, said_of, IsCaused}
 use Rattle.concon_run.specs.declared.status.Status.{Status}
 use Rattle.concon_run.specs.declared.status.Status.TheVariants as status
@@ -38,6 +39,10 @@ IsRejection run = (names : NameTable) × (reason : Rejection) × CheckComesTo ru
 abbrev pub IsVerdict : Run → Verdict → Type 0
 IsVerdict run verdict = CheckComesTo run (shown verdict) ⊎ ((names : NameTable) × (c : Certificate) × ProveComesTo run (found names c) × (verdict ≡ verdict_of c))
 
+-- such a certificate shows that a system is confluent, or the words ask for a test
+abbrev pub IsYes : Run → Type 0
+IsYes run = IsVerdict run Yes ⊎ ((n : ℕ) × IsSelftest run.words n)
+
 -- the words name the text of a system that is confluent
 abbrev pub NamesConfluentSystem : Run → Type 0
 NamesConfluentSystem run = (file : List ℕ) × NamesFile run.words file × IsConfirmed (bytes_of run file)
@@ -54,6 +59,12 @@ TookProof run file out_old out_new =
     (sys : System) × (names : NameTable) × (c : Certificate) × SpellsSystem (bytes_of run file) sys names × IsFirstValid names sys c
     × (out_new ≡ appended out_old (proof_text names c))
 
+-- out took why there is no answer: no certificate that is searched for is valid, or more would have to be paid than the budget
+abbrev pub IsUndecided : Run → Option (List ℕ) → Option (List ℕ) → Type 0
+IsUndecided run out_old out_new =
+    (ProveComesTo run exhausted × (out_new ≡ appended out_old (codes "MAYBE exhausted\n")))
+    ⊎ (ProveComesTo run over_budget × (out_new ≡ appended out_old (codes "MAYBE budget\n")))
+
 -- the shelf failed at the file that err names
 abbrev pub IsReadFault : Run → Option (List ℕ) → Option (List ℕ) → Type 0
 IsReadFault run err_old err_new = (name : List ℕ) × HasFailed run name × (err_new ≡ appended err_old (name ++ codes ": read fault\n"))
@@ -67,7 +78,6 @@ IsWriteFault run out_old out_new err_old err_new out_before out_now err_before e
 -- a check never answers that nothing was found
 abbrev pub IsOfCheck : Status → Type 0
 IsOfCheck status.Maybe = ⊥
-IsOfCheck status.NotBuilt = ⊥
 IsOfCheck _ = Unit {0}
 
 -- a search never answers of a certificate that was handed in

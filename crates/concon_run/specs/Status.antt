@@ -1,7 +1,7 @@
 -- The exit codes.
 use Rattle.std.specs.Prelude.{ℕ}
 use Rattle.concon_run.specs.declared.status.Status.{Status}
-use Rattle.concon_run.specs.declared.status.Status.TheVariants.{Yes, No, Maybe, Rejected, Usage, FileRefused, CertRefused, ReadFault, WriteFault, NoMemory, NotBuilt}
+use Rattle.concon_run.specs.declared.status.Status.TheVariants.{Yes, No, Maybe, Rejected, Usage, FileRefused, CertRefused, ReadFault, WriteFault, NoMemory}
 
 abbrev pub exit_code : Status → ℕ
 exit_code Yes = 0
@@ -14,4 +14,3 @@ exit_code CertRefused = 3
 exit_code ReadFault = 4
 exit_code WriteFault = 5
 exit_code NoMemory = 6
-exit_code NotBuilt = 7

@@ -1,5 +1,5 @@
 -- The words of a command line.
-use Rattle.std.specs.Prelude.{◌≡◌, ◌⊎◌, ◌<◌, ◌^◌, List, [], ◌∷◌, ℕ, map, codes, decimal}
+use Rattle.std.specs.Prelude.{◌≡◌, ◌⊎◌, ◌<◌, ◌≤◌, ◌^◌, List, [], ◌∷◌, ℕ, map, codes, decimal}
 use Rattle.std.specs.Borrow.{Bor}
 
 abbrev pub texts : List (Bor (List ℕ)) → List (List ℕ)
@@ -23,10 +23,14 @@ IsProve words file budget =
     ((words ≡ codes "prove" ∷ file ∷ []) × (budget ≡ usual_budget))
     ⊎ ((number : List ℕ) × (words ≡ codes "prove" ∷ file ∷ codes "--budget" ∷ number ∷ []) × IsBudget number budget)
 
+-- the words ask for the test with this number, which stands in decimal, without a sign and without zeros in front
+abbrev pub IsSelftest : List (List ℕ) → ℕ → Type 0
+IsSelftest words n = (number : List ℕ) × (words ≡ codes "selftest" ∷ number ∷ []) × (number ≡ decimal n) × (1 ≤ n) × (n ≤ 200)
+
 -- the words are a command, with this word for FILE
 abbrev pub NamesFile : List (List ℕ) → List ℕ → Type 0
 NamesFile words file = ((cert : List ℕ) × IsCheck words file cert) ⊎ ((budget : ℕ) × IsProve words file budget)
 
 -- the words are no command
 abbrev pub IsNoCommand : List (List ℕ) → Type 0
-IsNoCommand words = (file : List ℕ) → NamesFile words file → ⊥
+IsNoCommand words = ((file : List ℕ) → NamesFile words file → ⊥) × ((n : ℕ) → IsSelftest words n → ⊥)

@@ -3,6 +3,7 @@ ghost use Rattle.std.specs.Prelude.{◌≡◌, List, ℕ};
 ghost use Rattle.concon_run.specs.Outcomes as outcomes;
 ghost use Rattle.concon_run.specs.Outcomes.{CheckOutcome, verdict_text, said_of_outcome};
 ghost use Rattle.concon_run.specs.Replies.{reply_said};
+ghost use Rattle.concon_run.specs.Tests.{verdict_word};
 
 use crate::reply::{Reply, Text};
 use crate::status::Status;
@@ -25,6 +26,16 @@ pub fn verdict_line(verdict: Verdict) -> &'static [u8]
     match verdict {
         Verdict::Yes => b"YES\n",
         Verdict::No => b"NO\n",
+    }
+}
+
+/// The word that is the answer.
+pub fn verdict_word(verdict: Verdict) -> &'static [u8]
+    ensures { result.now ≡ verdict_word verdict }
+{
+    match verdict {
+        Verdict::Yes => b"YES",
+        Verdict::No => b"NO",
     }
 }
 

@@ -9,9 +9,8 @@ ghost use Rattle.concon_run.specs.Replies.{reply_said, IsSaidIfMemory};
 ghost use Rattle.concon_run.specs.Searching as searching;
 
 use crate::answers::{status_of, verdict_line};
-use crate::pieces::Piece;
 use crate::refusals::no_system_reply;
-use crate::reply::{Reply, Text, complaint, no_memory};
+use crate::reply::{Reply, Text, no_memory};
 use crate::search::{NoOutcome, Searched};
 use crate::status::Status;
 use crate::words::Prove;
@@ -63,16 +62,16 @@ fn found_reply(alloc: Global, names: &Names, cert: &Certificate) -> Reply
     }
 }
 
-fn outcome_reply(alloc: Global, file: &str, names: &Names, outcome: &Outcome) -> Reply
-    ensures { IsSaidIfMemory (said_of_search file.now (outcome_of names.now outcome.now)) (reply_said result) }
+fn outcome_reply(alloc: Global, names: &Names, outcome: &Outcome) -> Reply
+    ensures { (file : List ℕ) → IsSaidIfMemory (said_of_search file (outcome_of names.now outcome.now)) (reply_said result) }
 {
     match outcome {
         Outcome::Found(cert) => found_reply(alloc, names, cert),
-        Outcome::NotBuilt => complaint(
-            alloc,
-            Status::NotBuilt,
-            &[Piece::Name(file), Piece::Text(b": not built\n")],
-        ),
+        Outcome::Exhausted => Reply {
+            status: Status::Maybe,
+            to_out: true,
+            text: Text::Fixed(b"MAYBE exhausted\n"),
+        },
         Outcome::Spent => Reply {
             status: Status::Maybe,
             to_out: true,
@@ -96,7 +95,7 @@ pub fn search_reply(alloc: Global, prove: Prove, searched: &Result<Searched, NoO
     ensures { IsSaidIfMemory (said_of (answer_of_search prove.entry.file.now prove.entry.budget searched.now)) (reply_said result) }
 {
     match searched {
-        Ok(ended) => outcome_reply(alloc, prove.file, &ended.names, &ended.outcome),
+        Ok(ended) => outcome_reply(alloc, &ended.names, &ended.outcome),
         Err(why) => no_outcome_reply(alloc, prove, why),
     }
 }

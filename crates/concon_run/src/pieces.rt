@@ -14,6 +14,8 @@ pub enum Piece<'a> {
     Number(u32),
     /// The number of a byte.
     Place(u64),
+    /// How many there are.
+    Count(u64),
     /// Numbers with dots between them.
     Path(&'a [u32]),
     /// The same, and `e` for the root.
@@ -30,11 +32,11 @@ fn put_number(out: &mut Vec<u8>, n: u32) -> Result<(), AllocError>
     out.extend_from_slice(buffer.format(n).as_bytes())
 }
 
-fn put_place(out: &mut Vec<u8>, at: u64) -> Result<(), AllocError>
-    ensures { OnOk result (out.new.items ≡ out.old.items ++ decimal at) }
+fn put_long(out: &mut Vec<u8>, n: u64) -> Result<(), AllocError>
+    ensures { OnOk result (out.new.items ≡ out.old.items ++ decimal n) }
 {
     let mut buffer = Buffer::new();
-    out.extend_from_slice(buffer.format(at).as_bytes())
+    out.extend_from_slice(buffer.format(n).as_bytes())
 }
 
 fn put_each(out: &mut Vec<u8>, byte: u8, numbers: &[u32]) -> Result<(), AllocError>
@@ -78,7 +80,8 @@ fn put(out: &mut Vec<u8>, piece: Piece) -> Result<(), AllocError>
     match piece {
         Piece::Text(bytes) => out.extend_from_slice(bytes),
         Piece::Number(n) => put_number(out, n),
-        Piece::Place(at) => put_place(out, at),
+        Piece::Place(at) => put_long(out, at),
+        Piece::Count(n) => put_long(out, n),
         Piece::Path(numbers) => put_path(out, numbers),
         Piece::Position(numbers) => put_position(out, numbers),
         Piece::States(numbers) => put_each(out, b' ', numbers),

@@ -66,6 +66,20 @@ pub fn complaint(alloc: Global, status: Status, pieces: &[Piece]) -> Reply
     }
 }
 
+/// Says these pieces on out, or that memory was refused.
+pub fn answer(alloc: Global, status: Status, pieces: &[Piece]) -> Reply
+    ensures { IsSaidIfMemory (record { status = status; out = pieces_text pieces.now; err = [] }) (reply_said result) }
+{
+    match text_of(alloc, pieces) {
+        Ok(text) => Reply {
+            status,
+            to_out: true,
+            text: Text::Made(text),
+        },
+        Err(AllocError) => no_memory(),
+    }
+}
+
 /// Writes a reply, and gives the status with which the run ends.
 pub fn deliver<K: Sink, E: Sink>(reply: &Reply, out: &mut K, err: &mut E) -> Status
     ensures { IsTold (reply_said reply.now) result (K.written out.old) (K.written out.new) (E.written err.old) (E.written err.new)

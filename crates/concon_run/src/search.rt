@@ -11,7 +11,8 @@ use cc_io::Shelf;
 use cops_read::Names;
 use ortho_check::valid_certificates_are_confluent;
 use portfolio::{Outcome, prove};
-use search_spaces::spaces_are_searchable;
+use quasi_check::valid_measured_systems_are_confluent;
+use quasi_space::quasi_spaces_are_searchable;
 use std::alloc::Global;
 use term_core::{NoMemory, System};
 use valid_certificates::valid_peaks_reach_apart;
@@ -41,8 +42,9 @@ fn outcome_within(
     requires { (file : List ℕ) × IsFile file sys.now names.now }
     ensures { SearchAnswers sys.now names.now units result }
 {
-    spaces_are_searchable();
+    quasi_spaces_are_searchable();
     valid_certificates_are_confluent();
+    valid_measured_systems_are_confluent();
     valid_peaks_reach_apart();
     // That the system is well-formed is known of its rules.
     let _rules = sys.rules();

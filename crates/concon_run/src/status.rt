@@ -8,7 +8,7 @@ pub enum Status {
     Yes,
     /// The system is not confluent.
     No,
-    /// The budget was spent.
+    /// What is searched holds no valid certificate, or the budget was spent.
     Maybe,
     /// The certificate is not valid.
     Rejected,
@@ -24,8 +24,6 @@ pub enum Status {
     WriteFault,
     /// Memory was refused.
     NoMemory,
-    /// What is searched holds no valid certificate; quasi-decreasing systems are not searched for yet.
-    NotBuilt,
 }
 
 impl Status {
@@ -41,7 +39,6 @@ impl Status {
             Status::ReadFault => 4,
             Status::WriteFault => 5,
             Status::NoMemory => 6,
-            Status::NotBuilt => 7,
         }
     }
 }

@@ -4,15 +4,15 @@ ghost use Rattle.certificates.specs.Certificates.{Certificate};
 ghost use Rattle.cops_read.specs.NameTable.{NameTable};
 ghost use Rattle.cert_check.specs.Kinds.{verdict_of};
 ghost use Rattle.cc_io.specs.Bytes.{appended};
-ghost use Rattle.concon_run.specs.Words.{texts, IsCheck, IsProve, IsNoCommand};
+ghost use Rattle.concon_run.specs.Words.{texts, IsCheck, IsProve, IsSelftest, IsNoCommand};
 ghost use Rattle.concon_run.specs.Said.{IsTold};
 ghost use Rattle.concon_run.specs.Replies.{reply_said, IsSaidIfMemory};
 ghost use Rattle.concon_run.specs.Outcomes.{CheckOutcome, status_of, said_of_outcome};
 ghost use Rattle.concon_run.specs.Searching.{SearchOutcome, said_of_search};
-ghost use Rattle.concon_run.specs.Causes.{run_of, Answer, said_of, IsCaused, IsRight, IsLeft};
+ghost use Rattle.concon_run.specs.Causes.{run_of, Answer, said_of, IsCaused, IsRight, IsLeft, IsUntouched};
 ghost use Rattle.concon_run.specs.Answered.{Answered};
 ghost use Rattle.concon_run.specs.Judging.{answer_of};
-ghost use Rattle.concon_run.specs.Rows.{IsFileRefusal, IsCertificateRefusal, IsRejection, IsVerdict, NamesConfluentSystem, NamesPeakApart, TookProof, ProveComesTo, IsReadFault, IsWriteFault, IsOfCheck, IsOfProve, CalmlyComesTo, CalmlyMustComeTo, IsUnlessHindered};
+ghost use Rattle.concon_run.specs.Rows.{IsFileRefusal, IsCertificateRefusal, IsRejection, IsVerdict, IsYes, NamesConfluentSystem, NamesPeakApart, TookProof, IsUndecided, IsReadFault, IsWriteFault, IsOfCheck, IsOfProve, CalmlyComesTo, CalmlyMustComeTo, IsUnlessHindered};
 
 use crate::answers::verdict_reply;
 use crate::found::search_reply;
@@ -20,13 +20,14 @@ use crate::judge::{NoVerdict, judge};
 use crate::refusals::refusal_reply;
 use crate::reply::{Reply, Text, deliver};
 use crate::search::search;
+use crate::selftest::selftest_reply;
 use crate::status::Status;
 use crate::words::{Check, Command, Prove, command_of};
 use cc_io::{Shelf, Sink};
 use cert_check::Verdict;
 use cert_text::one_answer;
 use cops_read::one_reading;
-use search_spaces::spaces_are_searchable;
+use quasi_space::{pruned_searches_are_searches, quasi_spaces_are_searchable};
 use std::alloc::Global;
 use valid_certificates::certificates_have_one_answer;
 
@@ -38,7 +39,7 @@ fn usage() -> Reply
         status: Status::Usage,
         to_out: false,
         text: Text::Fixed(
-            b"usage: concon check FILE CERT\n       concon prove FILE [--budget N]\n",
+            b"usage: concon check FILE CERT\n       concon prove FILE [--budget N]\n       concon selftest N\n",
         ),
     }
 }
@@ -79,6 +80,7 @@ fn decide<S: Shelf>(alloc: Global, words: &[&str], shelf: &mut S) -> Reply
     match command_of(words) {
         Some(Command::Check(check)) => check_reply(alloc, check, shelf),
         Some(Command::Prove(prove)) => prove_reply(alloc, prove, shelf),
+        Some(Command::Selftest { n }) => selftest_reply(alloc, n),
         None => usage(),
     }
 }
@@ -95,14 +97,16 @@ fn run_all<S: Shelf, K: Sink, E: Sink>(
         × IsCaused run answer × IsRight run answer
         × IsLeft answer (S.begun shelf.old) (S.begun shelf.new) (S.given shelf.old) (S.given shelf.new)
         × IsTold (said_of answer) result (K.written out.old) (K.written out.new) (E.written err.old) (E.written err.new)
-        (K.faults out.old) (K.faults out.new) (E.faults err.old) (E.faults err.new) }
+        (K.faults out.old) (K.faults out.new) (E.faults err.old) (E.faults err.new)
+        × IsUntouched (texts words.now) (S.begun shelf.old) (S.begun shelf.new) (S.given shelf.old) (S.given shelf.new) }
 {
     let reply = decide(alloc, words, shelf);
     deliver(&reply, out, err)
 }
 
 /// Does what the words say: `check FILE CERT` reads both files and writes the verdict; `prove FILE`, and `prove FILE --budget N`, reads the
-/// file and searches for a certificate, and writes the answer and below it the certificate.
+/// file and searches for a certificate, and writes the answer and below it the certificate; `selftest N` makes a generated system, writes
+/// and reads it, searches for a certificate, writes and reads that, checks it, and writes what it counted.
 pub fn run<S: Shelf, K: Sink, E: Sink>(
     alloc: Global,
     words: &[&str],
@@ -150,10 +154,18 @@ pub fn run<S: Shelf, K: Sink, E: Sink>(
         (file : List ℕ) (budget : ℕ) (names : NameTable) (c : Certificate) →
         CalmlyMustComeTo run file budget (SearchOutcome.found names c) →
         IsUnlessHindered (status_of (verdict_of c)) result }
+    // A test reads all rules of its system and all entries of its certificate, and spends exactly the price, unless memory was refused.
+    ensures self_tested { (n : ℕ) → IsSelftest (texts words.now) n →
+        IsTold (said_of (Answer.self_tested n)) result (K.written out.old) (K.written out.new) (E.written err.old) (E.written err.new)
+        (K.faults out.old) (K.faults out.new) (E.faults err.old) (E.faults err.new)
+        ⊎ IsTold (said_of Answer.no_memory) result (K.written out.old) (K.written out.new) (E.written err.old) (E.written err.new)
+        (K.faults out.old) (K.faults out.new) (E.faults err.old) (E.faults err.new) }
     ensures usage { result ≡ Status.Usage → IsNoCommand (texts words.now) }
     ensures usage_exactly { IsNoCommand (texts words.now) → (result ≡ Status.Usage) ⊎ (result ≡ Status.WriteFault) }
     ensures nothing_begun { IsNoCommand (texts words.now) → S.begun shelf.new ≡ S.begun shelf.old }
     ensures nothing_given { IsNoCommand (texts words.now) → S.given shelf.new ≡ S.given shelf.old }
+    ensures test_begins_nothing { (n : ℕ) → IsSelftest (texts words.now) n → S.begun shelf.new ≡ S.begun shelf.old }
+    ensures test_gives_nothing { (n : ℕ) → IsSelftest (texts words.now) n → S.given shelf.new ≡ S.given shelf.old }
     ensures file_refused { let run = run_of (texts words.now) (S.contents shelf.old) (S.faults shelf.old) (S.faults shelf.new) in
         result ≡ Status.FileRefused → IsFileRefusal run }
     ensures cert_refused { let run = run_of (texts words.now) (S.contents shelf.old) (S.faults shelf.old) (S.faults shelf.new) in
@@ -161,17 +173,16 @@ pub fn run<S: Shelf, K: Sink, E: Sink>(
     ensures rejected { let run = run_of (texts words.now) (S.contents shelf.old) (S.faults shelf.old) (S.faults shelf.new) in
         result ≡ Status.Rejected → IsRejection run }
     ensures yes { let run = run_of (texts words.now) (S.contents shelf.old) (S.faults shelf.old) (S.faults shelf.new) in
-        result ≡ Status.Yes → IsVerdict run Verdict.Yes }
+        result ≡ Status.Yes → IsYes run }
     ensures no { let run = run_of (texts words.now) (S.contents shelf.old) (S.faults shelf.old) (S.faults shelf.new) in
         result ≡ Status.No → IsVerdict run Verdict.No }
     // Under prove, YES and NO stand above the text of a certificate, which is valid and the first that is searched for.
     ensures proved { let run = run_of (texts words.now) (S.contents shelf.old) (S.faults shelf.old) (S.faults shelf.new) in
         (file : List ℕ) (budget : ℕ) → IsProve (texts words.now) file budget → (result ≡ Status.Yes) ⊎ (result ≡ Status.No) →
         TookProof run file (K.written out.old) (K.written out.new) }
-    ensures over_budget { let run = run_of (texts words.now) (S.contents shelf.old) (S.faults shelf.old) (S.faults shelf.new) in
-        result ≡ Status.Maybe → ProveComesTo run SearchOutcome.over_budget }
-    ensures not_built { let run = run_of (texts words.now) (S.contents shelf.old) (S.faults shelf.old) (S.faults shelf.new) in
-        result ≡ Status.NotBuilt → ProveComesTo run SearchOutcome.not_built }
+    // MAYBE exhausted only where no certificate that is searched for is valid, MAYBE budget only where the price is greater than the budget.
+    ensures undecided { let run = run_of (texts words.now) (S.contents shelf.old) (S.faults shelf.old) (S.faults shelf.new) in
+        result ≡ Status.Maybe → IsUndecided run (K.written out.old) (K.written out.new) }
     ensures read_fault { let run = run_of (texts words.now) (S.contents shelf.old) (S.faults shelf.old) (S.faults shelf.new) in
         result ≡ Status.ReadFault → IsReadFault run (E.written err.old) (E.written err.new) }
     ensures write_fault { let run = run_of (texts words.now) (S.contents shelf.old) (S.faults shelf.old) (S.faults shelf.new) in
@@ -184,6 +195,7 @@ pub fn run<S: Shelf, K: Sink, E: Sink>(
     one_reading();
     one_answer();
     certificates_have_one_answer();
-    spaces_are_searchable();
+    quasi_spaces_are_searchable();
+    pruned_searches_are_searches();
     run_all(alloc, words, shelf, out, err)
 }

@@ -1,6 +1,6 @@
 //! The words of the command line.
-ghost use Rattle.std.specs.Prelude.{◌≡◌, ◌∷◌, [], ℕ, List, IfSome, IfNone, MatchOption, codes};
-ghost use Rattle.concon_run.specs.Words.{texts, IsCheck, IsBudget, IsProve, IsNoCommand};
+ghost use Rattle.std.specs.Prelude.{◌≡◌, ◌≤◌, ◌∷◌, [], ℕ, List, IfSome, IfNone, MatchOption, codes, decimal};
+ghost use Rattle.concon_run.specs.Words.{texts, IsCheck, IsBudget, IsProve, IsSelftest, IsNoCommand};
 ghost use Rattle.concon_run.specs.Commands.{IsCommand};
 
 use itoa::Buffer;
@@ -24,6 +24,8 @@ pub struct Prove<'a> {
 pub enum Command<'a> {
     Check(Check<'a>),
     Prove(Prove<'a>),
+    /// The test with this number.
+    Selftest { n: u32 },
 }
 
 // How many units a search has that is given no budget.
@@ -31,6 +33,9 @@ const USUAL_BUDGET: u64 = 1000000;
 
 // No budget is greater.
 const MOST_UNITS: u64 = 9223372036854775807;
+
+// No test has a greater number.
+const MOST_TESTED: u64 = 200;
 
 fn check_of<'a>(words: &[&'a str]) -> Option<Check<'a>>
     ensures found { IfSome result (λ check. IsCheck (texts words.now) check.file.now check.cert.now) }
@@ -110,6 +115,39 @@ fn prove_of<'a>(words: &[&'a str]) -> Option<Prove<'a>>
     }
 }
 
+// The number of a test that the word is in decimal, as a budget is.
+fn test_number(word: &str) -> Option<u32>
+    ensures { MatchOption result ((n : ℕ) → word.now ≡ decimal n → 1 ≤ n → n ≤ 200 → ⊥) (λ n. (word.now ≡ decimal n) × (1 ≤ n) × (n ≤ 200)) }
+{
+    let n = budget_of(word)?;
+    if n == 0 || n > MOST_TESTED {
+        None
+    } else {
+        Some(n as u32)
+    }
+}
+
+// The word for the number of a test.
+fn test_word<'a>(words: &[&'a str]) -> Option<&'a str>
+    ensures found { IfSome result (λ number. texts words.now ≡ codes "selftest" ∷ number.now ∷ []) }
+    ensures none { IfNone result ((number : List ℕ) → texts words.now ≡ codes "selftest" ∷ number ∷ [] → ⊥) }
+{
+    if let [command, number] = words {
+        if *command == "selftest" {
+            return Some(*number);
+        }
+    }
+    None
+}
+
+fn selftest_of(words: &[&str]) -> Option<u32>
+    ensures found { IfSome result (IsSelftest (texts words.now)) }
+    ensures none { IfNone result ((n : ℕ) → IsSelftest (texts words.now) n → ⊥) }
+{
+    let word = test_word(words)?;
+    test_number(word)
+}
+
 /// The command that the words are.
 pub fn command_of<'a>(words: &[&'a str]) -> Option<Command<'a>>
     ensures found { IfSome result (IsCommand (texts words.now)) }
@@ -118,8 +156,11 @@ pub fn command_of<'a>(words: &[&'a str]) -> Option<Command<'a>>
     if let Some(check) = check_of(words) {
         return Some(Command::Check(check));
     }
-    match prove_of(words) {
-        Some(prove) => Some(Command::Prove(prove)),
+    if let Some(prove) = prove_of(words) {
+        return Some(Command::Prove(prove));
+    }
+    match selftest_of(words) {
+        Some(n) => Some(Command::Selftest { n }),
         None => None,
     }
 }

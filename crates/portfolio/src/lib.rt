@@ -5,30 +5,36 @@ ghost use Rattle.std.specs.Prelude.{ℕ, ◌≡◌};
 ghost use Rattle.certificates.specs.Certificates as math;
 ghost use Rattle.valid_certificates.specs.Certificates.{IsValid};
 ghost use Rattle.cc_count.specs.Counts.{Spends};
-ghost use Rattle.search_answers.specs.Answers.{SearchesExactly};
+ghost use Rattle.search_answers.specs.Answers.{SearchesExactly, IfFound};
 ghost use Rattle.search_spaces.specs.Ortho.{ortho_space};
-ghost use Rattle.search_spaces.specs.Peak.{peak_space};
 ghost use Rattle.search_spaces.specs.Whole.{whole_space};
+ghost use Rattle.quasi_space.specs.AllSpaces.{all_spaces, pruned_spaces};
+ghost use Rattle.quasi_space.specs.Measures.{pruned_measures};
+ghost use Rattle.quasi_space.specs.Quasi.{quasi_space_by};
+ghost use Rattle.quasi_search.specs.Answers.{Searches};
 ghost use Rattle.noncon_search.specs.Given.{IsOverlapList};
-ghost use Rattle.portfolio.specs.Answers.{SearchesAll, IfProved, IfNotBuilt};
+ghost use Rattle.portfolio.specs.Answers.{SearchesBoth, SearchesAll, IfProved, IfExhausted};
 
 use cc_count::Budget;
 use cert_model::Certificate;
 use cops_names::Names;
 use critical_pairs::{Overlap, OverlapError, overlaps};
 use noncon_search::search_peak_over;
-use ortho_search::{Search, search_ortho_over};
+use ortho_search::search_ortho_over;
+use quasi_search::search_quasi_over;
+use quasi_space::{pruned_searches_are_searches, quasi_spaces_are_searchable};
 use rule_index::IndexedSystem;
 use search_spaces::spaces_are_searchable;
 use std::alloc::Global;
 use term_core::{NoMemory, System};
+use validity::Search;
 
 /// How the searches end.
 #[derive(Debug, Drop)]
 pub enum Outcome {
     Found(Certificate),
-    /// What is searched holds no valid certificate; quasi-decreasing systems are not searched for yet.
-    NotBuilt,
+    /// What is searched holds no valid certificate.
+    Exhausted,
     /// The budget was spent.
     Spent,
 }
@@ -51,8 +57,47 @@ fn search_ortho_if(
     }
 }
 
-// Goes on with the search for two terms that are apart.
-fn search_behind(
+// The same for a certificate with a measure.
+fn search_quasi_if(
+    alloc: Global,
+    sys: &IndexedSystem<'_>,
+    names: &Names,
+    overlaps: Option<&[Overlap]>,
+    budget: &mut Budget,
+) -> Result<Search, NoMemory>
+    requires overlaps { IsOverlapList sys.now overlaps }
+    ensures searched { Searches (quasi_space_by (pruned_measures sys.now) names.now sys.now) budget.old budget.new result }
+    ensures kept { (n : ℕ) × Spends budget.old n budget.new }
+{
+    match overlaps {
+        Some(found) => search_quasi_over(alloc, sys, names, found, budget),
+        None => Ok(Search::Nothing),
+    }
+}
+
+// The first two searches, one behind the other.
+fn search_both(
+    alloc: Global,
+    sys: &IndexedSystem<'_>,
+    names: &Names,
+    overlaps: Option<&[Overlap]>,
+    budget: &mut Budget,
+) -> Result<Search, NoMemory>
+    requires overlaps { IsOverlapList sys.now overlaps }
+    ensures searched { SearchesBoth (whole_space names.now sys.now) budget.old budget.new result }
+    ensures ortho_first { (c : math.Certificate) (n : ℕ) → (ortho_space names.now sys.now).Finds c n → IfFound result (λ found. (found ≡ c) × Spends budget.old n budget.new) }
+    ensures kept { (n : ℕ) × Spends budget.old n budget.new }
+{
+    match search_ortho_if(alloc, sys, names, overlaps, budget) {
+        Ok(Search::Found(cert)) => Ok(Search::Found(cert)),
+        Ok(Search::Nothing) => search_peak_over(alloc, sys, names, overlaps, budget),
+        Ok(Search::Spent) => Ok(Search::Spent),
+        Err(e) => Err(e),
+    }
+}
+
+// The last search, behind the others.
+fn search_last(
     alloc: Global,
     sys: &IndexedSystem<'_>,
     names: &Names,
@@ -60,12 +105,12 @@ fn search_behind(
     budget: &mut Budget,
 ) -> Result<Outcome, NoMemory>
     requires overlaps { IsOverlapList sys.now overlaps }
-    ensures searched { SearchesAll (peak_space names.now sys.now) budget.old budget.new result }
+    ensures searched { SearchesAll (quasi_space_by (pruned_measures sys.now) names.now sys.now) budget.old budget.new result }
     ensures kept { (n : ℕ) × Spends budget.old n budget.new }
 {
-    match search_peak_over(alloc, sys, names, overlaps, budget) {
+    match search_quasi_if(alloc, sys, names, overlaps, budget) {
         Ok(Search::Found(cert)) => Ok(Outcome::Found(cert)),
-        Ok(Search::Nothing) => Ok(Outcome::NotBuilt),
+        Ok(Search::Nothing) => Ok(Outcome::Exhausted),
         Ok(Search::Spent) => Ok(Outcome::Spent),
         Err(e) => Err(e),
     }
@@ -80,26 +125,27 @@ fn search_all(
     budget: &mut Budget,
 ) -> Result<Outcome, NoMemory>
     requires overlaps { IsOverlapList sys.now overlaps }
-    ensures searched { SearchesAll (whole_space names.now sys.now) budget.old budget.new result }
+    ensures searched { SearchesAll (pruned_spaces names.now sys.now) budget.old budget.new result }
     ensures ortho_first { (c : math.Certificate) (n : ℕ) → (ortho_space names.now sys.now).Finds c n → IfProved result (λ found. (found ≡ c) × Spends budget.old n budget.new) }
     ensures kept { (n : ℕ) × Spends budget.old n budget.new }
 {
-    match search_ortho_if(alloc, sys, names, overlaps, budget) {
+    spaces_are_searchable();
+    match search_both(alloc, sys, names, overlaps, budget) {
         Ok(Search::Found(cert)) => Ok(Outcome::Found(cert)),
-        Ok(Search::Nothing) => search_behind(alloc, sys, names, overlaps, budget),
+        Ok(Search::Nothing) => search_last(alloc, sys, names, overlaps, budget),
         Ok(Search::Spent) => Ok(Outcome::Spent),
         Err(e) => Err(e),
     }
 }
 
-// Both searches, over one index and one list of overlaps.
+// All searches, over one index and one list of overlaps.
 fn search_whole(
     alloc: Global,
     sys: &System,
     names: &Names,
     budget: &mut Budget,
 ) -> Result<Outcome, NoMemory>
-    ensures searched { SearchesAll (whole_space names.now sys.now) budget.old budget.new result }
+    ensures searched { SearchesAll (pruned_spaces names.now sys.now) budget.old budget.new result }
     ensures ortho_first { (c : math.Certificate) (n : ℕ) → (ortho_space names.now sys.now).Finds c n → IfProved result (λ found. (found ≡ c) × Spends budget.old n budget.new) }
     ensures kept { (n : ℕ) × Spends budget.old n budget.new }
 {
@@ -112,21 +158,25 @@ fn search_whole(
     }
 }
 
-/// Searches for a certificate of an almost orthogonal system, then for one that the system is not confluent. The first that is
-/// valid is found. A unit is spent for each item that is tried, in both searches together at most what the budget has.
+/// Searches for a certificate of an almost orthogonal system, then for one that the system is not confluent, then for one with
+/// a measure. The first that is valid is found. A unit is spent for each item that is tried, in all searches together at most
+/// what the budget has.
 pub fn prove(
     alloc: Global,
     sys: &System,
     names: &Names,
     budget: &mut Budget,
 ) -> Result<Outcome, NoMemory>
-    ensures searched { SearchesAll (whole_space names.now sys.now) budget.old budget.new result }
+    ensures searched { SearchesAll (all_spaces names.now sys.now) budget.old budget.new result }
+    // The same where what stands behind dead prefixes of the grid counts for nothing.
+    ensures pruned { SearchesAll (pruned_spaces names.now sys.now) budget.old budget.new result }
     ensures valid { IfProved result (IsValid sys.now) }
-    ensures nothing { IfNotBuilt result ((c : math.Certificate) → (whole_space names.now sys.now).Holds c → IsValid sys.now c → ⊥) }
+    ensures exhausted { IfExhausted result ((c : math.Certificate) → (all_spaces names.now sys.now).Holds c → IsValid sys.now c → ⊥) }
     // Where the first space has a certificate, that is found, for exactly its price.
     ensures ortho_first { (c : math.Certificate) (n : ℕ) → (ortho_space names.now sys.now).Finds c n → IfProved result (λ found. (found ≡ c) × Spends budget.old n budget.new) }
     ensures kept { (n : ℕ) × Spends budget.old n budget.new }
 {
-    spaces_are_searchable();
+    quasi_spaces_are_searchable();
+    pruned_searches_are_searches();
     search_whole(alloc, sys, names, budget)
 }

@@ -42,12 +42,18 @@ fn is_told(
     Ok(found == status && out.written().is_empty() && err.written() == text.as_bytes())
 }
 
-const NO_COMMANDS: &[&[&str]] = &[&[], &["check", "x.trs"], &["prove", "x.trs", "c.crt"]];
+const NO_COMMANDS: &[&[&str]] = &[
+    &[],
+    &["check", "x.trs"],
+    &["prove", "x.trs", "c.crt"],
+    &["selftest", "0"],
+];
 
 #[test]
 fn words_that_are_no_command_ask_nothing(rt: HostRuntime) -> Result<(), Fail> {
     let mut shelf = failing_shelf(rt.alloc(), 1)?;
-    let usage = "usage: concon check FILE CERT\n       concon prove FILE [--budget N]\n";
+    let usage =
+        "usage: concon check FILE CERT\n       concon prove FILE [--budget N]\n       concon selftest N\n";
     for words in NO_COMMANDS {
         let is_usage = is_told(rt.alloc(), words, &mut shelf, Status::Usage, usage)?;
         assert!(rt; is_usage);
@@ -140,7 +146,6 @@ const EXIT_CODES: &[(Status, u8)] = &[
     (Status::ReadFault, 4),
     (Status::WriteFault, 5),
     (Status::NoMemory, 6),
-    (Status::NotBuilt, 7),
 ];
 
 #[test]

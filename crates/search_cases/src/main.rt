@@ -1,7 +1,7 @@
 //! Prints, for each line of `data/searches.txt`, what a search answers.
 //!
 //! `ortho BUDGET; FILE` asks for the certificate of an almost orthogonal system, `peak BUDGET; FILE` for one that the system is
-//! not confluent: the answer is its text, with a slash for each line end, or that there is none or that the budget is spent; then
+//! not confluent, `quasi BUDGET; FILE` for one with a measure: the answer is its text, with a slash for each line end, or that there is none or that the budget is spent; then
 //! what is left of the budget and what was spent. Where something is found, the search is asked again with its cost as the budget,
 //! and with one unit less.
 //! `text; FILE; OTHER; CERTIFICATE` reads the certificate with the names of the first file, and tells whether it has a text with the
@@ -26,6 +26,7 @@ fn told_of(alloc: Global, line: &str) -> Result<String, AllocError> {
     match (kind, budget) {
         ("ortho", Some(budget)) => searched::of_search(alloc, Kind::Ortho, budget, rest),
         ("peak", Some(budget)) => searched::of_search(alloc, Kind::Peak, budget, rest),
+        ("quasi", Some(budget)) => searched::of_search(alloc, Kind::Quasi, budget, rest),
         ("text", None) => texts::of_certificate(alloc, rest),
         _ => String::from_str(alloc, "no question"),
     }

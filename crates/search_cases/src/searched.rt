@@ -4,6 +4,7 @@ use cc_count::Budget;
 use cops_read::{Names, read_system};
 use noncon_search::search_peak;
 use ortho_search::{Search, search_ortho};
+use quasi_search::search_quasi;
 use std::alloc::{AllocError, Global};
 use term_core::{NoMemory, System};
 
@@ -12,6 +13,7 @@ use term_core::{NoMemory, System};
 pub enum Kind {
     Ortho,
     Peak,
+    Quasi,
 }
 
 fn search(
@@ -24,6 +26,7 @@ fn search(
     match kind {
         Kind::Ortho => search_ortho(alloc, sys, names, budget),
         Kind::Peak => search_peak(alloc, sys, names, budget),
+        Kind::Quasi => search_quasi(alloc, sys, names, budget),
     }
 }
 

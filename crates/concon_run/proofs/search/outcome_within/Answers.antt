@@ -4,5 +4,5 @@ use Rattle.concon_run.proofs.search.outcome_within.Goals as goal
 
 pub returns : goal.returns
 returns c =
-    ended c.args.names.now c.args.sys.now (well_formed c.args.sys.now c.rules-rules.ensures.sound) c.requires.0 c.requires.1 c.valid_certificates_are_confluent.ensures c.valid_peaks_reach_apart.ensures
-    (c.spaces_are_searchable.ensures.whole c.args.names.now c.args.sys.now) c.args.units _ _ c.new-budget.ensures.left c.prove.result c.prove.ensures.searched
+    ended c.args.names.now c.args.sys.now (well_formed c.args.sys.now c.rules-rules.ensures.sound) c.requires.0 c.requires.1 c.valid_certificates_are_confluent.ensures c.valid_measured_systems_are_confluent.ensures c.valid_peaks_reach_apart.ensures
+    (c.quasi_spaces_are_searchable.ensures.all_pruned c.args.names.now c.args.sys.now) c.args.units _ _ c.new-budget.ensures.left c.prove.result c.prove.ensures.pruned c.prove.ensures.exhausted

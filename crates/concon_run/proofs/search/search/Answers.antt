@@ -1,4 +1,4 @@
-use Rattle.std.proofs.Common.{inr}
+use Rattle.std.proofs.Common.{inl, inr}
 use Rattle.concon_run.specs.Causes.{run_of, searched}
 use Rattle.concon_run.specs.Searching.{bad_file}
 use Rattle.concon_run.proofs.Unread.{no_system_left}
@@ -29,4 +29,4 @@ returns-in-Ok-outcome_within-clause-right g c words =
     c.in-Ok.found.0 c.in-Ok.found.1 c.in-Ok.ensures.answers c.in-Ok-outcome_within.outcome c.in-Ok-outcome_within.ensures
 
 pub returns-clause-caused : goal.returns-clause-caused
-returns-clause-caused g c words form = (c.args.file.now, inr (c.args.budget, form))
+returns-clause-caused g c words form = inl (c.args.file.now, inr (c.args.budget, form))

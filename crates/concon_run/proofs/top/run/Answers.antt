@@ -1,7 +1,8 @@
 use Rattle.concon_run.proofs.SoundNo.{yes_is_sound, no_is_sound}
 use Rattle.concon_run.proofs.OneAnswer.{known, exactly, complete}
 use Rattle.concon_run.proofs.OneSearch.{searched_exactly, enough}
-use Rattle.concon_run.proofs.Meant.{usage_means, usage_exactly, nothing_asked, file_refused_means, cert_refused_means, rejected_means, yes_means, no_means, proved, over_budget_means, not_built_means, read_fault_means, write_fault_means, no_memory_means, of_check, of_prove}
+use Rattle.concon_run.proofs.OneTest.{tested_exactly}
+use Rattle.concon_run.proofs.Meant.{usage_means, usage_exactly, nothing_asked, file_refused_means, cert_refused_means, rejected_means, yes_means, no_means, proved, undecided_means, read_fault_means, write_fault_means, no_memory_means, of_check, of_prove}
 use Rattle.concon_run.proofs.top.run.Goals as goal
 
 pub returns-clause-answer : goal.returns-clause-answer
@@ -20,10 +21,13 @@ pub returns-clause-complete : goal.returns-clause-complete
 returns-clause-complete g c = let h = c.run_all.ensures in complete (known c.one_reading.ensures.one c.one_reading.ensures.refusal c.one_reading.ensures.either c.one_answer.ensures.refusal c.one_answer.ensures.never_both c.certificates_have_one_answer.ensures) _ _ _ _ _ _ _ _ _ _ h.0 h.1 h.4
 
 pub returns-clause-searched : goal.returns-clause-searched
-returns-clause-searched g c = let h = c.run_all.ensures in searched_exactly (known c.one_reading.ensures.one c.one_reading.ensures.refusal c.one_reading.ensures.either c.one_answer.ensures.refusal c.one_answer.ensures.never_both c.certificates_have_one_answer.ensures) c.spaces_are_searchable.ensures.whole _ _ _ _ _ _ _ _ _ _ h.0 h.1 h.4
+returns-clause-searched g c = let h = c.run_all.ensures in searched_exactly (known c.one_reading.ensures.one c.one_reading.ensures.refusal c.one_reading.ensures.either c.one_answer.ensures.refusal c.one_answer.ensures.never_both c.certificates_have_one_answer.ensures) c.quasi_spaces_are_searchable.ensures.all_pruned c.quasi_spaces_are_searchable.ensures.all c.pruned_searches_are_searches.ensures.all _ _ _ _ _ _ _ _ _ _ h.0 h.1 h.4
 
 pub returns-clause-enough : goal.returns-clause-enough
-returns-clause-enough g c = let h = c.run_all.ensures in enough (known c.one_reading.ensures.one c.one_reading.ensures.refusal c.one_reading.ensures.either c.one_answer.ensures.refusal c.one_answer.ensures.never_both c.certificates_have_one_answer.ensures) c.spaces_are_searchable.ensures.whole _ _ _ _ _ _ _ _ _ _ h.0 h.1 h.4
+returns-clause-enough g c = let h = c.run_all.ensures in enough (known c.one_reading.ensures.one c.one_reading.ensures.refusal c.one_reading.ensures.either c.one_answer.ensures.refusal c.one_answer.ensures.never_both c.certificates_have_one_answer.ensures) c.quasi_spaces_are_searchable.ensures.all_pruned c.quasi_spaces_are_searchable.ensures.all c.pruned_searches_are_searches.ensures.all _ _ _ _ _ _ _ _ _ _ h.0 h.1 h.4
+
+pub returns-clause-self_tested : goal.returns-clause-self_tested
+returns-clause-self_tested g c = let h = c.run_all.ensures in tested_exactly _ _ _ _ _ _ _ _ _ _ h.0 h.1 h.4
 
 pub returns-clause-usage : goal.returns-clause-usage
 returns-clause-usage g c = let h = c.run_all.ensures in usage_means _ h.0 _ _ _ _ _ _ _ _ _ h.1 h.4
@@ -49,11 +53,8 @@ returns-clause-no g c = let h = c.run_all.ensures in no_means _ h.0 _ _ _ _ _ _ 
 pub returns-clause-proved : goal.returns-clause-proved
 returns-clause-proved g c = let h = c.run_all.ensures in proved _ h.0 _ _ _ _ _ _ _ _ _ h.1 h.4
 
-pub returns-clause-over_budget : goal.returns-clause-over_budget
-returns-clause-over_budget g c = let h = c.run_all.ensures in over_budget_means _ h.0 _ _ _ _ _ _ _ _ _ h.1 h.4
-
-pub returns-clause-not_built : goal.returns-clause-not_built
-returns-clause-not_built g c = let h = c.run_all.ensures in not_built_means _ h.0 _ _ _ _ _ _ _ _ _ h.1 h.4
+pub returns-clause-undecided : goal.returns-clause-undecided
+returns-clause-undecided g c = let h = c.run_all.ensures in undecided_means _ h.0 _ _ _ _ _ _ _ _ _ h.1 h.4
 
 pub returns-clause-read_fault : goal.returns-clause-read_fault
 returns-clause-read_fault g c = let h = c.run_all.ensures in read_fault_means _ h.0 _ _ _ _ _ _ _ _ _ h.1 h.4
@@ -75,3 +76,9 @@ returns-clause-nothing_begun g c none = let h = c.run_all.ensures in (nothing_as
 
 pub returns-clause-nothing_given : goal.returns-clause-nothing_given
 returns-clause-nothing_given g c none = let h = c.run_all.ensures in (nothing_asked _ h.0 _ _ _ _ h.1 h.3 none).1
+
+pub returns-clause-test_begins_nothing : goal.returns-clause-test_begins_nothing
+returns-clause-test_begins_nothing g c n form = let h = c.run_all.ensures in (h.5 n form).0
+
+pub returns-clause-test_gives_nothing : goal.returns-clause-test_gives_nothing
+returns-clause-test_gives_nothing g c n form = let h = c.run_all.ensures in (h.5 n form).1

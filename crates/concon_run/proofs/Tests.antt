@@ -1,0 +1,140 @@
+-- What a test goes through: nothing but memory can stand in its way, and it counts what it has to.
+use Rattle.std.proofs.Common.{◌≡◌, ◌+◌, ◌*◌, ◌≤◌, ◌++◌, ℕ, zero, suc, List, [], map, length, Ok, refl, sym, ap, ap₂, ◌∙◌, subst, inl, arith}
+use Rattle.std.specs.List.{range_with_len}
+use Rattle.std.proofs.lemmas.List.{length-map}
+use Rattle.std.proofs.lemmas.List.FromFn.{length-map-range_with_len}
+use Rattle.rewriting.specs.Rules.{System}
+use Rattle.certificates.specs.Certificates as math
+use Rattle.valid_certificates.specs.Entries.{ArePairsShort}
+use Rattle.term_core.specs.RuleView.{rule_view}
+use Rattle.term_core.specs.declared.systems.Rule.{Rule}
+use Rattle.cops_names.specs.NameTable.{NameTable}
+use Rattle.file_text.specs.Tokens.{bad_byte, long_id, open_comment}
+use Rattle.file_text.specs.Refusals.{unknown_block, repeated_block, other_condition_type, wrong_syntax, missing_rules}
+use Rattle.cops_read.specs.Answers.{NeverSystemAndRefusal, IsRefusedFor, cause_of_count}
+use Rattle.cops_read.specs.Refusals.{conditions_without_type, too_deep, variable_with_arguments, left_variable, arity_differs}
+use Rattle.cops_systems.specs.File.{IsFile, no_tokens, no_tree, no_meaning}
+use Rattle.cops_systems.specs.declared.errors.ReadError.{ReadError}
+use Rattle.cops_systems.specs.declared.errors.ReadError.TheVariants as unread
+use Rattle.cops_write.specs.Text.{system_text}
+use Rattle.cert_grammar.specs.CertificateText.{IsCertificateText, CanBeSpelt, certificate_text}
+use Rattle.cert_laws.specs.MarkLaws.{NeverBoth}
+use Rattle.cert_model.specs.CertificateView.{certificate_view}
+use Rattle.cert_model.specs.declared.model.Certificate.{Certificate}
+use Rattle.cert_refusals.specs.CertRefusals.{IsRefusedAs}
+use Rattle.cert_refusals.specs.declared.error.CertError.{CertError}
+use Rattle.cert_refusals.specs.declared.error.CertError.TheVariants as bad
+use Rattle.cert_check.specs.Kinds.{verdict_of, CanBeJudged}
+use Rattle.cert_check.specs.declared.Verdict.{Verdict}
+use Rattle.cc_count.specs.Counts.{Counts, Spends}
+use Rattle.search_spaces.specs.Entries.{entry_for}
+use Rattle.search_spaces.specs.Ortho.{ortho_space}
+use Rattle.quasi_space.specs.AllSpaces.{pruned_spaces}
+use Rattle.portfolio.specs.Answers.{SearchesAll, IfProved}
+use Rattle.portfolio.specs.declared.Outcome.{Outcome}
+use Rattle.portfolio.specs.declared.Outcome.TheVariants.{Found, Exhausted, Spent}
+use Rattle.generated_systems.specs.Generated.{generated, generated_names}
+use Rattle.generated_systems.specs.Certificate.{overlap_for, conflict, generated_certificate}
+use Rattle.generated_systems.specs.Laws.{CertificatesHaveTexts, CertificatesAreFound}
+use Rattle.generator.proofs.Sound.{rule_count}
+use Rattle.concon_run.specs.Said.{Said}
+use Rattle.concon_run.specs.Outcomes.{status_of}
+use Rattle.concon_run.specs.Causes.{self_tested, said_of}
+use Rattle.concon_run.specs.Replies.{IsSaidIfMemory}
+use Rattle.concon_run.specs.Tests.{pair_count, tested_line, IsPassed}
+use Rattle.concon_run.specs.declared.selftest.Tested.{Tested}
+
+-- what was written of a generated system spells it
+pub written_file : (n : ℕ) (start bytes : List ℕ) (made : System) (names : NameTable) → start ≡ [] → bytes ≡ start ++ system_text names made → made ≡ generated n → names ≡ generated_names n
+    → IsFile (system_text (generated_names n) (generated n)) (generated n) (generated_names n) → IsFile bytes (generated n) (generated_names n)
+written_file n start bytes made names none text e f file =
+    subst (λ b. IsFile b (generated n) (generated_names n)) (sym (text ∙ ap (λ (s : List ℕ). s ++ system_text names made) none ∙ ap₂ system_text f e)) file
+
+pub written_cert : (names : NameTable) (c : math.Certificate) (start bytes : List ℕ) → start ≡ [] → bytes ≡ start ++ certificate_text names c
+    → IsCertificateText names (certificate_text names c) c → IsCertificateText names bytes c
+written_cert names c start bytes none text spelt =
+    subst (λ b. IsCertificateText names b c) (sym (text ∙ ap (λ (s : List ℕ). s ++ certificate_text names c) none)) spelt
+
+-- a text that spells a system is not refused, and nor is that of a certificate
+pub never_refused : NeverSystemAndRefusal → (bytes : List ℕ) (sys : System) (names : NameTable) → IsFile bytes sys names → (e : ReadError) → (e ≡ unread.NoMemory → ⊥) → IsRefusedFor bytes e → ⊥
+never_refused never bytes sys names file (unread.BadByte at) other h = never bytes sys names (no_tokens bad_byte) at file h
+never_refused never bytes sys names file (unread.IdTooLong at) other h = never bytes sys names (no_tokens long_id) at file h
+never_refused never bytes sys names file (unread.CommentNotClosed at) other h = never bytes sys names (no_tokens open_comment) at file h
+never_refused never bytes sys names file (unread.Syntax at) other h = never bytes sys names (no_tree wrong_syntax) at file h
+never_refused never bytes sys names file (unread.UnknownBlock at) other h = never bytes sys names (no_tree unknown_block) at file h
+never_refused never bytes sys names file (unread.RepeatedBlock at) other h = never bytes sys names (no_tree repeated_block) at file h
+never_refused never bytes sys names file (unread.ConditionTypeOther at) other h = never bytes sys names (no_tree other_condition_type) at file h
+never_refused never bytes sys names file (unread.MissingRules at) other h = never bytes sys names (no_tree missing_rules) at file h
+never_refused never bytes sys names file (unread.ConditionsWithoutType at) other h = never bytes sys names (no_meaning conditions_without_type) at file h
+never_refused never bytes sys names file (unread.VariableWithArguments at) other h = never bytes sys names (no_meaning variable_with_arguments) at file h
+never_refused never bytes sys names file (unread.ArityDiffers at) other h = never bytes sys names (no_meaning arity_differs) at file h
+never_refused never bytes sys names file (unread.LeftVariable at) other h = never bytes sys names (no_meaning left_variable) at file h
+never_refused never bytes sys names file (unread.TooDeep at) other h = never bytes sys names (no_meaning too_deep) at file h
+never_refused never bytes sys names file (unread.TooMany what limit at) other h = never bytes sys names (no_meaning (cause_of_count what)) at file h.0
+never_refused never bytes sys names file unread.NoMemory other h = other refl
+
+pub never_refused_cert : NeverBoth → (names : NameTable) (bytes : List ℕ) (c : math.Certificate) → IsCertificateText names bytes c → (e : CertError) → (e ≡ bad.NoMemory → ⊥) → IsRefusedAs names bytes e → ⊥
+never_refused_cert never names bytes c text (bad.CertSyntax at) other h = never names bytes c _ at text h
+never_refused_cert never names bytes c text (bad.UnknownName at) other h = never names bytes c _ at text h
+never_refused_cert never names bytes c text (bad.WrongArity at) other h = never names bytes c _ at text h
+never_refused_cert never names bytes c text (bad.BadNumber at) other h = never names bytes c _ at text h
+never_refused_cert never names bytes c text (bad.CertTooDeep at) other h = never names bytes c _ at text h
+never_refused_cert never names bytes c text (bad.TooMany what at) other h = never names bytes c _ at text h
+never_refused_cert never names bytes c text bad.NoMemory other h = other refl
+
+-- a search that the first space has a certificate for, at a price within the budget
+module _ (names : NameTable) (sys : System) (before after : Counts) (o : Outcome) where
+  module _ (c : math.Certificate) (n : ℕ) (finds : (ortho_space names sys).Finds c n) (h : SearchesAll (pruned_spaces names sys) before after (Ok o)) where
+    pub never_exhausted : o ≡ Exhausted → ⊥
+    never_exhausted e = go (subst (λ p. SearchesAll (pruned_spaces names sys) before after (Ok p)) e h)
+      where
+        go : SearchesAll (pruned_spaces names sys) before after (Ok Exhausted) → ⊥
+        go (paid, spends, (barren, costs)) = barren c n (inl (inl finds))
+
+    pub never_spent : before.left ≡ 1000000 → n ≤ 1000000 → o ≡ Spent → ⊥
+    never_spent left enough e = go (subst (λ p. SearchesAll (pruned_spaces names sys) before after (Ok p)) e h)
+      where
+        go : SearchesAll (pruned_spaces names sys) before after (Ok Spent) → ⊥
+        go (paid, spends, (all, dearer)) = let more = dearer n (inl (c, inl (inl finds))) in omega (arith, more)
+
+  pub found_first : (found : Certificate) → o ≡ Found found → before.spent ≡ 0 → (spent : ℕ) → spent ≡ after.spent
+      → ((c : math.Certificate) (n : ℕ) → (ortho_space names sys).Finds c n → IfProved (Ok o) (λ d. (d ≡ c) × Spends before n after))
+      → (c : math.Certificate) (n : ℕ) → (ortho_space names sys).Finds c n → (certificate_view found ≡ c) × (spent ≡ n)
+  found_first found e none spent is first c n finds =
+      let h = subst (λ p. IfProved (Ok p) (λ d. (d ≡ c) × Spends before n after)) e (first c n finds) in
+      let all = h.1.spent in
+      (h.0, omega (arith, all))
+
+-- the generated system's certificate is found, has a text, and can be judged
+module _ (names : NameTable) (n : ℕ) (most : n ≤ 200) where
+  pub certificate_found : CertificatesAreFound → (sys : System) → sys ≡ generated n → (ortho_space names sys).Finds (generated_certificate n) (3 * n)
+  certificate_found law sys e = subst (λ s. (ortho_space names s).Finds (generated_certificate n) (3 * n)) (sym e) (law names n (omega arith))
+
+  pub certificate_spelt : CertificatesHaveTexts → (c : math.Certificate) → c ≡ generated_certificate n → CanBeSpelt names c
+  certificate_spelt law c e = subst (CanBeSpelt names) (sym e) (law names n (omega arith)).0
+
+entries_short : (a m : ℕ) → ArePairsShort (map (λ k. entry_for (overlap_for k) conflict) (range_with_len a m))
+entries_short a zero = tt
+entries_short a (suc m) = (tt, entries_short (a + 1) m)
+
+pub certificate_judged : (n : ℕ) (sys : System) (c : math.Certificate) → c ≡ generated_certificate n → CanBeJudged sys c
+certificate_judged n sys c e = subst (CanBeJudged sys) (sym e) (entries_short 0 n)
+
+-- what is counted
+pub passed : (n : ℕ) (sys : System) (rules : List Rule) (found cert : math.Certificate) (t : Tested) → sys ≡ generated n → map rule_view rules ≡ sys.rules → cert ≡ found → found ≡ generated_certificate n
+    → t.rules ≡ length rules → t.pairs ≡ pair_count cert → t.verdict ≡ verdict_of cert → t.steps ≡ 3 * n → IsPassed n t
+passed n sys rules found cert t e view same is counted entries shows spent =
+    record {
+      rules = counted ∙ sym (length-map rules rule_view) ∙ ap length (view ∙ ap (λ (s : System). s.rules) e) ∙ rule_count 0 n;
+      pairs = entries ∙ ap pair_count (same ∙ is) ∙ length-map-range_with_len (λ k. entry_for (overlap_for k) conflict) 0 n;
+      verdict = shows ∙ ap verdict_of (same ∙ is);
+      steps = spent;
+    }
+
+abbrev said_with : ℕ → ℕ → ℕ → Verdict → ℕ → Said
+said_with n rules pairs verdict steps =
+    record { status = status_of verdict; out = tested_line n (record { rules = rules; pairs = pairs; verdict = verdict; steps = steps }); err = [] }
+
+pub passed_said : (n : ℕ) (t : Tested) (said : Said) → IsPassed n t → IsSaidIfMemory (said_with n t.rules t.pairs t.verdict t.steps) said → IsSaidIfMemory (said_of (self_tested n)) said
+passed_said n t said p h =
+    subst (λ w. IsSaidIfMemory w said) (ap₂ (λ r q. said_with n r q t.verdict t.steps) p.rules p.pairs ∙ ap₂ (said_with n (4 * n) n) p.verdict p.steps) h
