@@ -1,5 +1,5 @@
 -- Prefixes grow entry by entry.
-use Rattle.std.proofs.Common.{◌≡◌, ℕ, suc, ◌<◌, ◌≤◌, ◌⊎◌, inl, inr, refl, sym, ap, ap₂, ◌∙◌, subst, List, [], ◌∷◌, ◌++◌, length, slice_get, option_map, Some, arith}
+use Rattle.std.proofs.Common.{◌≡◌, ℕ, suc, ◌<◌, ◌≤◌, ◌⊎◌, inl, inr, sym, ap, ◌∙◌, subst, [], ◌∷◌, ◌++◌, length, slice_get, option_map, Some, arith}
 use Rattle.std.proofs.Math.Seq.{get_or-append_seam}
 use Rattle.std.proofs.lemmas.Bool.{cases_lt}
 use Rattle.std.proofs.lemmas.List.{length_push}
@@ -8,9 +8,8 @@ use Rattle.rewriting.specs.Rules.{System}
 use Rattle.rewriting.specs.Unraveling.{heads, unraveled}
 use Rattle.certificates.specs.Certificates.{LinearEntry}
 use Rattle.interpretations.specs.Linear.{Interpretation, IsEntry, AreNumbersGood}
-use Rattle.measure_grid.specs.Dead.{IsDead}
 use Rattle.measure_grid.proofs.Dead.{get_left}
-use Rattle.linear_interp.specs.Prefix.{IsPrefix, IsAliveBefore}
+use Rattle.linear_interp.specs.Prefix.{IsPrefix}
 
 pub prefix_start : (sys : System) → IsPrefix sys []
 prefix_start sys = record { few = omega arith; entries = λ k lt. absurd (omega (arith, lt)); numbers = λ k e at. absurd (cc) }
@@ -44,19 +43,3 @@ module _ (sys : System) (es : Interpretation) (e : LinearEntry) (p : IsPrefix sy
         entries = λ k lt. entry_at k lt (cases_lt k (length es));
         numbers = λ k d at. numbers_at k d at (slice_get_within (es ++ e ∷ []) k d at) (cases_lt k (length es));
       }
-
--- two lists that are equal are so without their last members
-without_last : {X : Type 0} (xs ys : List X) (x y : X) → xs ++ x ∷ [] ≡ ys ++ y ∷ [] → xs ≡ ys
-without_last [] [] x y e = refl
-without_last [] (b ∷ ys) x y e = let left = length_push ys y in let same = ap length e in absurd (omega (arith, left, same))
-without_last (a ∷ xs) [] x y e = let left = length_push xs x in let same = ap length e in absurd (omega (arith, left, same))
-without_last (a ∷ xs) (b ∷ ys) x y e =
-    let first : a ≡ b = cc in
-    let rest : xs ++ x ∷ [] ≡ ys ++ y ∷ [] = cc in
-    ap₂ (λ z zs. z ∷ zs) first (without_last xs ys x y rest)
-
-pub alive_start : (sys : System) → IsAliveBefore sys []
-alive_start sys before last e d = let long = length_push before last in let none = ap length e in omega (arith, long, none)
-
-pub alive_next : (sys : System) (es : Interpretation) (e : LinearEntry) → (IsDead sys es → ⊥) → IsAliveBefore sys (es ++ e ∷ [])
-alive_next sys es e alive before last same d = alive (subst (IsDead sys) (sym (without_last es before e last same)) d)

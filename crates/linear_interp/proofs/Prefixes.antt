@@ -17,7 +17,7 @@ use Rattle.interpretations.specs.Linear.{Interpretation, Falls}
 use Rattle.interpretations.proofs.Bound.{length-heads}
 use Rattle.interpretations.proofs.Decided.{DoesNotFall, overflows, variable_counts_more, constant_is_kept, falls}
 use Rattle.measure_grid.specs.Dead.{HasEntries, HaveEntries, IsDead}
-use Rattle.measure_grid.proofs.Dead.{dead_or_good, falls_more}
+use Rattle.measure_grid.proofs.Dead.{falls_more}
 use Rattle.linear_interp.specs.Prefix.{IsPrefix, IsAliveBefore}
 use Rattle.linear_interp.specs.Needed.{needed_at}
 use Rattle.linear_interp.proofs.Needed.{has_needed, needed_of}
@@ -110,7 +110,3 @@ whole_prefix_good sys es well fits p whole alive = (fits, record { shape = whole
           right = over_has (unraveled sys).arities es count r.right over.1.0;
           rises = does_not_fall es r d;
         }))
-
--- and none where it is
-pub dead_not_good : (sys : System) (es : Interpretation) → IsDead sys es → IsInterpretationJudged sys es good → ⊥
-dead_not_good sys es d j = dead_or_good sys es d j.1

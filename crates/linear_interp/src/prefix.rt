@@ -1,5 +1,5 @@
 // The first entries of an interpretation, judged by the rules all of whose symbols have an entry.
-ghost use Rattle.std.specs.Prelude.{◌≡◌, map, length};
+ghost use Rattle.std.specs.Prelude.{◌≡◌, map};
 ghost use Rattle.rewriting.specs.Rules as math;
 ghost use Rattle.rewriting.specs.Systems.{IsSystem};
 ghost use Rattle.rewriting.specs.Unraveling.{unraveled, heads};
@@ -73,13 +73,6 @@ impl<'a> PrefixJudge<'a> {
         ensures { result.now ≡ (unraveled self.now).arities }
     {
         self.unraveled.system.arities()
-    }
-
-    /// How many of the symbols are the system's own: all arguments of these, the first ones, are active.
-    pub fn own_symbols(&self) -> usize
-        ensures { result ≡ length self.now.arities }
-    {
-        self.own.arities().len()
     }
 
     /// Whether the last entry of a prefix makes it dead.
