@@ -1,0 +1,13 @@
+pub mod Focus
+pub mod Memory
+pub mod Boxed
+pub mod Places
+pub mod Prefix
+pub mod Preorder
+pub mod Seen
+pub mod Steps
+pub mod Subterms
+pub mod Replaced
+pub mod Laying
+pub mod Marking
+pub mod Rising
