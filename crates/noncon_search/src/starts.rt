@@ -13,6 +13,7 @@ use crate::pairs::try_pairs;
 use cc_count::Budget;
 use cops_names::Names;
 use critical_pairs::Overlap;
+use flatterm::Work;
 use reach::{ReachStop, Reached, reach_in};
 use rule_index::IndexedSystem;
 use std::alloc::Global;
@@ -53,7 +54,8 @@ fn try_start(
     requires fits { math.Fits (view start.now) }
     ensures { WalkAnswers names.now sys.now (peak_items_of sys.now (view start.now)) budget.old budget.new result }
 {
-    match reach_in(alloc, sys, &[], start, STEPS, COND_DEPTH, budget) {
+    let mut work = Work::new();
+    match reach_in(alloc, sys, &[], start, STEPS, COND_DEPTH, budget, &mut work) {
         Ok(listed) => try_listed(alloc, sys, names, start, &listed, budget),
         Err(ReachStop::Spent) => Ok(Search::Spent),
         Err(ReachStop::NoMemory) => Err(NoMemory),

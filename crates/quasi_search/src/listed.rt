@@ -7,6 +7,7 @@ ghost use Rattle.quasi_search.specs.Listed.{ListedAnswers};
 
 use cc_count::Budget;
 use critical_pairs::Overlap;
+use flatterm::Work;
 use irreducible::LeftSides;
 use reach::{ReachStop, Reached, reach_in};
 use std::alloc::Global;
@@ -32,6 +33,7 @@ pub fn listed_under(
 {
     // That conditions are few is known of the rules of a system.
     let _rules = sys.rules();
+    let mut work = Work::new();
     match reach_in(
         alloc,
         sys.indexed(),
@@ -40,6 +42,7 @@ pub fn listed_under(
         STEPS,
         COND_DEPTH,
         budget,
+        &mut work,
     ) {
         Ok(list) => Ok(Some(list)),
         Err(ReachStop::Spent) => Ok(None),

@@ -1,61 +1,60 @@
 -- Places, listed terms and rounds: what fits, and what a round costs.
-use Rattle.std.proofs.Common.{◌≡◌, ℕ, zero, suc, ◌+◌, ◌-◌, ◌≤◌, ◌<◌, List, [], ◌∷◌, ◌++◌, append_assoc, length, flat_map, drop, slice_get, Some, refl, sym, ap, ap₂, ◌∙◌, subst, add-one, length-append, arith}
+use Rattle.std.proofs.Common.{◌≡◌, ℕ, zero, suc, ◌+◌, ◌-◌, ◌≤◌, ◌<◌, cond, List, [], ◌∷◌, ◌++◌, append_assoc, length, map, flat_map, drop, slice_get, option_to_list, Some, Result, refl, sym, ap, ap₂, ◌∙◌, subst, add-one, length-append, arith}
+use Rattle.std.specs.FinMap.{empty}
 use Rattle.rewriting.specs.Terms as math
-use Rattle.rewriting.specs.Rules.{Condition, Rule, System, rule_at, sides}
+use Rattle.rewriting.specs.Positions.{Position}
+use Rattle.rewriting.specs.Substitutions.{Bindings}
+use Rattle.rewriting.specs.Rules.{Condition, Rule, System, sides}
 use Rattle.rewriting.specs.Signatures.{Signature}
-use Rattle.rewriting.specs.Systems.{Each, AreRules, IsRule, IsSystem}
-use Rattle.certificates.specs.Judging.{hypothesis_at}
+use Rattle.rewriting.specs.Systems.{Each, AreRules, IsSystem}
+use Rattle.rewriting.specs.Tests.{is_same, match_onto}
 use Rattle.certificates.specs.Sizes.{DoConditionsFit}
 use Rattle.cc_count.specs.Counts.{Counts, Spends}
-use Rattle.reach_lists.specs.Sites.{Site, rule_site, hypothesis_site, sites}
+use Rattle.reach_lists.specs.Sites.{Site, rule_site, hypothesis_site, rule_sites, hypothesis_sites, sites_of_part}
 use Rattle.reach_lists.specs.Solutions as lists
-use Rattle.reach_lists.specs.Lists.{total, with_terms, breadth_first, expanded, successors, asked_from, cost_by}
+use Rattle.reach_lists.specs.Lists.{total, with_terms, breadth_first, expanded, successors, asked_from, cost_by, at_site, asked_at, by_solution, unconditional}
 use Rattle.reach_lists.specs.Laws.{EachOf}
 use Rattle.rewriting.proofs.Tests.{small_fits}
-use Rattle.reach_lists.proofs.Each.{each_to, each_any}
-use Rattle.reach_lists.proofs.Derived.{IsSite, sites_are}
+use Rattle.reach_lists.proofs.Each.{each_append, each_map, each_if, each_any}
 use Rattle.reach_lists.proofs.Equations.{no_rounds, one_round}
 use Rattle.reach_lists.proofs.Growing.{each_with_all, expanded_first, round, IsLonger, longer_with_all}
 use Rattle.reach.specs.Offers.{added}
-use Rattle.reach.specs.Parts.{DoesSiteFit, DoAllFit}
+use Rattle.reach.specs.Parts.{DoesSiteFit, DoAllFit, position_of}
 use Rattle.reach.proofs.Paying.{Paying, paying_begins, paying_goes_on, last_part}
 use Rattle.reach.specs.Costs.{Costs}
 use Rattle.reach.specs.declared.listed.ReachStop.{ReachStop}
-use Rattle.rewriting.specs.Positions.{Position}
-use Rattle.rewriting.specs.Substitutions.{Bindings}
-use Rattle.reach_lists.specs.Lists.{at_site, asked_at, by_solution, unconditional}
-use Rattle.std.proofs.Common.{Result}
 use Rattle.reach.proofs.Searching.{round_cost, next_cost, cost_rises}
 
 sides_fit : (cs : List Condition) → Each math.Fits (sides cs) → DoConditionsFit cs
 sides_fit [] h = tt
 sides_fit (c ∷ cs) h = (h.0, h.1.0, sides_fit cs h.1.1)
 
-rule_in : (arities : Signature) (rs : List Rule) (i : ℕ) (r : Rule) → AreRules arities rs → slice_get rs i ≡ Some r → IsRule arities r
-rule_in arities [] i r h e = cc
-rule_in arities (q ∷ rs) zero r h e = (let same : q ≡ r = cc in subst (IsRule arities) same h.0)
-rule_in arities (q ∷ rs) (suc i) r h e = rule_in arities rs i r h.1 e
+-- a place at a position, by terms that fit
+pub record IsSiteAt (p : Position) (s : Site) : Type 0 where
+  pub position : position_of s ≡ p
+  pub fits : DoesSiteFit s
 
-numbered_in : (sys : System) (i : ℕ) (r : Rule) → IsSystem sys → rule_at sys i ≡ Some r → IsRule sys.arities r
-numbered_in sys zero r h e = cc
-numbered_in sys (suc i) r h e = rule_in sys.arities sys.rules i r h.rules e
+module _ (p : Position) (part : math.Term) where
+  rule_sites_fit : (arities : Signature) (i : ℕ) (rs : List Rule) → AreRules arities rs → EachOf (IsSiteAt p) (rule_sites p part i rs)
+  rule_sites_fit arities i [] h = tt
+  rule_sites_fit arities i (r ∷ rs) h =
+      let f = h.0.fits in
+      each_append (IsSiteAt p) (map (rule_site p i r) (option_to_list (match_onto empty r.left part))) (rule_sites p part (suc i) rs)
+      (each_map (λ b. Unit {0}) (IsSiteAt p) (rule_site p i r) (λ b x. record { position = refl; fits = (f.1.0, sides_fit r.conditions f.1.1) })
+      (option_to_list (match_onto empty r.left part)) (each_any (λ b. Unit {0}) (λ b. tt) (option_to_list (match_onto empty r.left part))))
+      (rule_sites_fit arities (suc i) rs h.1)
 
-condition_in : (hs : List Condition) (k : ℕ) (h : Condition) → DoConditionsFit hs → slice_get hs k ≡ Some h → math.Fits h.right
-condition_in [] k h f e = cc
-condition_in (g ∷ hs) zero h f e = (let same : g ≡ h = cc in subst (λ (z : Condition). math.Fits z.right) same f.1)
-condition_in (g ∷ hs) (suc k) h f e = condition_in hs k h f.2 e
+  hypothesis_sites_fit : (k : ℕ) (hs : List Condition) → DoConditionsFit hs → EachOf (IsSiteAt p) (hypothesis_sites p part k hs)
+  hypothesis_sites_fit k [] f = tt
+  hypothesis_sites_fit k (h ∷ hs) f =
+      each_append (IsSiteAt p) (cond (is_same h.left part) (hypothesis_site p k h ∷ []) []) (hypothesis_sites p part (suc k) hs)
+      (each_if (IsSiteAt p) (is_same h.left part) (hypothesis_site p k h ∷ []) (λ e. (record { position = refl; fits = f.1 }, tt)))
+      (hypothesis_sites_fit (suc k) hs f.2)
 
-hypothesis_in : (hyps : List Condition) (k : ℕ) (h : Condition) → DoConditionsFit hyps → hypothesis_at hyps k ≡ Some h → math.Fits h.right
-hypothesis_in hyps zero h f e = cc
-hypothesis_in hyps (suc k) h f e = condition_in hyps k h f e
-
-site_fits : (sys : System) (hyps : List Condition) (t : math.Term) → IsSystem sys → DoConditionsFit hyps → (s : Site) → IsSite sys hyps t s → DoesSiteFit s
-site_fits sys hyps t system fit (rule_site p i r b) m = (let f = (numbered_in sys i r system m.is_rule).fits in (f.1.0, sides_fit r.conditions f.1.1))
-site_fits sys hyps t system fit (hypothesis_site p k h) m = hypothesis_in hyps k h fit m.0
-
-pub sites_fit : (sys : System) (hyps : List Condition) (t : math.Term) → IsSystem sys → DoConditionsFit hyps → (ss : List Site) → ss ≡ sites sys hyps t → EachOf DoesSiteFit ss
-sites_fit sys hyps t system fit ss e =
-    subst (EachOf DoesSiteFit) (sym e) (each_to (IsSite sys hyps t) DoesSiteFit (λ s m. site_fits sys hyps t system fit s m) (sites sys hyps t) (sites_are sys hyps t))
+  pub sites_fit : (sys : System) (hyps : List Condition) → IsSystem sys → DoConditionsFit hyps → (ss : List Site) → ss ≡ sites_of_part sys hyps p part → EachOf (IsSiteAt p) ss
+  sites_fit sys hyps system fit ss e =
+      subst (EachOf (IsSiteAt p)) (sym e)
+      (each_append (IsSiteAt p) (rule_sites p part 1 sys.rules) (hypothesis_sites p part 1 hyps) (rule_sites_fit sys.arities 1 sys.rules system.rules) (hypothesis_sites_fit 1 hyps fit))
 
 -- listed terms fit
 pub listed_fit : (next : lists.Reached → List lists.Reached) (t : math.Term) → math.Fits t → (d : ℕ) → DoAllFit (breadth_first next d t)

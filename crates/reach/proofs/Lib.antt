@@ -2,10 +2,15 @@ pub mod Rests
 pub mod Paying
 pub mod Taking
 pub mod Walks
+pub mod Walking
 pub mod Offered
 pub mod Cells
 pub mod Found
+pub mod Around
 pub mod Placing
+pub mod Restored
+pub mod Splicing
+pub mod Counted
 pub mod Solving
 pub mod Places
 pub mod Searching

@@ -1,52 +1,36 @@
--- Whether a term is on a list, and what a list takes of offered terms.
-use Rattle.std.proofs.Common.{◌≡◌, ℕ, ◌+◌, ◌<◌, ◌≤◌, ◌||◌, Bool, true, false, cond, List, [], ◌∷◌, ◌++◌, map, flat_map, length, get_or, drop, Option, None, Some, option_and_then, option_to_list, Vec, Global, Result, Ok, Err, refl, sym, ap, ap₂, ◌∙◌, ◌⊎◌, inl, inr, if◌then◌else◌, rules, arith}
-use Rattle.std.proofs.lemmas.Bool.{or_left, false_from_ne_true, cond-false, cond-true, cases_lt}
+-- What a list takes of offered terms.
+use Rattle.std.proofs.Common.{◌≡◌, ℕ, ◌+◌, ◌<◌, ◌≤◌, Bool, true, cond, List, [], ◌∷◌, ◌++◌, map, flat_map, length, Option, None, Some, option_to_list, Vec, Global, Result, Ok, Err, refl, sym, ap, ap₂, ◌∙◌, ◌⊎◌, inl, inr, if◌then◌else◌, rules, arith}
+use Rattle.std.proofs.lemmas.Bool.{cond-true, cases_lt}
 use Rattle.rewriting.specs.Terms as math
 use Rattle.rewriting.specs.Positions.{Position, replace}
 use Rattle.rewriting.specs.Substitutions.{apply, values_of}
 use Rattle.certificates.specs.Derivations as derivations
-use Rattle.certificates.specs.Derivations.{derivation_of, derivations_of, no_steps, first_step, by_rule}
+use Rattle.certificates.specs.Derivations.{derivation_of, derivations_of, first_step, by_rule}
 use Rattle.rewriting.specs.Rules.{Rule}
 use Rattle.std.proofs.lemmas.Option.{cond_some}
 use Rattle.rewriting.specs.Matching.{Covers}
 use Rattle.certificates.proofs.Growth.{part_fits}
 use Rattle.cc_count.specs.Counts.{Counts, Spends}
-use Rattle.rewriting.specs.Tests.{is_same, is_covered}
+use Rattle.rewriting.specs.Tests.{is_covered}
 use Rattle.reach_lists.specs.Solutions as lists
 use Rattle.reach_lists.specs.Solutions.{then_step}
-use Rattle.reach_lists.specs.Lists.{is_listed, takes, with_terms, stepped, by_solution}
+use Rattle.reach_lists.specs.Lists.{takes, with_terms, stepped, by_solution}
 use Rattle.reach_lists.specs.Laws.{EachOf, IsSettled}
-use Rattle.rewriting.proofs.Tests.{same_is, equal_same, covers_is, small_fits}
+use Rattle.rewriting.proofs.Tests.{covers_is, small_fits}
 use Rattle.reach_lists.proofs.Each.{each_map, each_of_option}
-use Rattle.reach_lists.proofs.Growing.{with_terms-append, settled_add_nothing, settled_not_taken}
-use Rattle.term_core.specs.View.{view}
+use Rattle.reach_lists.proofs.Growing.{with_terms-append, settled_add_nothing}
 use Rattle.cert_model.specs.DerivationView.{derivation_view, step_view}
 use Rattle.cert_model.specs.declared.derivations.Step.{Step}
 use Rattle.cert_model.specs.declared.derivations.Step as program
 use Rattle.cert_model.specs.declared.derivations.Derivation.{Derivation, roll-Derivation}
 use Rattle.cert_model.specs.declared.derivations.Derivation as whole
-use Rattle.reach.specs.declared.listed.Reached.{Reached}
 use Rattle.reach.specs.declared.listed.ReachStop.{ReachStop}
 use Rattle.reach.specs.declared.listed.ReachStop.TheVariants.{Spent, NoMemory}
-use Rattle.reach.specs.ReachedView.{reached_view, list_view}
 use Rattle.reach.specs.Costs.{Costs}
 use Rattle.reach.specs.Offers.{added}
-use Rattle.reach.proofs.Rests.{rest_first}
+use Rattle.reach.specs.Splices.{chosen}
 use Rattle.cc_count.proofs.Spending.{spends_none, spends_same}
 use Rattle.reach.proofs.Taking.{added-append, none_added}
-
-module _ (t : math.Term) (l : List Reached) (i : ℕ) (x : Reached) (low : i < length l) (is : x ≡ get_or l i x)
-    (so_far : is_listed t (list_view l) ≡ is_listed t (list_view (drop i l))) where
-  first : is_listed t (list_view l) ≡ (is_same (view x.term) t || is_listed t (list_view (drop (i + 1) l)))
-  first = so_far ∙ ap (is_listed t) (rest_first reached_view l i x low is)
-
-  pub listed_here : view x.term ≡ t → true ≡ is_listed t (list_view l)
-  listed_here e = sym (first ∙ or_left (is_same (view x.term) t) (is_listed t (list_view (drop (i + 1) l))) (equal_same (view x.term) t e))
-
-  pub not_here : (view x.term ≡ t → ⊥) → is_listed t (list_view l) ≡ is_listed t (list_view (drop (i + 1) l))
-  not_here unlike =
-      let differs : is_same (view x.term) t ≡ false = false_from_ne_true (is_same (view x.term) t) (λ e. unlike (same_is (view x.term) t e)) in
-      first ∙ ap (λ b. b || is_listed t (list_view (drop (i + 1) l))) differs
 
 -- a term that does not fit has more than 200 nodes
 pub large : (t : math.Term) → (math.Fits t → ⊥) → 200 < math.size t
@@ -55,12 +39,6 @@ large t unlike = go (cases_lt 200 (math.size t))
     go : (200 < math.size t) ⊎ (math.size t ≤ 200) → 200 < math.size t
     go (inl h) = h
     go (inr h) = absurd (unlike (small_fits t h))
-
-pub large_not_taken : (l : List lists.Reached) (o : Option math.Term) (v : math.Term) → o ≡ Some v → (math.Fits v → ⊥)
-    → None ≡ option_and_then (λ (u : math.Term). if takes l u then Some u else None) o
-large_not_taken l o v e unlike =
-    let not_taken : takes l v ≡ false = settled_not_taken l (record { term = v; by = no_steps }) (inr (inl (large v unlike))) in
-    sym (ap (option_and_then (λ (u : math.Term). if takes l u then Some u else None)) e ∙ cond-false (takes l v) (Some v) None not_taken)
 
 -- one step more
 then_last : (ss : List derivations.Step) (s : derivations.Step) → derivation_of (ss ++ s ∷ []) ≡ then_step (derivation_of ss) s
@@ -147,14 +125,14 @@ abbrev one_more : lists.Reached → derivations.Step → math.Term → lists.Rea
 one_more u s t = record { term = t; by = then_step u.by s }
 
 step_chosen : (l : List lists.Reached) (u : lists.Reached) (v : math.Term) (s : derivations.Step) (o : Option math.Term)
-    → Some v ≡ option_and_then (λ (z : math.Term). if takes l z then Some z else None) o → (map (one_more u s) (option_to_list o) ≡ one_more u s v ∷ []) × (takes l v ≡ true)
+    → Some v ≡ chosen l o → (map (one_more u s) (option_to_list o) ≡ one_more u s v ∷ []) × (takes l v ≡ true)
 step_chosen l u v s None h = cc
 step_chosen l u v s (Some z) h =
     let k = taken_one l z v (sym h) in
     (ap (λ (t : math.Term). one_more u s t ∷ []) k.1, sym (ap (takes l) k.1) ∙ k.0)
 
 pub stepped_taken : (l : List lists.Reached) (u : lists.Reached) (p : Position) (part v : math.Term) (s : derivations.Step)
-    → Some v ≡ option_and_then (λ (z : math.Term). if takes l z then Some z else None) (replace u.term p part)
+    → Some v ≡ chosen l (replace u.term p part)
     → (stepped u p part s ≡ record { term = v; by = then_step u.by s } ∷ []) × (takes l v ≡ true)
 stepped_taken l u p part v s e = step_chosen l u v s (replace u.term p part) e
 
@@ -163,7 +141,7 @@ rule_step_view i p ds = search (rules, program.the_lemmas)
 
 pub solution_taken : (l : List lists.Reached) (u : lists.Reached) (p : Position) (i : ℕ) (r : Rule) (s : lists.Solution) (part v : math.Term) (made : derivations.Step)
     → Covers s.values r.right → part ≡ apply (values_of s.values) r.right → made ≡ by_rule i p (derivations_of s.by)
-    → Some v ≡ option_and_then (λ (z : math.Term). if takes l z then Some z else None) (replace u.term p part)
+    → Some v ≡ chosen l (replace u.term p part)
     → (by_solution u p i r s ≡ record { term = v; by = then_step u.by made } ∷ []) × (takes l v ≡ true)
 solution_taken l u p i r s part v made covered is way e =
     let h = stepped_taken l u p part v made e in (

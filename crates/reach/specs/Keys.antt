@@ -1,8 +1,7 @@
 -- Terms as keys: lists of numbers, no two of which are the same.
-use Rattle.std.specs.Prelude.{ℕ, suc, ◌≡◌, Bool, true, false, Option, None, Some, List, [], ◌∷◌, ◌++◌, map, Vec}
+use Rattle.std.specs.Prelude.{ℕ, suc, ◌≡◌, false, List, [], ◌∷◌, ◌++◌, map, Vec}
 use Rattle.std.specs.Global.{Global}
 use Rattle.rewriting.specs.Terms.{Term, Terms, var, app, nil, cons, count}
-use Rattle.rewriting.specs.Positions.{with_argument}
 use Rattle.reach_lists.specs.Solutions as math
 use Rattle.term_core.specs.View.{view}
 use Rattle.reach_lists.specs.Lists.{is_listed}
@@ -20,11 +19,6 @@ abbrev mutual
   all_cells nil = []
   all_cells (cons t ts) = cells t ++ all_cells ts
 
--- the cells of a term, if there is one
-abbrev pub AreCellsOf : Option Term → Option (Vec ℕ Global) → Type 0
-AreCellsOf o None = o ≡ None
-AreCellsOf o (Some key) = (t : Term) × (o ≡ Some t) × (key.items ≡ cells t)
-
 -- each listed term stands with its key
 abbrev pub AreKeyed : List (Vec ℕ Global × Reached) → Type 0
 AreKeyed [] = Unit {0}
@@ -38,13 +32,3 @@ keyed_view es = map (λ e. reached_view e.1) es
 pub record IsTaken (l : List math.Reached) (n : Taken) : Type 0 where
   pub key : n.key.items ≡ cells (view n.term)
   pub new : is_listed (view n.term) l ≡ false
-
--- the cells of a term are put behind others, where there is one
-abbrev pub ArePut : Option Term → List ℕ → List ℕ → Bool → Type 0
-ArePut None before after b = b ≡ false
-ArePut (Some t) before after b = (b ≡ true) × (after ≡ before ++ cells t)
-
--- so are those of the arguments, with another term as the k-th
-abbrev pub AreAllPut : Terms → ℕ → Option Term → List ℕ → List ℕ → Bool → Type 0
-AreAllPut ts k None before after b = b ≡ false
-AreAllPut ts k (Some t) before after b = (b ≡ true) × (after ≡ before ++ all_cells (with_argument ts k t))

@@ -1,6 +1,5 @@
-ghost use Rattle.std.specs.Prelude.{◌≡◌, ◌++◌, ◌∷◌, [], Some, None, IfOk, IfSome, if◌then◌else◌, option_map, option_and_then, flat_map, map};
+ghost use Rattle.std.specs.Prelude.{◌≡◌, ◌++◌, ◌∷◌, [], IfOk, OnOk, flat_map, map};
 ghost use Rattle.rewriting.specs.Terms as math;
-ghost use Rattle.rewriting.specs.Positions as position;
 ghost use Rattle.rewriting.specs.Substitutions.{apply};
 ghost use Rattle.certificates.specs.Derivations.{by_hypothesis};
 ghost use Rattle.reach_lists.specs.Lists as lists;
@@ -13,16 +12,20 @@ ghost use Rattle.reach.specs.SolutionView.{solution_view};
 ghost use Rattle.reach.specs.Costs.{Costs};
 ghost use Rattle.reach.specs.Offers.{Takes};
 ghost use Rattle.reach.specs.Keys.{IsTaken};
+ghost use Rattle.reach.specs.Splices.{IsPlace, IsSpliced};
+ghost use Rattle.flatterm.specs.Place.{preorder};
 ghost use Rattle.reach.specs.Parts.{IsInstance};
 
-use crate::keys::key_with;
-use crate::listed::{MAX_CELLS, ReachStop, Reached};
+use crate::drafts::Draft;
+use crate::listed::{ReachStop, Reached};
 use crate::listing::{Listing, Taken};
 use crate::solutions::Solution;
+use crate::splices::{Spot, placed};
 use cc_count::Budget;
 use cert_model::{Derivation, Step, copy_numbers};
+use flatterm::Work;
 use std::alloc::Global;
-use term_core::{Cond, NoMemory, Rule, Subst, Term, TermError, replace};
+use term_core::{Cond, NoMemory, Rule, Subst, Term, TermError};
 
 // The derivations in a list of their own.
 pub(crate) fn copied_derivations(
@@ -68,39 +71,6 @@ fn put(
     Ok(())
 }
 
-// The term with another part at a position, where it has one and the list takes that. It is built only then.
-fn placed(
-    alloc: Global,
-    list: &Listing,
-    t: &Term,
-    p: &[u32],
-    part: &Term,
-) -> Result<Option<Taken>, NoMemory>
-    requires t { math.Fits (view t.now) }
-    requires part { math.Fits (view part.now) }
-    ensures terms { IfOk result (λ o. option_map (λ n. view n.term) o ≡ option_and_then (λ v. if lists.takes list.now v then Some v else None) (position.replace (view t.now) p.now (view part.now))) }
-    ensures taken { IfOk result (λ o. IfSome o (IsTaken list.now)) }
-{
-    if list.is_full() {
-        return Ok(None);
-    }
-    let Some(key) = key_with(alloc, t, p, part)? else {
-        return Ok(None);
-    };
-    if key.len() > MAX_CELLS {
-        return Ok(None);
-    }
-    if list.has(&key) {
-        return Ok(None);
-    }
-    match replace(alloc, t, p, part) {
-        Ok(term) => Ok(Some(Taken { term, key })),
-        Err(TermError::NoPosition) => Ok(None),
-        Err(TermError::TooLarge) => Ok(None),
-        Err(TermError::NoMemory) => Err(NoMemory),
-    }
-}
-
 // The instance of a term whose variables all have values, where it fits.
 pub(crate) fn instance(alloc: Global, values: &Subst, t: &Term) -> Result<Option<Term>, NoMemory>
     requires { math.Fits (view t.now) }
@@ -120,16 +90,19 @@ pub(crate) fn instance(alloc: Global, values: &Subst, t: &Term) -> Result<Option
 pub(crate) fn offer_solution(
     alloc: Global,
     list: &mut Listing,
-    u: &Reached,
-    pos: &[u32],
-    number: u32,
+    spot: Spot<'_>,
+    flat: &mut Draft<'_>,
     rule: &Rule,
     s: &Solution,
     budget: &mut Budget,
+    work: &mut Work,
 ) -> Result<(), ReachStop>
-    requires u { math.Fits (view u.now.term) }
     requires right { math.Fits (view rule.now.right) }
-    ensures { Takes list.old (lists.by_solution (reached_view u.now) pos.now number (rule_view rule.now) (solution_view s.now)) 0 list.new budget.old budget.new result }
+    requires place { IsPlace spot.place spot.pos.now }
+    requires flat { flat.old ≡ (preorder (view spot.place.from.now.term), spot.place.index) }
+    ensures offered { Takes list.old (lists.by_solution (reached_view spot.entry.place.from.now) spot.entry.pos.now spot.entry.number (rule_view rule.now) (solution_view s.now)) 0 list.new budget.old budget.new result }
+    ensures kept { OnOk result (flat.new ≡ flat.old) }
+    ensures spliced { OnOk result (IsSpliced list.old list.new work.old work.new) }
 {
     if list.is_full() {
         return Ok(());
@@ -137,58 +110,64 @@ pub(crate) fn offer_solution(
     let Some(part) = instance(alloc, &s.values, &rule.right)? else {
         return Ok(());
     };
-    let Some(new) = placed(alloc, list, &u.term, pos, &part)? else {
+    let Some(new) = placed(alloc, list, spot, flat, &part, work)? else {
         return Ok(());
     };
     let step = Step::Rule {
-        rule: number,
-        pos: copy_numbers(alloc, pos)?,
+        rule: spot.number,
+        pos: copy_numbers(alloc, spot.pos)?,
         conds: copied_derivations(alloc, &s.by)?,
     };
-    put(alloc, list, u, new, step, budget)
+    put(alloc, list, spot.place.from, new, step, budget)
 }
 
 // Offers the list the term with a hypothesis' right side at a position.
 pub(crate) fn offer_hypothesis(
     alloc: Global,
     list: &mut Listing,
-    u: &Reached,
-    pos: &[u32],
-    number: u32,
+    spot: Spot<'_>,
+    flat: &mut Draft<'_>,
     hypothesis: &Cond,
     budget: &mut Budget,
+    work: &mut Work,
 ) -> Result<(), ReachStop>
-    requires u { math.Fits (view u.now.term) }
     requires right { math.Fits (view hypothesis.now.right) }
-    ensures { Takes list.old (lists.stepped (reached_view u.now) pos.now (view hypothesis.now.right) (by_hypothesis number pos.now)) 0 list.new budget.old budget.new result }
+    requires place { IsPlace spot.place spot.pos.now }
+    requires flat { flat.old ≡ (preorder (view spot.place.from.now.term), spot.place.index) }
+    ensures offered { Takes list.old (lists.stepped (reached_view spot.entry.place.from.now) spot.entry.pos.now (view hypothesis.now.right) (by_hypothesis spot.entry.number spot.entry.pos.now)) 0 list.new budget.old budget.new result }
+    ensures kept { OnOk result (flat.new ≡ flat.old) }
+    ensures spliced { OnOk result (IsSpliced list.old list.new work.old work.new) }
 {
-    let Some(new) = placed(alloc, list, &u.term, pos, &hypothesis.right)? else {
+    let Some(new) = placed(alloc, list, spot, flat, &hypothesis.right, work)? else {
         return Ok(());
     };
     let step = Step::Hyp {
-        number,
-        pos: copy_numbers(alloc, pos)?,
+        number: spot.number,
+        pos: copy_numbers(alloc, spot.pos)?,
     };
-    put(alloc, list, u, new, step, budget)
+    put(alloc, list, spot.place.from, new, step, budget)
 }
 
 // Offers the list the terms that the solutions of a rule's conditions give, in order.
 pub(crate) fn offer_solutions(
     alloc: Global,
     list: &mut Listing,
-    u: &Reached,
-    pos: &[u32],
-    number: u32,
+    spot: Spot<'_>,
+    flat: &mut Draft<'_>,
     rule: &Rule,
     solutions: &[Solution],
     budget: &mut Budget,
+    work: &mut Work,
 ) -> Result<(), ReachStop>
-    requires u { math.Fits (view u.now.term) }
     requires right { math.Fits (view rule.now.right) }
-    ensures { Takes list.old (flat_map (lists.by_solution (reached_view u.now) pos.now number (rule_view rule.now)) (map solution_view solutions.now)) 0 list.new budget.old budget.new result }
+    requires place { IsPlace spot.place spot.pos.now }
+    requires flat { flat.old ≡ (preorder (view spot.place.from.now.term), spot.place.index) }
+    ensures offered { Takes list.old (flat_map (lists.by_solution (reached_view spot.entry.place.from.now) spot.entry.pos.now spot.entry.number (rule_view rule.now)) (map solution_view solutions.now)) 0 list.new budget.old budget.new result }
+    ensures kept { OnOk result (flat.new ≡ flat.old) }
+    ensures spliced { OnOk result (IsSpliced list.old list.new work.old work.new) }
 {
     'solutions: for s in solutions {
-        offer_solution(alloc, list, u, pos, number, rule, s, budget)?;
+        offer_solution(alloc, list, spot, flat, rule, s, budget, work)?;
     }
     Ok(())
 }

@@ -1,29 +1,36 @@
-ghost use Rattle.std.specs.Prelude.{◌≡◌, ◌≤◌, ◌<◌, ◌++◌, ◌∷◌, ◌^◌, [], length, flat_map, drop, IfOk, map};
+ghost use Rattle.std.specs.Prelude.{◌≡◌, ◌≤◌, ◌<◌, ◌-◌, ◌++◌, ◌∷◌, ◌^◌, [], length, flat_map, drop, IfOk, OnOk, map};
 ghost use Rattle.rewriting.specs.Terms as math;
 ghost use Rattle.certificates.specs.Sizes.{DoConditionsFit};
 ghost use Rattle.reach_lists.specs.Lists as lists;
+ghost use Rattle.reach_lists.specs.Sites.{sites_of_part};
 ghost use Rattle.reach_lists.specs.Lists.{total, condition_list, condition_cost, successors, asked_from, at_site, asked_at};
 ghost use Rattle.reach_lists.specs.Solutions as math_solutions;
+ghost use Rattle.flatterm.specs.Place.{preorder};
+ghost use Rattle.flatterm.specs.Work.{HasRisen};
 ghost use Rattle.term_core.specs.View.{view};
 ghost use Rattle.term_core.specs.RuleView.{condition_view};
 ghost use Rattle.reach.specs.Answers.{ReachAnswers};
 ghost use Rattle.reach.specs.Costs.{Costs};
 ghost use Rattle.reach.specs.Offers.{Takes};
-ghost use Rattle.reach.specs.Parts.{DoesSiteFit, DoAllFit};
+ghost use Rattle.reach.specs.Parts.{DoesSiteFit, DoAllFit, position_of};
 ghost use Rattle.reach.specs.ReachedView.{reached_view};
 ghost use Rattle.reach.specs.Ready.{IsReady};
 ghost use Rattle.reach.specs.SiteView.{site_view};
 ghost use Rattle.reach.specs.SolutionView.{solution_view, solutions_view};
+ghost use Rattle.reach.specs.Splices.{IsPlace, IsSpliced};
 
-use crate::keys::key_of;
+use crate::drafts::Draft;
+use crate::keys::roomy_key;
 use crate::listed::{ReachStop, Reached};
 use crate::listing::Listing;
 use crate::offers::{offer_hypothesis, offer_solutions};
 use crate::sites::{Search, Site};
 use crate::solutions::{Solution, extend_by, start_of};
+use crate::splices::{Place, Spot};
 use cc_count::Budget;
 use cert_model::Derivation;
-use rule_index::IndexedSystem;
+use flatterm::Work;
+use rule_index::{IndexedSystem, PartWalk};
 use std::alloc::Global;
 use term_core::{Cond, NoMemory, Subst, System, Term, try_clone};
 
@@ -56,7 +63,7 @@ fn started(alloc: Global, start: &Term, budget: &mut Budget) -> Result<Listing, 
         return Err(ReachStop::Spent);
     }
     let mut list = Listing::new(alloc);
-    let key = key_of(alloc, start)?;
+    let key = roomy_key(alloc, start)?;
     let term = try_clone(alloc, start)?;
     let by = Derivation {
         steps: Vec::new(alloc),
@@ -75,16 +82,18 @@ impl<'a> Search<'a> {
         steps: u32,
         depth: u32,
         budget: &mut Budget,
+        work: &mut Work,
     ) -> Result<Vec<Reached>, ReachStop>
         requires ready { IsReady self.now.sys.now self.now.rules.now self.now.hyps.now }
         requires start { math.Fits (view start.now) }
-        ensures { ReachAnswers self.now.sys.now (map condition_view self.now.hyps.now) (view start.now) steps depth budget.old budget.new result }
+        ensures listed { ReachAnswers self.now.sys.now (map condition_view self.now.hyps.now) (view start.now) steps depth budget.old budget.new result }
+        ensures spliced { IfOk result (λ l. HasRisen work.old (length l.items - 1) work.new) }
     {
         let mut list = started(alloc, start, budget)?;
         let mut from = 0;
         'rounds: for _ in 0..steps {
             let to = list.len();
-            self.round(alloc, &mut list, from, depth, budget)?;
+            self.round(alloc, &mut list, from, depth, budget, work)?;
             from = to;
         }
         Ok(list.into_vec(alloc)?)
@@ -99,16 +108,18 @@ impl<'a> Search<'a> {
         from: usize,
         depth: u32,
         budget: &mut Budget,
+        work: &mut Work,
     ) -> Result<(), ReachStop>
         requires ready { IsReady self.now.sys.now self.now.rules.now self.now.hyps.now }
         requires fit { DoAllFit list.old }
         requires from { from ≤ length list.old }
-        ensures { Takes list.old (flat_map (successors self.now.sys.now (map condition_view self.now.hyps.now) (condition_list self.now.sys.now (map condition_view self.now.hyps.now) depth)) (drop from list.old)) (total (λ u. total (condition_cost self.now.sys.now (map condition_view self.now.hyps.now) depth) (asked_from self.now.sys.now (map condition_view self.now.hyps.now) (condition_list self.now.sys.now (map condition_view self.now.hyps.now) depth) u.term)) (drop from list.old)) list.new budget.old budget.new result }
+        ensures offered { Takes list.old (flat_map (successors self.now.sys.now (map condition_view self.now.hyps.now) (condition_list self.now.sys.now (map condition_view self.now.hyps.now) depth)) (drop from list.old)) (total (λ u. total (condition_cost self.now.sys.now (map condition_view self.now.hyps.now) depth) (asked_from self.now.sys.now (map condition_view self.now.hyps.now) (condition_list self.now.sys.now (map condition_view self.now.hyps.now) depth) u.term)) (drop from list.old)) list.new budget.old budget.new result }
+        ensures spliced { OnOk result (IsSpliced list.old list.new work.old work.new) }
     {
         let to = list.len();
         'terms: for k in from..to {
             let u = copied_reached(alloc, list.get(k))?;
-            self.expand(alloc, list, &u, depth, budget)?;
+            self.expand(alloc, list, &u, depth, budget, work)?;
         }
         Ok(())
     }
@@ -122,14 +133,55 @@ impl<'a> Search<'a> {
         u: &Reached,
         depth: u32,
         budget: &mut Budget,
+        work: &mut Work,
     ) -> Result<(), ReachStop>
         requires ready { IsReady self.now.sys.now self.now.rules.now self.now.hyps.now }
         requires fits { math.Fits (view u.now.term) }
-        ensures { Takes list.old (successors self.now.sys.now (map condition_view self.now.hyps.now) (condition_list self.now.sys.now (map condition_view self.now.hyps.now) depth) (reached_view u.now)) (total (condition_cost self.now.sys.now (map condition_view self.now.hyps.now) depth) (asked_from self.now.sys.now (map condition_view self.now.hyps.now) (condition_list self.now.sys.now (map condition_view self.now.hyps.now) depth) (view u.now.term))) list.new budget.old budget.new result }
+        ensures offered { Takes list.old (successors self.now.sys.now (map condition_view self.now.hyps.now) (condition_list self.now.sys.now (map condition_view self.now.hyps.now) depth) (reached_view u.now)) (total (condition_cost self.now.sys.now (map condition_view self.now.hyps.now) depth) (asked_from self.now.sys.now (map condition_view self.now.hyps.now) (condition_list self.now.sys.now (map condition_view self.now.hyps.now) depth) (view u.now.term))) list.new budget.old budget.new result }
+        ensures spliced { OnOk result (IsSpliced list.old list.new work.old work.new) }
     {
-        let sites = self.sites(alloc, &u.term)?;
+        let key = roomy_key(alloc, &u.term)?;
+        let mut flat = Draft::new(&u.term);
+        let mut walk = PartWalk::new(alloc, &u.term);
+        let mut index = 0;
+        'parts: while let Some(part) = walk.next()? {
+            let place = Place {
+                from: u,
+                key: &key,
+                part,
+                index,
+            };
+            let pos = walk.position();
+            self.expand_part(alloc, list, place, pos, &mut flat, depth, budget, work)?;
+            flat.go_on();
+            index += 1;
+        }
+        Ok(())
+    }
+
+    // Offers the list what steps at a part make of a term.
+    #[cycle(search)]
+    fn expand_part(
+        &self,
+        alloc: Global,
+        list: &mut Listing,
+        place: Place<'_>,
+        pos: &[u32],
+        flat: &mut Draft<'_>,
+        depth: u32,
+        budget: &mut Budget,
+        work: &mut Work,
+    ) -> Result<(), ReachStop>
+        requires ready { IsReady self.now.sys.now self.now.rules.now self.now.hyps.now }
+        requires place { IsPlace place pos.now }
+        requires flat { flat.old ≡ (preorder (view place.from.now.term), place.index) }
+        ensures offered { Takes list.old (flat_map (at_site (condition_list self.now.sys.now (map condition_view self.now.hyps.now) depth) (reached_view place.entry.from.now)) (sites_of_part self.now.sys.now (map condition_view self.now.hyps.now) pos.now (view place.entry.part.now))) (total (condition_cost self.now.sys.now (map condition_view self.now.hyps.now) depth) (flat_map (asked_at (condition_list self.now.sys.now (map condition_view self.now.hyps.now) depth)) (sites_of_part self.now.sys.now (map condition_view self.now.hyps.now) pos.now (view place.entry.part.now)))) list.new budget.old budget.new result }
+        ensures kept { OnOk result (flat.new ≡ flat.old) }
+        ensures spliced { OnOk result (IsSpliced list.old list.new work.old work.new) }
+    {
+        let sites = self.sites_of_part(alloc, place.part, pos)?;
         'sites: for site in &sites {
-            self.expand_at(alloc, list, u, site, depth, budget)?;
+            self.expand_at(alloc, list, place, site, flat, depth, budget, work)?;
         }
         Ok(())
     }
@@ -140,15 +192,20 @@ impl<'a> Search<'a> {
         &self,
         alloc: Global,
         list: &mut Listing,
-        u: &Reached,
+        place: Place<'_>,
         site: &Site,
+        flat: &mut Draft<'_>,
         depth: u32,
         budget: &mut Budget,
+        work: &mut Work,
     ) -> Result<(), ReachStop>
         requires ready { IsReady self.now.sys.now self.now.rules.now self.now.hyps.now }
-        requires fits { math.Fits (view u.now.term) }
         requires site { DoesSiteFit (site_view site.now) }
-        ensures { Takes list.old (at_site (condition_list self.now.sys.now (map condition_view self.now.hyps.now) depth) (reached_view u.now) (site_view site.now)) (total (condition_cost self.now.sys.now (map condition_view self.now.hyps.now) depth) (asked_at (condition_list self.now.sys.now (map condition_view self.now.hyps.now) depth) (site_view site.now))) list.new budget.old budget.new result }
+        requires place { IsPlace place (position_of (site_view site.now)) }
+        requires flat { flat.old ≡ (preorder (view place.from.now.term), place.index) }
+        ensures offered { Takes list.old (at_site (condition_list self.now.sys.now (map condition_view self.now.hyps.now) depth) (reached_view place.entry.from.now) (site_view site.now)) (total (condition_cost self.now.sys.now (map condition_view self.now.hyps.now) depth) (asked_at (condition_list self.now.sys.now (map condition_view self.now.hyps.now) depth) (site_view site.now))) list.new budget.old budget.new result }
+        ensures kept { OnOk result (flat.new ≡ flat.old) }
+        ensures spliced { OnOk result (IsSpliced list.old list.new work.old work.new) }
     {
         match site {
             Site::Rule {
@@ -158,14 +215,20 @@ impl<'a> Search<'a> {
                 values,
             } => {
                 let first = unconditional(alloc, values)?;
-                let solutions = self.solutions(alloc, &rule.conds, first, depth, budget)?;
-                offer_solutions(alloc, list, u, pos, *number, rule, &solutions, budget)
+                let solutions = self.solutions(alloc, &rule.conds, first, depth, budget, work)?;
+                let number = *number;
+                let spot = Spot { place, pos, number };
+                offer_solutions(alloc, list, spot, flat, rule, &solutions, budget, work)
             }
             Site::Hyp {
                 pos,
                 number,
                 hypothesis,
-            } => { offer_hypothesis(alloc, list, u, pos, *number, hypothesis, budget) }
+            } => {
+                let number = *number;
+                let spot = Spot { place, pos, number };
+                offer_hypothesis(alloc, list, spot, flat, hypothesis, budget, work)
+            }
         }
     }
 
@@ -178,15 +241,17 @@ impl<'a> Search<'a> {
         first: Solution,
         depth: u32,
         budget: &mut Budget,
+        work: &mut Work,
     ) -> Result<Vec<Solution>, ReachStop>
         requires ready { IsReady self.now.sys.now self.now.rules.now self.now.hyps.now }
         requires fit { DoConditionsFit (map condition_view conds.now) }
-        ensures { Costs (λ ss. solutions_view ss.items ≡ math_solutions.solutions (condition_list self.now.sys.now (map condition_view self.now.hyps.now) depth) (map condition_view conds.now) (solution_view first ∷ [])) (total (condition_cost self.now.sys.now (map condition_view self.now.hyps.now) depth) (math_solutions.asked (condition_list self.now.sys.now (map condition_view self.now.hyps.now) depth) (map condition_view conds.now) (solution_view first ∷ []))) budget.old budget.new result }
+        ensures found { Costs (λ ss. solutions_view ss.items ≡ math_solutions.solutions (condition_list self.now.sys.now (map condition_view self.now.hyps.now) depth) (map condition_view conds.now) (solution_view first ∷ [])) (total (condition_cost self.now.sys.now (map condition_view self.now.hyps.now) depth) (math_solutions.asked (condition_list self.now.sys.now (map condition_view self.now.hyps.now) depth) (map condition_view conds.now) (solution_view first ∷ []))) budget.old budget.new result }
+        ensures never_less { OnOk result (HasRisen work.old 0 work.new) }
     {
         let mut found = Vec::new(alloc);
         found.push(first)?;
         'conds: for cond in conds {
-            found = self.next_solutions(alloc, cond, &found, depth, budget)?;
+            found = self.next_solutions(alloc, cond, &found, depth, budget, work)?;
         }
         Ok(found)
     }
@@ -200,14 +265,16 @@ impl<'a> Search<'a> {
         found: &[Solution],
         depth: u32,
         budget: &mut Budget,
+        work: &mut Work,
     ) -> Result<Vec<Solution>, ReachStop>
         requires ready { IsReady self.now.sys.now self.now.rules.now self.now.hyps.now }
         requires fits { math.Fits (view cond.now.left) }
-        ensures { Costs (λ ss. solutions_view ss.items ≡ flat_map (math_solutions.extensions (condition_list self.now.sys.now (map condition_view self.now.hyps.now) depth) (condition_view cond.now)) (solutions_view found.now)) (total (condition_cost self.now.sys.now (map condition_view self.now.hyps.now) depth) (flat_map (math_solutions.starts (condition_view cond.now)) (solutions_view found.now))) budget.old budget.new result }
+        ensures found { Costs (λ ss. solutions_view ss.items ≡ flat_map (math_solutions.extensions (condition_list self.now.sys.now (map condition_view self.now.hyps.now) depth) (condition_view cond.now)) (solutions_view found.now)) (total (condition_cost self.now.sys.now (map condition_view self.now.hyps.now) depth) (flat_map (math_solutions.starts (condition_view cond.now)) (solutions_view found.now))) budget.old budget.new result }
+        ensures never_less { OnOk result (HasRisen work.old 0 work.new) }
     {
         let mut out = Vec::new(alloc);
         'found: for s in found {
-            self.extend(alloc, cond, s, depth, budget, &mut out)?;
+            self.extend(alloc, cond, s, depth, budget, work, &mut out)?;
         }
         Ok(out)
     }
@@ -221,11 +288,13 @@ impl<'a> Search<'a> {
         s: &Solution,
         depth: u32,
         budget: &mut Budget,
+        work: &mut Work,
         out: &mut Vec<Solution>,
     ) -> Result<(), ReachStop>
         requires ready { IsReady self.now.sys.now self.now.rules.now self.now.hyps.now }
         requires fits { math.Fits (view cond.now.left) }
-        ensures { Costs (λ _. solutions_view out.new.items ≡ solutions_view out.old.items ++ math_solutions.extensions (condition_list self.now.sys.now (map condition_view self.now.hyps.now) depth) (condition_view cond.now) (solution_view s.now)) (total (condition_cost self.now.sys.now (map condition_view self.now.hyps.now) depth) (math_solutions.starts (condition_view cond.now) (solution_view s.now))) budget.old budget.new result }
+        ensures found { Costs (λ _. solutions_view out.new.items ≡ solutions_view out.old.items ++ math_solutions.extensions (condition_list self.now.sys.now (map condition_view self.now.hyps.now) depth) (condition_view cond.now) (solution_view s.now)) (total (condition_cost self.now.sys.now (map condition_view self.now.hyps.now) depth) (math_solutions.starts (condition_view cond.now) (solution_view s.now))) budget.old budget.new result }
+        ensures never_less { OnOk result (HasRisen work.old 0 work.new) }
     {
         if depth == 0 {
             return Ok(());
@@ -233,7 +302,7 @@ impl<'a> Search<'a> {
         let Some(start) = start_of(alloc, cond, s)? else {
             return Ok(());
         };
-        let list = self.list(alloc, &start, 5, depth - 1, budget)?;
+        let list = self.list(alloc, &start, 5, depth - 1, budget, work)?;
         extend_by(alloc, cond, s, &list, out)?;
         Ok(())
     }
@@ -248,24 +317,26 @@ pub fn reach_in(
     steps: u32,
     cond_depth: u32,
     budget: &mut Budget,
+    work: &mut Work,
 ) -> Result<Vec<Reached>, ReachStop>
     requires start { math.Fits (view start.now) }
     requires hypotheses { DoConditionsFit (map condition_view hyps.now) }
     requires few { length hyps.now < 2 ^ 32 }
-    ensures { ReachAnswers sys.now (map condition_view hyps.now) (view start.now) steps cond_depth budget.old budget.new result }
+    ensures listed { ReachAnswers sys.now (map condition_view hyps.now) (view start.now) steps cond_depth budget.old budget.new result }
+    ensures spliced { IfOk result (λ l. HasRisen work.old (length l.items - 1) work.new) }
 {
     let search = Search {
         sys,
         rules: sys.rules(),
         hyps,
     };
-    search.list(alloc, start, steps, cond_depth, budget)
+    search.list(alloc, start, steps, cond_depth, budget, work)
 }
 
 /// The terms that the start reaches in so many steps, breadth first, each with the first derivation of it: at most 2,000, and
 /// but for the start none of more than 200 nodes. The conditions of rules are met by lists of 5 steps, nested at most
 /// `cond_depth` deep. Each term that is put on a list takes a unit of the budget: `Spent` comes where the cost of the list is
-/// greater than what is left, and then nothing is left.
+/// greater than what is left, and then nothing is left. Each listed term but the start comes of a splice, which `work` counts.
 pub fn reach(
     alloc: Global,
     sys: &System,
@@ -274,12 +345,16 @@ pub fn reach(
     steps: u32,
     cond_depth: u32,
     budget: &mut Budget,
+    work: &mut Work,
 ) -> Result<Vec<Reached>, ReachStop>
     requires start { math.Fits (view start.now) }
     requires hypotheses { DoConditionsFit (map condition_view hyps.now) }
     requires few { length hyps.now < 2 ^ 32 }
-    ensures { ReachAnswers sys.now (map condition_view hyps.now) (view start.now) steps cond_depth budget.old budget.new result }
+    ensures listed { ReachAnswers sys.now (map condition_view hyps.now) (view start.now) steps cond_depth budget.old budget.new result }
+    ensures spliced { IfOk result (λ l. HasRisen work.old (length l.items - 1) work.new) }
 {
     let indexed = IndexedSystem::new(alloc, sys)?;
-    reach_in(alloc, &indexed, hyps, start, steps, cond_depth, budget)
+    reach_in(
+        alloc, &indexed, hyps, start, steps, cond_depth, budget, work,
+    )
 }

@@ -8,6 +8,7 @@ use cc_count::Budget;
 use cert_model::{Derivation, Step};
 use cops_read::Names;
 use cops_write::write_term;
+use flatterm::Work;
 use reach::{ReachStop, Reached, reach};
 use std::alloc::{AllocError, Global};
 use term_core::{Cond, Term, fits};
@@ -28,8 +29,9 @@ pub fn of_line(alloc: Global, line: &str) -> Result<String, AllocError> {
 
 fn of_question(alloc: Global, question: &Question) -> Result<String, AllocError> {
     let mut budget = Budget::new(question.budget);
+    let mut work = Work::new();
     let mut out = String::new(alloc);
-    match list_for(alloc, question, &mut budget) {
+    match list_for(alloc, question, &mut budget, &mut work) {
         Ok(list) => {
             put_list(alloc, &mut out, question, &list)?;
             let cost = budget.spent();
@@ -40,7 +42,8 @@ fn of_question(alloc: Global, question: &Question) -> Result<String, AllocError>
         Err(stop) => out.push_str(format!(in alloc; "{stop:?}")?.as_str())?,
     }
     let (left, spent) = (budget.left(), budget.spent());
-    out.push_str(format!(in alloc; "; left {left}, spent {spent}")?.as_str())?;
+    let splices = work.splices();
+    out.push_str(format!(in alloc; "; left {left}, spent {spent}, spliced {splices}")?.as_str())?;
     Ok(out)
 }
 
@@ -66,6 +69,7 @@ fn list_for(
     alloc: Global,
     question: &Question,
     budget: &mut Budget,
+    work: &mut Work,
 ) -> Result<Vec<Reached>, ReachStop> {
     let Some((start, hyps)) = question.asked() else {
         return Err(ReachStop::NoMemory);
@@ -74,15 +78,25 @@ fn list_for(
         return Err(ReachStop::NoMemory);
     }
     let (steps, depth) = (question.steps, question.depth);
-    reach(alloc, &question.sys, hyps, start, steps, depth, budget)
+    reach(
+        alloc,
+        &question.sys,
+        hyps,
+        start,
+        steps,
+        depth,
+        budget,
+        work,
+    )
 }
 
 // Whether a budget of the cost is enough, and one unit less is not, and nothing is left either way.
 fn is_exact(alloc: Global, question: &Question, cost: u64) -> bool {
     let mut enough = Budget::new(cost);
     let mut less = Budget::new(cost.saturating_sub(1));
-    let found = list_for(alloc, question, &mut enough);
-    let stopped = list_for(alloc, question, &mut less);
+    let mut work = Work::new();
+    let found = list_for(alloc, question, &mut enough, &mut work);
+    let stopped = list_for(alloc, question, &mut less, &mut work);
     found.is_ok()
         && matches!(stopped, Err(ReachStop::Spent))
         && enough.left() == 0

@@ -14,10 +14,10 @@ returns-in-Ok c =
     let sys = c.args.sys.now in
     let t = view c.args.start.now in
     last_part names sys (peak_items_of sys t) c.args.budget.now c.reach_in.new.budget c.try_listed.new.budget (pair_items t (listing sys [] t))
-    (listing_made names sys t c.args.budget.now c.reach_in.new.budget c.in-Ok.ensures.1) c.try_listed.result
-    (subst (λ l. WalkAnswers names sys (pair_items t l) c.reach_in.new.budget c.try_listed.new.budget c.try_listed.result) (ap list_view c.deref.ensures.value ∙ c.in-Ok.ensures.0) c.try_listed.ensures)
+    (listing_made names sys t c.args.budget.now c.reach_in.new.budget c.in-Ok.ensures.listed.1) c.try_listed.result
+    (subst (λ l. WalkAnswers names sys (pair_items t l) c.reach_in.new.budget c.try_listed.new.budget c.try_listed.result) (ap list_view c.deref.ensures.value ∙ c.in-Ok.ensures.listed.0) c.try_listed.ensures)
 
 pub returns-in-Err-Spent : goal.returns-in-Err-Spent
 returns-in-Err-Spent c =
     listing_stops c.args.names.now c.args.sys.now (view c.args.start.now) c.args.budget.now c.reach_in.new.budget
-    (subst (λ z. ReachAnswers c.args.sys.now [] (view c.args.start.now) 5 2 c.args.budget.now c.reach_in.new.budget (Err z)) c.in-Err-Spent.field-0-is c.in-Err-Spent.ensures)
+    (subst (λ z. ReachAnswers c.args.sys.now [] (view c.args.start.now) 5 2 c.args.budget.now c.reach_in.new.budget (Err z)) c.in-Err-Spent.field-0-is c.in-Err-Spent.ensures.listed)
