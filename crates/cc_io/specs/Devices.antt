@@ -36,6 +36,10 @@ shelf_calls m = m.calls
 abbrev pub shelf_fails : MemoryShelf → List ℕ
 shelf_fails m = m.fails.items
 
+-- how many bytes a shelf gives at a call
+abbrev pub shelf_piece : MemoryShelf → ℕ
+shelf_piece m = m.piece
+
 -- all bytes that a sink has taken
 abbrev pub sink_written : MemorySink → Option (List ℕ)
 sink_written m = Some m.bytes.items

@@ -1,5 +1,5 @@
 //! Files and a sink in memory, which fail at the calls that they are told to fail at.
-ghost use Rattle.std.specs.Prelude.{◌≡◌, ◌<◌, ◌≤◌, ◌+◌, ◌-◌, ◌⊎◌, ◌↔◌, min, [], Some, None, List, ℕ, Option, Contains, length, take, drop, IfOk, OnOk, OnErr, IfSome, IfNone, IsTrue, IsErr, IsSome, is_ok, if◌then◌else◌, vec_capacity};
+ghost use Rattle.std.specs.Prelude.{◌≡◌, ◌<◌, ◌≤◌, ◌+◌, ◌-◌, ◌^◌, ◌⊎◌, ◌↔◌, min, [], Some, None, List, ℕ, Option, Contains, length, take, drop, IfOk, OnOk, OnErr, IfSome, IfNone, IsTrue, IsErr, IsSome, is_ok, if◌then◌else◌, vec_capacity};
 ghost use Rattle.cc_io.specs.Faults.{Rose, raised, top};
 ghost use Rattle.cc_io.specs.Memory.{bytes_at};
 
@@ -20,17 +20,19 @@ pub struct MemoryFile {
 pub struct MemoryShelf {
     files: Vec<MemoryFile>,
     fails: Vec<u64>,
+    piece: usize,
     calls: u64,
     faults: u64,
     given: u64,
     reads: CallCount,
     begun: Option<usize>,
     at: usize,
+    ghost piece_some: { 0 < piece },
 }
 
 impl MemoryShelf {
     ghost use Rattle.cc_io.specs.Memory.{index_named, first_named};
-    ghost use Rattle.cc_io.specs.Devices.{shelf_contents, shelf_begun, shelf_rest, shelf_faults, shelf_given, shelf_reads, shelf_calls, shelf_fails};
+    ghost use Rattle.cc_io.specs.Devices.{shelf_contents, shelf_begun, shelf_rest, shelf_faults, shelf_given, shelf_reads, shelf_calls, shelf_fails, shelf_piece};
 
     /// These files. Each call whose number, from 1 on, is in `fails` fails. Calls that cannot fail are not counted.
     pub fn new(files: Vec<MemoryFile>, fails: Vec<u64>) -> MemoryShelf
@@ -42,10 +44,28 @@ impl MemoryShelf {
         ensures reads { shelf_reads result ≡ 0 }
         ensures calls { shelf_calls result ≡ 0 }
         ensures fails { shelf_fails result ≡ fails.items }
+        ensures piece { shelf_piece result ≡ 2 ^ 64 - 1 }
+    {
+        MemoryShelf::in_pieces(files, fails, usize::MAX)
+    }
+
+    /// The same files, of which each `read` gives at most `piece` bytes.
+    pub fn in_pieces(files: Vec<MemoryFile>, fails: Vec<u64>, piece: usize) -> MemoryShelf
+        requires { 0 < piece }
+        ensures contents { (name : List ℕ) → shelf_contents result name ≡ first_named files.items name }
+        ensures begun { shelf_begun result ≡ None }
+        ensures rest { shelf_rest result ≡ Some [] }
+        ensures faults { (name : List ℕ) → shelf_faults result name ≡ 0 }
+        ensures given { shelf_given result ≡ 0 }
+        ensures reads { shelf_reads result ≡ 0 }
+        ensures calls { shelf_calls result ≡ 0 }
+        ensures fails { shelf_fails result ≡ fails.items }
+        ensures piece { shelf_piece result ≡ piece }
     {
         MemoryShelf {
             files,
             fails,
+            piece,
             calls: 0,
             faults: 0,
             given: 0,
@@ -73,9 +93,11 @@ fn bytes_of(files: &[MemoryFile], place: usize) -> Option<&[u8]>
     }
 }
 
-// Copies what follows a place, as far as the buffer goes.
-fn copy_from(bytes: &[u8], at: usize, buf: &mut [u8]) -> usize
+// Copies what follows a place, as far as the buffer goes, but no more than a piece.
+fn copy_from(bytes: &[u8], at: usize, piece: usize, buf: &mut [u8]) -> usize
+    requires { 0 < piece }
     ensures within { result ≤ length buf.old }
+    ensures piece { result ≤ piece }
     ensures copied { take result buf.new ≡ take result (drop at bytes.now) }
     ensures whole { length (take result buf.new) ≡ result }
     ensures end { result ≡ 0 → 0 < length buf.old → drop at bytes.now ≡ [] }
@@ -84,10 +106,10 @@ fn copy_from(bytes: &[u8], at: usize, buf: &mut [u8]) -> usize
         return 0;
     }
     let (_, unread) = bytes.split_at(at);
-    let n = unread.len().min(buf.len());
-    let (piece, _) = unread.split_at(n);
+    let n = unread.len().min(buf.len()).min(piece);
+    let (source, _) = unread.split_at(n);
     let (front, _) = buf.split_at_mut(n);
-    front.copy_from_slice(piece);
+    front.copy_from_slice(source);
     n
 }
 
@@ -103,7 +125,7 @@ fn fails_now(calls: &mut u64, fails: &[u64]) -> bool
 impl Shelf for MemoryShelf {
     ghost use Rattle.cc_io.specs.MemoryLaw.{none-unread};
     ghost use Rattle.cc_io.specs.Bytes.{prefixed};
-    ghost use Rattle.cc_io.specs.Devices.{shelf_contents, shelf_begun, shelf_rest, shelf_faults, shelf_given, shelf_reads, shelf_calls, shelf_fails};
+    ghost use Rattle.cc_io.specs.Devices.{shelf_contents, shelf_begun, shelf_rest, shelf_faults, shelf_given, shelf_reads, shelf_calls, shelf_fails, shelf_piece};
 
     ghost contents = { shelf_contents };
 
@@ -131,6 +153,7 @@ impl Shelf for MemoryShelf {
         ensures never_falls { (name : List ℕ) → shelf_faults self.old name ≤ shelf_faults self.new name }
         ensures calls { shelf_calls self.new ≡ raised (shelf_calls self.old) 1 }
         ensures fails { shelf_fails self.new ≡ shelf_fails self.old }
+        ensures same_piece { shelf_piece self.new ≡ shelf_piece self.old }
         // It fails exactly at the calls that are to fail and at a name that it lacks.
         ensures exactly { IsErr result ↔ (Contains (shelf_fails self.old) (shelf_calls self.new) ⊎ (shelf_contents self.old name.now ≡ None)) }
         ensures count { (name : List ℕ) → shelf_faults self.new name ≡ (if is_ok result then shelf_faults self.old name else raised (shelf_faults self.old name) 1) }
@@ -166,6 +189,8 @@ impl Shelf for MemoryShelf {
         ensures not_counted { (length buf.old ≡ 0) ⊎ (shelf_begun self.old ≡ None) → shelf_calls self.new ≡ shelf_calls self.old }
         ensures counted { 0 < length buf.old → IsSome (shelf_begun self.old) → shelf_calls self.new ≡ raised (shelf_calls self.old) 1 }
         ensures fails { shelf_fails self.new ≡ shelf_fails self.old }
+        ensures piece { IfOk result (λ n. n ≤ shelf_piece self.old) }
+        ensures same_piece { shelf_piece self.new ≡ shelf_piece self.old }
         ensures exactly { 0 < length buf.old → IsSome (shelf_begun self.old) → (IsErr result ↔ Contains (shelf_fails self.old) (shelf_calls self.new)) }
         ensures count { (name : List ℕ) → shelf_faults self.new name ≡ (if is_ok result then shelf_faults self.old name else raised (shelf_faults self.old name) 1) }
     {
@@ -184,7 +209,7 @@ impl Shelf for MemoryShelf {
             self.faults = self.faults.saturating_add(1);
             return Err(Failed);
         }
-        let n = copy_from(bytes, self.at, buf);
+        let n = copy_from(bytes, self.at, self.piece, buf);
         self.at += n;
         self.given = self.given.saturating_add(n as u64);
         Ok(n)

@@ -5,7 +5,7 @@ use cc_io::{
 use std::alloc::Global;
 use std::test::Fail;
 
-fn shelf(alloc: Global, fails: Vec<u64>) -> Result<MemoryShelf, Fail> {
+fn files(alloc: Global) -> Result<Vec<MemoryFile>, Fail> {
     let mut files = Vec::new(alloc);
     files.push(MemoryFile {
         name: String::from_str(alloc, "x.trs")?,
@@ -19,7 +19,11 @@ fn shelf(alloc: Global, fails: Vec<u64>) -> Result<MemoryShelf, Fail> {
         name: String::from_str(alloc, "x.trs")?,
         bytes: Vec::from_slice(alloc, b"the second of this name")?,
     })?;
-    Ok(MemoryShelf::new(files, fails))
+    Ok(files)
+}
+
+fn shelf(alloc: Global, fails: Vec<u64>) -> Result<MemoryShelf, Fail> {
+    Ok(MemoryShelf::new(files(alloc)?, fails))
 }
 
 #[test]
@@ -33,6 +37,20 @@ fn a_file_is_read_whole_and_again(rt: HostRuntime) -> Result<(), Fail> {
     ] {
         let bytes = read_all(alloc, &mut files, name, 21)?;
         assert_eq!(rt; bytes.as_slice(), want);
+    }
+    Ok(())
+}
+
+#[test]
+fn a_file_is_read_piece_by_piece(rt: HostRuntime) -> Result<(), Fail> {
+    let alloc = rt.alloc();
+    for piece in [1, 2, 20, 21, 22] {
+        let mut shelf = MemoryShelf::in_pieces(files(alloc)?, Vec::new(alloc), piece);
+        let bytes = read_all(alloc, &mut shelf, "x.trs", 21)?;
+        assert_eq!(rt; bytes.as_slice(), b"(RULES a -> b a -> c)".as_slice());
+        let mut buf = [0; 64];
+        assert!(rt; shelf.begin("x.trs").is_ok());
+        assert!(rt; matches!(shelf.read(&mut buf), Ok(n) if n == piece.min(21)));
     }
     Ok(())
 }

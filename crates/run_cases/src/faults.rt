@@ -1,5 +1,5 @@
 //! What no file of cases can say: runs over files and sinks that fail.
-use crate::{shelf_of, status_of_run};
+use crate::{files_of, shelf_of, status_of_run};
 use cc_io::{MemoryShelf, MemorySink};
 use concon_run::Status;
 use std::alloc::Global;
@@ -63,8 +63,10 @@ fn words_that_are_no_command_ask_nothing(rt: HostRuntime) -> Result<(), Fail> {
 
 const FILE_FAULTS: &[(u64, &str)] = &[
     (1, "x.trs: read fault\n"),
+    (2, "x.trs: read fault\n"),
     (3, "x.trs: read fault\n"),
     (4, "c.crt: read fault\n"),
+    (5, "c.crt: read fault\n"),
     (6, "c.crt: read fault\n"),
 ];
 
@@ -91,6 +93,69 @@ fn a_sink_that_fails_has_a_front_of_the_answer(rt: HostRuntime) -> Result<(), Fa
     assert_eq!(rt; answer, Status::WriteFault);
     assert_eq!(rt; out.written(), b"NO".as_slice());
     assert_eq!(rt; err.written(), b"".as_slice());
+    Ok(())
+}
+
+// a sink that takes a byte a call, and fails at this call
+fn slow_sink(alloc: Global, call: u64) -> Result<MemorySink, Fail> {
+    let mut fails = Vec::new(alloc);
+    fails.push(call)?;
+    Ok(MemorySink::new(alloc, 100, 1, fails)?)
+}
+
+#[test]
+fn each_front_of_the_answer_may_be_all(rt: HostRuntime) -> Result<(), Fail> {
+    let alloc = rt.alloc();
+    let answer = b"NO\n".as_slice();
+    for call in 1..4 {
+        let mut shelf = shelf_of(alloc, SYSTEM, PEAK, Vec::new(alloc))?;
+        let mut out = slow_sink(alloc, call as u64)?;
+        let mut err = slow_sink(alloc, 100)?;
+        let status = status_of_run(alloc, CHECK, &mut shelf, &mut out, &mut err);
+        assert_eq!(rt; status, Status::WriteFault);
+        assert_eq!(rt; out.written(), answer.split_at(call - 1).0);
+        assert!(rt; err.written().is_empty());
+    }
+    Ok(())
+}
+
+#[test]
+fn each_front_of_a_refusal_may_be_all(rt: HostRuntime) -> Result<(), Fail> {
+    let alloc = rt.alloc();
+    let refusal = b"x.trs:12: syntax\n".as_slice();
+    for call in 1..18 {
+        let mut shelf = shelf_of(alloc, "(RULES a -> ", PEAK, Vec::new(alloc))?;
+        let mut out = slow_sink(alloc, 100)?;
+        let mut err = slow_sink(alloc, call as u64)?;
+        let status = status_of_run(alloc, CHECK, &mut shelf, &mut out, &mut err);
+        assert_eq!(rt; status, Status::WriteFault);
+        assert_eq!(rt; err.written(), refusal.split_at(call - 1).0);
+        assert!(rt; out.written().is_empty());
+    }
+    Ok(())
+}
+
+const MINIMUM: &str =
+    "(CONDITIONTYPE ORIENTED)\n(VAR x y)\n(RULES\n  le(0,y) -> true\n  le(s(x),0) -> false\n  le(s(x),s(y)) -> le(x,y)\n  min(x,y) -> x | le(x,y) == true\n  min(x,y) -> y | le(x,y) == false\n)\n";
+
+const CONFLICT: &str = "concon 1\northo\npair 4 e 5 conflict 1 1\nend\n";
+
+#[test]
+fn files_may_come_byte_by_byte(rt: HostRuntime) -> Result<(), Fail> {
+    let alloc = rt.alloc();
+    for (file, certificate, status, answer) in [
+        (SYSTEM, PEAK, Status::No, "NO\n"),
+        (MINIMUM, CONFLICT, Status::Yes, "YES\n"),
+    ] {
+        let files = files_of(alloc, file, certificate)?;
+        let mut shelf = MemoryShelf::in_pieces(files, Vec::new(alloc), 1);
+        let mut out = slow_sink(alloc, 100)?;
+        let mut err = slow_sink(alloc, 100)?;
+        let found = status_of_run(alloc, CHECK, &mut shelf, &mut out, &mut err);
+        assert_eq!(rt; found, status);
+        assert_eq!(rt; out.written(), answer.as_bytes());
+        assert!(rt; err.written().is_empty());
+    }
     Ok(())
 }
 

@@ -14,12 +14,7 @@ use concon_run::{Status, run};
 use std::alloc::{AllocError, Global};
 use std::{env, fs, io};
 
-fn shelf_of(
-    alloc: Global,
-    file: &str,
-    certificate: &str,
-    fails: Vec<u64>,
-) -> Result<MemoryShelf, AllocError> {
+fn files_of(alloc: Global, file: &str, certificate: &str) -> Result<Vec<MemoryFile>, AllocError> {
     let mut files = Vec::new(alloc);
     files.push(MemoryFile {
         name: String::from_str(alloc, "x.trs")?,
@@ -29,7 +24,16 @@ fn shelf_of(
         name: String::from_str(alloc, "c.crt")?,
         bytes: Vec::from_slice(alloc, certificate.as_bytes())?,
     })?;
-    Ok(MemoryShelf::new(files, fails))
+    Ok(files)
+}
+
+fn shelf_of(
+    alloc: Global,
+    file: &str,
+    certificate: &str,
+    fails: Vec<u64>,
+) -> Result<MemoryShelf, AllocError> {
+    Ok(MemoryShelf::new(files_of(alloc, file, certificate)?, fails))
 }
 
 // A run of which its caller is told the status alone, and none of its clauses.
