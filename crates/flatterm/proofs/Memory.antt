@@ -211,17 +211,21 @@ module _ {M : Type 1} {𝓤 : Ura M} (𝓛 : Logic 𝓤) (κ : Lft) where
   cell_seen p [] c ys z = fst∗ 𝓤 _ (sem 𝓛 (chain_lent c.0 ys z κ))
   cell_seen p (x ∷ xs) c ys z = via 𝓤 (sem 𝓛 (chain_lent x.0 (xs ++ c ∷ ys) z κ)) (snd∗ 𝓤 (sem 𝓛 (lent_at N x.0 (node (follow (xs ++ c ∷ ys) z) p x.1) κ)) _) (cell_seen x.0 xs c ys z)
 
-module _ {M : Type 1} {𝓤 : Ura M} {𝓛 : Logic 𝓤} {K : Type 0} {Γ : List (Item 𝓤)} {G : Goal 𝓤 𝓛.H} where
-  pub pointer_in : K → Soaks G → {κ : Lft} {q : Share} (p : Ptr) (b at : ℕ)
-      → ((part : Share) → Seq K 𝓛 (‵ (fat part ty_ptr b at (ptr_val p)) ∷ Shut 𝓛 κ q (part_at RawPtr part p b at) ∷ Γ) G) → Seq K 𝓛 (‵ (hidden_shr RawPtr κ p b at) ∷ ‵ (flft κ q) ∷ Γ) G
-  pointer_in t z p b at k =
-      looks t z RawPtr (plain_Copied 𝓛 Ptr coded_ptr (ty_ptr ∷ []) ptr_own rawptr_pure ptr_val RawPtr-laws.tells).opens p b at (λ part vs. move t (1 ∷ []) $ feq_l t (λ e.
-      rewrite t 0 (λ (us : List Val). ‵ (cell_at part RawPtr.mir us b at)) e refl $ move t (2 ∷ []) $ drop t $ k part))
+-- the word of a pointer at b and o, of which a share is held
+abbrev pub word : Share → ℕ → ℕ → Ptr → Fml
+word part b o p = fat part ty_ptr b o (ptr_val p)
 
-  pub pointer_out : K → Soaks G → {κ : Lft} {q part : Share} (p : Ptr) (b at : ℕ)
-      → Step K 𝓛 (‵ (flft κ q) ∷ Γ) G (‵ (fat part ty_ptr b at (ptr_val p)) ∷ Shut 𝓛 κ q (part_at RawPtr part p b at) ∷ Γ) G
-  pointer_out t z {part = part} p b at = step (λ s.
-      feq_i t (List Val) (ptr_val p ∷ []) (ptr_val p ∷ []) refl $ move t (1 ∷ 0 ∷ []) $ shuts t z RawPtr part p (ptr_val p ∷ []) b at $ s)
+module _ {M : Type 1} {𝓤 : Ura M} {𝓛 : Logic 𝓤} {K : Type 0} {Γ : List (Item 𝓤)} {G : Goal 𝓤 𝓛.H} where
+  -- the word of a pointer behind a `&`, taken
+  pub word_taken : K → Soaks G → (b o : ℕ) (p : Ptr) {κ : Lft} {q : Share} → ((part : Share) → Seq K 𝓛 (‵ (word part b o p) ∷ Shut 𝓛 κ q (part_at RawPtr part p b o) ∷ Γ) G)
+      → Seq K 𝓛 (‵ (hidden_shr RawPtr κ p b o) ∷ ‵ (flft κ q) ∷ Γ) G
+  word_taken t z b o p go =
+      let copied = plain_Copied 𝓛 Ptr coded_ptr (ty_ptr ∷ []) ptr_own rawptr_pure ptr_val RawPtr-laws.tells in
+      looks t z RawPtr copied.opens p b o (λ part vs. move t (1 ∷ 0 ∷ 2 ∷ []) $ feq_l t (λ is. move t (2 ∷ []) $ drop t $ rewrite t 0 (λ ws. ‵ (cell_at part RawPtr.mir ws b o)) is refl $ go part))
+
+  -- and given back
+  pub word_given : K → Soaks G → (b o : ℕ) (p : Ptr) {κ : Lft} {q part : Share} → Step K 𝓛 (‵ (flft κ q) ∷ Γ) G (‵ (word part b o p) ∷ Shut 𝓛 κ q (part_at RawPtr part p b o) ∷ Γ) G
+  word_given t z b o p {part = part} = step (λ on. let ws : List Val = ptr_val p ∷ [] in feq_i t (List Val) ws ws refl $ move t (1 ∷ 0 ∷ []) $ shuts t z RawPtr part p ws b o $ on)
 
   -- the struct behind a `&`: [`at`; the cells; ..]
   pub chain_Seen : K → {κ : Lft} (d : Chain) (b o : ℕ)

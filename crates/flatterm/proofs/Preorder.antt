@@ -13,7 +13,7 @@ use Rattle.flatterm.specs.Cells.{IsAt, Next, IsNodeAt}
 use Rattle.rewriting.specs.Terms.{Term, Terms, count}
 use Rattle.flatterm.specs.Laid.{Items, begins, ends, enclosed, Laid, AllLaid, variable, function, nothing, another, Within}
 use Rattle.flatterm.specs.Place.{shown, cells, place_in, preorder, preorders, Stands, Rests, is_zero}
-use Rattle.std.proofs.Common.{◌≤◌, true, false}
+use Rattle.std.proofs.Common.{true, false}
 use Rattle.flatterm.proofs.Subterms.{opened, enclosed_of}
 use Rattle.flatterm.proofs.Focus.{Begins}
 
@@ -107,7 +107,3 @@ above_zero (suc i) h = omega arith
 pub zero_where_true : (i : ℕ) → is_zero i ≡ true → i ≡ 0
 zero_where_true zero h = refl
 zero_where_true (suc i) h = cc
-
-pub not_zero : (i j : ℕ) → i + 1 ≤ j → is_zero j ≡ false
-not_zero i zero h = absurd (omega (arith, h))
-not_zero i (suc j) h = refl

@@ -9,8 +9,8 @@ use Rattle.reach_lists.specs.Lists.{started}
 use Rattle.reach.specs.declared.listed.Reached.{Reached}
 use Rattle.reach.specs.declared.listed.ReachStop.{ReachStop}
 use Rattle.reach.specs.ReachedView.{reached_view, list_view}
-use Rattle.reach.specs.Splices.{IsSpliced}
-use Rattle.reach.proofs.Splicing.{spliced_later}
+use Rattle.reach.specs.Splices.{IsSpliced, GoesOn}
+use Rattle.reach.proofs.Splicing.{goes_later}
 
 risen_less : (a n m b : ℕ) → m ≤ n → HasRisen a n b → HasRisen a m b
 risen_less a n m b low (inl h) = inl (omega (arith, low, h))
@@ -21,8 +21,8 @@ pub spliced_same : (l m : List lists.Reached) (w : ℕ) → m ≡ l → IsSplice
 spliced_same l m w e = let h = ap length e in (0, omega (arith, h), risen_none w)
 
 -- more splices before a part that may fail
-pub part_later : (r : Result (Unit {0}) ReachStop) (l m : List lists.Reached) (a b c : ℕ) → HasRisen a 0 b → OnOk r (IsSpliced l m b c) → OnOk r (IsSpliced l m a c)
-part_later (Ok x) l m a b c up h = spliced_later l m a b c up h
+pub part_later : (r : Result (Unit {0}) ReachStop) (l m : List lists.Reached × ℕ) (a b c : ℕ) → HasRisen a 0 b → OnOk r (GoesOn l m b c) → OnOk r (GoesOn l m a c)
+part_later (Ok x) l m a b c up h = goes_later l m a b c up h
 part_later (Err e) l m a b c up h = h
 
 -- but for the start, each term of a whole list comes of a splice

@@ -1,5 +1,5 @@
 -- Places, listed terms and rounds: what fits, and what a round costs.
-use Rattle.std.proofs.Common.{◌≡◌, ℕ, zero, suc, ◌+◌, ◌-◌, ◌≤◌, ◌<◌, cond, List, [], ◌∷◌, ◌++◌, append_assoc, length, map, flat_map, drop, slice_get, option_to_list, Some, Result, refl, sym, ap, ap₂, ◌∙◌, subst, add-one, length-append, arith}
+use Rattle.std.proofs.Common.{◌≡◌, ℕ, zero, suc, ◌+◌, ◌-◌, ◌≤◌, ◌<◌, cond, List, [], ◌∷◌, ◌++◌, append_assoc, length, map, flat_map, drop, option_to_list, Result, refl, sym, ap, ap₂, ◌∙◌, subst, drop_at, arith}
 use Rattle.std.specs.FinMap.{empty}
 use Rattle.rewriting.specs.Terms as math
 use Rattle.rewriting.specs.Positions.{Position}
@@ -17,8 +17,10 @@ use Rattle.reach_lists.specs.Laws.{EachOf}
 use Rattle.rewriting.proofs.Tests.{small_fits}
 use Rattle.reach_lists.proofs.Each.{each_append, each_map, each_if, each_any}
 use Rattle.reach_lists.proofs.Equations.{no_rounds, one_round}
-use Rattle.reach_lists.proofs.Growing.{each_with_all, expanded_first, round, IsLonger, longer_with_all}
+use Rattle.reach_lists.proofs.Growing.{each_with_all, round, IsLonger, longer_with_all}
 use Rattle.reach.specs.Offers.{added}
+use Rattle.reach.specs.ReachedView.{list_view}
+use Rattle.reach.specs.declared.listed.Reached.{Reached}
 use Rattle.reach.specs.Parts.{DoesSiteFit, DoAllFit, position_of}
 use Rattle.reach.proofs.Paying.{Paying, paying_begins, paying_goes_on, last_part}
 use Rattle.reach.specs.Costs.{Costs}
@@ -64,12 +66,6 @@ listed_fit next t fits (suc d) =
     (each_with_all (λ r. math.Fits r.term) (breadth_first next d t) (flat_map next (breadth_first next d t)) (listed_fit next t fits d)
     (each_any (λ r. math.size r.term ≤ 200 → math.Fits r.term) (λ r small. small_fits r.term small) (flat_map next (breadth_first next d t))))
 
-pub behind_expanded : (next : lists.Reached → List lists.Reached) (t : math.Term) (d : ℕ) → length (expanded next d t) ≤ length (breadth_first next d t)
-behind_expanded next t d =
-    let h = expanded_first next t d in
-    let e = ap length h.is ∙ length-append (expanded next d t) h.more in
-    omega (arith, e)
-
 -- a round of a list that is known so far
 module _ (sys : System) (hyps : List Condition) (inner : math.Term → List lists.Reached) (price : math.Term → ℕ) (t : math.Term) (d from : ℕ) (l : List lists.Reached)
     (is : l ≡ breadth_first (successors sys hyps inner) d t) (place : from ≡ length (expanded (successors sys hyps inner) d t)) where
@@ -101,40 +97,22 @@ module _ (sys : System) (hyps : List Condition) (inner : math.Term → List list
       let e = next_cost sys hyps inner price t d in
       (cost_by sys hyps inner price steps t - cost_by sys hyps inner price d t, record { paid = cost_by sys hyps inner price d t; spends = h; whole = omega (arith, more, e) }, omega (arith, more, e))
 
--- the term at a place of a list that only grew
-each_at : (l : List lists.Reached) (i : ℕ) (u : lists.Reached) → DoAllFit l → slice_get l i ≡ Some u → math.Fits u.term
-each_at [] i u h e = cc
-each_at (r ∷ l) zero u h e = (let same : r ≡ u = cc in subst (λ (z : lists.Reached). math.Fits z.term) same h.0)
-each_at (r ∷ l) (suc i) u h e = each_at l i u h.1 e
+-- so do those behind a place
+pub fit_behind : (l : List lists.Reached) (n : ℕ) → DoAllFit l → DoAllFit (drop n l)
+fit_behind [] zero h = tt
+fit_behind [] (suc n) h = tt
+fit_behind (r ∷ l) zero h = h
+fit_behind (r ∷ l) (suc n) h = fit_behind l n h.1
 
-slice_get_append_left : (xs ys : List lists.Reached) (i : ℕ) → i < length xs → slice_get (xs ++ ys) i ≡ slice_get xs i
-slice_get_append_left [] ys i low = absurd (omega (arith, low))
-slice_get_append_left (x ∷ xs) ys zero low = refl
-slice_get_append_left (x ∷ xs) ys (suc i) low = slice_get_append_left xs ys i (omega (arith, low))
+pub list_behind : (rs : List Reached) (n : ℕ) → list_view (drop n rs) ≡ drop n (list_view rs)
+list_behind [] zero = refl
+list_behind [] (suc n) = refl
+list_behind (r ∷ rs) zero = refl
+list_behind (r ∷ rs) (suc n) = list_behind rs n
 
-drop_at_place : (l : List lists.Reached) (i : ℕ) (u : lists.Reached) → slice_get l i ≡ Some u → drop i l ≡ u ∷ drop (i + 1) l
-drop_at_place l i u e = rw add-one (go l i e)
-  where
-    go : (ys : List lists.Reached) (k : ℕ) → slice_get ys k ≡ Some u → drop k ys ≡ u ∷ drop (suc k) ys
-    go [] k h = cc
-    go (y ∷ ys) zero h = (let same : y ≡ u = cc in ap (λ z. z ∷ ys) same)
-    go (y ∷ ys) (suc k) h = go ys k h
-
-module _ (old items : List lists.Reached) (i to : ℕ) (u : lists.Reached) (grown : IsLonger old items) (end : to ≡ length old) (low : i < to) (is : slice_get items i ≡ Some u) where
-  inside : i < length old
-  inside = omega (arith, low, end)
-
-  old_at : slice_get old i ≡ Some u
-  old_at = sym (slice_get_append_left old grown.more i inside) ∙ ap (λ z. slice_get z i) (sym grown.is) ∙ is
-
-  pub place_inside : i < length items
-  place_inside = (let n = ap length grown.is ∙ length-append old grown.more in omega (arith, low, end, n))
-
-  pub term_fits : DoAllFit old → math.Fits u.term
-  term_fits h = each_at old i u h old_at
-
-  pub rest_splits : drop i old ≡ u ∷ drop (i + 1) old
-  rest_splits = drop_at_place old i u old_at
+-- a list that only grew is what it was, and what came since
+pub rest_since : (old l : List lists.Reached) (n : ℕ) → IsLonger old l → n ≡ length old → old ++ drop n l ≡ l
+rest_since old l n h e = ap (λ z. old ++ drop n z) h.is ∙ ap (λ z. old ++ z) (drop_at old h.more n (sym e)) ∙ sym h.is
 
 longer_trans : (l m n : List lists.Reached) → IsLonger l m → IsLonger m n → IsLonger l n
 longer_trans l m n h k = record { more = h.more ++ k.more; is = k.is ∙ ap (λ z. z ++ k.more) h.is ∙ append_assoc l h.more k.more }

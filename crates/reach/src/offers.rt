@@ -12,7 +12,7 @@ ghost use Rattle.reach.specs.SolutionView.{solution_view};
 ghost use Rattle.reach.specs.Costs.{Costs};
 ghost use Rattle.reach.specs.Offers.{Takes};
 ghost use Rattle.reach.specs.Keys.{IsTaken};
-ghost use Rattle.reach.specs.Splices.{IsPlace, IsSpliced};
+ghost use Rattle.reach.specs.Splices.{IsPlace, GoesOn};
 ghost use Rattle.flatterm.specs.Place.{preorder};
 ghost use Rattle.reach.specs.Parts.{IsInstance};
 
@@ -53,14 +53,14 @@ fn with_step(alloc: Global, by: &Derivation, step: Step) -> Result<Derivation, N
 // Puts a term last on the list, which takes it, one step behind `u`, for a unit.
 fn put(
     alloc: Global,
-    list: &mut Listing,
+    list: &mut Listing<'_>,
     u: &Reached,
     new: Taken,
     step: Step,
     budget: &mut Budget,
 ) -> Result<(), ReachStop>
-    requires { IsTaken list.old new }
-    ensures { Costs (λ _. list.new ≡ list.old ++ record { term = view new.term; by = then_step (derivation_view u.now.by) (step_view step) } ∷ []) 1 budget.old budget.new result }
+    requires { IsTaken list.old.0 new }
+    ensures { Costs (λ _. list.new ≡ (list.old.0 ++ record { term = view new.term; by = then_step (derivation_view u.now.by) (step_view step) } ∷ [], list.old.1)) 1 budget.old budget.new result }
 {
     if !budget.take() {
         return Err(ReachStop::Spent);
@@ -89,7 +89,7 @@ pub(crate) fn instance(alloc: Global, values: &Subst, t: &Term) -> Result<Option
 // Offers the list the term that a solution of a rule's conditions gives.
 pub(crate) fn offer_solution(
     alloc: Global,
-    list: &mut Listing,
+    list: &mut Listing<'_>,
     spot: Spot<'_>,
     flat: &mut Draft<'_>,
     rule: &Rule,
@@ -100,9 +100,9 @@ pub(crate) fn offer_solution(
     requires right { math.Fits (view rule.now.right) }
     requires place { IsPlace spot.place spot.pos.now }
     requires flat { flat.old ≡ (preorder (view spot.place.from.now.term), spot.place.index) }
-    ensures offered { Takes list.old (lists.by_solution (reached_view spot.entry.place.from.now) spot.entry.pos.now spot.entry.number (rule_view rule.now) (solution_view s.now)) 0 list.new budget.old budget.new result }
+    ensures offered { Takes list.old.0 (lists.by_solution (reached_view spot.entry.place.from.now) spot.entry.pos.now spot.entry.number (rule_view rule.now) (solution_view s.now)) 0 list.new.0 budget.old budget.new result }
     ensures kept { OnOk result (flat.new ≡ flat.old) }
-    ensures spliced { OnOk result (IsSpliced list.old list.new work.old work.new) }
+    ensures spliced { OnOk result (GoesOn list.old list.new work.old work.new) }
 {
     if list.is_full() {
         return Ok(());
@@ -124,7 +124,7 @@ pub(crate) fn offer_solution(
 // Offers the list the term with a hypothesis' right side at a position.
 pub(crate) fn offer_hypothesis(
     alloc: Global,
-    list: &mut Listing,
+    list: &mut Listing<'_>,
     spot: Spot<'_>,
     flat: &mut Draft<'_>,
     hypothesis: &Cond,
@@ -134,9 +134,9 @@ pub(crate) fn offer_hypothesis(
     requires right { math.Fits (view hypothesis.now.right) }
     requires place { IsPlace spot.place spot.pos.now }
     requires flat { flat.old ≡ (preorder (view spot.place.from.now.term), spot.place.index) }
-    ensures offered { Takes list.old (lists.stepped (reached_view spot.entry.place.from.now) spot.entry.pos.now (view hypothesis.now.right) (by_hypothesis spot.entry.number spot.entry.pos.now)) 0 list.new budget.old budget.new result }
+    ensures offered { Takes list.old.0 (lists.stepped (reached_view spot.entry.place.from.now) spot.entry.pos.now (view hypothesis.now.right) (by_hypothesis spot.entry.number spot.entry.pos.now)) 0 list.new.0 budget.old budget.new result }
     ensures kept { OnOk result (flat.new ≡ flat.old) }
-    ensures spliced { OnOk result (IsSpliced list.old list.new work.old work.new) }
+    ensures spliced { OnOk result (GoesOn list.old list.new work.old work.new) }
 {
     let Some(new) = placed(alloc, list, spot, flat, &hypothesis.right, work)? else {
         return Ok(());
@@ -151,7 +151,7 @@ pub(crate) fn offer_hypothesis(
 // Offers the list the terms that the solutions of a rule's conditions give, in order.
 pub(crate) fn offer_solutions(
     alloc: Global,
-    list: &mut Listing,
+    list: &mut Listing<'_>,
     spot: Spot<'_>,
     flat: &mut Draft<'_>,
     rule: &Rule,
@@ -162,9 +162,9 @@ pub(crate) fn offer_solutions(
     requires right { math.Fits (view rule.now.right) }
     requires place { IsPlace spot.place spot.pos.now }
     requires flat { flat.old ≡ (preorder (view spot.place.from.now.term), spot.place.index) }
-    ensures offered { Takes list.old (flat_map (lists.by_solution (reached_view spot.entry.place.from.now) spot.entry.pos.now spot.entry.number (rule_view rule.now)) (map solution_view solutions.now)) 0 list.new budget.old budget.new result }
+    ensures offered { Takes list.old.0 (flat_map (lists.by_solution (reached_view spot.entry.place.from.now) spot.entry.pos.now spot.entry.number (rule_view rule.now)) (map solution_view solutions.now)) 0 list.new.0 budget.old budget.new result }
     ensures kept { OnOk result (flat.new ≡ flat.old) }
-    ensures spliced { OnOk result (IsSpliced list.old list.new work.old work.new) }
+    ensures spliced { OnOk result (GoesOn list.old list.new work.old work.new) }
 {
     'solutions: for s in solutions {
         offer_solution(alloc, list, spot, flat, rule, s, budget, work)?;

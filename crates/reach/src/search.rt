@@ -1,9 +1,9 @@
-ghost use Rattle.std.specs.Prelude.{◌≡◌, ◌≤◌, ◌<◌, ◌-◌, ◌++◌, ◌∷◌, ◌^◌, [], length, flat_map, drop, IfOk, OnOk, map};
+ghost use Rattle.std.specs.Prelude.{◌≡◌, ◌≤◌, ◌<◌, ◌+◌, ◌-◌, ◌++◌, ◌∷◌, ◌^◌, [], length, flat_map, drop, IfOk, OnOk, map};
 ghost use Rattle.rewriting.specs.Terms as math;
 ghost use Rattle.certificates.specs.Sizes.{DoConditionsFit};
 ghost use Rattle.reach_lists.specs.Lists as lists;
 ghost use Rattle.reach_lists.specs.Sites.{sites_of_part};
-ghost use Rattle.reach_lists.specs.Lists.{total, condition_list, condition_cost, successors, asked_from, at_site, asked_at};
+ghost use Rattle.reach_lists.specs.Lists.{total, condition_list, condition_cost, successors, with_terms, asked_from, at_site, asked_at};
 ghost use Rattle.reach_lists.specs.Solutions as math_solutions;
 ghost use Rattle.flatterm.specs.Place.{preorder};
 ghost use Rattle.flatterm.specs.Work.{HasRisen};
@@ -11,18 +11,18 @@ ghost use Rattle.term_core.specs.View.{view};
 ghost use Rattle.term_core.specs.RuleView.{condition_view};
 ghost use Rattle.reach.specs.Answers.{ReachAnswers};
 ghost use Rattle.reach.specs.Costs.{Costs};
-ghost use Rattle.reach.specs.Offers.{Takes};
+ghost use Rattle.reach.specs.Offers.{Takes, added};
 ghost use Rattle.reach.specs.Parts.{DoesSiteFit, DoAllFit, position_of};
 ghost use Rattle.reach.specs.ReachedView.{reached_view};
 ghost use Rattle.reach.specs.Ready.{IsReady};
 ghost use Rattle.reach.specs.SiteView.{site_view};
 ghost use Rattle.reach.specs.SolutionView.{solution_view, solutions_view};
-ghost use Rattle.reach.specs.Splices.{IsPlace, IsSpliced};
+ghost use Rattle.reach.specs.Splices.{IsPlace, IsSpliced, GoesOn};
 
 use crate::drafts::Draft;
 use crate::keys::roomy_key;
 use crate::listed::{ReachStop, Reached};
-use crate::listing::Listing;
+use crate::listing::{Listed, Listing, joined};
 use crate::offers::{offer_hypothesis, offer_solutions};
 use crate::sites::{Search, Site};
 use crate::solutions::{Solution, extend_by, start_of};
@@ -44,32 +44,20 @@ fn unconditional(alloc: Global, values: &Subst) -> Result<Solution, NoMemory>
     })
 }
 
-// A listed term with its derivation, copied.
-fn copied_reached(alloc: Global, r: &Reached) -> Result<Reached, NoMemory>
-    ensures { IfOk result (λ copy. reached_view copy ≡ reached_view r.now) }
-{
-    Ok(Reached {
-        term: try_clone(alloc, &r.term)?,
-        by: r.by.try_clone(alloc)?,
-    })
-}
-
 // The list of the start alone, for a unit.
-fn started(alloc: Global, start: &Term, budget: &mut Budget) -> Result<Listing, ReachStop>
+fn started(alloc: Global, start: &Term, budget: &mut Budget) -> Result<Listed, ReachStop>
     requires { math.Fits (view start.now) }
-    ensures { Costs (λ l. l ≡ lists.started (view start.now)) 1 budget.old budget.new result }
+    ensures { Costs (λ l. l ≡ (lists.started (view start.now), 0)) 1 budget.old budget.new result }
 {
     if !budget.take() {
         return Err(ReachStop::Spent);
     }
-    let mut list = Listing::new(alloc);
     let key = roomy_key(alloc, start)?;
     let term = try_clone(alloc, start)?;
     let by = Derivation {
         steps: Vec::new(alloc),
     };
-    list.push(key, Reached { term, by })?;
-    Ok(list)
+    Ok(Listed::new(alloc, key, Reached { term, by })?)
 }
 
 impl<'a> Search<'a> {
@@ -89,39 +77,36 @@ impl<'a> Search<'a> {
         ensures listed { ReachAnswers self.now.sys.now (map condition_view self.now.hyps.now) (view start.now) steps depth budget.old budget.new result }
         ensures spliced { IfOk result (λ l. HasRisen work.old (length l.items - 1) work.new) }
     {
-        let mut list = started(alloc, start, budget)?;
-        let mut from = 0;
+        let mut listed = started(alloc, start, budget)?;
         'rounds: for _ in 0..steps {
-            let to = list.len();
-            self.round(alloc, &mut list, from, depth, budget, work)?;
-            from = to;
+            listed = self.round(alloc, listed, depth, budget, work)?;
         }
-        Ok(list.into_vec(alloc)?)
+        Ok(listed.terms)
     }
 
-    // Offers the list the successors of its terms from a place on.
+    // The list with the successors of the terms that the last round put.
     #[cycle(search)]
     fn round(
         &self,
         alloc: Global,
-        list: &mut Listing,
-        from: usize,
+        last: Listed,
         depth: u32,
         budget: &mut Budget,
         work: &mut Work,
-    ) -> Result<(), ReachStop>
+    ) -> Result<Listed, ReachStop>
         requires ready { IsReady self.now.sys.now self.now.rules.now self.now.hyps.now }
-        requires fit { DoAllFit list.old }
-        requires from { from ≤ length list.old }
-        ensures offered { Takes list.old (flat_map (successors self.now.sys.now (map condition_view self.now.hyps.now) (condition_list self.now.sys.now (map condition_view self.now.hyps.now) depth)) (drop from list.old)) (total (λ u. total (condition_cost self.now.sys.now (map condition_view self.now.hyps.now) depth) (asked_from self.now.sys.now (map condition_view self.now.hyps.now) (condition_list self.now.sys.now (map condition_view self.now.hyps.now) depth) u.term)) (drop from list.old)) list.new budget.old budget.new result }
-        ensures spliced { OnOk result (IsSpliced list.old list.new work.old work.new) }
+        requires fit { DoAllFit last.0 }
+        ensures offered { Costs (λ l. l.0 ≡ with_terms last.0 (flat_map (successors self.now.sys.now (map condition_view self.now.hyps.now) (condition_list self.now.sys.now (map condition_view self.now.hyps.now) depth)) (drop last.1 last.0))) (added last.0 (flat_map (successors self.now.sys.now (map condition_view self.now.hyps.now) (condition_list self.now.sys.now (map condition_view self.now.hyps.now) depth)) (drop last.1 last.0)) + total (λ u. total (condition_cost self.now.sys.now (map condition_view self.now.hyps.now) depth) (asked_from self.now.sys.now (map condition_view self.now.hyps.now) (condition_list self.now.sys.now (map condition_view self.now.hyps.now) depth) u.term)) (drop last.1 last.0)) budget.old budget.new result }
+        ensures from { IfOk result (λ l. l.1 ≡ length last.0) }
+        ensures spliced { IfOk result (λ l. IsSpliced last.0 l.0 work.old work.new) }
     {
-        let to = list.len();
-        'terms: for k in from..to {
-            let u = copied_reached(alloc, list.get(k))?;
-            self.expand(alloc, list, &u, depth, budget, work)?;
+        let Listed { terms, keys, from } = last;
+        let mut list = Listing::over(alloc, &terms, keys);
+        'terms: for u in &terms[from..] {
+            self.expand(alloc, &mut list, u, depth, budget, work)?;
         }
-        Ok(())
+        let (fresh, keys) = list.into_parts();
+        Ok(joined(terms, fresh, keys)?)
     }
 
     // Offers the list the successors of a term.
@@ -129,7 +114,7 @@ impl<'a> Search<'a> {
     fn expand(
         &self,
         alloc: Global,
-        list: &mut Listing,
+        list: &mut Listing<'_>,
         u: &Reached,
         depth: u32,
         budget: &mut Budget,
@@ -137,8 +122,8 @@ impl<'a> Search<'a> {
     ) -> Result<(), ReachStop>
         requires ready { IsReady self.now.sys.now self.now.rules.now self.now.hyps.now }
         requires fits { math.Fits (view u.now.term) }
-        ensures offered { Takes list.old (successors self.now.sys.now (map condition_view self.now.hyps.now) (condition_list self.now.sys.now (map condition_view self.now.hyps.now) depth) (reached_view u.now)) (total (condition_cost self.now.sys.now (map condition_view self.now.hyps.now) depth) (asked_from self.now.sys.now (map condition_view self.now.hyps.now) (condition_list self.now.sys.now (map condition_view self.now.hyps.now) depth) (view u.now.term))) list.new budget.old budget.new result }
-        ensures spliced { OnOk result (IsSpliced list.old list.new work.old work.new) }
+        ensures offered { Takes list.old.0 (successors self.now.sys.now (map condition_view self.now.hyps.now) (condition_list self.now.sys.now (map condition_view self.now.hyps.now) depth) (reached_view u.now)) (total (condition_cost self.now.sys.now (map condition_view self.now.hyps.now) depth) (asked_from self.now.sys.now (map condition_view self.now.hyps.now) (condition_list self.now.sys.now (map condition_view self.now.hyps.now) depth) (view u.now.term))) list.new.0 budget.old budget.new result }
+        ensures spliced { OnOk result (GoesOn list.old list.new work.old work.new) }
     {
         let key = roomy_key(alloc, &u.term)?;
         let mut flat = Draft::new(&u.term);
@@ -164,7 +149,7 @@ impl<'a> Search<'a> {
     fn expand_part(
         &self,
         alloc: Global,
-        list: &mut Listing,
+        list: &mut Listing<'_>,
         place: Place<'_>,
         pos: &[u32],
         flat: &mut Draft<'_>,
@@ -175,9 +160,9 @@ impl<'a> Search<'a> {
         requires ready { IsReady self.now.sys.now self.now.rules.now self.now.hyps.now }
         requires place { IsPlace place pos.now }
         requires flat { flat.old ≡ (preorder (view place.from.now.term), place.index) }
-        ensures offered { Takes list.old (flat_map (at_site (condition_list self.now.sys.now (map condition_view self.now.hyps.now) depth) (reached_view place.entry.from.now)) (sites_of_part self.now.sys.now (map condition_view self.now.hyps.now) pos.now (view place.entry.part.now))) (total (condition_cost self.now.sys.now (map condition_view self.now.hyps.now) depth) (flat_map (asked_at (condition_list self.now.sys.now (map condition_view self.now.hyps.now) depth)) (sites_of_part self.now.sys.now (map condition_view self.now.hyps.now) pos.now (view place.entry.part.now)))) list.new budget.old budget.new result }
+        ensures offered { Takes list.old.0 (flat_map (at_site (condition_list self.now.sys.now (map condition_view self.now.hyps.now) depth) (reached_view place.entry.from.now)) (sites_of_part self.now.sys.now (map condition_view self.now.hyps.now) pos.now (view place.entry.part.now))) (total (condition_cost self.now.sys.now (map condition_view self.now.hyps.now) depth) (flat_map (asked_at (condition_list self.now.sys.now (map condition_view self.now.hyps.now) depth)) (sites_of_part self.now.sys.now (map condition_view self.now.hyps.now) pos.now (view place.entry.part.now)))) list.new.0 budget.old budget.new result }
         ensures kept { OnOk result (flat.new ≡ flat.old) }
-        ensures spliced { OnOk result (IsSpliced list.old list.new work.old work.new) }
+        ensures spliced { OnOk result (GoesOn list.old list.new work.old work.new) }
     {
         let sites = self.sites_of_part(alloc, place.part, pos)?;
         'sites: for site in &sites {
@@ -191,7 +176,7 @@ impl<'a> Search<'a> {
     fn expand_at(
         &self,
         alloc: Global,
-        list: &mut Listing,
+        list: &mut Listing<'_>,
         place: Place<'_>,
         site: &Site,
         flat: &mut Draft<'_>,
@@ -203,9 +188,9 @@ impl<'a> Search<'a> {
         requires site { DoesSiteFit (site_view site.now) }
         requires place { IsPlace place (position_of (site_view site.now)) }
         requires flat { flat.old ≡ (preorder (view place.from.now.term), place.index) }
-        ensures offered { Takes list.old (at_site (condition_list self.now.sys.now (map condition_view self.now.hyps.now) depth) (reached_view place.entry.from.now) (site_view site.now)) (total (condition_cost self.now.sys.now (map condition_view self.now.hyps.now) depth) (asked_at (condition_list self.now.sys.now (map condition_view self.now.hyps.now) depth) (site_view site.now))) list.new budget.old budget.new result }
+        ensures offered { Takes list.old.0 (at_site (condition_list self.now.sys.now (map condition_view self.now.hyps.now) depth) (reached_view place.entry.from.now) (site_view site.now)) (total (condition_cost self.now.sys.now (map condition_view self.now.hyps.now) depth) (asked_at (condition_list self.now.sys.now (map condition_view self.now.hyps.now) depth) (site_view site.now))) list.new.0 budget.old budget.new result }
         ensures kept { OnOk result (flat.new ≡ flat.old) }
-        ensures spliced { OnOk result (IsSpliced list.old list.new work.old work.new) }
+        ensures spliced { OnOk result (GoesOn list.old list.new work.old work.new) }
     {
         match site {
             Site::Rule {

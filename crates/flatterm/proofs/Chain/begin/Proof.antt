@@ -6,7 +6,7 @@ use Prim.Native.Nat.{◌+◌}
 use Rattle.flatterm.proofs.Steps.{[], ◌∷◌, refl, proved, ftrue, flft, tables, ‵, ◌⊛◌, ◌$◌, ◌∵◌, !, qed, done, move, keep, drop, split, join, fsplit, fjoin, suffices, frame, enter, of_opd, load, look, stop, fld, returns, alloc_all, pass_all, free_all, look_at, through, sets, ptr_val, ShrRef, shr_vals, shr_Tells, named, plain, nothing, Stays, walk_of, says, stay_dropped, Goes-dropped, ends_at}
 use denote.Builtin.{RefOf}
 use denote.Exit.{yes}
-use Rattle.flatterm.proofs.Memory.{Ch, pointer_in, pointer_out, chain_Head}
+use Rattle.flatterm.proofs.Memory.{Ch, word_taken, word_given, chain_Head}
 use Rattle.flatterm.specs.contracts.Chain.begin as f
 use Rattle.flatterm.proofs.Chain.begin.Statement.{statement}
 use Rattle.flatterm.proofs.Chain.begin.Code as code
@@ -25,8 +25,8 @@ begin_spec 𝓤 𝓛 𝓜 𝓡 wired =
     qed 𝓛 (((‵ (flft κ q) ⊛ ‵ ftrue) ⊛ ‵ ((ShrRef (named 0) κ Ch).own_val r (shr_vals r)) ⊛ ‵ ftrue) ∷ ‵ ftrue ∷ []) ∵
     split ! $ split ! $ move ! (2 ∷ []) $ split ! $ keep ! (0 ∷ 2 ∷ []) $
     enter ! _ _ _ _ _ $ alloc_all ! (λ l. pass_all ! refl ((tt, tt), tt) $
-    fsplit ! $ drop ! $ chain_Head ! d rb ro $ pointer_in ! tt d.head rb (ro + 0) (λ s.
-    sets ! (of_opd ! (load ! (through ! refl (fld ! refl (stop !))) (look ! 0 refl))) refl (Ptr-Good d.head) $ pointer_out ! tt d.head rb (ro + 0) $
+    fsplit ! $ drop ! $ chain_Head ! d rb ro $ word_taken ! tt rb (ro + 0) d.head (λ s.
+    sets ! (of_opd ! (load ! (through ! refl (fld ! refl (stop !))) (look ! 0 refl))) refl (Ptr-Good d.head) $ word_given ! tt rb (ro + 0) d.head $
     returns ! (look_at ! 0 refl) $ free_all ! refl $ keep ! (0 ∷ []) $
     feq_i ! (List Val) (ptr_val d.head ∷ []) (ptr_val d.head ∷ []) refl $
     suffices ! _ (ends_at 𝓛 f.ended stayed c y (ptr_val d.head) d.head (tt, tt) (tt, tt)) $ says ! d.first $

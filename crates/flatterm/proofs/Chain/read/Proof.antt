@@ -8,7 +8,7 @@ use denote.Exit.{yes}
 use types.Logic.{sem}
 use Rattle.flatterm.specs.declared.Node.{Node}
 use Rattle.flatterm.specs.Cells.{Next, follow, node, chain_lent, last_from}
-use Rattle.flatterm.proofs.Memory.{N, Ch, cell_seen, pointer_in, pointer_out, chain_Seen, cell_in, cell_out, node_good}
+use Rattle.flatterm.proofs.Memory.{N, Ch, cell_seen, word_taken, word_given, chain_Seen, cell_in, cell_out, node_good}
 use types.ByLocal.{is}
 use denote.Struct.Laws.{makes}
 use Rattle.flatterm.specs.contracts.Node as N-type
@@ -41,8 +41,8 @@ read_spec 𝓤 𝓛 𝓜 𝓡 wired =
     rewrite ! 0 (λ cs. ‵ (chain_lent d.before cs z κ)) k.whole refl $ use1 𝓛 (‵ (lent_at N k.cell.0 n κ)) (cell_seen 𝓛 κ d.before k.xs k.cell k.ys z) $
     in_a_block ! k.cell.0 (λ p. lent_at N p n κ) (fst∗ 𝓤 (never 𝓤) (sem 𝓛 (shared_of N n 0 0 κ))) (λ b o e. fsplit ! $ drop ! $ hide ! $
     -- [the cell; `at`; the token]
-    move ! (1 ∷ 2 ∷ []) $ pointer_in ! tt d.at rb (ro + 16) (λ s.
-    sets ! (is ! (of_opd ! (load ! (through ! refl (fld ! refl (stop !))) (look ! 0 refl))) (ap ptr_val (sym k.at ∙ e))) refl (tt, tt) $ pointer_out ! tt d.at rb (ro + 16) $
+    move ! (1 ∷ 2 ∷ []) $ word_taken ! tt rb (ro + 16) d.at (λ s.
+    sets ! (is ! (of_opd ! (load ! (through ! refl (fld ! refl (stop !))) (look ! 0 refl))) (ap ptr_val (sym k.at ∙ e))) refl (tt, tt) $ word_given ! tt rb (ro + 16) d.at $
     move ! (1 ∷ 0 ∷ []) $ cell_in ! tt n b o (λ part good.
     first ! $ blocks ! $ sets_last ! (of_opd ! (load ! (through ! refl (stop !)) (look_raw ! 0 refl))) refl (node_good 𝓛 n good) $
     exec ! 𝓣.C 𝓣.Λ (env code.Mir.locals l) (after 2 (code.function).body) (at_ret _ (W.post y)) $

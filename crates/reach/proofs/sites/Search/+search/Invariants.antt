@@ -12,10 +12,11 @@ use Rattle.flatterm.specs.Work.{HasRisen}
 use Rattle.term_core.specs.View.{view}
 use Rattle.term_core.specs.RuleView.{condition_view}
 use Rattle.reach.specs.Offers.{added}
-use Rattle.reach.specs.ReachedView.{reached_view}
+use Rattle.reach.specs.Parts.{DoAllFit}
+use Rattle.reach.specs.ReachedView.{reached_view, list_view}
 use Rattle.reach.specs.SiteView.{site_view}
 use Rattle.reach.specs.SolutionView.{solution_view, solutions_view}
-use Rattle.reach.specs.Splices.{IsSpliced}
+use Rattle.reach.specs.Splices.{IsSpliced, GoesOn}
 use Rattle.reach.proofs.Fitting.{IsSiteAt}
 use Rattle.reach.proofs.Paying.{Paying}
 use Rattle.reach.proofs.Walks.{of_part}
@@ -51,63 +52,63 @@ decreases-expand-parts l = length l.walk.rest
 abbrev pub invariant-expand-parts : goal.invariant-expand-parts
 invariant-expand-parts l = record {
   list :
-      with_terms l.list (flat_map (of_part l.self.sys.now (map condition_view l.self.hyps.now) (at_site (condition_list l.self.sys.now (map condition_view l.self.hyps.now) l.depth) (reached_view l.u))) l.walk.rest)
-      ≡ with_terms l.fn.list (successors l.self.sys.now (map condition_view l.self.hyps.now) (condition_list l.self.sys.now (map condition_view l.self.hyps.now) l.depth) (reached_view l.u));
+      with_terms l.list.0 (flat_map (of_part l.self.sys.now (map condition_view l.self.hyps.now) (at_site (condition_list l.self.sys.now (map condition_view l.self.hyps.now) l.depth) (reached_view l.u))) l.walk.rest)
+      ≡ with_terms l.fn.list.0 (successors l.self.sys.now (map condition_view l.self.hyps.now) (condition_list l.self.sys.now (map condition_view l.self.hyps.now) l.depth) (reached_view l.u));
   paying :
       Paying
-      (added l.fn.list (successors l.self.sys.now (map condition_view l.self.hyps.now) (condition_list l.self.sys.now (map condition_view l.self.hyps.now) l.depth) (reached_view l.u))
+      (added l.fn.list.0 (successors l.self.sys.now (map condition_view l.self.hyps.now) (condition_list l.self.sys.now (map condition_view l.self.hyps.now) l.depth) (reached_view l.u))
       + total (condition_cost l.self.sys.now (map condition_view l.self.hyps.now) l.depth) (asked_from l.self.sys.now (map condition_view l.self.hyps.now) (condition_list l.self.sys.now (map condition_view l.self.hyps.now) l.depth) (view l.u.term)))
       l.fn.budget l.budget
-      (added l.list (flat_map (of_part l.self.sys.now (map condition_view l.self.hyps.now) (at_site (condition_list l.self.sys.now (map condition_view l.self.hyps.now) l.depth) (reached_view l.u))) l.walk.rest)
+      (added l.list.0 (flat_map (of_part l.self.sys.now (map condition_view l.self.hyps.now) (at_site (condition_list l.self.sys.now (map condition_view l.self.hyps.now) l.depth) (reached_view l.u))) l.walk.rest)
       + total (condition_cost l.self.sys.now (map condition_view l.self.hyps.now) l.depth) (flat_map (of_part l.self.sys.now (map condition_view l.self.hyps.now) (asked_at (condition_list l.self.sys.now (map condition_view l.self.hyps.now) l.depth))) l.walk.rest));
   rest : l.walk.rest ≡ drop l.index (parts (view l.u.term));
   flat : l.flat ≡ (preorder (view l.u.term), l.index);
-  spliced : IsSpliced l.fn.list l.list l.fn.work l.work;
+  spliced : GoesOn l.fn.list l.list l.fn.work l.work;
 }
 
 abbrev pub invariant-expand_part-sites : goal.invariant-expand_part-sites
 invariant-expand_part-sites l = record {
   list :
-      with_terms l.list (flat_map (at_site (condition_list l.self.sys.now (map condition_view l.self.hyps.now) l.depth) (reached_view l.place.from.now)) (map site_view (drop l.site-index l.site-items)))
-      ≡ with_terms l.fn.list (flat_map (at_site (condition_list l.self.sys.now (map condition_view l.self.hyps.now) l.depth) (reached_view l.place.from.now)) (sites_of_part l.self.sys.now (map condition_view l.self.hyps.now) l.pos (view l.place.part.now)));
+      with_terms l.list.0 (flat_map (at_site (condition_list l.self.sys.now (map condition_view l.self.hyps.now) l.depth) (reached_view l.place.from.now)) (map site_view (drop l.site-index l.site-items)))
+      ≡ with_terms l.fn.list.0 (flat_map (at_site (condition_list l.self.sys.now (map condition_view l.self.hyps.now) l.depth) (reached_view l.place.from.now)) (sites_of_part l.self.sys.now (map condition_view l.self.hyps.now) l.pos (view l.place.part.now)));
   paying :
       Paying
-      (added l.fn.list (flat_map (at_site (condition_list l.self.sys.now (map condition_view l.self.hyps.now) l.depth) (reached_view l.place.from.now)) (sites_of_part l.self.sys.now (map condition_view l.self.hyps.now) l.pos (view l.place.part.now)))
+      (added l.fn.list.0 (flat_map (at_site (condition_list l.self.sys.now (map condition_view l.self.hyps.now) l.depth) (reached_view l.place.from.now)) (sites_of_part l.self.sys.now (map condition_view l.self.hyps.now) l.pos (view l.place.part.now)))
       + total (condition_cost l.self.sys.now (map condition_view l.self.hyps.now) l.depth) (flat_map (asked_at (condition_list l.self.sys.now (map condition_view l.self.hyps.now) l.depth)) (sites_of_part l.self.sys.now (map condition_view l.self.hyps.now) l.pos (view l.place.part.now))))
       l.fn.budget l.budget
-      (added l.list (flat_map (at_site (condition_list l.self.sys.now (map condition_view l.self.hyps.now) l.depth) (reached_view l.place.from.now)) (map site_view (drop l.site-index l.site-items)))
+      (added l.list.0 (flat_map (at_site (condition_list l.self.sys.now (map condition_view l.self.hyps.now) l.depth) (reached_view l.place.from.now)) (map site_view (drop l.site-index l.site-items)))
       + total (condition_cost l.self.sys.now (map condition_view l.self.hyps.now) l.depth) (flat_map (asked_at (condition_list l.self.sys.now (map condition_view l.self.hyps.now) l.depth)) (map site_view (drop l.site-index l.site-items))));
   fit : EachOf (IsSiteAt l.pos) (map site_view (drop l.site-index l.site-items));
   flat : l.flat ≡ l.fn.flat;
-  spliced : IsSpliced l.fn.list l.list l.fn.work l.work;
+  spliced : GoesOn l.fn.list l.list l.fn.work l.work;
 }
 
 abbrev pub invariant-list-rounds : goal.invariant-list-rounds
 invariant-list-rounds l = record {
-  list : l.list ≡ breadth_first (successors l.self.sys.now (map condition_view l.self.hyps.now) (condition_list l.self.sys.now (map condition_view l.self.hyps.now) l.depth)) l.counter (view l.start);
-  from : l.from ≡ length (expanded (successors l.self.sys.now (map condition_view l.self.hyps.now) (condition_list l.self.sys.now (map condition_view l.self.hyps.now) l.depth)) l.counter (view l.start));
+  list : l.listed.0 ≡ breadth_first (successors l.self.sys.now (map condition_view l.self.hyps.now) (condition_list l.self.sys.now (map condition_view l.self.hyps.now) l.depth)) l.counter (view l.start);
+  from : l.listed.1 ≡ length (expanded (successors l.self.sys.now (map condition_view l.self.hyps.now) (condition_list l.self.sys.now (map condition_view l.self.hyps.now) l.depth)) l.counter (view l.start));
   paid :
       Spends l.fn.budget
       (cost_by l.self.sys.now (map condition_view l.self.hyps.now) (condition_list l.self.sys.now (map condition_view l.self.hyps.now) l.depth) (condition_cost l.self.sys.now (map condition_view l.self.hyps.now) l.depth) l.counter (view l.start))
       l.budget;
-  spliced : IsSpliced (started (view l.start)) l.list l.fn.work l.work;
+  spliced : IsSpliced (started (view l.start)) l.listed.0 l.fn.work l.work;
 }
 
 abbrev pub invariant-round-terms : goal.invariant-round-terms
 invariant-round-terms l = record {
-  to : l.to ≡ length l.fn.list;
-  longer : IsLonger l.fn.list l.list;
+  longer : IsLonger l.fn.last.0 l.list.0;
   list :
-      with_terms l.list (flat_map (successors l.self.sys.now (map condition_view l.self.hyps.now) (condition_list l.self.sys.now (map condition_view l.self.hyps.now) l.depth)) (drop l.k l.fn.list))
-      ≡ with_terms l.fn.list (flat_map (successors l.self.sys.now (map condition_view l.self.hyps.now) (condition_list l.self.sys.now (map condition_view l.self.hyps.now) l.depth)) (drop l.from l.fn.list));
+      with_terms l.list.0 (flat_map (successors l.self.sys.now (map condition_view l.self.hyps.now) (condition_list l.self.sys.now (map condition_view l.self.hyps.now) l.depth)) (list_view (drop l.u-index l.u-items)))
+      ≡ with_terms l.fn.last.0 (flat_map (successors l.self.sys.now (map condition_view l.self.hyps.now) (condition_list l.self.sys.now (map condition_view l.self.hyps.now) l.depth)) (drop l.fn.last.1 l.fn.last.0));
   paying :
       Paying
-      (added l.fn.list (flat_map (successors l.self.sys.now (map condition_view l.self.hyps.now) (condition_list l.self.sys.now (map condition_view l.self.hyps.now) l.depth)) (drop l.from l.fn.list))
-      + total (λ u. total (condition_cost l.self.sys.now (map condition_view l.self.hyps.now) l.depth) (asked_from l.self.sys.now (map condition_view l.self.hyps.now) (condition_list l.self.sys.now (map condition_view l.self.hyps.now) l.depth) u.term)) (drop l.from l.fn.list))
+      (added l.fn.last.0 (flat_map (successors l.self.sys.now (map condition_view l.self.hyps.now) (condition_list l.self.sys.now (map condition_view l.self.hyps.now) l.depth)) (drop l.fn.last.1 l.fn.last.0))
+      + total (λ u. total (condition_cost l.self.sys.now (map condition_view l.self.hyps.now) l.depth) (asked_from l.self.sys.now (map condition_view l.self.hyps.now) (condition_list l.self.sys.now (map condition_view l.self.hyps.now) l.depth) u.term)) (drop l.fn.last.1 l.fn.last.0))
       l.fn.budget l.budget
-      (added l.list (flat_map (successors l.self.sys.now (map condition_view l.self.hyps.now) (condition_list l.self.sys.now (map condition_view l.self.hyps.now) l.depth)) (drop l.k l.fn.list))
-      + total (λ u. total (condition_cost l.self.sys.now (map condition_view l.self.hyps.now) l.depth) (asked_from l.self.sys.now (map condition_view l.self.hyps.now) (condition_list l.self.sys.now (map condition_view l.self.hyps.now) l.depth) u.term)) (drop l.k l.fn.list));
-  spliced : IsSpliced l.fn.list l.list l.fn.work l.work;
+      (added l.list.0 (flat_map (successors l.self.sys.now (map condition_view l.self.hyps.now) (condition_list l.self.sys.now (map condition_view l.self.hyps.now) l.depth)) (list_view (drop l.u-index l.u-items)))
+      + total (λ u. total (condition_cost l.self.sys.now (map condition_view l.self.hyps.now) l.depth) (asked_from l.self.sys.now (map condition_view l.self.hyps.now) (condition_list l.self.sys.now (map condition_view l.self.hyps.now) l.depth) u.term)) (list_view (drop l.u-index l.u-items)));
+  fit : DoAllFit (list_view (drop l.u-index l.u-items));
+  spliced : GoesOn (l.fn.last.0, length l.fn.last.0) l.list l.fn.work l.work;
 }
 
 abbrev pub invariant-next_solutions-found : goal.invariant-next_solutions-found
