@@ -1,0 +1,12 @@
+pub mod Lines
+pub mod OneEnd
+pub mod EntryLines
+pub mod OpeningMarks
+pub mod Walks
+pub mod Late
+pub mod Passes
+pub mod Ends
+pub mod Bare
+pub mod Cuts
+pub mod Whole
+pub mod Refused

@@ -1,0 +1,5 @@
+pub mod Taking
+pub mod Judged
+pub mod OneTally
+pub mod SomeTally
+pub mod Telling

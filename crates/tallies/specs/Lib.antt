@@ -1,0 +1,4 @@
+pub mod Tally
+pub mod Runs
+pub mod Codes
+pub mod Laws
