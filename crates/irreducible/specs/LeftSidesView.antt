@@ -7,9 +7,9 @@ use Rattle.irreducible.specs.Judging.{AreLefts}
 use Rattle.irreducible.specs.declared.left_sides.LeftSides.TheInside.{Inside}
 
 abbrev pub left_sides_view : Inside → System
-left_sides_view s = s.sys.now
+left_sides_view s = s.sys
 
 -- its terms are the left sides of that system
 pub record IsHeld (s : Inside) : Type 0 where
-  pub sound : IsSystem s.sys.now
-  pub lefts : AreLefts s.sys.now (map view s.lefts.items)
+  pub sound : IsSystem s.sys
+  pub lefts : AreLefts s.sys (map view s.lefts.items)

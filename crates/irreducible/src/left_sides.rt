@@ -20,7 +20,7 @@ use unification::{Unified, renamed, unify_terms};
 /// A system with its left sides, in which variable k is 2k: prepared once, to judge many terms. In contracts it is the system.
 #[derive(Debug, Drop)]
 pub struct LeftSides<'a> {
-    sys: &'a IndexedSystem<'a>,
+    sys: IndexedSystem<'a>,
     lefts: Vec<Term>,
 }
 
@@ -52,8 +52,8 @@ fn rename_lefts(alloc: Global, arities: &[u32], rules: &[Rule]) -> Result<Vec<Te
 
 impl<'a> LeftSides<'a> {
     /// The left sides of a system, in time linear in their sizes.
-    pub fn new(alloc: Global, sys: &'a IndexedSystem<'a>) -> Result<LeftSides<'a>, NoMemory>
-        ensures { IfOk result (λ lefts. lefts ≡ sys.now) }
+    pub fn new(alloc: Global, sys: IndexedSystem<'a>) -> Result<LeftSides<'a>, NoMemory>
+        ensures { IfOk result (λ lefts. lefts ≡ sys.entry) }
     {
         let lefts = rename_lefts(alloc, sys.system().arities(), sys.rules())?;
         Ok(LeftSides { sys, lefts })
@@ -63,7 +63,7 @@ impl<'a> LeftSides<'a> {
     pub fn indexed(&self) -> &IndexedSystem<'a>
         ensures { result.now ≡ self.now }
     {
-        self.sys
+        &self.sys
     }
 
     /// The system itself.

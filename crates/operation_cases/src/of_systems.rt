@@ -72,7 +72,7 @@ pub fn print_irreducible(rt: &HostRuntime, sys: &System, terms: &[Term]) -> io::
     let Ok(indexed) = IndexedSystem::new(rt.alloc(), sys) else {
         return println!(rt; "no memory");
     };
-    let Ok(lefts) = LeftSides::new(rt.alloc(), &indexed) else {
+    let Ok(lefts) = LeftSides::new(rt.alloc(), indexed) else {
         return println!(rt; "no memory");
     };
     for t in terms {

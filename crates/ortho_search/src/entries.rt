@@ -14,12 +14,11 @@ use cc_count::Budget;
 use critical_pairs::Overlap;
 use irreducible::LeftSides;
 use pair_search::{Entries, Walk, add_entry};
-use rule_index::IndexedSystem;
 use std::alloc::Global;
 use term_core::NoMemory;
 
-// For each overlap, in order, the first valid evidence; at the first that has none the walk ends.
-fn entries_for(
+/// For each overlap, in order, the first valid evidence; at the first that has none the walk ends.
+pub fn entries_for(
     alloc: Global,
     sys: &LeftSides<'_>,
     overlaps: &[Overlap],
@@ -39,19 +38,4 @@ fn entries_for(
         }
     }
     Ok(Entries::Whole(entries))
-}
-
-/// The same for a system, whose left sides are made once for all overlaps.
-pub fn entries_of(
-    alloc: Global,
-    sys: &IndexedSystem<'_>,
-    overlaps: &[Overlap],
-    budget: &mut Budget,
-) -> Result<Entries, NoMemory>
-    requires overlaps { EachIsOverlap sys.now (map overlap_view overlaps.now) }
-    ensures answer { EntriesAnswers (IsOrthoEntry sys.now) (overlap_cost ortho_items) (StopsAtOverlap ortho sys.now ortho_items) (map overlap_view overlaps.now) budget.old budget.new result }
-    ensures kept { (n : ℕ) × Spends budget.old n budget.new }
-{
-    let sides = LeftSides::new(alloc, sys)?;
-    entries_for(alloc, &sides, overlaps, budget)
 }

@@ -15,13 +15,14 @@ mod entries;
 mod items;
 mod trying;
 
-use crate::entries::entries_of;
+use crate::entries::entries_for;
 use cc_count::Budget;
 use cert_limits::has_text;
 use cert_model::Certificate;
 use cops_names::Names;
 use critical_pairs::{Overlap, OverlapError, overlaps};
 use ctrs_classes::{is_extended_oriented, is_left_linear, is_right_stable, is_type3};
+use irreducible::LeftSides;
 use pair_search::Entries;
 use rule_index::IndexedSystem;
 use std::alloc::Global;
@@ -38,7 +39,7 @@ fn is_in_classes(sys: &System) -> bool
 // Searches where the classes hold.
 fn search_open(
     alloc: Global,
-    sys: &IndexedSystem<'_>,
+    sys: &LeftSides<'_>,
     names: &Names,
     overlaps: &[Overlap],
     budget: &mut Budget,
@@ -49,7 +50,7 @@ fn search_open(
     ensures paid { IfNothing result ((n : ℕ) × Spends budget.old n budget.new × IsOrthoPaid names.now sys.now n) }
     ensures kept { (n : ℕ) × Spends budget.old n budget.new }
 {
-    match entries_of(alloc, sys, overlaps, budget) {
+    match entries_for(alloc, sys, overlaps, budget) {
         Ok(Entries::Whole(pairs)) => {
             let cert = Certificate::Ortho(pairs);
             if has_text(names, &cert) {
@@ -64,10 +65,10 @@ fn search_open(
     }
 }
 
-/// The same as `search_ortho`, over an index and a list of the overlaps that were made before.
+/// The same as `search_ortho`, over left sides and a list of the overlaps that were made before.
 pub fn search_ortho_over(
     alloc: Global,
-    sys: &IndexedSystem<'_>,
+    sys: &LeftSides<'_>,
     names: &Names,
     overlaps: &[Overlap],
     budget: &mut Budget,
@@ -103,8 +104,9 @@ pub fn search_ortho(
     ensures kept { (n : ℕ) × Spends budget.old n budget.new }
 {
     let indexed = IndexedSystem::new(alloc, sys)?;
+    let lefts = LeftSides::new(alloc, indexed)?;
     match overlaps(alloc, sys) {
-        Ok(found) => search_ortho_over(alloc, &indexed, names, &found, budget),
+        Ok(found) => search_ortho_over(alloc, &lefts, names, &found, budget),
         Err(OverlapError::PairTooLarge { .. }) => Ok(Search::Nothing),
         Err(OverlapError::TooManyPairs) => Ok(Search::Nothing),
         Err(OverlapError::NoMemory) => Err(NoMemory),

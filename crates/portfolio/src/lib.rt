@@ -19,6 +19,7 @@ use cc_count::Budget;
 use cert_model::Certificate;
 use cops_names::Names;
 use critical_pairs::{Overlap, OverlapError, overlaps};
+use irreducible::LeftSides;
 use noncon_search::search_peak_over;
 use ortho_search::search_ortho_over;
 use quasi_search::search_quasi_over;
@@ -42,7 +43,7 @@ pub enum Outcome {
 // The search for a certificate of an almost orthogonal system; where the overlaps have no list, there is nothing to search.
 fn search_ortho_if(
     alloc: Global,
-    sys: &IndexedSystem<'_>,
+    sys: &LeftSides<'_>,
     names: &Names,
     overlaps: Option<&[Overlap]>,
     budget: &mut Budget,
@@ -60,7 +61,7 @@ fn search_ortho_if(
 // The same for a certificate with a measure.
 fn search_quasi_if(
     alloc: Global,
-    sys: &IndexedSystem<'_>,
+    sys: &LeftSides<'_>,
     names: &Names,
     overlaps: Option<&[Overlap]>,
     budget: &mut Budget,
@@ -78,7 +79,7 @@ fn search_quasi_if(
 // The first two searches, one behind the other.
 fn search_both(
     alloc: Global,
-    sys: &IndexedSystem<'_>,
+    sys: &LeftSides<'_>,
     names: &Names,
     overlaps: Option<&[Overlap]>,
     budget: &mut Budget,
@@ -90,7 +91,7 @@ fn search_both(
 {
     match search_ortho_if(alloc, sys, names, overlaps, budget) {
         Ok(Search::Found(cert)) => Ok(Search::Found(cert)),
-        Ok(Search::Nothing) => search_peak_over(alloc, sys, names, overlaps, budget),
+        Ok(Search::Nothing) => search_peak_over(alloc, sys.indexed(), names, overlaps, budget),
         Ok(Search::Spent) => Ok(Search::Spent),
         Err(e) => Err(e),
     }
@@ -99,7 +100,7 @@ fn search_both(
 // The last search, behind the others.
 fn search_last(
     alloc: Global,
-    sys: &IndexedSystem<'_>,
+    sys: &LeftSides<'_>,
     names: &Names,
     overlaps: Option<&[Overlap]>,
     budget: &mut Budget,
@@ -119,7 +120,7 @@ fn search_last(
 // One search behind the other.
 fn search_all(
     alloc: Global,
-    sys: &IndexedSystem<'_>,
+    sys: &LeftSides<'_>,
     names: &Names,
     overlaps: Option<&[Overlap]>,
     budget: &mut Budget,
@@ -138,7 +139,7 @@ fn search_all(
     }
 }
 
-// All searches, over one index and one list of overlaps.
+// All searches, over the same left sides and one list of overlaps.
 fn search_whole(
     alloc: Global,
     sys: &System,
@@ -150,10 +151,11 @@ fn search_whole(
     ensures kept { (n : ℕ) × Spends budget.old n budget.new }
 {
     let indexed = IndexedSystem::new(alloc, sys)?;
+    let lefts = LeftSides::new(alloc, indexed)?;
     match overlaps(alloc, sys) {
-        Ok(found) => search_all(alloc, &indexed, names, Some(&found), budget),
-        Err(OverlapError::PairTooLarge { .. }) => search_all(alloc, &indexed, names, None, budget),
-        Err(OverlapError::TooManyPairs) => search_all(alloc, &indexed, names, None, budget),
+        Ok(found) => search_all(alloc, &lefts, names, Some(&found), budget),
+        Err(OverlapError::PairTooLarge { .. }) => search_all(alloc, &lefts, names, None, budget),
+        Err(OverlapError::TooManyPairs) => search_all(alloc, &lefts, names, None, budget),
         Err(OverlapError::NoMemory) => Err(NoMemory),
     }
 }

@@ -13,37 +13,37 @@ use Rattle.ortho_search.proofs.search_open.Goals as goal
 pub returns-then-has_text-clause-searched : goal.returns-then-has_text-clause-searched
 returns-then-has_text-clause-searched c =
     let os = map overlap_view c.args.overlaps.now in
-    let w = entries_told (IsOrthoEntry c.args.sys.now) (overlap_cost ortho_items) (StopsAtOverlap ortho c.args.sys.now ortho_items) os c.args.budget.now c.entries_of.new.budget c.in-Ok-Whole.field-0 (Whole c.in-Ok-Whole.pairs) c.in-Ok-Whole.field-0-is c.in-Ok-Whole.ensures.answer in
-    whole_searched c.args.names.now c.args.sys.now os c.requires.classes c.requires.overlaps c.args.budget.now c.entries_of.new.budget (map pair_entry_view c.in-Ok-Whole.pairs.items) w.0 w.1 w.2 (c.if-has_text.ensures.0 refl)
+    let w = entries_told (IsOrthoEntry c.args.sys.now) (overlap_cost ortho_items) (StopsAtOverlap ortho c.args.sys.now ortho_items) os c.args.budget.now c.entries_for.new.budget c.in-Ok-Whole.field-0 (Whole c.in-Ok-Whole.pairs) c.in-Ok-Whole.field-0-is c.in-Ok-Whole.ensures.answer in
+    whole_searched c.args.names.now c.args.sys.now os c.requires.classes c.requires.overlaps c.args.budget.now c.entries_for.new.budget (map pair_entry_view c.in-Ok-Whole.pairs.items) w.0 w.1 w.2 (c.if-has_text.ensures.0 refl)
 
 pub returns-else-has_text-clause-searched : goal.returns-else-has_text-clause-searched
 returns-else-has_text-clause-searched c =
     let os = map overlap_view c.args.overlaps.now in
-    let w = entries_told (IsOrthoEntry c.args.sys.now) (overlap_cost ortho_items) (StopsAtOverlap ortho c.args.sys.now ortho_items) os c.args.budget.now c.entries_of.new.budget c.in-Ok-Whole.field-0 (Whole c.in-Ok-Whole.pairs) c.in-Ok-Whole.field-0-is c.in-Ok-Whole.ensures.answer in
-    long_searched c.args.names.now c.args.sys.now os c.requires.classes c.requires.overlaps c.args.budget.now c.entries_of.new.budget (map pair_entry_view c.in-Ok-Whole.pairs.items) w.0 w.1 w.2
+    let w = entries_told (IsOrthoEntry c.args.sys.now) (overlap_cost ortho_items) (StopsAtOverlap ortho c.args.sys.now ortho_items) os c.args.budget.now c.entries_for.new.budget c.in-Ok-Whole.field-0 (Whole c.in-Ok-Whole.pairs) c.in-Ok-Whole.field-0-is c.in-Ok-Whole.ensures.answer in
+    long_searched c.args.names.now c.args.sys.now os c.requires.classes c.requires.overlaps c.args.budget.now c.entries_for.new.budget (map pair_entry_view c.in-Ok-Whole.pairs.items) w.0 w.1 w.2
     (λ t. (let e = c.if-has_text.ensures.1 t in cc))
 
 pub returns-else-has_text-clause-paid : goal.returns-else-has_text-clause-paid
 returns-else-has_text-clause-paid c =
     let os = map overlap_view c.args.overlaps.now in
-    let w = entries_told (IsOrthoEntry c.args.sys.now) (overlap_cost ortho_items) (StopsAtOverlap ortho c.args.sys.now ortho_items) os c.args.budget.now c.entries_of.new.budget c.in-Ok-Whole.field-0 (Whole c.in-Ok-Whole.pairs) c.in-Ok-Whole.field-0-is c.in-Ok-Whole.ensures.answer in
-    long_paid c.args.names.now c.args.sys.now os c.requires.classes c.requires.overlaps c.args.budget.now c.entries_of.new.budget (map pair_entry_view c.in-Ok-Whole.pairs.items) w.0 w.1 w.2
+    let w = entries_told (IsOrthoEntry c.args.sys.now) (overlap_cost ortho_items) (StopsAtOverlap ortho c.args.sys.now ortho_items) os c.args.budget.now c.entries_for.new.budget c.in-Ok-Whole.field-0 (Whole c.in-Ok-Whole.pairs) c.in-Ok-Whole.field-0-is c.in-Ok-Whole.ensures.answer in
+    long_paid c.args.names.now c.args.sys.now os c.requires.classes c.requires.overlaps c.args.budget.now c.entries_for.new.budget (map pair_entry_view c.in-Ok-Whole.pairs.items) w.0 w.1 w.2
     (λ t. (let e = c.if-has_text.ensures.1 t in cc))
 
 pub returns-in-Ok-Missing-clause-searched : goal.returns-in-Ok-Missing-clause-searched
 returns-in-Ok-Missing-clause-searched c =
     let os = map overlap_view c.args.overlaps.now in
-    let w = entries_told (IsOrthoEntry c.args.sys.now) (overlap_cost ortho_items) (StopsAtOverlap ortho c.args.sys.now ortho_items) os c.args.budget.now c.entries_of.new.budget c.in-Ok-Missing.field-0 Missing c.in-Ok-Missing.field-0-is c.in-Ok-Missing.ensures.answer in
-    row_searched c.args.names.now c.args.sys.now os c.requires.classes c.requires.overlaps c.args.budget.now c.entries_of.new.budget w.0 w.1 w.2
+    let w = entries_told (IsOrthoEntry c.args.sys.now) (overlap_cost ortho_items) (StopsAtOverlap ortho c.args.sys.now ortho_items) os c.args.budget.now c.entries_for.new.budget c.in-Ok-Missing.field-0 Missing c.in-Ok-Missing.field-0-is c.in-Ok-Missing.ensures.answer in
+    row_searched c.args.names.now c.args.sys.now os c.requires.classes c.requires.overlaps c.args.budget.now c.entries_for.new.budget w.0 w.1 w.2
 
 pub returns-in-Ok-Missing-clause-paid : goal.returns-in-Ok-Missing-clause-paid
 returns-in-Ok-Missing-clause-paid c =
     let os = map overlap_view c.args.overlaps.now in
-    let w = entries_told (IsOrthoEntry c.args.sys.now) (overlap_cost ortho_items) (StopsAtOverlap ortho c.args.sys.now ortho_items) os c.args.budget.now c.entries_of.new.budget c.in-Ok-Missing.field-0 Missing c.in-Ok-Missing.field-0-is c.in-Ok-Missing.ensures.answer in
-    row_paid c.args.names.now c.args.sys.now os c.requires.classes c.requires.overlaps c.args.budget.now c.entries_of.new.budget w.0 w.1 w.2
+    let w = entries_told (IsOrthoEntry c.args.sys.now) (overlap_cost ortho_items) (StopsAtOverlap ortho c.args.sys.now ortho_items) os c.args.budget.now c.entries_for.new.budget c.in-Ok-Missing.field-0 Missing c.in-Ok-Missing.field-0-is c.in-Ok-Missing.ensures.answer in
+    row_paid c.args.names.now c.args.sys.now os c.requires.classes c.requires.overlaps c.args.budget.now c.entries_for.new.budget w.0 w.1 w.2
 
 pub returns-in-Ok-Spent-clause-searched : goal.returns-in-Ok-Spent-clause-searched
 returns-in-Ok-Spent-clause-searched c =
     let os = map overlap_view c.args.overlaps.now in
-    let w = entries_told (IsOrthoEntry c.args.sys.now) (overlap_cost ortho_items) (StopsAtOverlap ortho c.args.sys.now ortho_items) os c.args.budget.now c.entries_of.new.budget c.in-Ok-Spent.field-0 Spent c.in-Ok-Spent.field-0-is c.in-Ok-Spent.ensures.answer in
-    spent_searched c.args.names.now c.args.sys.now os c.requires.classes c.requires.overlaps c.args.budget.now c.entries_of.new.budget w.0 w.1 w.2 w.3
+    let w = entries_told (IsOrthoEntry c.args.sys.now) (overlap_cost ortho_items) (StopsAtOverlap ortho c.args.sys.now ortho_items) os c.args.budget.now c.entries_for.new.budget c.in-Ok-Spent.field-0 Spent c.in-Ok-Spent.field-0-is c.in-Ok-Spent.ensures.answer in
+    spent_searched c.args.names.now c.args.sys.now os c.requires.classes c.requires.overlaps c.args.budget.now c.entries_for.new.budget w.0 w.1 w.2 w.3

@@ -1,4 +1,4 @@
-use Rattle.std.proofs.Common.{ℕ, Ok, subst}
+use Rattle.std.proofs.Common.{ℕ, ◌∙◌, Ok, subst}
 use Rattle.cc_count.specs.Counts.{Spends}
 use Rattle.search_answers.specs.Answers.{IfNothing}
 use Rattle.search_spaces.specs.Ortho.{IsOrthoPaid}
@@ -33,5 +33,5 @@ returns-in-Err-TooManyPairs-clause-paid c =
 
 pub returns-in-Ok-clause-paid : goal.returns-in-Ok-clause-paid
 returns-in-Ok-clause-paid c =
-    subst (λ s. IfNothing c.search_ortho_over.result ((n : ℕ) × Spends c.args.budget.now n c.search_ortho_over.new.budget × IsOrthoPaid c.args.names.now s n)) c.in_ok-indexed.ensures
+    subst (λ s. IfNothing c.search_ortho_over.result ((n : ℕ) × Spends c.args.budget.now n c.search_ortho_over.new.budget × IsOrthoPaid c.args.names.now s n)) (c.in_ok-lefts.ensures ∙ c.in_ok-indexed.ensures)
     c.search_ortho_over.ensures.paid

@@ -1,6 +1,7 @@
 use Rattle.std.proofs.Common.{◌+◌, Ok, subst}
 use Rattle.search_answers.specs.Answers.{SearchesExactly}
 use Rattle.search_spaces.specs.Ortho.{ortho_space}
+use Rattle.search_spaces.specs.Peak.{peak_space}
 use Rattle.cc_count.proofs.Spending.{spends_both}
 use Rattle.portfolio.proofs.Ending.{ortho_found, both_spent, both_behind, ortho_none}
 use Rattle.portfolio.proofs.search_both.Goals as goal
@@ -14,7 +15,7 @@ pub returns-in-Ok-Nothing-clause-searched : goal.returns-in-Ok-Nothing-clause-se
 returns-in-Ok-Nothing-clause-searched c =
     both_behind c.args.names.now c.args.sys.now c.args.budget.now c.search_ortho_if.new.budget c.search_peak_over.new.budget
     (subst (λ s. SearchesExactly (ortho_space c.args.names.now c.args.sys.now) c.args.budget.now c.search_ortho_if.new.budget (Ok s)) c.in-Ok-Nothing.field-0-is c.in-Ok-Nothing.ensures.searched)
-    c.search_peak_over.result c.search_peak_over.ensures.searched
+    c.search_peak_over.result (subst (λ s. SearchesExactly (peak_space c.args.names.now s) c.search_ortho_if.new.budget c.search_peak_over.new.budget c.search_peak_over.result) c.indexed.ensures c.search_peak_over.ensures.searched)
 
 pub returns-in-Ok-Nothing-clause-ortho_first : goal.returns-in-Ok-Nothing-clause-ortho_first
 returns-in-Ok-Nothing-clause-ortho_first c =

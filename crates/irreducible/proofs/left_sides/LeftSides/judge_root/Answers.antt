@@ -13,13 +13,13 @@ use Rattle.irreducible.proofs.Tried.{tried_none, number_low, number_high, tried_
 use Rattle.irreducible.proofs.left_sides.LeftSides.judge_root.Goals as goal
 
 -- what is held, of the system that the value stands for
-sound : (i : Inside) (sys : System) → i.sys.now ≡ sys → IsHeld i → IsSystem sys
+sound : (i : Inside) (sys : System) → i.sys ≡ sys → IsHeld i → IsSystem sys
 sound i sys e h = subst IsSystem e h.sound
 
-lefts : (i : Inside) (sys : System) → i.sys.now ≡ sys → IsHeld i → AreLefts sys (map view i.lefts.items)
+lefts : (i : Inside) (sys : System) → i.sys ≡ sys → IsHeld i → AreLefts sys (map view i.lefts.items)
 lefts i sys e h = subst (λ z. AreLefts z (map view i.lefts.items)) e h.lefts
 
-listed : (i : Inside) (sys : System) (f : ℕ) (ns : List ℕ) → i.sys.now ≡ sys → ns ≡ rules_with_root i.sys.now f → ns ≡ rules_with_root sys f
+listed : (i : Inside) (sys : System) (f : ℕ) (ns : List ℕ) → i.sys ≡ sys → ns ≡ rules_with_root i.sys f → ns ≡ rules_with_root sys f
 listed i sys f ns e h = h ∙ ap (λ z. rules_with_root z f) e
 
 pub loop-number-init : goal.loop-number-init
