@@ -13,4 +13,5 @@ pub mod EvidenceLines
 pub mod PairLines
 pub mod MeasureLines
 pub mod PeakLines
+pub mod Beginnings
 pub mod Whole

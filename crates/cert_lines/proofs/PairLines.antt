@@ -1,5 +1,5 @@
 -- Overlaps with their evidence, and lists of them up to the last line.
-use Rattle.std.proofs.Common.{◌≡◌, ℕ, ◌≤◌, List, [], ◌∷◌, ◌++◌, length, refl, sym, ap, ◌∙◌, subst, decimal, codes, arith, append_assoc}
+use Rattle.std.proofs.Common.{◌≡◌, ℕ, ◌≤◌, List, [], ◌∷◌, ◌++◌, length, refl, sym, ap, ◌∙◌, subst, decimal, codes, arith, append_assoc, Option, None, Some}
 use Rattle.rewriting.specs.Positions.{Position}
 use Rattle.certificates.specs.Evidence.{PairEvidence}
 use Rattle.certificates.specs.Certificates.{PairEntry}
@@ -7,7 +7,7 @@ use Rattle.cops_names.specs.NameTable.{NameTable}
 use Rattle.cert_grammar.specs.Words.{position_text}
 use Rattle.cert_grammar.specs.EvidenceText.{evidence_text, pairs_text, ArePairs}
 use Rattle.cert_lines.specs.ReadingParts.{Items}
-use Rattle.cert_lines.specs.ReadingEvidence.{EvidenceAt, PlaceAt, PairAt, IsPairsText}
+use Rattle.cert_lines.specs.ReadingEvidence.{EvidenceAt, PlaceAt, PairAt, NextAt, IsPairsText}
 use Rattle.cert_lines.proofs.Parts.{One, OneText, firsts, seconds, pairs_equal, word_off, words_apart, items_unfinished, uncounted_same}
 use Rattle.cert_lines.proofs.EvidenceLines.{place_one, evidence_one}
 
@@ -77,6 +77,10 @@ items_pairs names (p ∷ ps) bytes rest h = whole h.1 (items_pairs names ps h.0 
 -- no overlap stands at the last line
 last_is_no_pair : (names : NameTable) (z : PairEntry × List ℕ) → PairAt names last_line z → ⊥
 last_is_no_pair names z h = words_apart 0 101 112 h.2 refl refl refl
+
+pub next_there : (names : NameTable) (bytes : List ℕ) → (bytes ≡ last_line → ⊥) → (y : Option (PairEntry × List ℕ)) → NextAt names bytes y → (z : PairEntry × List ℕ) × PairAt names bytes z
+next_there names bytes bad None h = absurd (bad h)
+next_there names bytes bad (Some x) h = (x, h)
 
 pub next_pair : (names : NameTable) (bytes left : List ℕ) (done : List PairEntry) → Items (PairAt names) bytes done left → (left ≡ last_line → ⊥) → (y : List PairEntry) → IsPairsText names bytes y → (z : PairEntry × List ℕ) × PairAt names left z
 next_pair names bytes left done h bad y k = (items_unfinished (PairAt names) (pair_one names) done y bytes left last_line (last_is_no_pair names) h (pairs_items names y bytes last_line k.0 k.2) bad).1

@@ -1,4 +1,5 @@
 pub mod ReadingParts
 pub mod ReadingEvidence
 pub mod ReadingCertificates
+pub mod ReadingBeginnings
 pub mod Answers

@@ -1,13 +1,13 @@
--- What the reader finds of measures, peaks and certificates.
-use Rattle.std.specs.Prelude.{◌≡◌, ◌≤◌, ℕ, List, ◌∷◌, ◌++◌, Bool, if◌then◌else◌, length, codes}
+-- What the reader finds of measures and peaks.
+use Rattle.std.specs.Prelude.{◌≡◌, ◌≤◌, ℕ, List, ◌∷◌, ◌++◌, length, codes}
 use Rattle.rewriting.specs.Terms.{Fits}
 use Rattle.rewriting.specs.Unraveling.{Head}
-use Rattle.certificates.specs.Certificates.{PairEntry, LinearEntry, MeasureCertificate, Redex, Apartness, Peak, Certificate}
+use Rattle.certificates.specs.Certificates.{LinearEntry, Redex, Apartness, Peak}
 use Rattle.cops_names.specs.NameTable.{NameTable}
 use Rattle.cert_grammar.specs.Words.{largest, IsSpelt}
 use Rattle.cert_grammar.specs.Limits.{IsDerivation}
-use Rattle.cert_grammar.specs.EvidenceText.{numbers_text, pairs_text, AreAtMost, ArePairs}
-use Rattle.cert_grammar.specs.CertificateText.{measured_text, entries_text, measure_text, redexes_text, apart_text, peak_text, body_text, certificate_text, answer_line, IsMeasured, AreEntries, IsMeasure, AreRedexEntries, IsApart, CanBeSpelt}
+use Rattle.cert_grammar.specs.EvidenceText.{numbers_text, AreAtMost}
+use Rattle.cert_grammar.specs.CertificateText.{measured_text, entries_text, redexes_text, apart_text, peak_text, IsMeasured, AreEntries, AreRedexEntries, IsApart}
 use Rattle.cert_lines.specs.ReadingParts.{StopsAt, ends_part}
 use Rattle.cert_lines.specs.ReadingEvidence.{PlaceAt, InfeasibilityAt}
 
@@ -40,21 +40,3 @@ IsApartText names bytes a = (bytes ≡ apart_text names a ++ codes "end\n") × I
 
 abbrev pub IsPeakText : NameTable → List ℕ → Peak → Type 0
 IsPeakText names bytes p = (bytes ≡ peak_text names p ++ codes "end\n") × IsSpelt names p.start × Fits p.start × IsDerivation 50 p.first × IsDerivation 50 p.second × IsApart names p.apart
-
-abbrev pub IsQuasiText : NameTable → List ℕ → MeasureCertificate × List PairEntry → Type 0
-IsQuasiText names bytes x = (bytes ≡ measure_text names x.0 ++ (pairs_text names x.1 ++ codes "end\n")) × IsMeasure names x.0 × (length x.1 ≤ 20000) × ArePairs names x.1
-
-abbrev pub IsBodyText : NameTable → List ℕ → Certificate → Type 0
-IsBodyText names bytes c = (bytes ≡ body_text names c ++ codes "end\n") × CanBeSpelt names c
-
--- all bytes are a certificate without an answer line
-abbrev pub IsPlainText : NameTable → List ℕ → Certificate → Type 0
-IsPlainText names bytes c = (bytes ≡ certificate_text names c) × CanBeSpelt names c
-
--- the certificate is for the answer
-abbrev pub HasAnswer : Bool → Certificate → Type 0
-HasAnswer positive c = answer_line c ≡ (if positive then codes "YES\n" else codes "NO\n")
-
--- all bytes are a certificate for the answer, behind the answer line
-abbrev pub IsAnsweredText : NameTable → List ℕ → Bool → Certificate → Type 0
-IsAnsweredText names bytes positive c = IsPlainText names bytes c × HasAnswer positive c

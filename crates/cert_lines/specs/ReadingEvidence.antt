@@ -1,5 +1,5 @@
 -- What the reader finds of automata, evidence and overlaps at the front of bytes.
-use Rattle.std.specs.Prelude.{◌≡◌, ◌≤◌, ◌<◌, ℕ, List, ◌∷◌, ◌++◌, Option, length, decimal, codes}
+use Rattle.std.specs.Prelude.{◌≡◌, ◌≤◌, ◌<◌, ℕ, List, ◌∷◌, ◌++◌, Option, None, Some, length, decimal, codes}
 use Rattle.rewriting.specs.Positions.{Position}
 use Rattle.certificates.specs.Derivations.{Derivation}
 use Rattle.certificates.specs.Evidence.{Transition, Automaton, InfeasibilityEvidence, PairEvidence, unfeasible_pair}
@@ -62,3 +62,8 @@ PairAt names bytes x = (b : List ℕ) × (c : List ℕ) × (bytes ≡ codes "pai
 -- all bytes are overlaps and the last line
 abbrev pub IsPairsText : NameTable → List ℕ → List PairEntry → Type 0
 IsPairsText names bytes pairs = (bytes ≡ pairs_text names pairs ++ codes "end\n") × (length pairs ≤ 20000) × ArePairs names pairs
+
+-- an overlap and what is behind it, or the last line alone
+abbrev pub NextAt : NameTable → List ℕ → Option (PairEntry × List ℕ) → Type 0
+NextAt names bytes None = bytes ≡ codes "end\n"
+NextAt names bytes (Some x) = PairAt names bytes x

@@ -1,8 +1,8 @@
-ghost use Rattle.std.specs.Prelude.{map};
+ghost use Rattle.std.specs.Prelude.{map, option_map};
 ghost use Rattle.cert_model.specs.DerivationView.{derivation_view};
 ghost use Rattle.cert_model.specs.EvidenceView.{inf_evidence_view, pair_evidence_view};
 ghost use Rattle.cert_model.specs.CertificateView.{pair_entry_view};
-ghost use Rattle.cert_lines.specs.ReadingEvidence.{InfeasibilityAt, TwoNumbers, TwoDerivations, EvidenceAt, UnfeasibleAt, PlaceAt, PairAt, IsPairsText};
+ghost use Rattle.cert_lines.specs.ReadingEvidence.{InfeasibilityAt, TwoNumbers, TwoDerivations, EvidenceAt, UnfeasibleAt, PlaceAt, PairAt, NextAt, IsPairsText};
 ghost use Rattle.cert_lines.specs.Answers.{Answers};
 
 use crate::automata::automaton;
@@ -124,6 +124,21 @@ fn pair<'a>(alloc: Global, names: &Names, bytes: &'a [u8]) -> Result<(PairEntry,
         },
         rest,
     ))
+}
+
+/// The overlap at the front, and what is behind it; none where only the last line is left.
+pub fn next_pair<'a>(
+    alloc: Global,
+    names: &Names,
+    bytes: &'a [u8],
+) -> Result<Option<(PairEntry, &'a [u8])>, Unread>
+    ensures { Answers (NextAt names.now bytes.now) (option_map (λ x. (pair_entry_view x.0, x.1.now))) result }
+{
+    if is_word(bytes, b"end\n") {
+        return Ok(None);
+    }
+    let found = pair(alloc, names, bytes)?;
+    Ok(Some(found))
 }
 
 /// The overlaps up to the last line.

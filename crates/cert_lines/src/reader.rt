@@ -1,7 +1,6 @@
-ghost use Rattle.std.specs.Prelude.{map};
-ghost use Rattle.cert_model.specs.CertificateView.{pair_entry_view, measure_view, certificate_view};
+ghost use Rattle.cert_model.specs.CertificateView.{measure_view, certificate_view};
 ghost use Rattle.cert_grammar.specs.CertificateText.{IsCertificateText};
-ghost use Rattle.cert_lines.specs.ReadingCertificates.{IsQuasiText, IsBodyText, IsPlainText, IsAnsweredText, HasAnswer};
+ghost use Rattle.cert_lines.specs.ReadingBeginnings.{beginning_view, MeasureAt, KindAt, PlainAt, AnsweredAt, HasAnswer, BeginningAt};
 ghost use Rattle.cert_lines.specs.Answers.{Answers};
 
 use crate::error::Unread;
@@ -9,68 +8,82 @@ use crate::evidence::pairs;
 use crate::measures::entries;
 use crate::peaks::peak;
 use cert_grammar::behind;
-use cert_model::{Certificate, Linear, MeasureCert, PairEntry};
+use cert_model::{Certificate, Linear, MeasureCert, Peak};
 use cops_names::Names;
 use std::alloc::Global;
 
-// The measure and the overlaps up to the last line.
-fn quasi(
+/// What stands before the overlaps of a certificate, and the bytes from these on; a peak is whole.
+#[derive(Debug, Drop)]
+pub enum Beginning<'a> {
+    /// No measure.
+    Ortho(&'a [u8]),
+    /// A measure.
+    Quasi(MeasureCert, &'a [u8]),
+    /// A peak, up to the last line.
+    Peak(Peak),
+}
+
+// The measure at the front, and what is behind it.
+fn measure<'a>(
     alloc: Global,
     names: &Names,
-    bytes: &[u8],
-) -> Result<(MeasureCert, Vec<PairEntry>), Unread>
-    ensures { Answers (IsQuasiText names.now bytes.now) (λ x. (measure_view x.0, map pair_entry_view x.1.items)) result }
+    bytes: &'a [u8],
+) -> Result<(MeasureCert, &'a [u8]), Unread>
+    ensures { Answers (MeasureAt names.now bytes.now) (λ x. (measure_view x.0, x.1.now)) result }
 {
     let Some(lines) = behind(bytes, b"linear\n") else {
         return Err(Unread::NoText);
     };
     let (entries, rest) = entries(alloc, names, lines)?;
-    let pairs = pairs(alloc, names, rest)?;
-    Ok((MeasureCert::Linear(Linear { entries }), pairs))
+    Ok((MeasureCert::Linear(Linear { entries }), rest))
 }
 
-// The certificate behind its first line, up to the last line.
-fn body(alloc: Global, names: &Names, bytes: &[u8]) -> Result<Certificate, Unread>
-    ensures { Answers (IsBodyText names.now bytes.now) certificate_view result }
+// The beginning behind its first line.
+fn kind<'a>(alloc: Global, names: &Names, bytes: &'a [u8]) -> Result<Beginning<'a>, Unread>
+    ensures { Answers (KindAt names.now bytes.now) beginning_view result }
 {
     if let Some(rest) = behind(bytes, b"ortho\n") {
-        let pairs = pairs(alloc, names, rest)?;
-        return Ok(Certificate::Ortho(pairs));
+        return Ok(Beginning::Ortho(rest));
     }
-    if let Some(rest) = behind(bytes, b"quasi\n") {
-        let (measure, pairs) = quasi(alloc, names, rest)?;
-        return Ok(Certificate::Quasi(measure, pairs));
+    if let Some(lines) = behind(bytes, b"quasi\n") {
+        let (measure, rest) = measure(alloc, names, lines)?;
+        return Ok(Beginning::Quasi(measure, rest));
     }
-    let Some(rest) = behind(bytes, b"peak\n") else {
+    let Some(lines) = behind(bytes, b"peak\n") else {
         return Err(Unread::NoText);
     };
-    let peak = peak(alloc, names, rest)?;
-    Ok(Certificate::Peak(peak))
+    let peak = peak(alloc, names, lines)?;
+    Ok(Beginning::Peak(peak))
 }
 
-// The certificate without an answer line.
-fn plain(alloc: Global, names: &Names, bytes: &[u8]) -> Result<Certificate, Unread>
-    ensures { Answers (IsPlainText names.now bytes.now) certificate_view result }
+// The beginning without an answer line.
+fn plain<'a>(alloc: Global, names: &Names, bytes: &'a [u8]) -> Result<Beginning<'a>, Unread>
+    ensures { Answers (PlainAt names.now bytes.now) beginning_view result }
 {
     match behind(bytes, b"concon 1\n") {
-        Some(rest) => body(alloc, names, rest),
+        Some(rest) => kind(alloc, names, rest),
         None => Err(Unread::NoText),
     }
 }
 
-// Whether the certificate is for the answer YES; else it is for NO.
-fn is_for_yes(cert: &Certificate) -> bool
-    ensures { HasAnswer result (certificate_view cert.now) }
+// Whether what begins so is for the answer YES; else it is for NO.
+fn is_for_yes(beginning: &Beginning) -> bool
+    ensures { HasAnswer result (beginning_view beginning.now) }
 {
-    match cert {
-        Certificate::Ortho(_) | Certificate::Quasi(_, _) => true,
-        Certificate::Peak(_) => false,
+    match beginning {
+        Beginning::Ortho(_) | Beginning::Quasi(_, _) => true,
+        Beginning::Peak(_) => false,
     }
 }
 
-// The certificate behind an answer line.
-fn answered(alloc: Global, names: &Names, bytes: &[u8], yes: bool) -> Result<Certificate, Unread>
-    ensures { Answers (IsAnsweredText names.now bytes.now yes) certificate_view result }
+// The beginning behind an answer line.
+fn answered<'a>(
+    alloc: Global,
+    names: &Names,
+    bytes: &'a [u8],
+    yes: bool,
+) -> Result<Beginning<'a>, Unread>
+    ensures { Answers (AnsweredAt names.now bytes.now yes) beginning_view result }
 {
     let found = plain(alloc, names, bytes)?;
     if is_for_yes(&found) == yes {
@@ -80,9 +93,13 @@ fn answered(alloc: Global, names: &Names, bytes: &[u8], yes: bool) -> Result<Cer
     }
 }
 
-/// The certificate that the bytes are the text of, with its answer line or without one.
-pub fn certificate(alloc: Global, names: &Names, bytes: &[u8]) -> Result<Certificate, Unread>
-    ensures { Answers (IsCertificateText names.now bytes.now) certificate_view result }
+/// The beginning of a certificate up to its overlaps, with its answer line or without one; of a peak all.
+pub fn read_beginning<'a>(
+    alloc: Global,
+    names: &Names,
+    bytes: &'a [u8],
+) -> Result<Beginning<'a>, Unread>
+    ensures { Answers (BeginningAt names.now bytes.now) beginning_view result }
 {
     if let Some(text) = behind(bytes, b"YES\n") {
         return answered(alloc, names, text, true);
@@ -91,4 +108,21 @@ pub fn certificate(alloc: Global, names: &Names, bytes: &[u8]) -> Result<Certifi
         return answered(alloc, names, text, false);
     }
     plain(alloc, names, bytes)
+}
+
+/// The certificate that the bytes are the text of, with its answer line or without one.
+pub fn certificate(alloc: Global, names: &Names, bytes: &[u8]) -> Result<Certificate, Unread>
+    ensures { Answers (IsCertificateText names.now bytes.now) certificate_view result }
+{
+    match read_beginning(alloc, names, bytes)? {
+        Beginning::Ortho(rest) => {
+            let pairs = pairs(alloc, names, rest)?;
+            Ok(Certificate::Ortho(pairs))
+        }
+        Beginning::Quasi(measure, rest) => {
+            let pairs = pairs(alloc, names, rest)?;
+            Ok(Certificate::Quasi(measure, pairs))
+        }
+        Beginning::Peak(peak) => Ok(Certificate::Peak(peak)),
+    }
 }

@@ -1,1 +1,5 @@
 pub mod StepByStep
+pub mod Entries
+pub mod Openings
+pub mod Advancing
+pub mod Refusing

@@ -15,12 +15,17 @@
 //! end
 //! ```
 //!
+//! `read_cert` reads it whole; `open_cert` reads it up to its entries, of which a peak has none, and `Pairs` one entry
+//! after the other.
+//!
 //! The definitions stand in `cert_grammar`: the one text of a certificate (`CertificateText`), and why and where
 //! another text is refused (`Refusals`). The exported calls here are over the reader of lines and words
 //! (`cert_lines`), the steps to the first refusal (`cert_refusals`) and the writer (`cert_writing`).
 #![tactic(auto)]
 
 mod laws;
+mod opening;
+mod pairs;
 mod reader;
 mod refusal;
 mod writer;
@@ -31,5 +36,7 @@ pub use laws::{
     demands_are_met, grammar_is_deterministic, one_answer, reader_stops_at_refusals,
     worked_refusals,
 };
+pub use opening::{Opened, open_cert};
+pub use pairs::Pairs;
 pub use reader::{one_certificate, read_cert};
 pub use writer::{write_cert, written_is_read};

@@ -5,7 +5,7 @@ ghost use Rattle.cert_model.specs.CertificateView.{certificate_view};
 ghost use Rattle.cert_grammar.specs.CertificateText.{IsCertificateText};
 ghost use Rattle.cert_refusals.specs.CertRefusals.{IsRefusedAs};
 
-use crate::refusal::first_refusal;
+use crate::refusal::refusal;
 use cert_lines::{Unread, certificate};
 use cert_model::Certificate;
 use cert_refusals::CertError;
@@ -21,10 +21,7 @@ pub fn read_cert(alloc: Global, names: &Names, bytes: &[u8]) -> Result<Certifica
     match certificate(alloc, names, bytes) {
         Ok(found) => Ok(found),
         Err(Unread::NoMemory) => Err(CertError::NoMemory),
-        Err(Unread::NoText) => {
-            first_refusal(alloc, names, bytes)?;
-            Err(CertError::CertSyntax { at: bytes.len() })
-        }
+        Err(Unread::NoText) => Err(refusal(alloc, names, bytes)),
     }
 }
 

@@ -31,3 +31,13 @@ pub fn first_refusal(alloc: Global, names: &Names, bytes: &[u8]) -> Result<(), C
         })
     }
 }
+
+/// The refusal of bytes that are the text of no certificate.
+pub fn refusal(alloc: Global, names: &Names, bytes: &[u8]) -> CertError
+    ensures { ((c : Certificate) → IsCertificateText names.now bytes.now c → ⊥) → IsRefusedAs names.now bytes.now result }
+{
+    match first_refusal(alloc, names, bytes) {
+        Ok(()) => CertError::CertSyntax { at: bytes.len() },
+        Err(refused) => refused,
+    }
+}

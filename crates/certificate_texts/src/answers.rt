@@ -1,5 +1,6 @@
 //! What the reader and the writer answer.
 
+use crate::entries::gathered;
 use crate::texts::Text;
 use cert_model::Certificate;
 use cert_text::{CertError, read_cert, text_len, write_cert};
@@ -9,19 +10,26 @@ use std::alloc::{AllocError, Global};
 // Longer texts are not printed.
 const LONGEST: u64 = 1_000;
 
-/// The certificate that is read, as it is written, or the refusal with its place marked in the row.
+/// The certificate that is read, as it is written, or the refusal with its place marked in the row. Where it is read entry by
+/// entry the answer is to be the same, else both are told.
 pub fn answer(alloc: Global, names: &Names, front: &str, row: &str) -> Result<String, AllocError> {
     let front = Text::of(alloc, front)?;
     let text = Text::of(alloc, row)?;
     let mut bytes = Vec::from_slice(alloc, &front.bytes)?;
     bytes.extend_from_slice(&text.bytes)?;
-    match read_cert(alloc, names, &bytes) {
+    let told = |found: Result<Certificate, CertError>| match found {
         Ok(cert) => read(alloc, names, &cert),
         Err(error) => {
             let behind_front = place(&error).saturating_sub(front.bytes.len());
             refused(alloc, error, row, text.place(behind_front))
         }
+    };
+    let whole = told(read_cert(alloc, names, &bytes))?;
+    let by_entries = told(gathered(alloc, names, &bytes))?;
+    if whole == by_entries {
+        return Ok(whole);
     }
+    format!(in alloc; "{whole}, but entry by entry: {by_entries}")
 }
 
 fn read(alloc: Global, names: &Names, cert: &Certificate) -> Result<String, AllocError> {

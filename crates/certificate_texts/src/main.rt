@@ -2,12 +2,14 @@
 //!
 //! A line `system` gives the system whose symbols the texts behind it name, and a line `behind` what stands in
 //! front of each text. A line `text` is a text: the answer is the certificate that is read, as it is written, or
-//! the cause of the refusal, its place in the whole text, and a mark `^` before the byte there. A line `beginnings`
+//! the cause of the refusal, its place in the whole text, and a mark `^` before the byte there. Each text is read whole and entry by
+//! entry; where the answers differ, both are printed. A line `beginnings`
 //! is a text of which each proper beginning is to be refused where it ends. Other lines are printed as they are.
 //! In a text `\n` is a line's end, `\s` a space, and `{3 PART}` stands for PART three times.
 #![tactic(auto)]
 
 mod answers;
+mod entries;
 mod texts;
 
 use answers::{answer, beginnings};

@@ -1,0 +1,57 @@
+-- The text of a certificate that is read entry by entry, and what one call of `Pairs::next` says of it.
+use Rattle.std.specs.Prelude.{◌≡◌, ℕ, List, [], ◌∷◌, ◌++◌, Option, None, Some, Result, Ok, Err}
+use Rattle.certificates.specs.Certificates as math
+use Rattle.certificates.specs.Certificates.{Certificate}
+use Rattle.cops_names.specs.NameTable.{NameTable}
+use Rattle.cert_model.specs.declared.model.PairEntry.{PairEntry}
+use Rattle.cert_model.specs.CertificateView.{pair_entry_view}
+use Rattle.cert_grammar.specs.CertificateText.{IsCertificateText}
+use Rattle.cert_openings.specs.Openings.{Opening, certificate_for, IsRead}
+use Rattle.cert_lines.specs.declared.error.Unread.{Unread}
+use Rattle.cert_lines.specs.declared.error.Unread.TheVariants as unread
+use Rattle.cert_refusals.specs.declared.error.CertError.{CertError}
+use Rattle.cert_refusals.specs.ReaderView.{told}
+
+-- names, bytes, and the place up to which they are read
+pub record Reading : Type 0 where
+  pub names : NameTable
+  pub bytes : List ℕ
+  pub place : ℕ
+
+-- an opening and entries are read
+abbrev pub HasRead : Reading → Opening → List math.PairEntry → Type 0
+HasRead r o es = IsRead r.names r.bytes o es r.place
+
+-- all bytes are the text of the certificate with an opening and entries
+abbrev pub IsAll : Reading → Opening → List math.PairEntry → Type 0
+IsAll r o es = IsCertificateText r.names r.bytes (certificate_for o es)
+
+-- one entry more is read
+abbrev pub ReadsOn : Reading → math.PairEntry → Reading → Type 0
+ReadsOn old e new = (o : Opening) (es : List math.PairEntry) → HasRead old o es → HasRead new o (es ++ e ∷ [])
+
+-- what is read is all but the last line
+abbrev pub IsAtEnd : Reading → Type 0
+IsAtEnd r = (o : Opening) (es : List math.PairEntry) → HasRead r o es → IsAll r o es
+
+-- the same text
+abbrev pub HasTextOf : Reading → Reading → Type 0
+HasTextOf old new = (new.names ≡ old.names) × (new.bytes ≡ old.bytes)
+
+-- none, unless memory was refused
+abbrev pub GivesNone : Result (Option PairEntry) CertError → Type 0
+GivesNone (Ok None) = Unit {0}
+GivesNone (Ok (Some e)) = ⊥
+GivesNone (Err e) = told e ≡ None
+
+-- without an entry nothing is read
+abbrev pub StaysWithout : {E : Type 0} → Reading → Reading → Result (Option PairEntry) E → Type 0
+StaysWithout old new (Ok (Some e)) = Unit {0}
+StaysWithout old new _ = new ≡ old
+
+-- an entry is read; or all is; or no certificate has the bytes as its text; or memory was refused
+abbrev pub NextAnswers : Reading → Reading → Result (Option PairEntry) Unread → Type 0
+NextAnswers old new (Ok (Some e)) = ReadsOn old (pair_entry_view e) new × ((o : Opening) (es : List math.PairEntry) → HasRead old o es → IsAll old o es → ⊥)
+NextAnswers old new (Ok None) = IsAtEnd old
+NextAnswers old new (Err unread.NoText) = (c : Certificate) → IsCertificateText old.names old.bytes c → ⊥
+NextAnswers old new (Err unread.NoMemory) = Unit {0}

@@ -1,0 +1,90 @@
+//! The entries of a certificate, read one after the other.
+
+ghost use Rattle.std.specs.Prelude.{◌≡◌, ℕ, List, IfOk, IfErr, IfSome, IfNone};
+ghost use Rattle.certificates.specs.Certificates as math;
+ghost use Rattle.cert_model.specs.CertificateView.{pair_entry_view};
+ghost use Rattle.cert_openings.specs.Openings.{Opening};
+ghost use Rattle.cert_refusals.specs.CertRefusals.{IsRefusedAs};
+ghost use Rattle.cert_text.specs.Reading.{Reading, HasRead, IsAll, ReadsOn, IsAtEnd, HasTextOf, GivesNone, StaysWithout, NextAnswers};
+ghost use Rattle.cert_text.specs.ReadingView.{place_of, IsUpTo};
+
+use crate::refusal::refusal;
+use cert_grammar::MOST_PAIRS;
+use cert_lines::{Unread, next_pair};
+use cert_model::PairEntry;
+use cert_refusals::CertError;
+use cops_names::Names;
+use std::alloc::Global;
+use std::marker::Model;
+
+/// The rest of a certificate's text, read entry by entry. In contracts: the names, the bytes, and the place up to
+/// which they are read.
+#[derive(Drop)]
+pub struct Pairs<'a> {
+    names: &'a Names,
+    bytes: &'a [u8],
+    left: &'a [u8],
+    count: u32,
+}
+
+impl<'a> Model for Pairs<'a> {
+    ghost use Rattle.cert_text.specs.Reading.{Reading};
+
+    ghost Value = { Reading };
+
+    ghost use Rattle.cert_text.specs.ReadingView.{reading_view, IsHeld};
+
+    ghost view = { reading_view };
+
+    ghost invariant = { IsHeld };
+}
+
+impl<'a> Pairs<'a> {
+    // The entries behind an opening.
+    pub(crate) fn behind(names: &'a Names, bytes: &'a [u8], left: &'a [u8]) -> Pairs<'a>
+        requires { IsUpTo names.now bytes.now left.now 0 }
+        ensures { result ≡ record { names = names.now; bytes = bytes.now; place = place_of bytes.now left.now } }
+    {
+        Pairs {
+            names,
+            bytes,
+            left,
+            count: 0,
+        }
+    }
+
+    // The next entry; none at the last line.
+    fn advance(&mut self, alloc: Global) -> Result<Option<PairEntry>, Unread>
+        ensures answer { NextAnswers self.old self.new result }
+        ensures stays { StaysWithout self.old self.new result }
+        ensures text { HasTextOf self.old self.new }
+    {
+        let Some((entry, rest)) = next_pair(alloc, self.names, self.left)? else {
+            return Ok(None);
+        };
+        if self.count == MOST_PAIRS {
+            return Err(Unread::NoText);
+        }
+        self.left = rest;
+        self.count += 1;
+        Ok(Some(entry))
+    }
+
+    /// The next entry; none at the last line, where the text ends; else the refusal of the text, the same at each later call.
+    ///
+    /// Where memory is refused nothing has been read.
+    pub fn next(&mut self, alloc: Global) -> Result<Option<PairEntry>, CertError>
+        ensures entry { IfOk result (λ found. IfSome found (λ e. ReadsOn self.old (pair_entry_view e) self.new)) }
+        ensures none { IfOk result (λ found. IfNone found (IsAtEnd self.old)) }
+        ensures none_exactly { (o : Opening) (es : List math.PairEntry) → HasRead self.old o es → IsAll self.old o es → GivesNone result }
+        ensures refused { IfErr result (λ e. IsRefusedAs self.old.names self.old.bytes e) }
+        ensures stays { StaysWithout self.old self.new result }
+        ensures text { HasTextOf self.old self.new }
+    {
+        match self.advance(alloc) {
+            Ok(found) => Ok(found),
+            Err(Unread::NoMemory) => Err(CertError::NoMemory),
+            Err(Unread::NoText) => Err(refusal(alloc, self.names, self.bytes)),
+        }
+    }
+}
