@@ -28,7 +28,7 @@ fn print_conflict(rt: &HostRuntime, sys: &System) -> io::Result<()> {
     let Ok(indexed) = IndexedSystem::new(alloc, sys) else {
         return println!(rt; "no index");
     };
-    let Ok(sides) = LeftSides::new(alloc, &indexed) else {
+    let Ok(sides) = LeftSides::new(alloc, indexed) else {
         return println!(rt; "no left sides");
     };
     let Ok(found) = overlaps(alloc, sides.system()) else {

@@ -1,20 +1,17 @@
 -- The answer for a certificate, from those for the classes and for the overlaps, and what a valid one shows.
-use Rattle.std.proofs.Common.{List, Result, Ok, Err, OnOk, sym, subst}
+use Rattle.std.proofs.Common.{Result, Ok, Err, sym, subst}
 use Rattle.rewriting.specs.Rules.{System}
-use Rattle.rewriting.specs.Systems.{IsWellFormed}
 use Rattle.rewriting.specs.Classes.{IsLeftLinear, IsType3, IsExtendedOriented}
-use Rattle.rewriting.specs.Confluence.{IsConfluent}
-use Rattle.certificates.specs.Certificates.{PairEntry}
 use Rattle.certificates.specs.Reasons.{left_linear, type3, extended_oriented, right_stable}
 use Rattle.cert_model.specs.ReasonView.{rejected_view}
-use Rattle.level_theorem.specs.AlmostOrthogonal.{DoLevelsCommute, LevelsCommute, AlmostOrthogonalSystemsAreConfluent}
 use Rattle.validity.specs.declared.CheckError.{CheckError}
 use Rattle.validity.specs.declared.CheckError.TheVariants.{Rejected, NoMemory}
 use Rattle.valid_certificates.specs.Kinds.{ortho}
 use Rattle.valid_certificates.specs.Confluence.{IsInOrthoClasses, IsOrthoRejected, not_left_linear, not_type3, not_oriented, not_right_stable, ortho_pairs_fail}
-use Rattle.validity.specs.Answers.{SettleAnswers, OrthoAnswers}
+use Rattle.pair_check.specs.Runs.{StartAnswers as PairStart}
+use Rattle.tallies.specs.Runs.{PairRun}
+use Rattle.ortho_check.specs.Runs.{StartAnswers}
 use Rattle.ortho_check.specs.Answers.{ClassAnswers, ClassesAnswer}
-use Rattle.ortho_check.proofs.Sound.{almost_orthogonal}
 
 -- a class that is missed, where the system is in those before it
 module _ (sys : System) where
@@ -36,15 +33,8 @@ module _ (sys : System) where
       λ es. subst (IsOrthoRejected sys es) (sym is) (not_right_stable blame linear known oriented by)
   last_class linear known oriented (Err NoMemory) h = absurd h
 
-  pub in_classes : (es : List PairEntry) (a : Result (Unit {0}) CheckError) → IsInOrthoClasses sys → SettleAnswers ortho sys es a → OrthoAnswers sys es a
-  in_classes es (Ok _) classes h = record { classes = classes; pairs = h }
-  in_classes es (Err (Rejected reason)) classes h = ortho_pairs_fail (rejected_view reason) classes h
-  in_classes es (Err NoMemory) classes h = tt
-
-  pub levels_of_valid : LevelsCommute → IsWellFormed sys → (es : List PairEntry) (a : Result (Unit {0}) CheckError) → OrthoAnswers sys es a → OnOk a (DoLevelsCommute sys)
-  levels_of_valid law good es (Ok _) h = law sys (almost_orthogonal sys es good h)
-  levels_of_valid law good es (Err e) h = tt
-
-  pub confluent_of_valid : AlmostOrthogonalSystemsAreConfluent → IsWellFormed sys → (es : List PairEntry) (a : Result (Unit {0}) CheckError) → OrthoAnswers sys es a → OnOk a (IsConfluent sys)
-  confluent_of_valid law good es (Ok _) h = law sys (almost_orthogonal sys es good h)
-  confluent_of_valid law good es (Err e) h = tt
+  -- the run over the entries, where the system is in the classes
+  pub pairs_started : (a : Result PairRun CheckError) → IsInOrthoClasses sys → PairStart ortho sys a → StartAnswers sys a
+  pairs_started (Ok run) classes h = (classes, h)
+  pairs_started (Err (Rejected reason)) classes h = λ es. ortho_pairs_fail (rejected_view reason) classes (h es)
+  pairs_started (Err NoMemory) classes h = tt

@@ -1,3 +1,5 @@
 pub mod Ready
 pub mod Judging
-pub mod Walking
+pub mod Running
+pub mod Stands
+pub mod RunTallies

@@ -1,2 +1,6 @@
 pub mod Judges
 pub mod Walk
+pub mod Runs
+pub mod Underway
+pub mod Steps
+pub mod RunView

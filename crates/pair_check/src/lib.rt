@@ -5,8 +5,9 @@ mod conflict;
 mod derived;
 mod entries;
 mod evidence;
+mod run;
 
-pub use entries::check_pairs;
 pub use evidence::judge_evidence;
 pub use refuter::Refusal;
+pub use run::PairRun;
 pub use validity::{CertKind, CheckError};

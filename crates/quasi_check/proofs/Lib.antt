@@ -3,4 +3,5 @@ pub mod SoundPairs
 pub mod SoundEvidence
 pub mod Sound
 pub mod Answers
+pub mod Runs
 pub mod Walks

@@ -12,13 +12,13 @@ use Rattle.certificates.specs.Certificates.{MeasureCertificate, PairEntry, linea
 use Rattle.descent_theorem.specs.Bounded.{IsBoundedAndSettled, BoundedAndSettledSystemsAreConfluent}
 use Rattle.descent_theorem.specs.Evidence.{AreOverlapsSettled}
 use Rattle.std.specs.Prelude.{OnOk}
-use Rattle.validity.specs.declared.CheckError.{CheckError}
+use Rattle.cert_model.specs.declared.reasons.Rejected.{Rejected}
 use Rattle.valid_certificates.specs.Kinds.{quasi}
-use Rattle.validity.specs.Answers.{QuasiAnswers}
 use Rattle.valid_certificates.specs.Certificates.{IsMeasureJudged}
 use Rattle.valid_certificates.specs.Confluence.{IsValidQuasi}
 use Rattle.valid_certificates.specs.Entries.{DoSettle}
 use Rattle.valid_certificates.proofs.Settled.{settled}
+use Rattle.quasi_check.specs.Runs.{QuasiFinish}
 use Rattle.quasi_check.specs.Laws.{ValidMeasuredSystemsAreConfluent}
 use Rattle.quasi_check.proofs.SoundPairs.{pair_over}
 use Rattle.quasi_check.proofs.SoundEvidence.{none_unifies, judged_settles}
@@ -40,7 +40,7 @@ valid_is_bounded Is sys es bounds well valid =
     }
 
 pub quasi_confluent : BoundedAndSettledSystemsAreConfluent → (Is : Judgement → Type 0) (sys : System) (es : List PairEntry) → (Is good → AreDescentsBounded sys) → IsSystem sys
-    → (a : Result (Unit {0}) CheckError) → QuasiAnswers Is sys es a → OnOk a (IsConfluent sys)
+    → (a : Result (Unit {0}) Rejected) → QuasiFinish Is sys es a → OnOk a (IsConfluent sys)
 quasi_confluent law Is sys es bounds kept (Ok _) valid = law sys (valid_is_bounded Is sys es bounds (well_formed sys kept) valid)
 quasi_confluent law Is sys es bounds kept (Err e) h = tt
 

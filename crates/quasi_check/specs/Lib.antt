@@ -1,3 +1,4 @@
 pub mod Sides
 pub mod Parts
+pub mod Runs
 pub mod Laws

@@ -6,21 +6,19 @@ ghost use Rattle.validity.specs.Answers.{QuasiAnswers};
 ghost use Rattle.quasi_check.specs.Laws.{ValidMeasuredSystemsAreConfluent};
 ghost use Rattle.quasi_check.specs.Parts.{RulesAnswers, MeasureAnswers};
 
+use crate::run::QuasiRun;
 use crate::sides::first_reducible;
 use cert_model::{Class, PairEntry, Rejected};
 use ctrs_classes::why_not;
 use descent_theorem::bounded_descents_are_confluent;
-use infeasible::JudgeByKind;
 use irreducible::LeftSides;
 use measure::{Measure, MeasureError};
-use pair_check::check_pairs;
-use rule_index::IndexedSystem;
 use std::alloc::Global;
 use term_core::System;
-use validity::{CertKind, CheckError};
+use validity::CheckError;
 
 // Whether the system is deterministic and the right side of each condition is absolutely irreducible.
-fn check_rules(alloc: Global, sys: &LeftSides<'_>) -> Result<(), CheckError>
+pub(crate) fn check_rules(alloc: Global, sys: &LeftSides<'_>) -> Result<(), CheckError>
     ensures { RulesAnswers sys.now result }
 {
     if let Some(blame) = why_not(sys.system(), Class::Deterministic) {
@@ -36,7 +34,11 @@ fn check_rules(alloc: Global, sys: &LeftSides<'_>) -> Result<(), CheckError>
 }
 
 // Whether the measure bounds descents.
-fn check_measure<M: Measure>(alloc: Global, sys: &System, measure: &M) -> Result<(), CheckError>
+pub(crate) fn check_measure<M: Measure>(
+    alloc: Global,
+    sys: &System,
+    measure: &M,
+) -> Result<(), CheckError>
     ensures { MeasureAnswers (M.judged measure.now sys.now) result }
 {
     match measure.shows(alloc, sys) {
@@ -49,23 +51,6 @@ fn check_measure<M: Measure>(alloc: Global, sys: &System, measure: &M) -> Result
         }
         Err(MeasureError::NoMemory) => Err(CheckError::NoMemory),
     }
-}
-
-// Whether the certificate is valid, or the first reason why it is not.
-fn judge_quasi<M: Measure>(
-    alloc: Global,
-    sys: &System,
-    measure: &M,
-    pairs: &[PairEntry],
-) -> Result<(), CheckError>
-    requires short { ArePairsShort (map pair_entry_view pairs.now) }
-    ensures { QuasiAnswers (M.judged measure.now sys.now) sys.now (map pair_entry_view pairs.now) result }
-{
-    let indexed = IndexedSystem::new(alloc, sys)?;
-    let lefts = LeftSides::new(alloc, &indexed)?;
-    check_rules(alloc, &lefts)?;
-    check_measure(alloc, sys, measure)?;
-    check_pairs::<JudgeByKind>(alloc, &lefts, CertKind::Quasi, pairs)
 }
 
 /// Judges a certificate that a system is confluent, by a measure and the evidence for each overlap (after Avenhaus and
@@ -86,9 +71,14 @@ pub fn check_quasi<M: Measure>(
     ensures judged { QuasiAnswers (M.judged measure.now sys.now) sys.now (map pair_entry_view pairs.now) result }
     ensures confluent { OnOk result (IsConfluent sys.now) }
 {
-    bounded_descents_are_confluent();
-    let _rules = sys.rules();
-    judge_quasi(alloc, sys, measure, pairs)
+    let mut run = QuasiRun::start(alloc, sys, measure)?;
+    for entry in pairs {
+        run.take(alloc, entry)?;
+    }
+    match run.finish() {
+        Ok(()) => Ok(()),
+        Err(reason) => Err(CheckError::Rejected(reason)),
+    }
 }
 
 /// A system that has a valid certificate with a measure is confluent. This is a law of the definitions: nothing is checked here.

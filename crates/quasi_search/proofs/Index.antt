@@ -1,5 +1,5 @@
 -- Listed terms are found by their keys.
-use Rattle.std.proofs.Common.{◌≡◌, ℕ, Bool, true, false, cond, List, [], ◌∷◌, ◌++◌, map, append-nil, append_assoc, Option, None, Some, Vec, Global, Bor, refl, sym, ap, ◌∙◌, subst}
+use Rattle.std.proofs.Common.{◌≡◌, ℕ, ◌≤◌, Bool, true, false, cond, List, [], ◌∷◌, ◌++◌, map, append-nil, append_assoc, Option, None, Some, Vec, Global, Bor, refl, sym, ap, ◌∙◌, subst}
 use Rattle.std.proofs.lemmas.Bool.{false_from_ne_true, false≢true, or_from, or_left, or_right}
 use Rattle.std.proofs.lemmas.List.{map-append}
 use Rattle.std.specs.Str.{bytes_eq}
@@ -7,7 +7,7 @@ use Rattle.std.specs.Map.{lookup}
 use Rattle.std.specs.HashMap.{HashMap, get}
 use Rattle.indexmap.specs.IndexMap.{insert_entry}
 use Rattle.indexmap.proofs.CallerLemmas.{insert_entry-new}
-use Rattle.rewriting.specs.Terms.{Term}
+use Rattle.rewriting.specs.Terms.{Term, size}
 use Rattle.rewriting.specs.Tests.{is_same}
 use Rattle.rewriting.proofs.Tests.{same_is, equal_same}
 use Rattle.term_core.specs.View.{view}
@@ -53,19 +53,19 @@ module _ (t : Term) where
       record { before = []; behind = map entry_view es; split = refl; is_term = same_is (entry_view e).term t same; none_before = refl }
   by_test e es false other h = behind_one e es (found es) other h
 
-  find : (es : List Entry) → EachOf IsKeyed es → Answer es (found es)
-  find [] h = refl
-  find (e ∷ es) (h, hs) =
+  find : size t ≤ 10000 → (es : List Entry) → EachOf IsKeyed es → Answer es (found es)
+  find few [] h = refl
+  find few (e ∷ es) (h, hs) =
       let u = view e.1.now.term in
-      let test : bytes_eq (cells t) e.0.items ≡ is_same u t = ap (bytes_eq (cells t)) h ∙ key_tells t u (is_same u t) refl in
-      by_test e es (bytes_eq (cells t) e.0.items) (sym test) (find es hs)
+      let test : bytes_eq (cells t) e.0.items ≡ is_same u t = ap (bytes_eq (cells t)) h ∙ key_tells t u (is_same u t) few refl in
+      by_test e es (bytes_eq (cells t) e.0.items) (sym test) (find few es hs)
 
 -- what a look-up by a key finds
-pub found_by : {S : Type 0} (m : HashMap (Vec ℕ Global) (Bor Reached) S) (key : List ℕ) (list : List math.Reached) (t : Term) → IsIndexOf list m.entries → key ≡ cells t
+pub found_by : {S : Type 0} (m : HashMap (Vec ℕ Global) (Bor Reached) S) (key : List ℕ) (list : List math.Reached) (t : Term) → IsIndexOf list m.entries → size t ≤ 10000 → key ≡ cells t
     → (p : Option (Bor Reached)) → p ≡ lookup (λ k. bytes_eq key k.items) m.entries → FindAnswers list t p
-found_by m key list t index is p e =
+found_by m key list t index few is p e =
     subst (λ l. FindAnswers l t p) index.all
-    (subst (λ o. FindAnswers (map entry_view m.entries) t o) (sym (e ∙ ap (λ z. lookup (λ k. bytes_eq z k.items) m.entries) is)) (find t m.entries index.keyed))
+    (subst (λ o. FindAnswers (map entry_view m.entries) t o) (sym (e ∙ ap (λ z. lookup (λ k. bytes_eq z k.items) m.entries) is)) (find t few m.entries index.keyed))
 
 -- some of a list is in the index, and the rest is left
 pub record Indexing (list : List math.Reached) (entries : List Entry) (rest : List math.Reached) : Type 0 where
@@ -93,12 +93,12 @@ absent_key list t None h e = refl
 absent_key list t (Some y) h e =
     absurd (false≢true (sym e ∙ subst (λ z. is_listed t z ≡ true) (sym h.split) (listed_middle t h.before (reached_view y.now) h.behind h.is_term)))
 
-module _ {S : Type 0} (m : HashMap (Vec ℕ Global) (Bor Reached) S) (key : Vec ℕ Global) (r : Bor Reached) (is : key.items ≡ cells (view r.now.term)) where
+module _ {S : Type 0} (m : HashMap (Vec ℕ Global) (Bor Reached) S) (key : Vec ℕ Global) (r : Bor Reached) (is : key.items ≡ cells (view r.now.term)) (few : size (view r.now.term) ≤ 10000) where
   one_more : (done : List math.Reached) → IsIndexOf done m.entries → is_listed (view r.now.term) done ≡ false → (entries : List Entry) → entries ≡ insert_entry same_key m.entries key r
       → IsIndexOf (done ++ reached_view r.now ∷ []) entries
   one_more done index new entries e =
       let absent : get same_key m key ≡ None =
-      absent_key done (view r.now.term) (get same_key m key) (found_by m key.items done (view r.now.term) index is (get same_key m key) refl) new in
+      absent_key done (view r.now.term) (get same_key m key) (found_by m key.items done (view r.now.term) index few is (get same_key m key) refl) new in
       let put : entries ≡ m.entries ++ (key, r) ∷ [] = e ∙ insert_entry-new same_key m key r absent in
       record {
         all = ap (map entry_view) put ∙ map-append entry_view m.entries ((key, r) ∷ []) ∙ ap (λ z. z ++ reached_view r.now ∷ []) index.all;

@@ -31,7 +31,7 @@ use term_core::NoMemory;
 fn index_of<'a>(
     alloc: Global,
     list: &'a [Reached],
-) -> Result<IndexMap<Vec<u32>, &'a Reached>, NoMemory>
+) -> Result<IndexMap<Vec<u64>, &'a Reached>, NoMemory>
     requires fit { DoAllFit (list_view list.now) }
     requires once { IsWithoutRepetition (list_view list.now) }
     ensures { IfOk result (λ index. IsIndexOf (list_view list.now) index.entries) }
@@ -45,8 +45,8 @@ fn index_of<'a>(
 }
 
 // The first listed term with a key.
-fn listed_by<'a>(index: &IndexMap<Vec<u32>, &'a Reached>, key: &[u32]) -> Option<&'a Reached>
-    ensures { (list : List math.Reached) (t : terms.Term) → IsIndexOf list index.now.entries → key.now ≡ cells t → FindAnswers list t result }
+fn listed_by<'a>(index: &IndexMap<Vec<u64>, &'a Reached>, key: &[u64]) -> Option<&'a Reached>
+    ensures { (list : List math.Reached) (t : terms.Term) → IsIndexOf list index.now.entries → terms.Fits t → key.now ≡ cells t → FindAnswers list t result }
 {
     match index.get(key) {
         Some(listed) => Some(*listed),

@@ -80,10 +80,10 @@ fn search_open(
     }
 }
 
-/// The same as `search_quasi`, over an index and a list of the overlaps that were made before.
+/// The same as `search_quasi`, over left sides and a list of the overlaps that were made before.
 pub fn search_quasi_over(
     alloc: Global,
-    sys: &IndexedSystem<'_>,
+    sys: &LeftSides<'_>,
     names: &Names,
     overlaps: &[Overlap],
     budget: &mut Budget,
@@ -95,9 +95,8 @@ pub fn search_quasi_over(
     ensures valid { IfFound result (IsValid sys.now) }
     ensures kept { (n : ℕ) × Spends budget.old n budget.new }
 {
-    let sides = LeftSides::new(alloc, sys)?;
-    if are_rules_good(alloc, &sides)? {
-        search_open(alloc, &sides, names, overlaps, budget)
+    if are_rules_good(alloc, sys)? {
+        search_open(alloc, sys, names, overlaps, budget)
     } else {
         Ok(Search::Nothing)
     }
@@ -126,8 +125,9 @@ pub fn search_quasi(
     ensures kept { (n : ℕ) × Spends budget.old n budget.new }
 {
     let indexed = IndexedSystem::new(alloc, sys)?;
+    let lefts = LeftSides::new(alloc, indexed)?;
     match overlaps(alloc, sys) {
-        Ok(found) => search_quasi_over(alloc, &indexed, names, &found, budget),
+        Ok(found) => search_quasi_over(alloc, &lefts, names, &found, budget),
         Err(OverlapError::PairTooLarge { .. }) => Ok(Search::Nothing),
         Err(OverlapError::TooManyPairs) => Ok(Search::Nothing),
         Err(OverlapError::NoMemory) => Err(NoMemory),

@@ -1,13 +1,28 @@
-use Rattle.std.proofs.Common.{map}
-use Rattle.rewriting.proofs.Laws.{well_formed}
-use Rattle.cert_model.specs.CertificateView.{pair_entry_view}
-use Rattle.ortho_check.proofs.Judging.{levels_of_valid, confluent_of_valid}
+use Rattle.std.proofs.Common.{subst}
+use Rattle.cert_model.specs.ReasonView.{rejected_view}
+use Rattle.level_theorem.specs.AlmostOrthogonal.{DoLevelsCommute}
+use Rattle.rewriting.specs.Confluence.{IsConfluent}
+use Rattle.valid_certificates.specs.Confluence.{IsValidOrtho, IsOrthoRejected}
+use Rattle.pair_check.proofs.RunTallies.{entry_short}
+use Rattle.ortho_check.proofs.Runs.{of_whole}
 use Rattle.ortho_check.proofs.check_ortho.Goals as goal
 
-pub returns-clause-levels : goal.returns-clause-levels
-returns-clause-levels c =
-    levels_of_valid c.args.sys.now c.levels_commute.ensures.commute (well_formed c.args.sys.now c.rules-rules.ensures.sound) (map pair_entry_view c.args.pairs.now) c.judge_ortho.result c.judge_ortho.ensures
+pub take-requires : goal.take-requires
+take-requires c =
+    record { short = entry_short c.args.pairs.now c.loop-entry.entry-index c.entry-item.result c.loop-entry-test.true c.entry-item.is c.requires.short }
 
-pub returns-clause-confluent : goal.returns-clause-confluent
-returns-clause-confluent c =
-    confluent_of_valid c.args.sys.now c.levels_commute.ensures.confluent (well_formed c.args.sys.now c.rules-rules.ensures.sound) (map pair_entry_view c.args.pairs.now) c.judge_ortho.result c.judge_ortho.ensures
+pub returns-in-Ok-clause-judged : goal.returns-in-Ok-clause-judged
+returns-in-Ok-clause-judged c =
+    of_whole c.loop-entry.run c.args.sys.now c.args.pairs.now c.loop-entry.entry-index c.loop-entry-test.false c.loop-entry.invariant.system c.loop-entry.invariant.tally
+    IsValidOrtho c.in-Ok.ensures.judged
+
+pub returns-in-Ok-clause-levels : goal.returns-in-Ok-clause-levels
+returns-in-Ok-clause-levels c = subst DoLevelsCommute c.loop-entry.invariant.system c.in-Ok.ensures.levels
+
+pub returns-in-Ok-clause-confluent : goal.returns-in-Ok-clause-confluent
+returns-in-Ok-clause-confluent c = subst IsConfluent c.loop-entry.invariant.system c.in-Ok.ensures.confluent
+
+pub returns-in-Err-clause-judged : goal.returns-in-Err-clause-judged
+returns-in-Err-clause-judged c =
+    of_whole c.loop-entry.run c.args.sys.now c.args.pairs.now c.loop-entry.entry-index c.loop-entry-test.false c.loop-entry.invariant.system c.loop-entry.invariant.tally
+    (λ s es. IsOrthoRejected s es (rejected_view c.in-Err.reason)) c.in-Err.ensures.judged

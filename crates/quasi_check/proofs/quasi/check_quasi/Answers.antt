@@ -1,11 +1,29 @@
-use Rattle.std.proofs.Common.{map}
-use Rattle.cert_model.specs.CertificateView.{pair_entry_view}
-use Rattle.rewriting.proofs.Laws.{well_formed}
-use Rattle.quasi_check.proofs.Sound.{quasi_confluent}
+use Rattle.std.proofs.Common.{subst}
+use Rattle.rewriting.specs.Confluence.{IsConfluent}
+use Rattle.cert_model.specs.ReasonView.{rejected_view}
+use Rattle.valid_certificates.specs.Confluence.{IsValidQuasi, IsQuasiRejected}
+use Rattle.pair_check.proofs.RunTallies.{entry_short}
+use Rattle.quasi_check.proofs.Runs.{of_whole, loop_goes_on}
 use Rattle.quasi_check.proofs.quasi.check_quasi.Goals as goal
 
-pub returns-clause-confluent : goal.returns-clause-confluent
-returns-clause-confluent g c =
-    let sys = c.args.sys.now in
-    quasi_confluent c.bounded_descents_are_confluent.ensures.confluent (g.M.Measure.judged c.args.measure.now sys) sys (map pair_entry_view c.args.pairs.now)
-    (g.met.M.Measure.bounds c.args.measure.now sys (well_formed sys c.rules-rules.ensures.sound)) c.rules-rules.ensures.sound c.judge_quasi.result c.judge_quasi.ensures
+pub take-requires : goal.take-requires
+take-requires g c =
+    record { short = entry_short c.args.pairs.now c.loop-entry.entry-index c.entry-item.result c.loop-entry-test.true c.entry-item.is c.requires.short }
+
+pub returns-in-Ok-clause-judged : goal.returns-in-Ok-clause-judged
+returns-in-Ok-clause-judged g c =
+    of_whole g.M.Measure.judged c.loop-entry.run c.args.sys.now c.args.measure.now c.args.pairs.now c.loop-entry.entry-index c.loop-entry-test.false c.loop-entry.invariant.system
+    c.loop-entry.invariant.measure c.loop-entry.invariant.tally IsValidQuasi c.in-Ok.ensures.judged
+
+pub returns-in-Ok-clause-confluent : goal.returns-in-Ok-clause-confluent
+returns-in-Ok-clause-confluent g c = subst IsConfluent c.loop-entry.invariant.system c.in-Ok.ensures.confluent
+
+pub returns-in-Err-clause-judged : goal.returns-in-Err-clause-judged
+returns-in-Err-clause-judged g c =
+    of_whole g.M.Measure.judged c.loop-entry.run c.args.sys.now c.args.measure.now c.args.pairs.now c.loop-entry.entry-index c.loop-entry-test.false c.loop-entry.invariant.system
+    c.loop-entry.invariant.measure c.loop-entry.invariant.tally (λ Is s es. IsQuasiRejected Is s es (rejected_view c.in-Err.reason)) c.in-Err.ensures.judged
+
+pub loop-entry-preserved : goal.loop-entry-preserved
+loop-entry-preserved g c =
+    loop_goes_on g.M.Measure.judged c.loop-entry.run c.args.sys.now c.args.measure.now c.args.pairs.now c.loop-entry.entry-index c.entry-item.result c.loop-entry.invariant.system
+    c.loop-entry.invariant.measure c.loop-entry.invariant.tally c.loop-entry-test.true c.entry-item.is c.take.new.self c.in_ok-take.ensures.system c.in_ok-take.ensures.measure c.in_ok-take.ensures.tally

@@ -12,8 +12,9 @@ returns-in-Some c =
     let i = c.left.first-index in
     let x = c.first-item.result in
     let right = list_view c.args.right.now in
-    shared_here (list_view all) right (list_view (drop i all)) (reached_view x) (list_view (drop (i + 1) all)) c.left.invariant.unshared (rest_first reached_view all i x c.left-test.true c.first-item.is)
-    (reached_view c.in-Some.second.now) (c.in-Some.ensures right (view x.term) c.in_ok-index.ensures (c.deref.ensures.value ∙ c.in_ok-key.ensures))
+    let next = rest_first reached_view all i x c.left-test.true c.first-item.is in
+    shared_here (list_view all) right (list_view (drop i all)) (reached_view x) (list_view (drop (i + 1) all)) c.left.invariant.unshared next
+    (reached_view c.in-Some.second.now) (c.in-Some.ensures right (view x.term) c.in_ok-index.ensures (subst DoAllFit next c.left.invariant.fit).0 (c.deref.ensures.value ∙ c.in_ok-key.ensures))
 
 pub left-preserved : goal.left-preserved
 left-preserved c =
@@ -22,8 +23,9 @@ left-preserved c =
     let x = c.first-item.result in
     let right = list_view c.args.right.now in
     let next = rest_first reached_view all i x c.left-test.true c.first-item.is in
+    let fit = subst DoAllFit next c.left.invariant.fit in
     record {
       unshared = unshared_goes_on (list_view all) right (list_view (drop i all)) (reached_view x) (list_view (drop (i + 1) all)) c.left.invariant.unshared next
-          (none_found right (view x.term) c.listed_by.result c.in_default.not-Some (c.listed_by.ensures right (view x.term) c.in_ok-index.ensures (c.deref.ensures.value ∙ c.in_ok-key.ensures)));
-      fit = (subst DoAllFit next c.left.invariant.fit).1;
+          (none_found right (view x.term) c.listed_by.result c.in_default.not-Some (c.listed_by.ensures right (view x.term) c.in_ok-index.ensures fit.0 (c.deref.ensures.value ∙ c.in_ok-key.ensures)));
+      fit = fit.1;
     }

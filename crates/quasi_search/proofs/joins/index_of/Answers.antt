@@ -10,8 +10,9 @@ list-preserved c =
     let all = c.args.list.now in
     let i = c.list.listed-index in
     let next = rest_first reached_view all i c.listed-item.result c.list-test.true c.listed-item.is in
+    let fit = subst DoAllFit next c.list.invariant.fit in
     record {
-      indexing = indexing_goes_on c.list.index c.in_ok-key.key _ c.in_ok-key.ensures (list_view all) (list_view (drop i all)) (list_view (drop (i + 1) all)) c.requires.once c.list.invariant.indexing next
+      indexing = indexing_goes_on c.list.index c.in_ok-key.key _ c.in_ok-key.ensures fit.0.nodes (list_view all) (list_view (drop i all)) (list_view (drop (i + 1) all)) c.requires.once c.list.invariant.indexing next
           c.insert.new.self.entries c.in_ok-insert.ensures.entries;
-      fit = (subst DoAllFit next c.list.invariant.fit).1;
+      fit = fit.1;
     }

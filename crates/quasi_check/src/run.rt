@@ -1,0 +1,123 @@
+//! The entries of a certificate with a measure, taken one after the other.
+ghost use Rattle.std.specs.Prelude.{◌≡◌, List, [], ◌∷◌, ◌++◌, IfOk, OnOk, OnErr};
+ghost use Rattle.rewriting.specs.Confluence.{IsConfluent};
+ghost use Rattle.certificates.specs.Certificates as math;
+ghost use Rattle.cert_model.specs.CertificateView.{pair_entry_view};
+ghost use Rattle.valid_certificates.specs.Entries.{IsPairShort};
+ghost use Rattle.tallies.specs.Tally.{IsQuasiTally};
+ghost use Rattle.quasi_check.specs.Parts.{RulesAnswers};
+ghost use Rattle.quasi_check.specs.Runs.{StartAnswers, QuasiFinish};
+
+use crate::quasi::{check_measure, check_rules};
+use cert_model::{PairEntry, Rejected};
+use descent_theorem::bounded_descents_are_confluent;
+use infeasible::JudgeByKind;
+use irreducible::LeftSides;
+use measure::Measure;
+use pair_check::PairRun;
+use rule_index::IndexedSystem;
+use std::alloc::Global;
+use std::marker::Model;
+use term_core::{NoMemory, System};
+use validity::{CertKind, CheckError};
+
+/// A run over the entries of a certificate with a measure. In contracts it is the system, the measure and the tally of the
+/// entries.
+#[derive(Debug, Drop)]
+pub struct QuasiRun<'a, M: Measure> {
+    sys: &'a System,
+    measure: &'a M,
+    /// The run over the entries, or the reason for which any are rejected.
+    pairs: Result<PairRun<'a>, Rejected>,
+}
+
+impl<'a, M: Measure> Model for QuasiRun<'a, M> {
+    ghost use Rattle.tallies.specs.Runs as runs;
+    ghost use Rattle.tallies.specs.Codes.{coded_quasi_run};
+    ghost use Rattle.quasi_check.specs.Runs.{tally_of, AreHeld};
+
+    ghost Value = { runs.QuasiRun M };
+
+    ghost coded = { coded_quasi_run M.code };
+
+    ghost view = { λ r. record { system = r.sys.now; measure = r.measure.now; tally = tally_of r.pairs } };
+
+    ghost invariant = { λ r. AreHeld (M.judged r.measure.now r.sys.now) r.sys.now r.pairs };
+}
+
+// Whether the rules are good, over left sides that are given back before the run has its own.
+fn judge_rules(alloc: Global, sys: &System) -> Result<(), CheckError>
+    ensures { RulesAnswers sys.now result }
+{
+    let indexed = IndexedSystem::new(alloc, sys)?;
+    let lefts = LeftSides::new(alloc, indexed)?;
+    check_rules(alloc, &lefts)
+}
+
+// The run over the entries, where all that is judged before them holds.
+fn start_pairs<'a, M: Measure>(
+    alloc: Global,
+    sys: &'a System,
+    measure: &M,
+) -> Result<PairRun<'a>, CheckError>
+    ensures { StartAnswers (M.judged measure.now sys.now) sys.now result }
+{
+    judge_rules(alloc, sys)?;
+    check_measure(alloc, sys, measure)?;
+    PairRun::start(alloc, sys, CertKind::Quasi)
+}
+
+impl<'a, M: Measure> QuasiRun<'a, M> {
+    /// The run before the first entry. It keeps the reason for which any entries are rejected, where there is one: the rules
+    /// or the measure are not good, or the overlaps have no list.
+    pub fn start(
+        alloc: Global,
+        sys: &'a System,
+        measure: &'a M,
+    ) -> Result<QuasiRun<'a, M>, NoMemory>
+        ensures system { IfOk result (λ run. run.system ≡ sys.now) }
+        ensures measure { IfOk result (λ run. run.measure ≡ measure.now) }
+        ensures tally { IfOk result (λ run. IsQuasiTally (M.judged measure.now sys.now) sys.now [] run.tally) }
+    {
+        match start_pairs(alloc, sys, measure) {
+            Ok(pairs) => Ok(QuasiRun {
+                sys,
+                measure,
+                pairs: Ok(pairs),
+            }),
+            Err(CheckError::Rejected(reason)) => Ok(QuasiRun {
+                sys,
+                measure,
+                pairs: Err(reason),
+            }),
+            Err(CheckError::NoMemory) => Err(NoMemory),
+        }
+    }
+
+    /// Judges the next entry. Where memory is refused the run is as before.
+    pub fn take(&mut self, alloc: Global, entry: &PairEntry) -> Result<(), NoMemory>
+        requires short { IsPairShort (pair_entry_view entry.now).evidence }
+        ensures tally { (es : List math.PairEntry) → IsQuasiTally (M.judged self.old.measure self.old.system) self.old.system es self.old.tally → OnOk result (IsQuasiTally (M.judged self.old.measure self.old.system) self.old.system (es ++ pair_entry_view entry.now ∷ []) self.new.tally) }
+        ensures system { self.new.system ≡ self.old.system }
+        ensures measure { self.new.measure ≡ self.old.measure }
+        ensures unchanged { OnErr result (self.new ≡ self.old) }
+    {
+        match &mut self.pairs {
+            Ok(pairs) => pairs.take::<JudgeByKind>(alloc, entry),
+            Err(_) => Ok(()),
+        }
+    }
+
+    /// Whether the certificate with the entries that were taken is valid, or the first reason why not. Takes no memory.
+    pub fn finish(self) -> Result<(), Rejected>
+        ensures judged { (es : List math.PairEntry) → IsQuasiTally (M.judged self.entry.measure self.entry.system) self.entry.system es self.entry.tally → QuasiFinish (M.judged self.entry.measure self.entry.system) self.entry.system es result }
+        ensures confluent { OnOk result (IsConfluent self.entry.system) }
+    {
+        bounded_descents_are_confluent();
+        let _rules = self.sys.rules();
+        match self.pairs {
+            Ok(pairs) => pairs.finish(),
+            Err(reason) => Err(reason),
+        }
+    }
+}
