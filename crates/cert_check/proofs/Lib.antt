@@ -1,1 +1,4 @@
 pub mod Rejected
+pub mod Bounds
+pub mod Reading
+pub mod Texts

@@ -17,13 +17,13 @@ VerdictAnswers sys c (Err (Rejected reason)) = IsRejected sys c (rejected_view r
 VerdictAnswers sys c (Err NoMemory) = Unit {0}
 
 -- the fact holds where the answer is that the system is confluent
-abbrev pub OnYes : Result Verdict CheckError → Type 0 → Type 0
+abbrev pub OnYes : {E : Type 0} → Result Verdict E → Type 0 → Type 0
 OnYes (Ok Yes) P = P
 OnYes (Ok No) P = Unit {0}
 OnYes (Err e) P = Unit {0}
 
 -- the fact holds where the answer is that the system is not confluent
-abbrev pub OnNo : Result Verdict CheckError → Type 0 → Type 0
+abbrev pub OnNo : {E : Type 0} → Result Verdict E → Type 0 → Type 0
 OnNo (Ok Yes) P = Unit {0}
 OnNo (Ok No) P = P
 OnNo (Err e) P = Unit {0}

@@ -1,2 +1,4 @@
 pub mod Kinds
 pub mod Answers
+pub mod BytesErrors
+pub mod Bytes

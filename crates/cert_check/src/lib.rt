@@ -1,6 +1,8 @@
 //! The check of a certificate, by its kind.
 #![tactic(auto)]
 
+mod bytes;
+
 ghost use Rattle.std.specs.Prelude.{◌≡◌, OnOk, map};
 ghost use Rattle.rewriting.specs.Confluence.{IsConfluent};
 ghost use Rattle.certificates.specs.Certificates.{linear_measure};
@@ -11,6 +13,7 @@ ghost use Rattle.validity.specs.Answers.{QuasiAnswers};
 ghost use Rattle.cert_check.specs.Kinds.{CanBeJudged, IsPeakApart};
 ghost use Rattle.cert_check.specs.Answers.{VerdictAnswers, OnYes, OnNo};
 
+pub use bytes::{BytesError, check_bytes};
 use cert_model::{Certificate, Linear, MeasureCert, PairEntry};
 use linear_interp::LinearMeasure;
 use noncon_check::check_peak;

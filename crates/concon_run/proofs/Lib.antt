@@ -2,7 +2,6 @@ pub mod PieceLists
 pub mod FewWords
 pub mod Commands
 pub mod TextsRead
-pub mod Bounds
 pub mod Unread
 pub mod Verdicts
 pub mod Searches

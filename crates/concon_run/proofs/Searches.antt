@@ -28,7 +28,7 @@ use Rattle.concon_run.specs.Causes.{Run, searched, bytes_of, HasFailed, IsCaused
 use Rattle.concon_run.specs.Judging.{SystemAnswers, SearchAnswers, outcome_of, answer_of_search}
 use Rattle.concon_run.specs.declared.files.NoSystem.{NoSystem}
 use Rattle.concon_run.specs.declared.search.NoOutcome.TheVariants as no_outcome
-use Rattle.concon_run.proofs.Bounds.{spelt_over}
+use Rattle.cert_check.proofs.Bounds.{spelt_over}
 use Rattle.concon_run.proofs.Unread.{no_system_caused, no_system_right}
 
 module _ (names : NameTable) (sys : System) where

@@ -2,7 +2,6 @@
 use Rattle.std.specs.Prelude.{List, ℕ, Option, Some, None, IfSome, Result, Ok, Err}
 use Rattle.std.proofs.Common.{◌≤◌, inl, sym, subst, arith}
 use Rattle.rewriting.specs.Rules.{System}
-use Rattle.certificates.specs.Certificates.{Certificate, ortho_certificate, quasi_certificate, peak_certificate}
 use Rattle.cert_check.specs.declared.Verdict.{Verdict}
 use Rattle.cert_check.specs.declared.Verdict.TheVariants.{Yes, No}
 use Rattle.cops_read.specs.NameTable.{NameTable}
@@ -10,9 +9,9 @@ use Rattle.cc_io.specs.Faults.{Rose}
 use Rattle.cc_io.specs.declared.shelf.ReadAllError.TheVariants as reading
 use Rattle.concon_run.specs.Words.{IsCheck}
 use Rattle.concon_run.specs.CertRefusals.{CertRefusal, cert_refusal_of}
-use Rattle.concon_run.specs.Outcomes.{no_system, no_certificate, SpellsSystem, SpellsCertificate, IsRefusedCertificate, IsShown, IsTrueOf}
+use Rattle.concon_run.specs.Outcomes.{no_system, no_certificate, SpellsSystem, SpellsCertificate, IsRefusedCertificate, IsTrueOf}
 use Rattle.concon_run.specs.Causes.{Run, checked, bytes_of, HasFailed, IsCaused, IsRight}
-use Rattle.concon_run.specs.Judging.{SystemAnswers, CertificateAnswers, CheckAnswers, refused_answer, answer_of}
+use Rattle.concon_run.specs.Judging.{SystemAnswers, CertificateAnswers, IsShownBy, refused_answer, answer_of}
 use Rattle.concon_run.specs.declared.files.NoSystem.{NoSystem}
 use Rattle.concon_run.specs.declared.judge.NoVerdict.{NoVerdict}
 use Rattle.concon_run.specs.declared.judge.NoVerdict.TheVariants as no_verdict
@@ -47,35 +46,25 @@ module _ (run : Run) (file cert : List ℕ) where
       refused_cert_caused (Some r) h = (form, (sys, names, f, h))
       refused_cert_caused None h = inl (file, inl (cert, form))
 
-      -- the file gives a system, and the certificate was not read
-      pub unread_certificate : (failed : Type 0) → (failed → HasFailed run cert) → (e : NoVerdict) → CertificateAnswers (bytes_of run cert) failed names (Err e) → IsCaused run (answer_of file cert (Err e))
-      unread_certificate failed rose (no_verdict.NoSystem e) h = absurd h
-      unread_certificate failed rose (no_verdict.CertUnread reading.ReadFault) h = (form, rose h, (sys, names, f))
-      unread_certificate failed rose (no_verdict.CertUnread (reading.TooLong n)) h = (form, (sys, names, f, h))
-      unread_certificate failed rose (no_verdict.CertUnread reading.NoMemory) h = inl (file, inl (cert, form))
-      unread_certificate failed rose (no_verdict.CertRefused e) h = refused_cert_caused (cert_refusal_of e) h
-      unread_certificate failed rose (no_verdict.Rejected others reason) h = absurd h
-      unread_certificate failed rose no_verdict.NoMemory h = absurd h
-
-      -- the certificate was checked
-      pub judged : (c : Certificate) → SpellsCertificate (bytes_of run cert) names c → (r : Result Verdict NoVerdict) → CheckAnswers sys names c r → IsCaused run (answer_of file cert r)
-      judged c t (Ok v) h = (form, (sys, names, c, f, t, h.1, h.0))
-      judged c t (Err (no_verdict.NoSystem e)) h = absurd h
-      judged c t (Err (no_verdict.CertUnread e)) h = absurd h
-      judged c t (Err (no_verdict.CertRefused e)) h = absurd h
-      judged c t (Err (no_verdict.Rejected others reason)) h =
-          (form, (sys, c, subst (SpellsSystem (bytes_of run file) sys) (sym h.0) f, subst (λ n. SpellsCertificate (bytes_of run cert) n c) (sym h.0) t, h.1))
-      judged c t (Err no_verdict.NoMemory) h = inl (file, inl (cert, form))
+      -- the file gives a system, and this is the answer to the certificate
+      pub certificate_caused : (failed : Type 0) → (failed → HasFailed run cert) → (r : Result Verdict NoVerdict) → CertificateAnswers (bytes_of run cert) failed sys names r → IsCaused run (answer_of file cert r)
+      certificate_caused failed rose (Ok v) h = (form, (sys, names, h.0, f, h.1, h.2, h.3))
+      certificate_caused failed rose (Err (no_verdict.NoSystem e)) h = absurd h
+      certificate_caused failed rose (Err (no_verdict.CertUnread reading.ReadFault)) h = (form, rose h, (sys, names, f))
+      certificate_caused failed rose (Err (no_verdict.CertUnread (reading.TooLong n))) h = (form, (sys, names, f, h))
+      certificate_caused failed rose (Err (no_verdict.CertUnread reading.NoMemory)) h = inl (file, inl (cert, form))
+      certificate_caused failed rose (Err (no_verdict.CertRefused e)) h = refused_cert_caused (cert_refusal_of e) h
+      certificate_caused failed rose (Err (no_verdict.Rejected others reason)) h =
+          (form, (sys, h.1.0, subst (SpellsSystem (bytes_of run file) sys) (sym h.0) f, subst (λ n. SpellsCertificate (bytes_of run cert) n h.1.0) (sym h.0) h.1.1, h.1.2))
+      certificate_caused failed rose (Err no_verdict.NoMemory) h = inl (file, inl (cert, form))
 
   -- what a certificate shows of the system is true of the texts
-  true_of : (sys : System) (names : NameTable) (c : Certificate) → SpellsSystem (bytes_of run file) sys names → SpellsCertificate (bytes_of run cert) names c
-      → (v : Verdict) → IsShown sys c v → IsTrueOf (bytes_of run file) (bytes_of run cert) v
-  true_of sys names c f t Yes h = (sys, names, f, h)
-  true_of sys names (ortho_certificate pairs) f t No h = absurd h
-  true_of sys names (quasi_certificate measure pairs) f t No h = absurd h
-  true_of sys names (peak_certificate peak) f t No h = (sys, names, peak, f, t, h)
+  true_of : (sys : System) (names : NameTable) → SpellsSystem (bytes_of run file) sys names → (v : Verdict) → IsShownBy (bytes_of run cert) sys names v
+      → IsTrueOf (bytes_of run file) (bytes_of run cert) v
+  true_of sys names f Yes h = (sys, names, f, h)
+  true_of sys names f No h = (sys, names, h.0, f, h.1, h.2)
 
-  pub judged_is_right : (sys : System) (names : NameTable) (c : Certificate) → SpellsSystem (bytes_of run file) sys names → SpellsCertificate (bytes_of run cert) names c
-      → (r : Result Verdict NoVerdict) → CheckAnswers sys names c r → IsRight run (answer_of file cert r)
-  judged_is_right sys names c f t (Ok v) h = true_of sys names c f t v h.2
-  judged_is_right sys names c f t (Err e) h = no_verdict_is_right e
+  pub certificate_is_right : (sys : System) (names : NameTable) → SpellsSystem (bytes_of run file) sys names → (failed : Type 0) (r : Result Verdict NoVerdict)
+      → CertificateAnswers (bytes_of run cert) failed sys names r → IsRight run (answer_of file cert r)
+  certificate_is_right sys names f failed (Ok v) h = true_of sys names f v h.4
+  certificate_is_right sys names f failed (Err e) h = no_verdict_is_right e

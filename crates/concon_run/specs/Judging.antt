@@ -1,12 +1,13 @@
 -- What the parts of a check and of a search answer.
 use Rattle.std.specs.Prelude.{◌≡◌, ℕ, List, Option, Some, None, IfSome, Result, Ok, Err}
 use Rattle.rewriting.specs.Rules.{System}
+use Rattle.rewriting.specs.Confluence.{IsConfluent}
 use Rattle.certificates.specs.Certificates as math
 use Rattle.valid_certificates.specs.Certificates.{IsValid, IsRejected}
+use Rattle.valid_certificates.specs.Laws.{ReachesApart}
 use Rattle.cops_read.specs.NameTable.{NameTable}
 use Rattle.cert_model.specs.CertificateView.{certificate_view}
 use Rattle.cert_model.specs.ReasonView.{rejected_view}
-use Rattle.cert_model.specs.declared.model.Certificate.{Certificate}
 use Rattle.first_found.specs.Spaces.{IsDearer}
 use Rattle.quasi_space.specs.AllSpaces.{pruned_spaces}
 use Rattle.term_core.specs.declared.terms.NoMemory.{NoMemory}
@@ -14,6 +15,7 @@ use Rattle.portfolio.specs.declared.Outcome.{Outcome}
 use Rattle.portfolio.specs.declared.Outcome.TheVariants as outcome
 use Rattle.cert_check.specs.Kinds.{verdict_of}
 use Rattle.cert_check.specs.declared.Verdict.{Verdict}
+use Rattle.cert_check.specs.declared.Verdict.TheVariants as verdict
 use Rattle.cc_io.specs.declared.shelf.ReadAllError.TheVariants as reading
 use Rattle.concon_run.specs.FileRefusals.{FileRefusal, long_file, file_refusal_of}
 use Rattle.concon_run.specs.CertRefusals.{long_certificate, cert_refusal_of}
@@ -36,19 +38,22 @@ SystemAnswers file failed (Err (none.Unread (reading.TooLong n))) = IsRefusedFil
 SystemAnswers file failed (Err (none.Unread reading.NoMemory)) = Unit {0}
 SystemAnswers file failed (Err (none.Refused e)) = IfSome (file_refusal_of e) (IsRefusedFile file)
 
-abbrev pub CertificateAnswers : Bytes → Type 0 → NameTable → Result Certificate NoVerdict → Type 0
-CertificateAnswers cert failed names (Ok c) = SpellsCertificate cert names (certificate_view c)
-CertificateAnswers cert failed names (Err (why.CertUnread reading.ReadFault)) = failed
-CertificateAnswers cert failed names (Err (why.CertUnread (reading.TooLong n))) = IsRefusedCertificate cert names long_certificate
-CertificateAnswers cert failed names (Err (why.CertUnread reading.NoMemory)) = Unit {0}
-CertificateAnswers cert failed names (Err (why.CertRefused e)) = IfSome (cert_refusal_of e) (IsRefusedCertificate cert names)
-CertificateAnswers cert failed names (Err _) = ⊥
+-- what it shows that a certificate is valid, of which this is the text
+abbrev pub IsShownBy : Bytes → System → NameTable → Verdict → Type 0
+IsShownBy cert sys names verdict.Yes = IsConfluent sys
+IsShownBy cert sys names verdict.No = (peak : math.Peak) × SpellsCertificate cert names (math.peak_certificate peak) × ReachesApart sys peak
 
-abbrev pub CheckAnswers : System → NameTable → math.Certificate → Result Verdict NoVerdict → Type 0
-CheckAnswers sys names c (Ok v) = (v ≡ verdict_of c) × IsValid sys c × IsShown sys c v
-CheckAnswers sys names c (Err (why.Rejected others reason)) = (others ≡ names) × IsRejected sys c (rejected_view reason)
-CheckAnswers sys names c (Err why.NoMemory) = Unit {0}
-CheckAnswers sys names c (Err _) = ⊥
+-- the text is that of a valid certificate, or is refused, or is that of one that is rejected
+abbrev pub CertificateAnswers : Bytes → Type 0 → System → NameTable → Result Verdict NoVerdict → Type 0
+CertificateAnswers cert failed sys names (Ok v) = (c : math.Certificate) × SpellsCertificate cert names c × IsValid sys c × (v ≡ verdict_of c) × IsShownBy cert sys names v
+CertificateAnswers cert failed sys names (Err (why.CertUnread reading.ReadFault)) = failed
+CertificateAnswers cert failed sys names (Err (why.CertUnread (reading.TooLong n))) = IsRefusedCertificate cert names long_certificate
+CertificateAnswers cert failed sys names (Err (why.CertUnread reading.NoMemory)) = Unit {0}
+CertificateAnswers cert failed sys names (Err (why.CertRefused e)) = IfSome (cert_refusal_of e) (IsRefusedCertificate cert names)
+CertificateAnswers cert failed sys names (Err (why.Rejected others reason)) =
+    (others ≡ names) × ((c : math.Certificate) × SpellsCertificate cert names c × IsRejected sys c (rejected_view reason))
+CertificateAnswers cert failed sys names (Err why.NoMemory) = Unit {0}
+CertificateAnswers cert failed sys names (Err (why.NoSystem e)) = ⊥
 
 -- the first valid certificate and what it shows, that the budget is too small, or that none is valid
 abbrev pub SearchAnswers : System → NameTable → ℕ → Result Outcome NoMemory → Type 0

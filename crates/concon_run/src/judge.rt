@@ -2,17 +2,15 @@
 ghost use Rattle.std.specs.Prelude.{ℕ, List};
 ghost use Rattle.cc_io.specs.Faults.{Rose};
 ghost use Rattle.cops_read.specs.File.{IsFile};
-ghost use Rattle.cert_grammar.specs.CertificateText.{IsCertificateText};
-ghost use Rattle.cert_model.specs.CertificateView.{certificate_view};
 ghost use Rattle.concon_run.specs.Words.{IsCheck};
 ghost use Rattle.concon_run.specs.Causes.{run_of, told_or_any, IsCaused, IsRight, IsLeft};
-ghost use Rattle.concon_run.specs.Judging.{CertificateAnswers, CheckAnswers, answer_of};
+ghost use Rattle.concon_run.specs.Judging.{CertificateAnswers, answer_of};
 
 use crate::files::{NoSystem, system_of};
 use cc_io::{ReadAllError, Shelf, read_all};
-use cert_check::{CheckError, Verdict, check};
-use cert_model::{Certificate, Rejected};
-use cert_text::{CertError, read_cert};
+use cert_check::{BytesError, Verdict, check_bytes};
+use cert_model::Rejected;
+use cert_text::CertError;
 use cops_read::Names;
 use std::alloc::Global;
 use term_core::System;
@@ -35,37 +33,26 @@ pub enum NoVerdict {
     NoMemory,
 }
 
-fn certificate_of<S: Shelf>(
+// What the certificate shows. Its bytes alone are held, and not its entries.
+fn verdict_on<S: Shelf>(
     alloc: Global,
     shelf: &mut S,
     cert: &str,
-    names: &Names,
-) -> Result<Certificate, NoVerdict>
-    ensures answers { CertificateAnswers (told_or_any (S.contents shelf.old cert.now)) (Rose (S.faults shelf.old cert.now) (S.faults shelf.new cert.now)) names.now result }
+    sys: &System,
+    names: Names,
+) -> Result<Verdict, NoVerdict>
+    requires { (file : List ℕ) × IsFile file sys.now names }
+    ensures answers { CertificateAnswers (told_or_any (S.contents shelf.old cert.now)) (Rose (S.faults shelf.old cert.now) (S.faults shelf.new cert.now)) sys.now names result }
 {
     let bytes = match read_all(alloc, shelf, cert, CERT_LIMIT) {
         Ok(bytes) => bytes,
         Err(error) => return Err(NoVerdict::CertUnread(error)),
     };
-    match read_cert(alloc, names, &bytes) {
-        Ok(found) => Ok(found),
-        Err(error) => Err(NoVerdict::CertRefused(error)),
-    }
-}
-
-fn verdict_on(
-    alloc: Global,
-    sys: &System,
-    names: Names,
-    cert: &Certificate,
-) -> Result<Verdict, NoVerdict>
-    requires { (file : List ℕ) × (text : List ℕ) × IsFile file sys.now names × IsCertificateText names text (certificate_view cert.now) }
-    ensures { CheckAnswers sys.now names (certificate_view cert.now) result }
-{
-    match check(alloc, sys, cert) {
+    match check_bytes(alloc, sys, &names, &bytes) {
         Ok(verdict) => Ok(verdict),
-        Err(CheckError::Rejected(reason)) => Err(NoVerdict::Rejected(names, reason)),
-        Err(CheckError::NoMemory) => Err(NoVerdict::NoMemory),
+        Err(BytesError::Cert(error)) => Err(NoVerdict::CertRefused(error)),
+        Err(BytesError::Rejected(reason)) => Err(NoVerdict::Rejected(names, reason)),
+        Err(BytesError::NoMemory) => Err(NoVerdict::NoMemory),
     }
 }
 
@@ -86,6 +73,5 @@ pub fn judge<S: Shelf>(
         Ok(found) => found,
         Err(why) => return Err(NoVerdict::NoSystem(why)),
     };
-    let found = certificate_of(alloc, shelf, cert, &names)?;
-    verdict_on(alloc, &sys, names, &found)
+    verdict_on(alloc, shelf, cert, &sys, names)
 }

@@ -1,5 +1,23 @@
-use Rattle.concon_run.proofs.Bounds.{can_be_judged}
+use Rattle.std.proofs.Common.{Ok, subst}
+use Rattle.certificates.specs.Certificates.{Peak, peak_certificate}
+use Rattle.valid_certificates.specs.Laws.{ReachesApart}
+use Rattle.cert_grammar.specs.CertificateText.{IsCertificateText}
+use Rattle.cert_check.specs.Answers.{OnNo}
+use Rattle.cert_check.specs.Bytes.{BytesAnswers}
+use Rattle.cert_check.specs.declared.bytes.BytesError.{BytesError}
+use Rattle.concon_run.specs.Causes.{told_or_any}
+use Rattle.concon_run.proofs.TextsRead.{cert_unread, cert_judged}
 use Rattle.concon_run.proofs.judge.verdict_on.Goals as goal
 
-pub check-requires : goal.check-requires
-check-requires c = can_be_judged _ _ _ _ _ c.requires.2 c.requires.3
+pub returns-in-Err : goal.returns-in-Err
+returns-in-Err g c = record { answers = cert_unread _ _ c.args.sys.now c.args.names c.in-Err.error c.in-Err.ensures.fault c.in-Err.ensures.longer }
+
+pub returns-in-Ok-check_bytes : goal.returns-in-Ok-check_bytes
+returns-in-Ok-check_bytes g c =
+    let v = c.in-Ok-check_bytes.verdict in
+    record {
+      answers =
+          cert_judged (told_or_any (g.S.Shelf.contents c.args.shelf.now c.args.cert.now)) (Unit {0}) c.args.sys.now c.args.names c.in-Ok.bytes.items c.in-Ok.ensures.all c.in-Ok.ensures.limit v
+          (subst (λ b. BytesAnswers c.args.sys.now c.args.names b (Ok v)) c.deref.ensures.value c.in-Ok-check_bytes.ensures.answers) c.in-Ok-check_bytes.ensures.yes
+          (subst (λ b. OnNo {E = BytesError} (Ok v) ((p : Peak) × IsCertificateText c.args.names b (peak_certificate p) × ReachesApart c.args.sys.now p)) c.deref.ensures.value c.in-Ok-check_bytes.ensures.no);
+    }

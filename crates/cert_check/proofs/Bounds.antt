@@ -1,5 +1,5 @@
--- What the readers promise of a certificate is what its check asks.
-use Rattle.std.proofs.Common.{◌≡◌, ℕ, ◌-◌, List, [], ◌∷◌, map, ap, ◌∙◌, arith}
+-- What the text of a certificate promises of it is what its check asks.
+use Rattle.std.proofs.Common.{◌≡◌, ℕ, ◌-◌, List, [], ◌∷◌, ◌++◌, map, ap, ◌∙◌, arith}
 use Rattle.std.specs.Prelude.{slice_get}
 use Rattle.std.proofs.lemmas.Option.{slice_get-map}
 use Rattle.rewriting.specs.Terms.{Term, Terms, var, app, nil, cons}
@@ -7,17 +7,17 @@ use Rattle.rewriting.specs.Signatures.{IsOver, AreOver}
 use Rattle.rewriting.specs.Rules.{System}
 use Rattle.certificates.specs.Derivations.{Derivation, no_steps, first_step, Step, by_rule, by_hypothesis, Derivations, no_derivations, first_derivation}
 use Rattle.certificates.specs.Evidence.{PairEvidence, trivial_pair, infeasible_pair, conflicting_pair, joined_pair, unfeasible_pair}
-use Rattle.certificates.specs.Certificates.{PairEntry, Apartness, by_normal_forms, by_rigid_caps, Certificate, ortho_certificate, quasi_certificate, peak_certificate}
+use Rattle.certificates.specs.Certificates.{PairEntry, Apartness, by_normal_forms, by_rigid_caps, Peak, peak_certificate}
 use Rattle.certificates.specs.Sizes.{IsShort, AreStepsShort, IsStepShort, AreShort}
-use Rattle.valid_certificates.specs.Entries.{IsPairShort, ArePairsShort}
+use Rattle.valid_certificates.specs.Entries.{IsPairShort}
 use Rattle.noncon_check.specs.Judges.{AreFew}
-use Rattle.cert_check.specs.Kinds.{CanBeJudged}
-use Rattle.cops_read.specs.NameTable.{NameTable}
-use Rattle.cops_read.specs.File.{IsFile}
+use Rattle.cert_check.specs.Kinds.{CanPeakBeJudged}
+use Rattle.cert_openings.specs.Openings.{Opening, ortho_opening, quasi_opening, certificate_for}
+use Rattle.cops_names.specs.NameTable.{NameTable}
 use Rattle.cert_grammar.specs.Words.{IsSpelt, AreSpelt}
 use Rattle.cert_grammar.specs.Limits.{AreSteps, IsStep, AreDerivations, IsDerivation}
 use Rattle.cert_grammar.specs.EvidenceText.{IsEvidence, ArePairs}
-use Rattle.cert_grammar.specs.CertificateText.{IsApart, IsCertificateText}
+use Rattle.cert_grammar.specs.CertificateText.{IsApart, CanBeSpelt}
 
 -- terms that the names spell are over the arities of the names
 mutual
@@ -57,17 +57,20 @@ evidence_short names (conflicting_pair a b) h = tt
 evidence_short names (joined_pair d e) h = (short d h.0, short e h.1)
 evidence_short names (unfeasible_pair k d e) h = (short d h.1, short e h.2)
 
-pairs_short : (names : NameTable) (es : List PairEntry) → ArePairs names es → ArePairsShort es
-pairs_short names [] h = tt
-pairs_short names (e ∷ es) h = (evidence_short names e.evidence h.3, pairs_short names es h.4)
+-- the evidence of the last of some entries
+last_pair_short : (names : NameTable) (es : List PairEntry) (e : PairEntry) → ArePairs names (es ++ e ∷ []) → IsPairShort e.evidence
+last_pair_short names [] e h = evidence_short names e.evidence h.3
+last_pair_short names (f ∷ es) e h = last_pair_short names es e h.4
 
-pub can_be_judged : (file text : List ℕ) (sys : System) (names : NameTable) (c : Certificate) → IsFile file sys names → IsCertificateText names text c → CanBeJudged sys c
-can_be_judged file text sys names (ortho_certificate pairs) f c = pairs_short names pairs c.spelt.1
-can_be_judged file text sys names (quasi_certificate measure pairs) f c = pairs_short names pairs c.spelt.2
-can_be_judged file text sys names (peak_certificate peak) f c = record {
-  fits = c.spelt.1;
-  over = spelt_over names sys.arities f.meant.arities peak.start c.spelt.0;
-  first_short = short peak.first c.spelt.2;
-  second_short = short peak.second c.spelt.3;
-  few = few names peak.apart c.spelt.4;
+pub last_short : (names : NameTable) (o : Opening) (es : List PairEntry) (e : PairEntry) → CanBeSpelt names (certificate_for o (es ++ e ∷ [])) → IsPairShort e.evidence
+last_short names ortho_opening es e h = last_pair_short names es e h.1
+last_short names (quasi_opening measure) es e h = last_pair_short names es e h.2
+
+pub peak_can_be_judged : (sys : System) (names : NameTable) (peak : Peak) → sys.arities ≡ map (λ s. s.1) names.symbols → CanBeSpelt names (peak_certificate peak) → CanPeakBeJudged sys peak
+peak_can_be_judged sys names peak same h = record {
+  fits = h.1;
+  over = spelt_over names sys.arities same peak.start h.0;
+  first_short = short peak.first h.2;
+  second_short = short peak.second h.3;
+  few = few names peak.apart h.4;
 }

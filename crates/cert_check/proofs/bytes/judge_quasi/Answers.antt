@@ -1,0 +1,79 @@
+use Rattle.std.proofs.Common.{[], ◌∷◌, ◌++◌, map, refl, sym, ap, ◌∙◌}
+use Rattle.term_core.proofs.Rules.{handed_on}
+use Rattle.certificates.specs.Certificates.{MeasureCertificate, linear_measure, quasi_certificate}
+use Rattle.cert_model.specs.CertificateView.{linear_entry_view, measure_view, pair_entry_view}
+use Rattle.linear_interp.specs.declared.LinearMeasure.{LinearMeasure}
+use Rattle.cert_openings.specs.Openings.{quasi_opening}
+use Rattle.cert_check.proofs.Reading.{one_more, next_short, less_left, all_read}
+use Rattle.cert_check.proofs.Texts.{tally_there, valid_there, rejected_there, rejected_answer}
+use Rattle.cert_check.proofs.bytes.judge_quasi.Goals as goal
+
+-- the measure's certificate
+abbrev certificate_of : LinearMeasure → MeasureCertificate
+certificate_of m = linear_measure (map linear_entry_view m.linear.now.entries.items)
+
+pub entries-init : goal.entries-init
+entries-init c =
+    let same = ap certificate_of (sym c.in_ok-run.ensures.measure) in
+    record {
+      names = refl;
+      bytes = refl;
+      system = c.in_ok-run.ensures.system;
+      measure = c.linear_of-linear.ensures ∙ same;
+      taken = record {
+        entries = [];
+        read = c.requires;
+        tally = tally_there c.in_ok-run.run'.system c.args.sys.now (certificate_of c.in_ok-run.run'.measure) _ [] c.in_ok-run.run'.tally (sym c.in_ok-run.ensures.system) same c.in_ok-run.ensures.tally;
+      };
+    }
+
+pub entries-preserved : goal.entries-preserved
+entries-preserved c =
+    let before = c.entries.invariant in
+    let taken = before.taken in
+    let same = ap certificate_of (sym c.in_ok-take_quasi.ensures.measure) in
+    record {
+      names = c.next.ensures.text.0 ∙ before.names;
+      bytes = c.next.ensures.text.1 ∙ before.bytes;
+      system = c.in_ok-take_quasi.ensures.system ∙ before.system;
+      measure = before.measure ∙ same;
+      taken = record {
+        entries = taken.entries ++ pair_entry_view c.in-Some.entry ∷ [];
+        read = one_more c.entries.pairs c.next.new.self (quasi_opening (measure_view c.args.measure.now)) taken.entries c.in_ok-entry.field-0 c.in-Some.entry c.in-Some.is c.in_ok-entry.ensures.entry taken.read;
+        tally = tally_there c.take_quasi.new.run.system c.entries.run.system (certificate_of c.take_quasi.new.run.measure) (certificate_of c.entries.run.measure) _ _
+            (sym c.in_ok-take_quasi.ensures.system) same (c.in_ok-take_quasi.ensures.tally taken.entries taken.tally);
+      };
+    }
+
+pub take_quasi-requires : goal.take_quasi-requires
+take_quasi-requires c =
+    let taken = c.entries.invariant.taken in
+    next_short c.entries.pairs c.next.new.self (quasi_opening (measure_view c.args.measure.now)) taken.entries c.in_ok-entry.field-0 c.in-Some.entry c.in-Some.is c.in_ok-entry.ensures.entry taken.read
+
+pub entries-smaller : goal.entries-smaller
+entries-smaller c =
+    let taken = c.entries.invariant.taken in
+    less_left c.entries.pairs c.next.new.self (quasi_opening (measure_view c.args.measure.now)) taken.entries c.in_ok-entry.field-0 c.in-Some.entry c.in-Some.is c.in_ok-entry.ensures.entry taken.read c.next.ensures.text
+
+pub returns-in_err-finish-clause-answers : goal.returns-in_err-finish-clause-answers
+returns-in_err-finish-clause-answers c =
+    let before = c.entries.invariant in
+    let taken = before.taken in
+    let measure = measure_view c.args.measure.now in
+    rejected_answer c.args.sys.now c.args.pairs.names c.args.pairs.bytes (quasi_opening measure) taken.entries _ _ (handed_on _ _ c.from_residual-in_err-finish.ensures.1)
+    (all_read c.args.pairs.names c.args.pairs.bytes c.entries.pairs (quasi_opening measure) taken.entries before.names before.bytes c.in_ok-entry.field-0 c.in_default.not-Some c.in_ok-entry.ensures.none taken.read)
+    (rejected_there c.args.sys.now c.entries.run.system (quasi_certificate measure taken.entries)
+    (quasi_certificate (certificate_of c.entries.run.measure) taken.entries) _ before.system
+    (ap (λ m. quasi_certificate m taken.entries) (sym before.measure)) (c.in_err-finish.ensures.judged taken.entries taken.tally))
+
+pub returns-clause-answers : goal.returns-clause-answers
+returns-clause-answers c =
+    let before = c.entries.invariant in
+    let taken = before.taken in
+    let measure = measure_view c.args.measure.now in (
+      taken.entries,
+      all_read c.args.pairs.names c.args.pairs.bytes c.entries.pairs (quasi_opening measure) taken.entries before.names before.bytes c.in_ok-entry.field-0 c.in_default.not-Some c.in_ok-entry.ensures.none taken.read,
+      valid_there c.args.sys.now c.entries.run.system (quasi_certificate measure taken.entries)
+          (quasi_certificate (certificate_of c.entries.run.measure) taken.entries) before.system
+          (ap (λ m. quasi_certificate m taken.entries) (sym before.measure)) (c.in_ok-finish.ensures.judged taken.entries taken.tally),
+    )
