@@ -17,19 +17,43 @@ pub fn answer(alloc: Global, names: &Names, front: &str, row: &str) -> Result<St
     let text = Text::of(alloc, row)?;
     let mut bytes = Vec::from_slice(alloc, &front.bytes)?;
     bytes.extend_from_slice(&text.bytes)?;
-    let told = |found: Result<Certificate, CertError>| match found {
+    let whole = told(
+        alloc,
+        names,
+        &front,
+        &text,
+        row,
+        read_cert(alloc, names, &bytes),
+    )?;
+    let by_entries = told(
+        alloc,
+        names,
+        &front,
+        &text,
+        row,
+        gathered(alloc, names, &bytes),
+    )?;
+    if whole == by_entries {
+        return Ok(whole);
+    }
+    format!(in alloc; "{whole}, but entry by entry: {by_entries}")
+}
+
+fn told(
+    alloc: Global,
+    names: &Names,
+    front: &Text,
+    text: &Text,
+    row: &str,
+    found: Result<Certificate, CertError>,
+) -> Result<String, AllocError> {
+    match found {
         Ok(cert) => read(alloc, names, &cert),
         Err(error) => {
             let behind_front = place(&error).saturating_sub(front.bytes.len());
             refused(alloc, error, row, text.place(behind_front))
         }
-    };
-    let whole = told(read_cert(alloc, names, &bytes))?;
-    let by_entries = told(gathered(alloc, names, &bytes))?;
-    if whole == by_entries {
-        return Ok(whole);
     }
-    format!(in alloc; "{whole}, but entry by entry: {by_entries}")
 }
 
 fn read(alloc: Global, names: &Names, cert: &Certificate) -> Result<String, AllocError> {

@@ -5,12 +5,13 @@ use cert_text::{CertError, Opened, Pairs, open_cert};
 use cops_read::Names;
 use std::alloc::Global;
 
-// All entries that are left.
+// All entries that are left: a text has at most 20,000.
 fn entries_of(alloc: Global, mut pairs: Pairs<'_>) -> Result<Vec<PairEntry>, CertError> {
     let mut entries = Vec::new(alloc);
-    while let Some(entry) = pairs.next(alloc)? {
-        if entries.push(entry).is_err() {
-            return Err(CertError::NoMemory);
+    for _ in 0..20_001 {
+        match pairs.next(alloc)? {
+            Some(entry) => entries.push(entry)?,
+            None => return Ok(entries),
         }
     }
     Ok(entries)
