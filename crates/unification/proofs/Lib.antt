@@ -3,6 +3,8 @@ pub mod Measure
 pub mod Solve
 pub mod Terms
 pub mod Meet
-pub mod Changed
-pub mod Maps
+pub mod Turns
+pub mod Found
+pub mod Under
+pub mod Kept
 pub mod Whole

@@ -1,16 +1,17 @@
 -- How the answers on parts make those on wholes.
-use Rattle.std.proofs.Common.{ℕ, ◌≡◌, ◌≢◌, ◌<◌, ◌⊎◌, inl, inr, refl, sym, ap, ◌∙◌, subst, List, [], ◌∷◌, length, arith, Result, Ok, Err}
+use Rattle.std.proofs.Common.{ℕ, ◌≡◌, ◌≢◌, ◌<◌, ◌⊎◌, inl, inr, refl, sym, ap, ◌∙◌, subst, List, length, arith, Result, Ok, Err}
 use Rattle.rewriting.specs.Terms.{Term, Terms, var, app, nil, cons, count}
 use Rattle.rewriting.specs.Substitutions.{apply, apply_all}
 use Rattle.rewriting.proofs.Over.{count-apply}
-use Rattle.unifier_run.specs.Run.{Binding, value, extended, Binds, DoFit, Outcome, clash, too_large, goes_on, Takes, side_too_large, equal_sides, occurs_inside, binding, binding_too_large, roots_differ, append, Runs, last_equation, next_equation}
+use Rattle.unifier_run.specs.Run.{Binding, value, Binds, DoFit, Outcome, clash, too_large, goes_on, Takes, side_too_large, equal_sides, occurs_inside, binding, binding_too_large, roots_differ, append, Runs, last_equation, next_equation}
 use Rattle.unifier_run.proofs.Agree.{Runs-agree}
 use Rattle.unifier_run.proofs.General.{settled_fixed, takes_settled}
 use Rattle.unifier_run.proofs.Equal.{open_equation}
 use Rattle.term_core.specs.declared.terms.NoMemory.{NoMemory}
 use Rattle.unification.specs.declared.solving.Progress.{Progress}
 use Rattle.unification.specs.declared.solving.Progress.TheVariants.{Solved, Clash, TooLarge}
-use Rattle.unification.specs.Solving.{IsGood, SolveAnswers, BindAnswers}
+use Rattle.unification.proofs.Turns.{length_extended}
+use Rattle.unification.specs.Solving.{IsGood, AreSolved, SolveAnswers, BindAnswers}
 
 abbrev pub One : List Binding → List Binding → Term → Term → Result Progress NoMemory → Type 0
 One b c t u r = SolveAnswers b c (cons t nil) (cons u nil) r
@@ -48,10 +49,6 @@ seen_as b c l r t u (Ok Clash) e h k = λ vs ws. Runs-agree (k vs ws) (cons t vs
 seen_as b c l r t u (Ok TooLarge) e h k = λ vs ws. Runs-agree (k vs ws) (cons t vs) (cons u ws) (alike_front b l t vs e) (alike_front b r u ws h)
 seen_as b c l r t u (Err n) e h k = tt
 
-length_extended : (b : List Binding) (x : ℕ) (v : Term) → length b < length (extended b x v)
-length_extended [] x v = omega arith
-length_extended (e ∷ b) x v = let h = length_extended b x v in omega (arith, h)
-
 -- an equation that binds
 pub bound : (b c : List Binding) (t u : Term) (x : ℕ) (v : Term) (r : Result Progress NoMemory) → IsGood b → DoFit (apply (value b) t) (apply (value b) u) → apply (value b) t ≢ apply (value b) u
     → Binds (apply (value b) t) (apply (value b) u) x v → BindAnswers b c x v r → One b c t u r
@@ -59,7 +56,7 @@ bound b c t u x v (Ok Solved) g fit n h (o, e, f) =
     let k : Takes b (apply (value b) t) (apply (value b) u) (goes_on c nil nil) = binding fit n x v h o c e f in
     record {
       runs = λ vs ws p r. next_equation k r;
-      grown = inr (subst (λ z. length b < length z) (sym e) (length_extended b x v));
+      grown = inr (subst (λ z. length b < length z) (sym e) (let h = length_extended b x v in omega (arith, h)));
       good = record { settled = takes_settled b c _ _ nil nil k (settled_fixed b g.settled t) (settled_fixed b g.settled u) g.settled; fit = f };
     }
 bound b c t u x v (Ok Clash) g fit n h o = λ vs ws. last_equation (occurs_inside fit n x v h o)
@@ -94,3 +91,15 @@ pub remain_end : (b c d : List Binding) (ts us rs qs : Terms) (r q : Term) (p : 
 remain_end b c d ts us rs qs r q Solved h n k = absurd (n refl)
 remain_end b c d ts us rs qs r q Clash h n k = λ vs ws. h.runs vs ws clash (k (append rs vs) (append qs ws))
 remain_end b c d ts us rs qs r q TooLarge h n k = λ vs ws. h.runs vs ws too_large (k (append rs vs) (append qs ws))
+
+pub remain_next : (b c d : List Binding) (ts us rs qs : Terms) (r q : Term) (p : Progress) → p ≡ Solved → Remain b c ts us (cons r rs) (cons q qs) → SolveAnswers c d (cons r nil) (cons q nil) (Ok p) → Remain b d ts us rs qs
+remain_next b c d ts us rs qs r q p e h k = next (subst (λ z. SolveAnswers c d (cons r nil) (cons q nil) (Ok z)) e k)
+  where
+    longer : (c ≡ b) ⊎ (length b < length c) → (d ≡ c) ⊎ (length c < length d) → (d ≡ b) ⊎ (length b < length d)
+    longer (inl f) (inl g) = inl (g ∙ f)
+    longer (inl f) (inr g) = inr (subst (λ z. length z < length d) f g)
+    longer (inr f) (inl g) = inr (subst (λ z. length b < length z) (sym g) f)
+    longer (inr f) (inr g) = inr (omega (arith, f, g))
+
+    next : AreSolved c d (cons r nil) (cons q nil) → Remain b d ts us rs qs
+    next k = record { runs = λ vs ws o run. h.runs vs ws o (k.runs (append rs vs) (append qs ws) o run); grown = longer h.grown k.grown; good = k.good }

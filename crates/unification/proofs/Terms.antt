@@ -1,5 +1,5 @@
 -- Lists of terms as the program has them.
-use Rattle.std.proofs.Common.{ℕ, zero, suc, ◌≡◌, ◌+◌, ◌<◌, ◌≤◌, true, List, [], ◌∷◌, length, drop, get_or, Option, ◌⊎◌, inl, inr, ◌^◌, Some, None, MatchOption, Vec, Global, refl, sym, ap, ◌∙◌, subst, arith, add-one}
+use Rattle.std.proofs.Common.{ℕ, zero, suc, ◌≡◌, ◌+◌, ◌<◌, ◌≤◌, true, List, [], ◌∷◌, length, drop, get_or, ◌⊎◌, inl, inr, ◌^◌, Vec, Global, refl, sym, ap, ◌∙◌, subst, subst₂, arith, add-one}
 use Rattle.rewriting.specs.Terms.{nil, cons, Fits, size, size_all}
 use Rattle.rewriting.specs.Systems.{Each}
 use Rattle.rewriting.specs.Substitutions.{apply, apply_all}
@@ -9,13 +9,9 @@ use Rattle.unifier_run.specs.Run.{Binding, value}
 use Rattle.term_core.specs.View.{view, views}
 use Rattle.term_core.specs.declared.terms.Term.{Term, Fun}
 use Rattle.term_core.proofs.Views.{view-Fun}
-use Rattle.unification.specs.declared.solving.Bound.{Bound}
-use Rattle.unification.specs.Solving.{bindings, IsHead}
 use Rattle.unification.proofs.Measure.{weight, grown_less, same_less}
-
-pub length_bindings : (es : List Bound) → length (bindings es) ≡ length es
-length_bindings [] = refl
-length_bindings (e ∷ es) = ap suc (length_bindings es)
+use Rattle.unification.proofs.Under.{size_at}
+use Rattle.unification.proofs.Solve.{Remain}
 
 -- the terms from a place on: the one there, then the rest
 views-drop_suc : (ts : List Term) (i : ℕ) (t : Term) → i < length ts → t ≡ get_or ts i t → views (drop i ts) ≡ cons (view t) (views (drop (suc i) ts))
@@ -43,16 +39,10 @@ fit_at b [] i t h e f = absurd (omega arith)
 fit_at b (u ∷ ts) zero t h e f = subst (λ z. Fits (apply (value b) (view z))) (sym e) f.0
 fit_at b (u ∷ ts) (suc i) t h e f = fit_at b ts i t (omega arith) e f.1
 
-pub size_at : (b : List Binding) (ts : List Term) (i : ℕ) (t : Term) → i < length ts → t ≡ get_or ts i t → size (apply (value b) (view t)) ≤ size_all (apply_all (value b) (views ts))
-size_at b [] i t h e = absurd (omega arith)
-size_at b (u ∷ ts) zero t h e = subst (λ z. size (apply (value b) (view z)) ≤ size_all (apply_all (value b) (views (u ∷ ts)))) (sym e) (omega arith)
-size_at b (u ∷ ts) (suc i) t h e = let k = size_at b ts i t (omega arith) e in omega (arith, k)
-
--- a term that stands for another under the bindings, where that is a bound variable
-pub as_head : (es fs : List Bound) (o : Option Term) (t r : Term) → es ≡ fs → MatchOption o (IsHead (bindings es) (view t)) (λ u. IsHead (bindings es) (view u) × (apply (value (bindings es)) (view u) ≡ apply (value (bindings es)) (view t)))
-    → MatchOption o (view r ≡ view t) (λ u. view r ≡ view u) → apply (value (bindings fs)) (view r) ≡ apply (value (bindings fs)) (view t)
-as_head es fs None t r same h e = ap (apply (value (bindings fs))) e
-as_head es fs (Some u) t r same h e = ap (apply (value (bindings fs))) e ∙ subst (λ z. apply (value (bindings z)) (view u) ≡ apply (value (bindings z)) (view t)) same h.1
+-- the equations that remain at a place
+pub still_there : (b c : List Binding) (ts us : List Term) (i : ℕ) (t u : Term) → i < length ts → i < length us → t ≡ get_or ts i t → u ≡ get_or us i u → Remain b c (views ts) (views us) (views (drop i ts)) (views (drop i us))
+    → Remain b c (views ts) (views us) (cons (view t) (views (drop (i + 1) ts))) (cons (view u) (views (drop (i + 1) us)))
+still_there b c ts us i t u h k is other = subst₂ (λ x y. Remain b c (views ts) (views us) x y) (views-drop ts i t h is) (views-drop us i u k other)
 
 -- a side that fitted fits where nothing has been bound
 pub still_fits : (b c : List Binding) (ts : List Term) (i : ℕ) (t : Term) → (c ≡ b) ⊎ (length b < length c) → length b ≡ length c → Each Fits (apply_all (value b) (views ts)) → i < length ts → t ≡ get_or ts i t
@@ -65,8 +55,8 @@ pub one_weighs_less : (b c : List Binding) (xs ys : List Term) (i : ℕ) (x y : 
     → weight (length c) (size (apply (value c) (view x)) + size (apply (value c) (view y))) 2 < weight (length b) (size_all (apply_all (value b) (views xs)) + size_all (apply_all (value b) (views ys))) 3
 one_weighs_less b c xs ys i x y (inl e) small hx hy kx ky =
     subst (λ z. weight (length z) (size (apply (value z) (view x)) + size (apply (value z) (view y))) 2 < weight (length b) (size_all (apply_all (value b) (views xs)) + size_all (apply_all (value b) (views ys))) 3) (sym e)
-    (let p = size_at b xs i x hx kx in
-    let q = size_at b ys i y hy ky in
+    (let p = size_at (value b) xs i x hx kx in
+    let q = size_at (value b) ys i y hy ky in
     let sums : size (apply (value b) (view x)) + size (apply (value b) (view y)) ≤ size_all (apply_all (value b) (views xs)) + size_all (apply_all (value b) (views ys)) = omega (arith, p, q) in
     same_less (length b) _ _ 2 3 sums (omega arith))
 one_weighs_less b c xs ys i x y (inr e) small hx hy kx ky = grown_less (length b) (length c) _ _ 2 3 e small (omega arith)

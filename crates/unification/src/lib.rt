@@ -13,11 +13,11 @@ mod solving;
 ghost use Rattle.std.specs.Prelude.{◌≡◌, length};
 ghost use Rattle.rewriting.specs.Terms as math;
 ghost use Rattle.term_core.specs.View.{view, views};
-ghost use Rattle.unification.specs.Solving.{bindings, OutcomeAnswers};
+ghost use Rattle.unification.specs.Solving.{bindings, AreInTurn, OutcomeAnswers};
 ghost use Rattle.unification.specs.Answers.{UnifyAnswers};
 
-use crate::bound::subst_of;
-use crate::solving::{Bound, Progress, solve, solve_all};
+use crate::bound::{Bound, subst_of};
+use crate::solving::{Progress, solve, solve_all};
 pub use renaming::{rename, renamed};
 use std::alloc::Global;
 use term_core::{NoMemory, Subst, Term};
@@ -34,8 +34,9 @@ pub enum Unified {
 }
 
 // What a run comes to, with the variables that it has bound.
-fn outcome(alloc: Global, progress: Progress, found: Vec<Bound>) -> Result<Unified, NoMemory>
-    ensures { OutcomeAnswers (bindings found.items) progress result }
+fn outcome(alloc: Global, progress: Progress, found: &[Bound<'_>]) -> Result<Unified, NoMemory>
+    requires { AreInTurn found.now }
+    ensures { OutcomeAnswers (bindings found.now) progress result }
 {
     match progress {
         Progress::Solved => Ok(Unified::Mgu(subst_of(alloc, found)?)),
@@ -51,8 +52,8 @@ pub fn unify(alloc: Global, a: &[Term], b: &[Term]) -> Result<Unified, NoMemory>
     ensures { UnifyAnswers (views a.now) (views b.now) result }
 {
     let mut found = Vec::new(alloc);
-    let progress = solve_all(alloc, a, b, false, &mut found)?;
-    outcome(alloc, progress, found)
+    let progress = solve_all(a, b, false, &mut found)?;
+    outcome(alloc, progress, &found)
 }
 
 /// The same for the one equation between two terms.
@@ -60,8 +61,8 @@ pub fn unify_terms(alloc: Global, a: &Term, b: &Term) -> Result<Unified, NoMemor
     ensures { UnifyAnswers (math.cons (view a.now) math.nil) (math.cons (view b.now) math.nil) result }
 {
     let mut found = Vec::new(alloc);
-    let progress = solve(alloc, a, b, false, &mut found)?;
-    outcome(alloc, progress, found)
+    let progress = solve(a, b, false, &mut found)?;
+    outcome(alloc, progress, &found)
 }
 
 /// The same for two terms that are known to fit, and are not measured then.
@@ -71,6 +72,6 @@ pub fn unify_fitting(alloc: Global, a: &Term, b: &Term) -> Result<Unified, NoMem
     ensures { UnifyAnswers (math.cons (view a.now) math.nil) (math.cons (view b.now) math.nil) result }
 {
     let mut found = Vec::new(alloc);
-    let progress = solve(alloc, a, b, true, &mut found)?;
-    outcome(alloc, progress, found)
+    let progress = solve(a, b, true, &mut found)?;
+    outcome(alloc, progress, &found)
 }

@@ -4,7 +4,7 @@ use Rattle.rewriting.specs.Substitutions.{apply}
 use Rattle.unifier_run.specs.Run.{value}
 use Rattle.unifier_run.proofs.Values.{apply_nothing}
 use Rattle.term_core.specs.View.{view}
-use Rattle.unification.specs.Solving.{bindings}
+use Rattle.unification.specs.Solving.{bindings, OutcomeAnswers}
 use Rattle.unification.proofs.Whole.{answered}
 use Rattle.unification.proofs.unify_fitting.Goals as goal
 
@@ -17,4 +17,4 @@ solve-requires-clause-known c =
     )
 
 pub returns : goal.returns
-returns c = answered (bindings c.new-found.result.items) (bindings c.solve.new.found.items) _ _ _ c.outcome.result (ap bindings c.new-found.ensures.items) c.in_ok-progress.ensures c.outcome.ensures
+returns c = answered (bindings c.new-found.result.items) (bindings c.solve.new.found.items) _ _ _ c.outcome.result (ap bindings c.new-found.ensures.items) c.in_ok-progress.ensures.solves (subst (λ es. OutcomeAnswers (bindings es) c.in_ok-progress.progress c.outcome.result) c.deref.ensures.value c.outcome.ensures)

@@ -7,7 +7,7 @@ use Rattle.unification.specs.Solving.{bindings}
 use Rattle.unification.proofs.bound.+room_under.Given as goal
 
 abbrev pub decreases-room_under : goal.decreases-room_under
-decreases-room_under l = goal.size-room_under l
+decreases-room_under l = l.levels
 
 abbrev pub invariant-loop-arg : goal.invariant-loop-arg
 invariant-loop-arg l = record {

@@ -1,15 +1,17 @@
-use Rattle.std.proofs.Common.{◌≡◌, ap, ◌∙◌, sym, [], ◌∷◌, ◌++◌}
-use Rattle.unification.specs.Solving.{binding_view, bindings}
-use Rattle.unification.proofs.Changed.{bindings-append}
-use Rattle.unification.proofs.Maps.{with_all, with_all_empty, with_all_last}
+use Rattle.std.proofs.Common.{ap, ◌∙◌, sym, arith, ◌<◌, length}
+use Rattle.std.specs.FinMap.{insert}
+use Rattle.term_core.specs.View.{view}
+use Rattle.unification.proofs.Found.{no_map, next_map}
 use Rattle.unification.proofs.bound.subst_of.Goals as goal
 
-pub loop-bound-init : goal.loop-bound-init
-loop-bound-init c = ap (with_all (bindings c.args.found.items)) c.new-subst.ensures ∙ with_all_empty (bindings c.args.found.items)
+pub loop-i-init : goal.loop-i-init
+loop-i-init c = c.new-subst.ensures ∙ sym (no_map c.args.found.now)
 
-pub loop-bound-preserved : goal.loop-bound-preserved
-loop-bound-preserved c =
-    let whole : c.loop-bound.found.items ≡ c.pop.new.self.items ++ c.in-Some.bound ∷ [] = c.in-Some.ensures.items in
-    ap (with_all (bindings c.pop.new.self.items)) c.in_ok-bind.ensures.ok
-    ∙ (sym (with_all_last (bindings c.pop.new.self.items) (binding_view c.in-Some.bound) c.loop-bound.subst)
-    ∙ (ap (λ z. with_all z c.loop-bound.subst) (sym (ap bindings whole ∙ bindings-append _ _)) ∙ c.loop-bound.invariant))
+pub loop-i-preserved : goal.loop-i-preserved
+loop-i-preserved c =
+    let e = c.index-found-found.result in
+    let i = c.loop-i.i in
+    let within : i < length c.args.found.now = c.loop-i-test.true in
+    c.in_ok-bind.ensures.ok
+    ∙ (ap (λ m. insert m e.variable (view c.in_ok-instance.field-0)) c.loop-i.invariant
+    ∙ next_map c.args.found.now i _ e (view c.in_ok-instance.field-0) c.requires within (omega (arith, within)) c.index-found-found.is c.in_ok-instance.ensures)

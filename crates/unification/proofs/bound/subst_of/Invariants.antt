@@ -1,11 +1,7 @@
-use Rattle.std.proofs.Common.{◌≡◌, vec_len}
+use Rattle.std.proofs.Common.{◌≡◌, ◌-◌, length, drop}
 use Rattle.unifier_run.specs.Laws.{as_map}
 use Rattle.unification.specs.Solving.{bindings}
-use Rattle.unification.proofs.Maps.{with_all}
 use Rattle.unification.proofs.bound.subst_of.Given as goal
 
-abbrev pub invariant-loop-bound : goal.invariant-loop-bound
-invariant-loop-bound l = with_all (bindings l.found.items) l.subst ≡ as_map (bindings l.fn.found.items)
-
-abbrev pub decreases-loop-bound : goal.decreases-loop-bound
-decreases-loop-bound l = vec_len l.found
+abbrev pub invariant-loop-i : goal.invariant-loop-i
+invariant-loop-i l = l.subst ≡ as_map (drop (length l.found - l.i) (bindings l.found))

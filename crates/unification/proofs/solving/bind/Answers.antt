@@ -1,34 +1,45 @@
-use Rattle.std.proofs.Common.{◌≡◌, ◌∙◌, sym, ap, ap₂, subst, true, false, [], ◌∷◌, ◌++◌, map, Ok}
-use Rattle.rewriting.specs.Terms.{Fits}
+use Rattle.std.proofs.Common.{◌≡◌, ◌≤◌, ◌⊎◌, map, IsTrue, ap, ◌∙◌, sym, subst, subst₂, length, take}
+use Rattle.std.proofs.lemmas.Bool.{false≢true}
+use Rattle.rewriting.specs.Terms.{size}
 use Rattle.rewriting.specs.Substitutions.{apply}
 use Rattle.rewriting.specs.Variables.{occurs}
-use Rattle.unifier_run.specs.Run.{value, under, extended, DoAllFit}
+use Rattle.unifier_run.specs.Run.{value, DoAllFit}
 use Rattle.term_core.specs.View.{view}
-use Rattle.unification.specs.Solving.{bindings, PutAnswers}
-use Rattle.unification.proofs.Changed.{written, bindings-append, fit_append, fit_front}
+use Rattle.unification.specs.Solving.{shared, bindings, IsNewTo}
+use Rattle.unification.proofs.Kept.{kept_fit}
+use Rattle.unification.proofs.Found.{length_bindings, first_fit, all_fit, grows}
 use Rattle.unification.proofs.solving.bind.Goals as goal
 
-pub returns-then-not-branch : goal.returns-then-not-branch
-returns-then-not-branch c =
-    let b = bindings c.args.found.now.items in
-    let same : view c.in_ok-v.v ≡ apply (value b) (view c.args.t.now) = c.in_ok-v.ensures ∙ ap (λ z. apply (value (bindings z)) (view c.args.t.now)) c.deref.ensures.value in
-    let large : PutAnswers (bindings c.deref_mut.result.now) (bindings c.put_in.new.found) c.args.x (view c.in_ok-v.v) (Ok false) =
-    subst (λ z. PutAnswers (bindings c.deref_mut.result.now) (bindings c.put_in.new.found) c.args.x (view c.in_ok-v.v) (Ok z)) c.if-not-branch.true c.in_ok-put_in.ensures in (
-      sym (ap (occurs c.args.x) same) ∙ (sym c.occurs.ensures ∙ c.if-occurs.false),
-      λ h. large (subst (λ z. DoAllFit (map (under c.args.x (view c.in_ok-v.v)) (bindings z))) (sym c.deref_mut.ensures.value) (subst (λ z. DoAllFit (map (under c.args.x z) b)) (sym same) (fit_front _ _ h))),
+pub do_fit_under-requires-clause-count : goal.do_fit_under-requires-clause-count
+do_fit_under-requires-clause-count c =
+    subst₂ (λ m fs. m ≤ length fs) (sym (c.len-earlier.ensures ∙ c.args.found.now.ok.0)) (sym c.deref-3.ensures.value) (grows c.args.found.now.items _ _ _ c.in_ok-add.ensures.extended)
+
+pub returns-then-do_fit_under-clause-binds : goal.returns-then-do_fit_under-clause-binds
+returns-then-do_fit_under-clause-binds c =
+    let es = c.args.found.now.items in
+    let same = ap (λ z. occurs c.args.x (apply (value (bindings z)) (view c.args.t.now))) c.deref.ensures.value in
+    let earlier : c.len-earlier.result ≡ length (bindings es) = c.len-earlier.ensures ∙ (c.args.found.now.ok.0 ∙ sym (length_bindings es)) in
+    let fit = c.do_fit_under.ensures.0 c.if-do_fit_under.true in (
+      sym (c.occurs_under.ensures ∙ same) ∙ c.if-occurs_under.false,
+      c.in_ok-add.ensures.extended,
+      all_fit (bindings es) _ _ _ _ c.in_ok-add.ensures.extended earlier (subst (λ z. DoAllFit (take c.len-earlier.result (bindings z))) c.deref-3.ensures.value fit) c.requires.side,
     )
 
-pub returns : goal.returns
-returns c =
-    let b = bindings c.args.found.now.items in
-    let v = view c.in_ok-v.v in
-    let same : v ≡ apply (value b) (view c.args.t.now) = c.in_ok-v.ensures ∙ ap (λ z. apply (value (bindings z)) (view c.args.t.now)) c.deref.ensures.value in
-    let put : PutAnswers (bindings c.deref_mut.result.now) (bindings c.put_in.new.found) c.args.x v (Ok true) =
-    subst (λ z. PutAnswers (bindings c.deref_mut.result.now) (bindings c.put_in.new.found) c.args.x v (Ok z)) c.if-not-branch.false c.in_ok-put_in.ensures in
-    let whole : bindings c.push.new.self.items ≡ bindings c.put_in.new.found ++ (record { variable = c.args.x; term = v }) ∷ [] =
-    ap bindings c.in_ok-push.ensures.items ∙ (bindings-append _ _ ∙ ap (λ z. bindings z ++ (record { variable = c.args.x; term = v }) ∷ []) (written _ _ _ (c.put_in.auto.found ∙ c.deref_mut.ensures.len) (sym c.args.found.now.ok.0))) in
-    let fit : Fits v = subst Fits (sym same) c.requires.side in (
-      sym (ap (occurs c.args.x) same) ∙ (sym c.occurs.ensures ∙ c.if-occurs.false),
-      whole ∙ (ap (λ z. z ++ (record { variable = c.args.x; term = v }) ∷ []) put.0 ∙ ap₂ (λ z w. extended z c.args.x w) (ap bindings c.deref_mut.ensures.value) same),
-      subst DoAllFit (sym whole) (fit_append _ _ put.1 (fit, tt)),
+pub returns-else-do_fit_under-clause-binds : goal.returns-else-do_fit_under-clause-binds
+returns-else-do_fit_under-clause-binds c =
+    let es = c.args.found.now.items in
+    let same = ap (λ z. occurs c.args.x (apply (value (bindings z)) (view c.args.t.now))) c.deref.ensures.value in
+    let n = c.len-earlier.result in (
+      sym (c.occurs_under.ensures ∙ same) ∙ c.if-occurs_under.false,
+      λ h. false≢true (subst IsTrue c.if-do_fit_under.false
+          (c.do_fit_under.ensures.1 (subst (λ z. DoAllFit (take n (bindings z))) (sym c.deref-3.ensures.value) (subst (λ z. DoAllFit (take n z)) (sym c.in_ok-add.ensures.extended) (first_fit _ n h))))),
     )
+
+pub do_fit_under-requires-clause-known : goal.do_fit_under-requires-clause-known
+do_fit_under-requires-clause-known c =
+    λ known.
+    let es = c.args.found.now.items in
+    let earlier : c.len-earlier.result ≡ length (bindings es) = c.len-earlier.ensures ∙ (c.args.found.now.ok.0 ∙ sym (length_bindings es)) in
+    let plain = subst (λ z. (size (view c.args.t.now) ≡ 1) ⊎ IsNewTo c.args.x (map shared z)) c.deref-2.ensures.value (c.keeps_sizes-known.ensures known) in
+    subst (λ z. DoAllFit (take c.len-earlier.result (bindings z))) (sym c.deref-3.ensures.value)
+    (kept_fit (map shared es) _ _ c.args.x (view c.args.t.now) c.requires.turns c.requires.head c.requires.fit earlier c.in_ok-add.ensures.extended plain)
