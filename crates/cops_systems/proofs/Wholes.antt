@@ -1,22 +1,14 @@
 -- From the rules that were read to the system that a file means.
-use Rattle.std.proofs.Common.{◌≡◌, ℕ, ◌<◌, ◌^◌, Bool, List, [], ◌∷◌, ◌++◌, map, length, Err, sym, ap, subst, ◌∙◌}
-use Rattle.std.proofs.lemmas.Option.{slice_get_within}
+use Rattle.std.proofs.Common.{◌≡◌, ℕ, Bool, List, [], ◌∷◌, map, length, Err, sym, ap, subst, ◌∙◌}
 use Rattle.file_text.specs.Syntax.{RuleTree, FileTree}
 use Rattle.cops_trees.specs.View as tree
 use Rattle.cops_trees.specs.View.{IsFileText}
 use Rattle.cops_trees.specs.declared.tree.RuleText.{RuleText}
 use Rattle.cops_trees.specs.declared.tree.FileText.{FileText}
-use Rattle.rewriting.specs.Terms as math
-use Rattle.rewriting.specs.Terms.{Terms, nil, cons}
-use Rattle.rewriting.specs.Signatures.{Signature, IsOver, AreOver}
 use Rattle.rewriting.specs.Rules as rules
-use Rattle.rewriting.specs.Systems as systems
-use Rattle.rewriting.specs.Systems.{Each, terms_of_rule, IsRule, AreRules, IsSystem}
+use Rattle.rewriting.specs.Systems.{IsSystem}
 use Rattle.term_core.specs.RuleView.{rule_view, AreCounted}
-use Rattle.term_core.specs.SystemView.{HasSymbolsBelow, HaveSymbolsBelow, FirstAt, HasFault, fault_rule}
 use Rattle.term_core.specs.declared.systems.Rule.{Rule}
-use Rattle.term_core.specs.declared.systems.SystemFault.{SystemFault}
-use Rattle.term_core.specs.declared.systems.SystemFault.TheVariants.{BadSymbol, BadArity, LeftVariable, BadVariables, TooLarge}
 use Rattle.cops_names.specs.NameTable.{NameTable}
 use Rattle.cops_systems.specs.Meaning.{variables_of, rule_variables, AreRulesOf}
 use Rattle.cops_systems.specs.Refusals.{refusal_of}
@@ -33,40 +25,6 @@ counted block table [] (r ∷ rs) h n = absurd h
 counted block table (t ∷ ts) (r ∷ rs) h n =
     let are = ap length (variables_are block table t (rule_view r) h.0) in
     (n.0 ∙ sym (length_upto (length (rule_variables block t))) ∙ sym are, counted block table ts rs h.1 n.1)
-
--- sound rules have no fault
-mutual
-  known : (arities : Signature) (t : math.Term) → IsOver arities t → HasSymbolsBelow (length arities) t
-  known arities (math.var x) h = tt
-  known arities (math.app f ts) h = (slice_get_within arities f (math.count ts) h.0, all_known arities ts h.1)
-
-  all_known : (arities : Signature) (ts : Terms) → AreOver arities ts → HaveSymbolsBelow (length arities) ts
-  all_known arities nil h = tt
-  all_known arities (cons t ts) h = (known arities t h.0, all_known arities ts h.1)
-
-each_known : (arities : Signature) (ts : Terms) → Each (IsOver arities) ts → Each (HasSymbolsBelow (length arities)) ts
-each_known arities nil h = tt
-each_known arities (cons t ts) h = (known arities t h.0, each_known arities ts h.1)
-
-no_fault_at : (arities : Signature) (r : Rule) (fault : SystemFault) → IsRule arities (rule_view r) → r.vars ≡ length (systems.rule_variables (rule_view r)) → HasFault arities r fault → ⊥
-no_fault_at arities r (BadSymbol n) s c h = h (each_known arities (terms_of_rule (rule_view r)) s.is_over.over)
-no_fault_at arities r (BadArity n) s c h = h.1 s.is_over.over
-no_fault_at arities r (LeftVariable n) s c h = s.is_over.left h.1
-no_fault_at arities r (BadVariables n) s c h = h.2 (record { numbered = s.numbered; counted = c; few = subst (λ (v : ℕ). v < 2 ^ 31) (sym c) s.few_variables })
-no_fault_at arities r (TooLarge n) s c h = h.3 (record { few_conditions = s.few_conditions; fits = s.fits })
-
-at_rule : (arities : Signature) (before after : List Rule) (r : Rule) → AreRules arities (map rule_view (before ++ r ∷ after)) → AreCounted (before ++ r ∷ after)
-    → IsRule arities (rule_view r) × (r.vars ≡ length (systems.rule_variables (rule_view r)))
-at_rule arities [] after r h c = (h.0, c.0)
-at_rule arities (b ∷ before) after r h c = at_rule arities before after r h.1 c.1
-
-pub no_fault : (arities : Signature) (rs : List Rule) (fault : SystemFault) → AreRules arities (map rule_view rs) → AreCounted rs
-    → (r : Rule) × FirstAt arities rs (fault_rule fault) r × HasFault arities r fault → ⊥
-no_fault arities rs fault h c (r, first, bad) =
-    let h1 = subst (λ (x : List Rule). AreRules arities (map rule_view x)) first.split h in
-    let c1 = subst AreCounted first.split c in
-    let here = at_rule arities first.before first.after r h1 c1 in
-    no_fault_at arities r fault here.0 here.1 bad
 
 -- From the values that the program has.
 module _ (file : FileTree) (text : FileText) (is_text : IsFileText text file) (other : List (List ℕ)) (start : List (List ℕ × ℕ)) (texts : List RuleText)

@@ -1,8 +1,6 @@
 ghost use Rattle.std.specs.Prelude.{◌≡◌, [], IfOk, OnOk, map};
 ghost use Rattle.file_text.specs.Syntax as syntax;
 ghost use Rattle.cops_trees.specs.View.{IsFileText, names_view};
-ghost use Rattle.rewriting.specs.Systems.{IsSystem};
-ghost use Rattle.term_core.specs.RuleView.{rule_view, AreCounted};
 ghost use Rattle.cops_names.specs.NameLists.{with_names};
 ghost use Rattle.cops_systems.specs.RuleSteps.{FileAnswers};
 
@@ -13,7 +11,7 @@ use crate::rules::read_rules;
 use cops_names::{NameSet, Names};
 use cops_trees::{FileText, Name};
 use std::alloc::Global;
-use term_core::{NoMemory, Rule, System};
+use term_core::{NoMemory, System};
 
 fn add_names<'a>(block: &mut NameSet<'a>, names: &[Name<'a>]) -> Result<(), NoMemory>
     ensures { OnOk result (block.new ≡ with_names block.old (map (λ n. n.text) (names_view names.now))) }
@@ -33,18 +31,6 @@ fn read_block<'a>(alloc: Global, names: &[Name<'a>]) -> Result<Block<'a>, NoMemo
     Ok(Block::new(block))
 }
 
-// Sound rules make a system.
-fn make_system(arities: Vec<u32>, rules: Vec<Rule>) -> System
-    requires sound { IsSystem (record { arities = arities.items; rules = map rule_view rules.items }) }
-    requires counted { AreCounted rules.items }
-    ensures { result ≡ record { arities = arities.items; rules = map rule_view rules.items } }
-{
-    match System::make(arities, rules) {
-        Ok(system) => system,
-        Err(_) => unreachable!(),
-    }
-}
-
 /// The system that the tree means, with its names, or the first refusal.
 pub fn read_file<'a>(alloc: Global, file: FileText<'a>) -> Result<(System, Names), ReadError>
     requires { (tree : syntax.FileTree) × IsFileText file tree }
@@ -62,6 +48,6 @@ pub fn read_file<'a>(alloc: Global, file: FileText<'a>) -> Result<(System, Names
     };
     let rules = read_rules(alloc, &mut scope, oriented, rules)?;
     let arities = scope.names.arities(alloc)?;
-    let system = make_system(arities, rules);
+    let system = System::of_sound(arities, rules);
     Ok((system, scope.names))
 }

@@ -26,10 +26,8 @@ pub fn system_of(alloc: Global, n: u32) -> Result<(System, Names), NoMemory>
     let names = names_of(alloc, n)?;
     let arities = names.arities(alloc)?;
     let rules = rules_of(alloc, n)?;
-    match System::make(arities, rules) {
-        Ok(system) => Ok((system, names)),
-        Err(_) => unreachable!(),
-    }
+    let system = System::of_sound(arities, rules);
+    Ok((system, names))
 }
 
 /// What is written of a generated system is read as the same system, with the same names, and is no longer than a file

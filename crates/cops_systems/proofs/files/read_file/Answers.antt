@@ -26,16 +26,16 @@ returns-in_err-rules c tree h =
 pub read_rules-requires-clause-texts : goal.read_rules-requires-clause-texts
 read_rules-requires-clause-texts c = (c.requires.0.rules, c.requires.1.rules)
 
-pub make_system-system-requires-clause-sound : goal.make_system-system-requires-clause-sound
-make_system-system-requires-clause-sound c =
+pub of_sound-system-requires-clause-sound : goal.of_sound-system-requires-clause-sound
+of_sound-system-requires-clause-sound c =
     let tree = c.requires.0 in
     let h = c.requires.1 in
     rules_sound tree c.args.file h c.in_ok-read_block.field-0 c.new.result.symbols c.args.file.rules.items
     (block_is tree c.args.file c.in_ok-read_block.field-0 c.deref.result.now h c.in_ok-read_block.ensures c.deref.ensures.value) (ap (λ (n : NameTable). n.symbols) c.new.ensures) refl
     c.read_rules.new.scope.names c.in_ok-arities.arities.items c.in_ok-rules.rules.items c.in_ok-rules.ensures.rules c.in_ok-arities.ensures
 
-pub make_system-system-requires-clause-counted : goal.make_system-system-requires-clause-counted
-make_system-system-requires-clause-counted c =
+pub of_sound-system-requires-clause-counted : goal.of_sound-system-requires-clause-counted
+of_sound-system-requires-clause-counted c =
     let tree = c.requires.0 in
     let h = c.requires.1 in
     rules_counted tree c.args.file h c.in_ok-read_block.field-0 c.new.result.symbols c.args.file.rules.items
@@ -46,4 +46,4 @@ pub returns : goal.returns
 returns c tree h =
     file_read tree c.args.file h c.in_ok-read_block.field-0 c.new.result.symbols c.args.file.rules.items
     (block_is tree c.args.file c.in_ok-read_block.field-0 c.deref.result.now h c.in_ok-read_block.ensures c.deref.ensures.value) (ap (λ (n : NameTable). n.symbols) c.new.ensures) refl
-    c.read_rules.new.scope.names c.in_ok-arities.arities.items c.in_ok-rules.rules.items c.in_ok-rules.ensures.rules c.in_ok-arities.ensures c.make_system-system.result c.make_system-system.ensures
+    c.read_rules.new.scope.names c.in_ok-arities.arities.items c.in_ok-rules.rules.items c.in_ok-rules.ensures.rules c.in_ok-arities.ensures c.of_sound-system.result c.of_sound-system.ensures
