@@ -1,30 +1,41 @@
 -- What is found where a cursor stands.
-use Rattle.std.proofs.Common.{ℕ, suc, ◌≡◌, ◌≢◌, ◌≤◌, ◌+◌, ◌∷◌, Some, Ok, Err, refl, sym, ap, ap₂, ◌∙◌, subst, arith, add-one}
-use Rattle.rewriting.specs.Positions.{Position}
+use Rattle.std.proofs.Common.{ℕ, suc, ◌≡◌, ◌∷◌, refl, sym, ap₂, ◌∙◌, subst}
+use Rattle.rewriting.specs.Substitutions.{Bindings}
 use Rattle.rewriting.specs.Rules.{System}
 use Rattle.rewriting.specs.Systems.{IsSystem}
-use Rattle.unifier_run.specs.Overlaps.{Triple, triple, IsOverlapOf, IsTooLargeAt}
-use Rattle.critical_pairs.specs.View.{overlap_view}
-use Rattle.critical_pairs.specs.Offers.{Search, DoesPass, IsNext, IsOffered, IsBeyond, OfferAnswers}
-use Rattle.critical_pairs.specs.Cursors.{rest_of, IsCursor, StandsBefore}
-use Rattle.critical_pairs.specs.Finding.{StandsAt, FindAnswers}
-use Rattle.critical_pairs.specs.Sides.{AttemptAnswers}
+use Rattle.unifier_run.specs.Overlaps.{Triple, Overlap, triple, IsOverlapOf, IsTooLargeAt}
+use Rattle.unifier_run.specs.Triples.{DoesClash}
+use Rattle.critical_pairs.specs.Offers.{Search, DoesPass, IsNext, IsOffered, IsBeyond, IsRefused}
+use Rattle.critical_pairs.specs.Cursors.{rest_of, IsCursor, StandsBefore, IsTripleAt}
+use Rattle.critical_pairs.specs.Finding.{StandsAt, IsFound, IsRefusedThere, IsCounted}
+use Rattle.critical_pairs.specs.Sides.{IsSpotOf, IsUnifierAt, IsOverlapAt, IsRefusedAt}
+use Rattle.critical_pairs.specs.declared.pairs.Triple as Named
 use Rattle.critical_pairs.specs.declared.cursor.Cursor.{Cursor}
-use Rattle.critical_pairs.specs.declared.Overlap.{Overlap}
 use Rattle.critical_pairs.specs.declared.OverlapError.{OverlapError}
 use Rattle.critical_pairs.specs.declared.OverlapError.TheVariants.{PairTooLarge, TooManyPairs, NoMemory}
 use Rattle.critical_pairs.proofs.Passing.{pass_more}
-use Rattle.critical_pairs.proofs.Rests.{next_there}
+use Rattle.critical_pairs.proofs.Rests.{next_there, spot_there}
 
-module _ (sys : System) (c : Cursor) (i : ℕ) (p : Position) (s : StandsBefore sys c i) (is : p ≡ s.at.0) where
-  pub found_here : (o : Overlap) → AttemptAnswers sys i p c.outer (Ok (Some o)) → IsOverlapOf sys (overlap_view o) × StandsAt sys c (triple (overlap_view o))
-  found_here o h = (h.0, record { inner = i; stands = s; is_triple = h.1 ∙ ap (λ z. (i, (z, c.outer))) is })
+module _ (sys : System) (c : Cursor) (i : ℕ) (s : StandsBefore sys c i) (t : Named.Triple) (is : IsTripleAt c i t) where
+  same : ◌≡◌ {A = Triple} (t.inner, (t.pos.now, t.outer)) (i, (s.at.0, c.outer))
+  same = ap₂ (λ x y. (x, y)) is.inner (ap₂ (λ x y. (x, y)) (is.position s.at s.is_place) is.outer)
 
-  pub refused_here : (e : OverlapError) → AttemptAnswers sys i p c.outer (Err e) → FindAnswers sys c (Err e)
-  refused_here (PairTooLarge k q l) (large, (a, b, d)) = (
-    subst (λ z. IsTooLargeAt sys z q.items l) (sym a) (subst (λ z. IsTooLargeAt sys i z l) (sym b) (subst (IsTooLargeAt sys i p) (sym d) large)),
-    record { inner = i; stands = s; is_triple = ap₂ (λ x y. (x, y)) a (ap₂ (λ x y. (x, y)) (b ∙ is) d) },
-  )
+  pub spot_here : IsSystem sys → IsCursor sys c → IsSpotOf sys t.inner t.pos.now t.outer
+  spot_here h k = subst (λ z. IsSpotOf sys z.0 z.1.0 z.1.1) (sym same) (spot_there sys h c c i k s)
+
+  pub clash_here : DoesClash sys (t.inner, (t.pos.now, t.outer)) → DoesClash sys (i, (s.at.0, c.outer))
+  clash_here h = subst (DoesClash sys) same h
+
+  pub found_here : (m : Bindings) → IsUnifierAt sys t.inner t.pos.now t.outer m → IsFound sys c (record { inner = i; unifier = m })
+  found_here m h = record { stands = s; unifier = subst (λ z. IsUnifierAt sys z.0 z.1.0 z.1.1 m) same h }
+
+  pub overlap_here : (o : Overlap) → IsOverlapAt sys t.inner t.pos.now t.outer o → IsOverlapOf sys o × StandsAt sys c (triple o)
+  overlap_here o h = (h.0, record { inner = i; stands = s; is_triple = h.1 ∙ same })
+
+  pub refused_here : (e : OverlapError) → IsRefusedAt sys t.inner t.pos.now t.outer e → IsRefusedThere sys c e
+  refused_here (PairTooLarge k q l) (large, (a, b, d)) =
+      let there : ◌≡◌ {A = Triple} (k, (q.items, l)) (t.inner, (t.pos.now, t.outer)) = ap₂ (λ x y. (x, y)) a (ap₂ (λ x y. (x, y)) b d) in
+      (subst (λ z. IsTooLargeAt sys z.0 z.1.0 z.1.1) (sym there) large, record { inner = i; stands = s; is_triple = there ∙ same })
   refused_here TooManyPairs h = h
   refused_here NoMemory h = tt
 
@@ -41,19 +52,16 @@ module _ (sys : System) (h : IsSystem sys) (b c : Cursor) (n : ℕ) (before : Se
       let d : Cursor = record { outer = c.outer; places = c.places; place = c.place; candidate = suc c.candidate } in
       (rest_of sys d, on d refl refl refl refl t at)
 
-  pub offer : (d : Cursor) (o : Overlap) → d.outer ≡ c.outer → d.places ≡ c.places → d.place ≡ c.place → d.candidate ≡ c.candidate + 1 → n ≤ 20000 → n ≢ 20000 → IsOverlapOf sys (overlap_view o) × StandsAt sys c (triple (overlap_view o))
-      → IsOffered before (record { system = sys; rest = rest_of sys d; offered = n + 1 }) (overlap_view o)
-  offer d o q ps k i few more (is_overlap, at) =
-      subst (λ z. IsOffered z (record { system = sys; rest = rest_of sys d; offered = n + 1 }) (overlap_view o)) e
-      (record { is_overlap = is_overlap; passes = on d q ps k (i ∙ add-one c.candidate) (triple (overlap_view o)) at; counted = add-one n; few = less n few more })
-    where
-      less : (m : ℕ) → m ≤ 20000 → m ≢ 20000 → m + 1 ≤ 20000
-      less m few more = omega (arith, few, more)
+  pub offer : (d : Cursor) (m : ℕ) (o : Overlap) → IsCounted c n d m → IsOverlapOf sys o × StandsAt sys c (triple o) → IsOffered before (record { system = sys; rest = rest_of sys d; offered = m }) o
+  offer d m o k (is_overlap, at) =
+      subst (λ z. IsOffered z (record { system = sys; rest = rest_of sys d; offered = m }) o) e
+      (record { is_overlap = is_overlap; passes = on d k.outer k.places k.place k.candidate (triple o) at; counted = k.counted; few = k.few })
 
-  pub beyond : (o : Overlap) → n ≡ 20000 → IsOverlapOf sys (overlap_view o) × StandsAt sys c (triple (overlap_view o)) → IsBeyond before
-  beyond o many (is_overlap, at) = subst IsBeyond e (record { further = overlap_view o; is_overlap = is_overlap; is_next = next (triple (overlap_view o)) at; many = many })
+  pub beyond : (o : Overlap) (x : OverlapError) → x ≡ TooManyPairs → n ≡ 20000 → IsOverlapOf sys o × StandsAt sys c (triple o) → IsRefused before x
+  beyond o x is many (is_overlap, at) =
+      subst (IsRefused before) (sym is) (subst IsBeyond e (record { further = o; is_overlap = is_overlap; is_next = next (triple o) at; many = many }))
 
-  pub no_offer : (after : Search) (x : OverlapError) → FindAnswers sys c (Err x) → OfferAnswers before after (Err x)
-  no_offer after (PairTooLarge i p j) (large, at) = subst (λ z. OfferAnswers z after (Err (PairTooLarge i p j))) e (next (i, (p.items, j)) at, large)
-  no_offer after TooManyPairs none = absurd none
-  no_offer after NoMemory none = tt
+  pub no_offer : (x : OverlapError) → IsRefusedThere sys c x → IsRefused before x
+  no_offer (PairTooLarge i p j) (large, at) = subst (λ z. IsRefused z (PairTooLarge i p j)) e (next (i, (p.items, j)) at, large)
+  no_offer TooManyPairs none = absurd none
+  no_offer NoMemory none = tt

@@ -2,6 +2,7 @@ pub mod Exits
 pub mod Conditions
 pub mod Rooms
 pub mod Sizes
+pub mod Measures
 pub mod Spot
 pub mod Runs
 pub mod Passing

@@ -186,12 +186,6 @@ module _ (sys : System) (h : IsSystem sys) (c : Cursor) (i : ℕ) (s : StandsBef
       go (p ∷ ps) zero e = omega arith
       go (p ∷ ps) (suc k) e = let l = go ps k e in omega (arith, l)
 
-  pub is_there : (x : Program.Place) → x ≡ get_or c.places.items c.place x → place_view x ≡ s.at
-  is_there x e = same (view_at c.places.items c.place x place_within e)
-    where
-      same : slice_get (map place_view c.places.items) c.place ≡ Some (place_view x) → place_view x ≡ s.at
-      same q = (let k : Some (place_view x) ≡ Some s.at = sym q ∙ s.is_place in cc)
-
   pub few_candidates : c.candidate + 1 < 2 ^ 32
   few_candidates =
       let at = get_there (rules_with_root sys s.at.1) c.candidate i 0 s.is_candidate in

@@ -25,7 +25,7 @@ pub record IsSmaller (u t : terms.Term) : Type 0 where
   pub nodes : size u ≤ size t
   pub levels : depth u ≤ depth t
 
-argument_small : (ts : Terms) (k : ℕ) (s : terms.Term) → argument ts k ≡ Some s → (size s ≤ size_all ts) × (depth s ≤ depth_all ts)
+pub argument_small : (ts : Terms) (k : ℕ) (s : terms.Term) → argument ts k ≡ Some s → (size s ≤ size_all ts) × (depth s ≤ depth_all ts)
 argument_small nil k s e = absurd (cc)
 argument_small (cons t ts) zero s e = absurd (cc)
 argument_small (cons t ts) (suc zero) s e = (let same : t ≡ s = cc in let a = ap size same in let b = ap depth same in (omega (arith, a), omega (arith, b)))

@@ -1,28 +1,26 @@
 -- What a run at a triple says of the system's overlaps.
-use Rattle.std.proofs.Common.{ℕ, zero, suc, ◌≡◌, ◌+◌, ◌<◌, inl, inr, List, [], ◌∷◌, ◌++◌, map, length, Option, Some, IsSome, refl, sym, ap, ap₂, ◌∙◌, subst, subst₂, arith, slice_get, Err, ◌^◌, max}
-use Rattle.rewriting.specs.Terms.{Term, Terms, var, app, nil, cons, size, size_all, depth, depth_all, IsVariable, Fits}
+use Rattle.std.proofs.Common.{ℕ, zero, suc, ◌≡◌, ◌+◌, ◌<◌, inl, inr, List, [], ◌∷◌, ◌++◌, map, length, Option, Some, refl, sym, ap, ap₂, ◌∙◌, subst, subst₂, arith, slice_get, ◌^◌, max}
+use Rattle.rewriting.specs.Terms.{Term, Terms, var, app, nil, cons, size, size_all, depth, depth_all, Fits}
 use Rattle.rewriting.specs.Positions.{Position, subterm, replace}
 use Rattle.rewriting.specs.Substitutions.{Substitution, apply, apply_all, compose, Bindings, values_of}
 use Rattle.rewriting.specs.Unifiers.{even, odd}
 use Rattle.rewriting.specs.Rules.{Condition, Rule, System, rule_at, sides}
 use Rattle.rewriting.specs.Systems.{Each, terms_of_rule, IsRule, AreRules, IsSystem}
-use Rattle.rewriting.specs.Overlaps.{IsPlace, CriticalPair, IsCriticalPair, conditions_under}
+use Rattle.rewriting.specs.Overlaps.{CriticalPair, IsCriticalPair, conditions_under}
 use Rattle.rewriting.proofs.Instances.{apply-apply, apply-agree}
 use Rattle.rewriting.proofs.Positions.{replaceable}
 use Rattle.rewriting.proofs.Places.{subterm-apply}
 use Rattle.rewriting.proofs.Unifiers.{of_list}
 use Rattle.unifier_run.specs.Run.{Binding, value, Outcome, unifier, clash, too_large, IsOutcome}
 use Rattle.unifier_run.specs.Laws.{as_map}
-use Rattle.unifier_run.specs.Overlaps.{Overlap, IsOutcomeOf, DoesPairFit, IsOverlapOf, IsTooLargeAt}
+use Rattle.unifier_run.specs.Overlaps.{Overlap, IsOutcomeOf, DoesPairFit, IsTooLargeAt}
 use Rattle.unifier_run.proofs.General.{most_general}
 use Rattle.unifier_run.proofs.Maps.{values_of-as_map}
 use Rattle.unifier_run.specs.Triples.{DoesClash}
-use Rattle.critical_pairs.specs.Building.{rule_under, IsMade, PairAnswers}
-use Rattle.critical_pairs.proofs.Sizes.{fits_part}
-use Rattle.critical_pairs.specs.Sides.{IsSpot, RunAnswers}
-use Rattle.term_core.specs.declared.terms.TermError.{TermError}
-use Rattle.term_core.specs.declared.terms.TermError.TheVariants.{NoPosition, TooLarge as TermTooLarge, NoMemory as OutOfMemory}
-use Rattle.term_core.specs.View.{view}
+use Rattle.critical_pairs.specs.Building.{rule_under, IsMade, IsNumbered}
+use Rattle.critical_pairs.specs.Sides.{IsSpotOf, IsUnifierAt, IsOverlapAt}
+use Rattle.critical_pairs.specs.View.{overlap_view}
+use Rattle.critical_pairs.specs.declared.Overlap as Made
 use Rattle.term_core.specs.RuleView.{condition_view, rule_view}
 use Rattle.term_core.specs.declared.systems.Cond.{Cond}
 use Rattle.term_core.specs.declared.systems.Rule as Program
@@ -32,10 +30,6 @@ same_rule o a b e h = (let k : Some a ≡ Some b = sym e ∙ h in cc)
 
 pub same_term : (o : Option Term) (a b : Term) → o ≡ Some a → o ≡ Some b → a ≡ b
 same_term o a b e h = (let k : Some a ≡ Some b = sym e ∙ h in cc)
-
-variable_renamed : (t : Term) → (IsVariable (apply odd t) → ⊥) → IsVariable t → ⊥
-variable_renamed (var x) h k = h tt
-variable_renamed (app f ts) h k = k
 
 -- a condition list under two substitutions in a row
 under_under : (r m : Substitution) (cs : List Condition) → conditions_under m (conditions_under r cs) ≡ conditions_under (compose r m) cs
@@ -56,98 +50,100 @@ made_agree s t p inner outer pair h m =
       conditions = m.conditions ∙ ap₂ (λ x y. x ++ y) (under_agree s t inner.conditions h) (under_agree s t outer.conditions h);
     }
 
-module _ (sys : System) (i : ℕ) (p : Position) (j : ℕ) (inner outer : Rule) (part : Term) (spot : IsSpot sys i p j inner outer part) where
-  abbrev R : Rule
-  R = spot.is_inner.rule
+length_under : (s : Substitution) (cs : List Condition) → length (conditions_under s cs) ≡ length cs
+length_under s [] = refl
+length_under s (c ∷ cs) = ap suc (length_under s cs)
 
-  abbrev Q : Rule
-  Q = spot.is_part.rule
+same_overlap : {a b k n c d : ℕ} {p q : Position} (pair : CriticalPair) → a ≡ b → p ≡ q → k ≡ n → c ≡ d
+    → ◌≡◌ {A = Overlap} (record { inner = a; position = p; outer = k; pair = pair; inner_conditions = c }) (record { inner = b; position = q; outer = n; pair = pair; inner_conditions = d })
+same_overlap pair e f g h = cc
 
-  abbrev T : Term
-  T = spot.is_part.inside
+-- the outcome of a run of the renamed terms of a spot
+module _ (sys : System) (i : ℕ) (p : Position) (j : ℕ) (spot : IsSpotOf sys i p j) (left part : Term) (low : left ≡ apply even spot.inner.left) (high : part ≡ apply odd spot.part) where
+  outcome_there : (o : Outcome) → IsOutcome (cons left nil) (cons part nil) o → IsOutcomeOf spot.inner.left spot.part o
+  outcome_there o h = subst₂ (λ x y. IsOutcome (cons x nil) (cons y nil) o) low high h
 
-  pub place : IsPlace sys i p j R Q T
-  place =
-      record {
-        is_inner = spot.is_inner.is_rule;
-        is_outer = spot.is_part.is_rule;
-        is_part = spot.is_part.here;
-        no_variable = variable_renamed T (λ h. spot.no_variable (subst IsVariable (sym spot.is_part.is_part) h));
-        counts = spot.counts;
-      }
-
-  inner_left : inner.left ≡ apply even R.left
-  inner_left = ap (λ z. z.left) spot.is_inner.renamed
-
-  outcome_there : (o : Outcome) → IsOutcome (cons inner.left nil) (cons part nil) o → IsOutcomeOf R.left T o
-  outcome_there o h = subst₂ (λ x y. IsOutcome (cons x nil) (cons y nil) o) inner_left spot.is_part.is_part h
-
-  pub clash_there : IsOutcome (cons inner.left nil) (cons part nil) clash → DoesClash sys (i, (p, j))
+  pub clash_there : IsOutcome (cons left nil) (cons part nil) clash → DoesClash sys (i, (p, j))
   clash_there h r q t k =
-      let same_inner = same_rule (rule_at sys i) R r spot.is_inner.is_rule k.is_inner in
-      let same_outer = same_rule (rule_at sys j) Q q spot.is_part.is_rule k.is_outer in
-      let same_part = same_term (subterm q.left p) T t (subst (λ z. subterm z.left p ≡ Some T) same_outer spot.is_part.here) k.is_part in
+      let same_inner = same_rule (rule_at sys i) spot.inner r spot.place.is_inner k.is_inner in
+      let same_outer = same_rule (rule_at sys j) spot.outer q spot.place.is_outer k.is_outer in
+      let same_part = same_term (subterm q.left p) spot.part t (subst (λ z. subterm z.left p ≡ Some spot.part) same_outer spot.place.is_part) k.is_part in
       subst₂ (λ x y. IsOutcomeOf x.left y clash) same_inner same_part (outcome_there clash h)
 
-  pub too_large_there : IsOutcome (cons inner.left nil) (cons part nil) too_large → IsTooLargeAt sys i p j
-  too_large_there h = record { inner = R; outer = Q; part = T; place = place; why = inl (outcome_there too_large h) }
+  pub too_large_there : IsOutcome (cons left nil) (cons part nil) too_large → IsTooLargeAt sys i p j
+  too_large_there h = record { inner = spot.inner; outer = spot.outer; part = spot.part; place = spot.place; why = inl (outcome_there too_large h) }
 
-  module _ (b : List Binding) (m : Bindings) (run : IsOutcome (cons inner.left nil) (cons part nil) (unifier b)) (is : m ≡ as_map b) where
-    values : (x : ℕ) → values_of m x ≡ value b x
-    values x = ap (λ z. values_of z x) is ∙ values_of-as_map b x
+  pub unifier_there : (b : List Binding) (m : Bindings) → IsOutcome (cons left nil) (cons part nil) (unifier b) → m ≡ as_map b → IsUnifierAt sys i p j m
+  unifier_there b m h e = record { spot = spot; by = b; outcome = outcome_there (unifier b) h; is = e }
 
-    critical : (pair : CriticalPair) → IsMade (values_of m) p inner outer pair → IsCriticalPair (value b) p R Q T pair
-    critical pair made0 =
-        let made = subst₂ (λ x y. IsMade (value b) p x y pair) spot.is_inner.renamed spot.is_part.renamed (made_agree (values_of m) (value b) p inner outer pair values made0) in
+-- what the unifier of a run makes of the renamed rules
+module _ (sys : System) (i : ℕ) (p : Position) (j : ℕ) (m : Bindings) (u : IsUnifierAt sys i p j m) (inner outer : Rule) (low : inner ≡ rule_under even u.spot.inner) (high : outer ≡ rule_under odd u.spot.outer) where
+  abbrev R : Rule
+  R = u.spot.inner
+
+  abbrev Q : Rule
+  Q = u.spot.outer
+
+  abbrev T : Term
+  T = u.spot.part
+
+  values : (x : ℕ) → values_of m x ≡ value u.by x
+  values x = ap (λ z. values_of z x) u.is ∙ values_of-as_map u.by x
+
+  critical : (pair : CriticalPair) → IsMade (values_of m) p inner outer pair → IsCriticalPair (value u.by) p R Q T pair
+  critical pair made0 =
+      let made = subst₂ (λ x y. IsMade (value u.by) p x y pair) low high (made_agree (values_of m) (value u.by) p inner outer pair values made0) in
+      record {
+        most_general = of_list (value u.by) (apply even R.left) (apply odd T) (most_general _ _ u.by u.outcome);
+        source = made.source;
+        left = made.left;
+        right = made.right;
+        conditions = made.conditions ∙ ap₂ (λ x y. x ++ y) (under_under even (value u.by) R.conditions) (under_under odd (value u.by) Q.conditions);
+      }
+
+  -- an overlap whose pair was made, and fits
+  made_there : (pair : CriticalPair) → IsMade (values_of m) p inner outer pair → DoesPairFit pair → IsOverlapAt sys i p j (record { inner = i; position = p; outer = j; pair = pair; inner_conditions = length inner.conditions })
+  made_there pair made fit = (
+    record {
+      inner = R;
+      outer = Q;
+      part = T;
+      place = u.spot.place;
+      by = u.by;
+      outcome = u.outcome;
+      pair = critical pair made;
+      fits = fit;
+      counted = ap (λ z. length z.conditions) low ∙ length_under even R.conditions;
+    },
+    refl,
+  )
+
+  pub overlap_there : (o : Made.Overlap) → IsMade (values_of m) p inner outer (overlap_view o).pair → DoesPairFit (overlap_view o).pair → IsNumbered i p j (length inner.conditions) o → IsOverlapAt sys i p j (overlap_view o)
+  overlap_there o made fit n =
+      subst (IsOverlapAt sys i p j) (sym (same_overlap (overlap_view o).pair n.inner n.position n.outer n.counted)) (made_there (overlap_view o).pair made fit)
+
+  -- the pair that m makes
+  made_pair : (pair : CriticalPair) × IsMade (values_of m) p inner outer pair
+  made_pair =
+      let here : subterm outer.left p ≡ Some (apply odd T) = subst (λ z. subterm z.left p ≡ Some (apply odd T)) (sym high) (subterm-apply odd Q.left p T u.spot.place.is_part) in
+      let r = replaceable (apply (values_of m) outer.left) p _ (apply (values_of m) inner.right) (subterm-apply (values_of m) outer.left p _ here) in (
         record {
-          most_general = of_list (value b) (apply even R.left) (apply odd T) (most_general _ _ b (outcome_there (unifier b) run));
-          source = made.source;
-          left = made.left;
-          right = made.right;
-          conditions = made.conditions ∙ ap₂ (λ x y. x ++ y) (under_under even (value b) R.conditions) (under_under odd (value b) Q.conditions);
-        }
+          source = apply (values_of m) outer.left;
+          left = r.0;
+          right = apply (values_of m) outer.right;
+          conditions = conditions_under (values_of m) inner.conditions ++ conditions_under (values_of m) outer.conditions;
+        },
+        record { source = refl; left = r.1; right = refl; conditions = refl },
+      )
 
-    pub overlap_there : (o : Overlap) → IsMade (values_of m) p inner outer o.pair → DoesPairFit o.pair → o.inner ≡ i → o.position ≡ p → o.outer ≡ j → o.inner_conditions ≡ length inner.conditions → IsOverlapOf sys o
-    overlap_there o made fit ei ep ej en =
-        record {
-          inner = R;
-          outer = Q;
-          part = T;
-          place = subst (λ z. IsPlace sys z o.position o.outer R Q T) (sym ei) (subst (λ z. IsPlace sys i z o.outer R Q T) (sym ep) (subst (λ z. IsPlace sys i p z R Q T) (sym ej) place));
-          by = b;
-          outcome = outcome_there (unifier b) run;
-          pair = subst (λ z. IsCriticalPair (value b) z R Q T o.pair) (sym ep) (critical o.pair made);
-          fits = fit;
-          counted = en ∙ (ap (λ z. length z.conditions) spot.is_inner.renamed ∙ length_under even R.conditions);
-        }
-      where
-        length_under : (s : Substitution) (cs : List Condition) → length (conditions_under s cs) ≡ length cs
-        length_under s [] = refl
-        length_under s (c ∷ cs) = ap suc (length_under s cs)
+  pub pair_too_large : ((pair : CriticalPair) → IsMade (values_of m) p inner outer pair → DoesPairFit pair → ⊥) → IsTooLargeAt sys i p j
+  pair_too_large n =
+      let q = made_pair in
+      record { inner = R; outer = Q; part = T; place = u.spot.place; why = inr (u.by, q.0, u.outcome, critical q.0 q.1, n q.0 q.1) }
 
-    -- the pair that m makes
-    made_pair : (pair : CriticalPair) × IsMade (values_of m) p inner outer pair
-    made_pair =
-        let here : subterm outer.left p ≡ Some (apply odd T) = subst (λ z. subterm z.left p ≡ Some (apply odd T)) (sym spot.is_part.renamed) (subterm-apply odd Q.left p T spot.is_part.here) in
-        let r = replaceable (apply (values_of m) outer.left) p _ (apply (values_of m) inner.right) (subterm-apply (values_of m) outer.left p _ here) in (
-          record {
-            source = apply (values_of m) outer.left;
-            left = r.0;
-            right = apply (values_of m) outer.right;
-            conditions = conditions_under (values_of m) inner.conditions ++ conditions_under (values_of m) outer.conditions;
-          },
-          record { source = refl; left = r.1; right = refl; conditions = refl },
-        )
-
-    pub pair_too_large : ((pair : CriticalPair) → IsMade (values_of m) p inner outer pair → DoesPairFit pair → ⊥) → IsTooLargeAt sys i p j
-    pair_too_large n =
-        let q = made_pair in
-        record { inner = R; outer = Q; part = T; place = place; why = inr (b, q.0, outcome_there (unifier b) run, critical q.0 q.1, n q.0 q.1) }
-
-    pub pair_refused : (e : TermError) → PairAnswers (values_of m) i p j inner outer (Err e) → RunAnswers sys i p j (Err e)
-    pair_refused NoPosition h = h
-    pair_refused TermTooLarge h = pair_too_large h
-    pair_refused OutOfMemory h = tt
+  -- that the pair fits is that there is an overlap
+  pub measured_there : ((pair : CriticalPair) → IsMade (values_of m) p inner outer pair → DoesPairFit pair) → (o : Overlap) × IsOverlapAt sys i p j o
+  measured_there f = let q = made_pair in (_, made_there q.0 q.1 (f q.0 q.1))
 
 -- renaming keeps sizes
 abbrev pub IsRenaming : Substitution → Type 0
@@ -181,37 +177,19 @@ pub numbered_rule : (sys : System) (i : ℕ) (r : Rule) → IsSystem sys → rul
 numbered_rule sys zero r h e = absurd (cc)
 numbered_rule sys (suc i) r h e = list_rule sys.arities sys.rules i r h.rules e
 
-length_under : (s : Substitution) (cs : List Condition) → length (conditions_under s cs) ≡ length cs
-length_under s [] = refl
-length_under s (c ∷ cs) = ap suc (length_under s cs)
-
 length_views : (cs : List Cond) → length (map condition_view cs) ≡ length cs
 length_views [] = refl
 length_views (c ∷ cs) = ap suc (length_views cs)
 
-module _ (sys : System) (i : ℕ) (p : Position) (j : ℕ) (inner outer : Program.Rule) (part : Term) (spot : IsSpot sys i p j (rule_view inner) (rule_view outer) part) where
+module _ (sys : System) (h : IsSystem sys) (i : ℕ) (p : Position) (j : ℕ) (spot : IsSpotOf sys i p j) (inner outer : Program.Rule) (low : rule_view inner ≡ rule_under even spot.inner) (high : rule_view outer ≡ rule_under odd spot.outer) where
   pub inner_fits : Each Fits (terms_of_rule (rule_view inner))
-  inner_fits =
-      subst (λ z. Each Fits (terms_of_rule z)) (sym spot.is_inner.renamed)
-      (rule_fits even (λ x. (refl, refl)) spot.is_inner.rule (numbered_rule sys i spot.is_inner.rule spot.system spot.is_inner.is_rule).fits)
+  inner_fits = subst (λ z. Each Fits (terms_of_rule z)) (sym low) (rule_fits even (λ x. (refl, refl)) spot.inner (numbered_rule sys i spot.inner h spot.place.is_inner).fits)
 
   pub outer_fits : Each Fits (terms_of_rule (rule_view outer))
-  outer_fits =
-      subst (λ z. Each Fits (terms_of_rule z)) (sym spot.is_part.renamed)
-      (rule_fits odd (λ x. (refl, refl)) spot.is_part.rule (numbered_rule sys j spot.is_part.rule spot.system spot.is_part.is_rule).fits)
-
-  pub position_there : IsSome (subterm (view outer.left) p)
-  position_there =
-      subst (λ z. IsSome (subterm z.left p)) (sym spot.is_part.renamed)
-      (subst IsSome (sym (subterm-apply odd spot.is_part.rule.left p spot.is_part.inside spot.is_part.here)) refl)
-
-  pub part_fits : Fits part
-  part_fits =
-      subst Fits (sym spot.is_part.is_part)
-      (renamed_fits odd (λ x. (refl, refl)) spot.is_part.inside (fits_part spot.is_part.rule.left p spot.is_part.inside spot.is_part.here (numbered_rule sys j spot.is_part.rule spot.system spot.is_part.is_rule).fits.0))
+  outer_fits = subst (λ z. Each Fits (terms_of_rule z)) (sym high) (rule_fits odd (λ x. (refl, refl)) spot.outer (numbered_rule sys j spot.outer h spot.place.is_outer).fits)
 
   pub few_conditions : length inner.conds.items < 2 ^ 32
   few_conditions =
-      let few = (numbered_rule sys i spot.is_inner.rule spot.system spot.is_inner.is_rule).few_conditions in
-      let same : length inner.conds.items ≡ length spot.is_inner.rule.conditions = sym (length_views inner.conds.items) ∙ (ap (λ z. length z.conditions) spot.is_inner.renamed ∙ length_under even spot.is_inner.rule.conditions) in
+      let few = (numbered_rule sys i spot.inner h spot.place.is_inner).few_conditions in
+      let same : length inner.conds.items ≡ length spot.inner.conditions = sym (length_views inner.conds.items) ∙ (ap (λ z. length z.conditions) low ∙ length_under even spot.inner.conditions) in
       omega (arith, few, same)

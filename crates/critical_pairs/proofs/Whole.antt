@@ -13,7 +13,7 @@ use Rattle.unifier_run.proofs.Spots.{has_all, order_all}
 use Rattle.unifier_run.specs.Triples.{all_triples, DoesClash}
 use Rattle.unification.specs.Answers.{renaming}
 use Rattle.critical_pairs.specs.Building.{rule_under}
-use Rattle.critical_pairs.specs.Offers.{Search, DoesPass, IsNext, IsOffered, IsDone, OfferAnswers}
+use Rattle.critical_pairs.specs.Offers.{Search, DoesPass, IsNext, IsOffered, IsDone, IsRefused}
 use Rattle.critical_pairs.specs.Answers.{OverlapsAnswers}
 use Rattle.critical_pairs.specs.View.{overlap_view}
 use Rattle.critical_pairs.specs.declared.Overlap as Made
@@ -91,17 +91,17 @@ module _ (sys : System) (s : Search) (os : List Overlap) (g : Gathered sys s os)
       let split = further (t ∷ later) h in
       overlaps_before sys (g.earlier ++ h.passed) later t os (subst AreInOrder split (order_all sys)) (λ a q b inner outer part place. subst (λ z. IsAmong (a, (q, b)) z) split (has_all sys a q b inner outer part place)) (none_further (t ∷ later) h)
 
-  pub list_refused : (t : Search) (e : OverlapError) → OfferAnswers s t (Err e) → OverlapsAnswers sys (Err e)
-  list_refused t (PairTooLarge i p j) (n, h) =
+  pub list_refused : (e : OverlapError) → IsRefused s e → OverlapsAnswers sys (Err e)
+  list_refused (PairTooLarge i p j) (n, h) =
       record {
         is_large = subst (λ z. IsTooLargeAt z i p.items j) g.system h;
         before = os;
         are_before = found_before (i, (p.items, j)) n;
         few = subst (λ z. z ≤ 20000) g.counted g.few;
       }
-  list_refused t TooManyPairs h =
+  list_refused TooManyPairs h =
       record { next = h.further; is_overlap = overlap_there h.further h.is_overlap; before = os; are_before = found_before (triple h.further) h.is_next; many = sym g.counted ∙ h.many }
-  list_refused t NoMemory h = tt
+  list_refused NoMemory h = tt
 
 pub one_last : (os : List Made.Overlap) (o : Made.Overlap) → map overlap_view (os ++ o ∷ []) ≡ map overlap_view os ++ overlap_view o ∷ []
 one_last [] o = refl

@@ -9,6 +9,7 @@ use Rattle.unifier_run.specs.Overlaps.{Triple}
 use Rattle.unifier_run.specs.Triples.{triples_at, counted, triples_from}
 use Rattle.critical_pairs.specs.Places.{RootAt, place_view, places_of, triples_of, IsRootAt}
 use Rattle.critical_pairs.specs.declared.cursor.Cursor.{Cursor}
+use Rattle.critical_pairs.specs.declared.pairs.Triple as Named
 use Rattle.term_core.specs.declared.terms.NoMemory.{NoMemory}
 
 -- of the rules up to number m, those up to this number are done, where so many of the candidates are
@@ -41,6 +42,12 @@ pub record StandsBefore (sys : System) (c : Cursor) (i : ℕ) : Type 0 where
   pub is_place : slice_get (map place_view c.places.items) c.place ≡ Some at
   pub is_candidate : slice_get (rules_with_root sys at.1) c.candidate ≡ Some i
   pub counts : (at.0 ≢ []) ⊎ (i < c.outer)
+
+-- the triple of an inner rule and the place at which the cursor stands
+pub record IsTripleAt (c : Cursor) (i : ℕ) (t : Named.Triple) : Type 0 where
+  pub inner : t.inner ≡ i
+  pub position : (at : RootAt) → slice_get (map place_view c.places.items) c.place ≡ Some at → t.pos.now ≡ at.0
+  pub outer : t.outer ≡ c.outer
 
 -- the candidate number c, from 0, for the outer rule j; at the root only one before the outer rule
 abbrev pub CandidateAnswers : List ℕ → Position → ℕ → ℕ → Option ℕ → Type 0

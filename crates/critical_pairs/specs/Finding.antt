@@ -1,12 +1,12 @@
--- What the next triple with an overlap answers.
-use Rattle.std.specs.Prelude.{ℕ, ◌≡◌, [], Option, None, Some, Result, Ok, Err}
+-- What the next triple at which the run does not clash answers, and counting its overlap.
+use Rattle.std.specs.Prelude.{ℕ, suc, ◌≡◌, ◌≤◌, [], Option, None, Some, Result, Ok, Err}
 use Rattle.rewriting.specs.Rules.{System}
-use Rattle.unifier_run.specs.Overlaps.{Triple, triple, IsOverlapOf, IsTooLargeAt}
-use Rattle.critical_pairs.specs.View.{overlap_view}
+use Rattle.unifier_run.specs.Overlaps.{Triple, IsTooLargeAt}
 use Rattle.critical_pairs.specs.Cursors.{rest_of, StandsBefore}
 use Rattle.critical_pairs.specs.declared.cursor.Cursor.{Cursor}
-use Rattle.critical_pairs.specs.declared.Overlap.{Overlap}
+use Rattle.critical_pairs.specs.Sides.{IsUnifierAt}
 use Rattle.critical_pairs.specs.declared.OverlapError.{OverlapError}
+use Rattle.critical_pairs.specs.declared.search.Found.{Found}
 use Rattle.critical_pairs.specs.declared.OverlapError.TheVariants.{PairTooLarge, TooManyPairs, NoMemory}
 
 -- the triple before which the cursor stands
@@ -15,10 +15,33 @@ pub record StandsAt (sys : System) (c : Cursor) (t : Triple) : Type 0 where
   pub stands : StandsBefore sys c inner
   pub is_triple : t ≡ (inner, (stands.at.0, c.outer))
 
--- the overlap there, or none where no triple is still to come, or the triple there is too large
-abbrev pub FindAnswers : System → Cursor → Result (Option Overlap) OverlapError → Type 0
+-- the run has this unifier at the triple there, of which this is the inner rule
+pub record IsFound (sys : System) (c : Cursor) (f : Found) : Type 0 where
+  pub stands : StandsBefore sys c f.inner
+  pub unifier : IsUnifierAt sys f.inner stands.at.0 c.outer f.unifier
+
+-- the triple there is too large, or want of memory
+abbrev pub IsRefusedThere : System → Cursor → OverlapError → Type 0
+IsRefusedThere sys c (PairTooLarge i p j) = IsTooLargeAt sys i p.items j × StandsAt sys c (i, (p.items, j))
+IsRefusedThere sys c TooManyPairs = ⊥
+IsRefusedThere sys c NoMemory = Unit {0}
+
+-- what is found there, or none where no triple is still to come
+abbrev pub FindAnswers : System → Cursor → Result (Option Found) OverlapError → Type 0
 FindAnswers sys c (Ok None) = rest_of sys c ≡ []
-FindAnswers sys c (Ok (Some o)) = IsOverlapOf sys (overlap_view o) × StandsAt sys c (triple (overlap_view o))
-FindAnswers sys c (Err (PairTooLarge i p j)) = IsTooLargeAt sys i p.items j × StandsAt sys c (i, (p.items, j))
-FindAnswers sys c (Err TooManyPairs) = ⊥
-FindAnswers sys c (Err NoMemory) = Unit {0}
+FindAnswers sys c (Ok (Some f)) = IsFound sys c f
+FindAnswers sys c (Err e) = IsRefusedThere sys c e
+
+-- one more overlap than n is counted, and the cursor is behind it
+pub record IsCounted (before : Cursor) (n : ℕ) (after : Cursor) (m : ℕ) : Type 0 where
+  pub outer : after.outer ≡ before.outer
+  pub places : after.places ≡ before.places
+  pub place : after.place ≡ before.place
+  pub candidate : after.candidate ≡ suc before.candidate
+  pub counted : m ≡ suc n
+  pub few : m ≤ 20000
+
+-- all is as it was where there are 20,000
+abbrev pub CountAnswers : Cursor → ℕ → Cursor → ℕ → Result (Unit {0}) OverlapError → Type 0
+CountAnswers before n after m (Ok u) = IsCounted before n after m
+CountAnswers before n after m (Err e) = (e ≡ TooManyPairs) × (n ≡ 20000) × (after ≡ before) × (m ≡ n)

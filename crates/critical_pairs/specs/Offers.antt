@@ -1,5 +1,5 @@
 -- What a search for the overlaps of a system offers, one after the other.
-use Rattle.std.specs.Prelude.{ℕ, suc, ◌≡◌, ◌≤◌, List, [], ◌∷◌, ◌++◌, Option, None, Some, Result, Ok, Err}
+use Rattle.std.specs.Prelude.{ℕ, suc, ◌≡◌, ◌≤◌, List, [], ◌∷◌, ◌++◌, Bool, true, false, Option, None, Some, Result, Ok, Err}
 use Rattle.rewriting.specs.Lists.{IsAmong}
 use Rattle.rewriting.specs.Rules.{System}
 use Rattle.unifier_run.specs.Overlaps as math
@@ -55,10 +55,20 @@ pub record DoesStay (before after : Search) : Type 0 where
   pub passes : DoesPass before.system before.rest after.rest
   pub counted : after.offered ≡ before.offered
 
--- the next overlap, or none, or the refusal of the next triple
+-- the next triple is too large, or there are too many overlaps, or want of memory
+abbrev pub IsRefused : Search → OverlapError → Type 0
+IsRefused before (PairTooLarge i p j) = IsNext before.system before.rest (i, (p.items, j)) × IsTooLargeAt before.system i p.items j
+IsRefused before TooManyPairs = IsBeyond before
+IsRefused before NoMemory = Unit {0}
+
+-- the next overlap, or none, or why it is refused
 abbrev pub OfferAnswers : Search → Search → Result (Option Overlap) OverlapError → Type 0
 OfferAnswers before after (Ok (Some o)) = IsOffered before after (overlap_view o)
 OfferAnswers before after (Ok None) = IsDone before after
-OfferAnswers before after (Err (PairTooLarge i p j)) = IsNext before.system before.rest (i, (p.items, j)) × IsTooLargeAt before.system i p.items j
-OfferAnswers before after (Err TooManyPairs) = IsBeyond before
-OfferAnswers before after (Err NoMemory) = Unit {0}
+OfferAnswers before after (Err e) = IsRefused before e
+
+-- the same of an overlap that is passed: whether there was one
+abbrev pub PassAnswers : Search → Search → Result Bool OverlapError → Type 0
+PassAnswers before after (Ok true) = (o : math.Overlap) × IsOffered before after o
+PassAnswers before after (Ok false) = IsDone before after
+PassAnswers before after (Err e) = IsRefused before e

@@ -1,12 +1,13 @@
 // Where a search for overlaps stands.
-ghost use Rattle.std.specs.Prelude.{◌≡◌, ◌<◌, ◌^◌, []};
+ghost use Rattle.std.specs.Prelude.{◌≡◌, ◌<◌, ◌^◌, [], length};
 ghost use Rattle.rewriting.specs.Terms.{Fits};
 ghost use Rattle.rule_index.specs.Index.{listed};
 ghost use Rattle.term_core.specs.View.{view};
 ghost use Rattle.critical_pairs.specs.Offers.{DoesPass};
-ghost use Rattle.critical_pairs.specs.Cursors.{rest_of, IsCursor, CandidateAnswers, StandAnswers, EnterAnswers, SettleAnswers};
+ghost use Rattle.critical_pairs.specs.Cursors.{rest_of, IsCursor, IsTripleAt, CandidateAnswers, StandAnswers, EnterAnswers, SettleAnswers};
 ghost use Rattle.critical_pairs.specs.Sides.{AreSides};
 
+use crate::pairs::Triple;
 use crate::places::{Place, places};
 use crate::sides::Sides;
 use rule_index::RuleIndex;
@@ -49,6 +50,18 @@ impl Cursor {
             places: Vec::new(alloc),
             place: 0,
             candidate: 0,
+        }
+    }
+
+    /// The triple of an inner rule, the place where the cursor stands, and the outer rule.
+    pub fn triple(&self, inner: u32) -> Triple<'_>
+        requires { self.now.place < length self.now.places.items }
+        ensures { IsTripleAt self.now inner result }
+    {
+        Triple {
+            inner,
+            pos: &self.places[self.place].pos,
+            outer: self.outer,
         }
     }
 

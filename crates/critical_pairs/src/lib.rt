@@ -4,13 +4,14 @@
 //! of the second. So `overlaps` gives one overlap: the inner rule 1, the position `[1]` and the outer rule 2. Its source is
 //! f(a, x), from which the inner rule makes its left term f(c, x), and the outer one its right term x, where x == b. The
 //! variable x of the outer rule is 2 * 0 + 1 there, since those of the inner rule are even.
-//! `OverlapSearch` offers the same overlaps one after the other, and keeps none of them.
+//! `OverlapSearch` offers the same overlaps one after the other, and keeps none of them; or it passes them, and makes none.
 #![tactic(auto)]
 
 ghost use Rattle.std.specs.Prelude.{◌≡◌};
 ghost use Rattle.critical_pairs.specs.Answers.{OverlapsAnswers};
 
 mod cursor;
+mod fitting;
 mod pairs;
 mod places;
 mod renaming;

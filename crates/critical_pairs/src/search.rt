@@ -1,23 +1,22 @@
 // The overlaps of a system, one after the other.
-ghost use Rattle.std.specs.Prelude.{◌≡◌, IfOk, OnErr};
-ghost use Rattle.critical_pairs.specs.Offers.{search_of, OfferAnswers, DoesStay, DoesPass};
+ghost use Rattle.std.specs.Prelude.{◌≡◌, ◌+◌, ◌<◌, ◌≤◌, ◌^◌, IfOk, OnErr};
+ghost use Rattle.critical_pairs.specs.Offers.{search_of, OfferAnswers, PassAnswers, DoesStay, DoesPass};
 ghost use Rattle.critical_pairs.specs.Cursors.{rest_of, IsCursor};
 ghost use Rattle.critical_pairs.specs.Sides.{AreSides};
-ghost use Rattle.critical_pairs.specs.Finding.{FindAnswers};
+ghost use Rattle.critical_pairs.specs.Finding.{FindAnswers, CountAnswers};
 
 use crate::cursor::Cursor;
-use crate::pairs::Triple;
 use crate::sides::Sides;
 use crate::{Overlap, OverlapError};
 use std::alloc::Global;
 use std::marker::Model;
-use term_core::{NoMemory, System};
+use term_core::{NoMemory, Subst, System};
 
 // The greatest number of overlaps.
 const MOST: usize = 20_000;
 
-/// A search for the overlaps of a system. It offers them one after the other, in order by the outer rule, the position
-/// and the inner rule, and keeps none: memory is taken for the rules and for the positions of one left side.
+/// A search for the overlaps of a system. It offers or passes them one after the other, in order by the outer rule, the
+/// position and the inner rule, and keeps none: memory is taken for the rules and for the positions of one left side.
 #[derive(Debug, Drop)]
 pub struct OverlapSearch<'a> {
     sides: Sides<'a>,
@@ -38,8 +37,15 @@ impl<'a> Model for OverlapSearch<'a> {
     ghost invariant = { IsHeld };
 }
 
-// The overlap at the next triple that has one; the cursor stands at that triple.
-fn find(alloc: Global, sides: &Sides, cursor: &mut Cursor) -> Result<Option<Overlap>, OverlapError>
+/// The inner rule of a triple, and the unifier of the run there.
+#[derive(Drop)]
+struct Found {
+    inner: u32,
+    unifier: Subst,
+}
+
+// The next triple at which the run does not clash; the cursor stands at that triple.
+fn find(alloc: Global, sides: &Sides, cursor: &mut Cursor) -> Result<Option<Found>, OverlapError>
     requires sides { AreSides sides.now }
     requires cursor { IsCursor sides.now.sys.now cursor.old }
     ensures cursor { IsCursor sides.now.sys.now cursor.new }
@@ -47,17 +53,26 @@ fn find(alloc: Global, sides: &Sides, cursor: &mut Cursor) -> Result<Option<Over
     ensures answer { FindAnswers sides.now.sys.now cursor.new result }
 {
     while let Some(inner) = cursor.settle(alloc, sides)? {
-        let triple = Triple {
-            inner,
-            pos: &cursor.places[cursor.place].pos,
-            outer: cursor.outer,
-        };
-        if let Some(overlap) = sides.attempt(alloc, &triple)? {
-            return Ok(Some(overlap));
+        if let Some(unifier) = sides.unifier(alloc, &cursor.triple(inner))? {
+            return Ok(Some(Found { inner, unifier }));
         }
         cursor.candidate += 1;
     }
     Ok(None)
+}
+
+// Counts the overlap where the cursor stands, and goes behind it.
+fn count(here: &mut Cursor, offered: &mut usize) -> Result<(), OverlapError>
+    requires candidates { here.old.candidate + 1 < 2 ^ 32 }
+    requires few { offered.old ≤ 20000 }
+    ensures { CountAnswers here.old offered.old here.new offered.new result }
+{
+    if *offered == MOST {
+        return Err(OverlapError::TooManyPairs);
+    }
+    here.candidate += 1;
+    *offered += 1;
+    Ok(())
 }
 
 impl<'a> OverlapSearch<'a> {
@@ -83,14 +98,32 @@ impl<'a> OverlapSearch<'a> {
         ensures system { self.new.system ≡ self.old.system }
         ensures refused { OnErr result (DoesStay self.old self.new) }
     {
-        let Some(overlap) = find(alloc, &self.sides, &mut self.cursor)? else {
+        let Some(found) = find(alloc, &self.sides, &mut self.cursor)? else {
             return Ok(None);
         };
-        if self.offered == MOST {
-            return Err(OverlapError::TooManyPairs);
-        }
-        self.cursor.candidate += 1;
-        self.offered += 1;
+        let triple = self.cursor.triple(found.inner);
+        let overlap = self.sides.overlap(alloc, &found.unifier, &triple)?;
+        count(&mut self.cursor, &mut self.offered)?;
         Ok(Some(overlap))
+    }
+
+    /// Goes past the next overlap without making it: true where there was one, false where there is no further one. Whether
+    /// its terms fit is measured.
+    ///
+    /// # Errors
+    ///
+    /// Those of `next`.
+    pub fn pass(&mut self, alloc: Global) -> Result<bool, OverlapError>
+        ensures answer { PassAnswers self.old self.new result }
+        ensures system { self.new.system ≡ self.old.system }
+        ensures refused { OnErr result (DoesStay self.old self.new) }
+    {
+        let Some(found) = find(alloc, &self.sides, &mut self.cursor)? else {
+            return Ok(false);
+        };
+        let triple = self.cursor.triple(found.inner);
+        self.sides.measure(alloc, &found.unifier, &triple)?;
+        count(&mut self.cursor, &mut self.offered)?;
+        Ok(true)
     }
 }

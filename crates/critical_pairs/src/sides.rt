@@ -1,13 +1,14 @@
 // The rules of a system with their variables renamed apart, and their runs.
 ghost use Rattle.std.specs.Prelude.{◌≡◌, IfOk};
-ghost use Rattle.critical_pairs.specs.Sides.{AreSides, IsSpotOf, RunAnswers, AttemptAnswers, IsRefusal};
+ghost use Rattle.critical_pairs.specs.Sides.{AreSides, IsSpotOf, IsUnifierAt, UnifierAnswers, OverlapAnswers, MeasureAnswers, IsRefusal};
 
+use crate::fitting::does_pair_fit;
 use crate::pairs::{Triple, copy, pair};
 use crate::renaming::rename_rules;
 use crate::{Overlap, OverlapError};
 use rule_index::RuleIndex;
 use std::alloc::Global;
-use term_core::{NoMemory, Rule, System, TermError, subterm};
+use term_core::{NoMemory, Rule, Subst, System, TermError, subterm};
 use unification::{Unified, unify_terms};
 
 /// The rules of a system as inner rules, with variable 2k for each variable k, and as outer rules, with 2k + 1; and
@@ -46,11 +47,11 @@ impl<'a> Sides<'a> {
         })
     }
 
-    // The overlap at a triple, where the run has a unifier.
-    fn run(&self, alloc: Global, triple: &Triple) -> Result<Option<Overlap>, TermError>
+    /// The unifier of the run at a triple, none where it clashes, or the refusal of one that passes the size.
+    pub fn unifier(&self, alloc: Global, triple: &Triple) -> Result<Option<Subst>, OverlapError>
         requires sides { AreSides self.now }
         requires spot { IsSpotOf self.now.sys.now triple.now.inner triple.now.pos.now triple.now.outer }
-        ensures { RunAnswers self.now.sys.now triple.now.inner triple.now.pos.now triple.now.outer result }
+        ensures { UnifierAnswers self.now.sys.now triple.now.inner triple.now.pos.now triple.now.outer result }
     {
         let inner = &self.inners[triple.inner as usize - 1];
         let outer = &self.outers[triple.outer as usize - 1];
@@ -60,21 +61,43 @@ impl<'a> Sides<'a> {
         };
         match unify_terms(alloc, &inner.left, part)? {
             Unified::Clash => Ok(None),
-            Unified::TooLarge => Err(TermError::TooLarge),
-            Unified::Mgu(m) => Ok(Some(pair(alloc, &m, inner, outer, triple)?)),
+            Unified::TooLarge => Err(too_large(alloc, triple)),
+            Unified::Mgu(m) => Ok(Some(m)),
         }
     }
 
-    /// The overlap at a triple, where there is one, or its refusal.
-    pub fn attempt(&self, alloc: Global, triple: &Triple) -> Result<Option<Overlap>, OverlapError>
+    /// The overlap at a triple by the unifier of its run, or the refusal of one that does not fit.
+    pub fn overlap(
+        &self,
+        alloc: Global,
+        m: &Subst,
+        triple: &Triple,
+    ) -> Result<Overlap, OverlapError>
         requires sides { AreSides self.now }
-        requires spot { IsSpotOf self.now.sys.now triple.now.inner triple.now.pos.now triple.now.outer }
-        ensures { AttemptAnswers self.now.sys.now triple.now.inner triple.now.pos.now triple.now.outer result }
+        requires unifier { IsUnifierAt self.now.sys.now triple.now.inner triple.now.pos.now triple.now.outer m.now }
+        ensures { OverlapAnswers self.now.sys.now triple.now.inner triple.now.pos.now triple.now.outer result }
     {
-        match self.run(alloc, triple) {
-            Ok(found) => Ok(found),
+        let inner = &self.inners[triple.inner as usize - 1];
+        let outer = &self.outers[triple.outer as usize - 1];
+        match pair(alloc, m, inner, outer, triple) {
+            Ok(overlap) => Ok(overlap),
             Err(TermError::TooLarge) => Err(too_large(alloc, triple)),
             Err(_) => Err(OverlapError::NoMemory),
+        }
+    }
+
+    /// Refuses the same overlaps, and makes none.
+    pub fn measure(&self, alloc: Global, m: &Subst, triple: &Triple) -> Result<(), OverlapError>
+        requires sides { AreSides self.now }
+        requires unifier { IsUnifierAt self.now.sys.now triple.now.inner triple.now.pos.now triple.now.outer m.now }
+        ensures { MeasureAnswers self.now.sys.now triple.now.inner triple.now.pos.now triple.now.outer result }
+    {
+        let inner = &self.inners[triple.inner as usize - 1];
+        let outer = &self.outers[triple.outer as usize - 1];
+        if does_pair_fit(m, inner, outer, triple.pos) {
+            Ok(())
+        } else {
+            Err(too_large(alloc, triple))
         }
     }
 }

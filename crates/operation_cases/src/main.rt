@@ -31,6 +31,7 @@ fn print_call(rt: &HostRuntime, call: &str, sys: &System) -> io::Result<()> {
         "index" => of_systems::print_index(rt, sys),
         "overlaps" => of_systems::print_overlaps(rt, sys),
         "search" => of_systems::print_search(rt, sys),
+        "pass" => of_systems::print_passes(rt, sys),
         "unravel" => of_systems::print_unraveled(rt, sys),
         "classes" => of_systems::print_classes(rt, sys),
         "irreducible" => of_systems::print_irreducible(rt, sys, terms),

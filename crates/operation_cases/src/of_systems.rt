@@ -43,6 +43,24 @@ pub fn print_search(rt: &HostRuntime, sys: &System) -> io::Result<()> {
     Ok(())
 }
 
+/// Whether a search offers an overlap, or its refusal, and what another answers that passes the same, at three calls.
+pub fn print_passes(rt: &HostRuntime, sys: &System) -> io::Result<()> {
+    let Ok(mut offers) = OverlapSearch::new(rt.alloc(), sys) else {
+        return println!(rt; "no memory");
+    };
+    let Ok(mut passes) = OverlapSearch::new(rt.alloc(), sys) else {
+        return println!(rt; "no memory");
+    };
+    for _ in 0..3 {
+        match offers.next(rt.alloc()) {
+            Ok(offered) => println!(rt; "{}", offered.is_some())?,
+            Err(e) => println!(rt; "{e:?}")?,
+        }
+        println!(rt; "{:?}", passes.pass(rt.alloc()))?;
+    }
+    Ok(())
+}
+
 pub fn print_unraveled(rt: &HostRuntime, sys: &System) -> io::Result<()> {
     println!(rt; "{:?}", unravel(rt.alloc(), sys))
 }

@@ -1,5 +1,5 @@
 -- A search for the overlaps of a system that has a list of them.
-use Rattle.std.proofs.Common.{suc, ◌≡◌, ◌≤◌, inl, inr, List, [], ◌∷◌, ◌++◌, length, Err, refl, sym, ap, ◌∙◌, subst, arith, append_assoc}
+use Rattle.std.proofs.Common.{suc, ◌≡◌, ◌≤◌, inl, inr, List, [], ◌∷◌, ◌++◌, length, refl, sym, ap, ◌∙◌, subst, arith, append_assoc}
 use Rattle.std.proofs.lemmas.List.{length-append, append-nil}
 use Rattle.rewriting.specs.Lists.{IsAmong}
 use Rattle.rewriting.specs.Rules.{System}
@@ -9,7 +9,7 @@ use Rattle.unifier_run.specs.Triples.{all_triples, DoesClash}
 use Rattle.unifier_run.proofs.Triples.{AreThose, those_append, overlaps_at}
 use Rattle.unifier_run.proofs.Spots.{has_all, order_all}
 use Rattle.unifier_run.proofs.Unique.{runs_same}
-use Rattle.critical_pairs.specs.Offers.{Search, search_of, DoesPass, IsOffered, IsDone, DoesStay, OfferAnswers}
+use Rattle.critical_pairs.specs.Offers.{Search, search_of, DoesPass, IsOffered, IsDone, DoesStay, IsRefused}
 use Rattle.critical_pairs.specs.declared.OverlapError.{OverlapError}
 use Rattle.critical_pairs.specs.declared.OverlapError.TheVariants.{PairTooLarge, TooManyPairs, NoMemory}
 use Rattle.critical_pairs.proofs.Passing.{none_there}
@@ -121,7 +121,7 @@ module _ (sys : System) (s : Search) (offered later : List Overlap) (h : IsUnder
       }
 
   -- nothing but memory is refused
-  pub only_memory : (t : Search) (e : OverlapError) → OfferAnswers s t (Err e) → e ≡ NoMemory
-  only_memory t (PairTooLarge i p j) k = absurd (overlaps_or_large sys (offered ++ later) i p.items j all_of (list_refused sys s offered h.gathered t (PairTooLarge i p j) k))
-  only_memory t TooManyPairs k = absurd (overlaps_or_many sys (offered ++ later) all_of (list_refused sys s offered h.gathered t TooManyPairs k))
-  only_memory t NoMemory k = refl
+  pub only_memory : (e : OverlapError) → IsRefused s e → e ≡ NoMemory
+  only_memory (PairTooLarge i p j) k = absurd (overlaps_or_large sys (offered ++ later) i p.items j all_of (list_refused sys s offered h.gathered (PairTooLarge i p j) k))
+  only_memory TooManyPairs k = absurd (overlaps_or_many sys (offered ++ later) all_of (list_refused sys s offered h.gathered TooManyPairs k))
+  only_memory NoMemory k = refl

@@ -48,12 +48,12 @@ impl<'a> Model for PairRun<'a> {
     ghost invariant = { IsHeld };
 }
 
-// Goes through all overlaps and keeps none.
+// Goes past all overlaps.
 fn walk(alloc: Global, sys: &System) -> Result<(), OverlapError>
     ensures { WalkAnswers sys.now result }
 {
     let mut search = OverlapSearch::new(alloc, sys)?;
-    'overlaps: while let Some(_overlap) = search.next(alloc)? {}
+    'overlaps: while search.pass(alloc)? {}
     Ok(())
 }
 
@@ -110,7 +110,7 @@ impl<'a> PairRun<'a> {
         })
     }
 
-    /// The run before the first entry. The overlaps are counted first, in a pass that keeps none.
+    /// The run before the first entry. The overlaps are counted first, in a pass that makes none.
     ///
     /// # Errors
     ///

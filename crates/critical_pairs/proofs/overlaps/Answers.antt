@@ -9,7 +9,7 @@ use Rattle.critical_pairs.proofs.overlaps.Goals as goal
 pub returns-in_err-overlap : goal.returns-in_err-overlap
 returns-in_err-overlap c =
     subst (OverlapsAnswers c.args.sys.now) (sym (handed_on _ _ c.from_residual-in_err-overlap.ensures.1))
-    (list_refused c.args.sys.now c.loop-found.search (map overlap_view c.loop-found.found.items) c.loop-found.invariant c.next.new.self c.in_err-overlap.field-0.0 c.in_err-overlap.ensures.answer)
+    (list_refused c.args.sys.now c.loop-found.search (map overlap_view c.loop-found.found.items) c.loop-found.invariant c.in_err-overlap.field-0.0 c.in_err-overlap.ensures.answer)
 
 pub loop-found-preserved : goal.loop-found-preserved
 loop-found-preserved c =

@@ -1,14 +1,14 @@
-use Rattle.std.proofs.Common.{◌≡◌, ◌∙◌, ◌<◌, subst, sym, ap, refl, Ok, None, add-one, arith}
+use Rattle.std.proofs.Common.{subst, sym, refl, Ok, add-one, arith}
 use Rattle.critical_pairs.specs.Offers.{DoesPass}
 use Rattle.critical_pairs.specs.Cursors.{rest_of, StandsBefore, SettleAnswers}
 use Rattle.critical_pairs.specs.Finding.{FindAnswers}
-use Rattle.critical_pairs.specs.Sides.{IsSpotOf, AttemptAnswers}
+use Rattle.critical_pairs.specs.Sides.{UnifierAnswers}
 use Rattle.critical_pairs.proofs.Exits.{handed_on}
 use Rattle.critical_pairs.proofs.Passing.{pass_more, pass_one, fewer_left}
-use Rattle.critical_pairs.proofs.Rests.{cursor_kept, next_there, spot_there, place_within, is_there, few_candidates}
-use Rattle.critical_pairs.proofs.Finds.{found_here, refused_here}
+use Rattle.critical_pairs.proofs.Rests.{cursor_kept, next_there, place_within, few_candidates}
+use Rattle.critical_pairs.proofs.Finds.{spot_here, clash_here, found_here, refused_here}
 use Rattle.critical_pairs.proofs.search.find.Goals as goal
-use Rattle.critical_pairs.proofs.search.find.Goals.{After-settle, In-Some, After-deref}
+use Rattle.critical_pairs.proofs.search.find.Goals.{After-settle, In-Some}
 
 -- the next inner rule
 passed : (c : After-settle) → DoesPass c.args.sides.now.sys.now (rest_of c.args.sides.now.sys.now c.args.cursor.now) (rest_of c.args.sides.now.sys.now c.settle.new.self)
@@ -17,31 +17,24 @@ passed c = pass_more c.args.sides.now.sys.now (rest_of c.args.sides.now.sys.now 
 stands : (c : In-Some) → StandsBefore c.args.sides.now.sys.now c.settle.new.self c.in-Some.inner
 stands c = subst (λ z. SettleAnswers c.args.sides.now.sys.now c.settle.new.self (Ok z)) c.in-Some.is c.in_ok-inner.ensures.answer
 
-position : (c : After-deref) (s : StandsBefore c.args.sides.now.sys.now c.settle.new.self c.in-Some.inner) → c.deref.result.now ≡ s.at.0
-position c s = c.deref.ensures.value ∙ ap (λ z. z.0) (is_there c.args.sides.now.sys.now c.requires.sides.system c.settle.new.self c.in-Some.inner s c.index.result.now c.index.ensures)
-
 pub returns-in_err-inner-clause-passes : goal.returns-in_err-inner-clause-passes
 returns-in_err-inner-clause-passes c = passed (goal.at.returns-in_err-inner-clause-passes c).After-settle
 
-pub index-requires : goal.index-requires
-index-requires c =
-    subst (λ n. c.settle.new.self.place < n) (sym c.settle.new.self.places.ok.0)
-    (place_within c.args.sides.now.sys.now c.requires.sides.system c.settle.new.self c.in-Some.inner (stands (goal.at.index-requires c).In-Some))
+pub triple-requires : goal.triple-requires
+triple-requires c = place_within c.args.sides.now.sys.now c.requires.sides.system c.settle.new.self c.in-Some.inner (stands (goal.at.triple-requires c).In-Some)
 
-pub attempt-requires-clause-spot : goal.attempt-requires-clause-spot
-attempt-requires-clause-spot c =
-    let s = stands (goal.at.attempt-requires-clause-spot c).In-Some in
-    subst (λ z. IsSpotOf c.args.sides.now.sys.now c.in-Some.inner z c.settle.new.self.outer) (sym (position (goal.at.attempt-requires-clause-spot c).After-deref s))
-    (spot_there c.args.sides.now.sys.now c.requires.sides.system c.settle.new.self c.settle.new.self c.in-Some.inner c.settle.ensures.cursor s)
+pub unifier-requires-clause-spot : goal.unifier-requires-clause-spot
+unifier-requires-clause-spot c =
+    spot_here c.args.sides.now.sys.now c.settle.new.self c.in-Some.inner (stands (goal.at.unifier-requires-clause-spot c).In-Some) c.triple.result c.triple.ensures c.requires.sides.system c.settle.ensures.cursor
 
-pub returns-in_err-overlap-clause-passes : goal.returns-in_err-overlap-clause-passes
-returns-in_err-overlap-clause-passes c = passed (goal.at.returns-in_err-overlap-clause-passes c).After-settle
+pub returns-in_err-unifier-clause-passes : goal.returns-in_err-unifier-clause-passes
+returns-in_err-unifier-clause-passes c = passed (goal.at.returns-in_err-unifier-clause-passes c).After-settle
 
-pub returns-in_err-overlap-clause-answer : goal.returns-in_err-overlap-clause-answer
-returns-in_err-overlap-clause-answer c =
-    let s = stands (goal.at.returns-in_err-overlap-clause-answer c).In-Some in
-    subst (FindAnswers c.args.sides.now.sys.now c.settle.new.self) (sym (handed_on _ _ c.from_residual-in_err-overlap.ensures.1))
-    (refused_here c.args.sides.now.sys.now c.settle.new.self c.in-Some.inner c.deref.result.now s (position (goal.at.returns-in_err-overlap-clause-answer c).After-deref s) c.in_err-overlap.field-0.0 c.in_err-overlap.ensures)
+pub returns-in_err-unifier-clause-answer : goal.returns-in_err-unifier-clause-answer
+returns-in_err-unifier-clause-answer c =
+    let s = stands (goal.at.returns-in_err-unifier-clause-answer c).In-Some in
+    subst (FindAnswers c.args.sides.now.sys.now c.settle.new.self) (sym (handed_on _ _ c.from_residual-in_err-unifier.ensures.1))
+    (refused_here c.args.sides.now.sys.now c.settle.new.self c.in-Some.inner s c.triple.result c.triple.ensures c.in_err-unifier.field-0.0 c.in_err-unifier.ensures)
 
 pub returns-in-Some-2-clause-passes : goal.returns-in-Some-2-clause-passes
 returns-in-Some-2-clause-passes c = passed (goal.at.returns-in-Some-2-clause-passes c).After-settle
@@ -49,8 +42,9 @@ returns-in-Some-2-clause-passes c = passed (goal.at.returns-in-Some-2-clause-pas
 pub returns-in-Some-2-clause-answer : goal.returns-in-Some-2-clause-answer
 returns-in-Some-2-clause-answer c =
     let s = stands (goal.at.returns-in-Some-2-clause-answer c).In-Some in
-    found_here c.args.sides.now.sys.now c.settle.new.self c.in-Some.inner c.deref.result.now s (position (goal.at.returns-in-Some-2-clause-answer c).After-deref s) c.in-Some-2.overlap
-    (subst (λ z. AttemptAnswers c.args.sides.now.sys.now c.in-Some.inner c.deref.result.now c.settle.new.self.outer (Ok z)) c.in-Some-2.is c.in_ok-overlap.ensures)
+    let t = c.triple.result in
+    found_here c.args.sides.now.sys.now c.settle.new.self c.in-Some.inner s t c.triple.ensures c.in-Some-2.unifier
+    (subst (λ z. UnifierAnswers c.args.sides.now.sys.now t.inner t.pos.now t.outer (Ok z)) c.in-Some-2.is c.in_ok-unifier.ensures)
 
 pub overflow_add-cursor : goal.overflow_add-cursor
 overflow_add-cursor c =
@@ -68,15 +62,15 @@ pub loop-inner-preserved : goal.loop-inner-preserved
 loop-inner-preserved c =
     let sys = c.args.sides.now.sys.now in
     let s = stands (goal.at.loop-inner-preserved c).In-Some in
-    let clash = subst (λ z. AttemptAnswers sys c.in-Some.inner c.deref.result.now c.settle.new.self.outer (Ok z)) c.in_default-2.is c.in_ok-overlap.ensures in
-    let there = position (goal.at.loop-inner-preserved c).After-deref s in
+    let t = c.triple.result in
+    let clash = subst (λ z. UnifierAnswers sys t.inner t.pos.now t.outer (Ok z)) c.in_default-2.is c.in_ok-unifier.ensures in
     record {
       cursor = cursor_kept sys c.settle.new.self _ c.settle.ensures.cursor refl refl;
       passes =
           pass_one sys (rest_of sys c.args.cursor.now) _ (c.in-Some.inner, (s.at.0, c.settle.new.self.outer))
           (pass_more sys (rest_of sys c.args.cursor.now) (rest_of sys c.settle.new.self) _ (passed (goal.at.loop-inner-preserved c).After-settle)
           (next_there sys c.requires.sides.system c.settle.new.self _ c.in-Some.inner c.settle.ensures.cursor s refl refl refl (add-one c.settle.new.self.candidate)))
-          (subst (λ z. AttemptAnswers sys c.in-Some.inner z c.settle.new.self.outer (Ok None)) there clash);
+          (clash_here sys c.settle.new.self c.in-Some.inner s t c.triple.ensures clash);
     }
 
 pub returns-clause-passes : goal.returns-clause-passes

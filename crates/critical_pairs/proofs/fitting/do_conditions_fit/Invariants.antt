@@ -1,0 +1,11 @@
+use Rattle.std.proofs.Common.{◌↔◌, drop, map}
+use Rattle.rewriting.specs.Terms.{Fits}
+use Rattle.rewriting.specs.Substitutions.{values_of}
+use Rattle.rewriting.specs.Rules.{sides}
+use Rattle.rewriting.specs.Systems.{Each}
+use Rattle.rewriting.specs.Overlaps.{conditions_under}
+use Rattle.term_core.specs.RuleView.{condition_view}
+use Rattle.critical_pairs.proofs.fitting.do_conditions_fit.Given as goal
+
+abbrev pub invariant-loop-cond : goal.invariant-loop-cond
+invariant-loop-cond l = Each Fits (sides (conditions_under (values_of l.m) (map condition_view l.conds))) ↔ Each Fits (sides (conditions_under (values_of l.m) (map condition_view (drop l.cond-index l.conds))))

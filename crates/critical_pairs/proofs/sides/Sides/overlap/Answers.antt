@@ -1,0 +1,49 @@
+use Rattle.std.proofs.Common.{◌≡◌, subst, Err}
+use Rattle.rewriting.specs.Substitutions.{values_of}
+use Rattle.rewriting.specs.Unifiers.{even, odd}
+use Rattle.term_core.specs.RuleView.{rule_view}
+use Rattle.critical_pairs.specs.Building.{rule_under, PairAnswers}
+use Rattle.critical_pairs.proofs.Runs.{low_renamed, high_renamed, has_position, refused_there}
+use Rattle.critical_pairs.proofs.Spot.{inner_fits, outer_fits, few_conditions, overlap_there, pair_too_large}
+use Rattle.critical_pairs.proofs.sides.Sides.overlap.Goals as goal
+use Rattle.critical_pairs.proofs.sides.Sides.overlap.Goals.{After-index-outer}
+
+-- the renamed rules of the triple
+low : (c : After-index-outer) → rule_view c.index-inner.result.now ≡ rule_under even c.requires.unifier.spot.inner
+low c = low_renamed c.args.self.now c.requires.sides c.args.triple.now.inner c.args.triple.now.pos.now c.args.triple.now.outer c.requires.unifier.spot c.index-inner.result.now c.index-outer.result.now c.index-inner.ensures c.index-outer.ensures
+
+high : (c : After-index-outer) → rule_view c.index-outer.result.now ≡ rule_under odd c.requires.unifier.spot.outer
+high c = high_renamed c.args.self.now c.requires.sides c.args.triple.now.inner c.args.triple.now.pos.now c.args.triple.now.outer c.requires.unifier.spot c.index-inner.result.now c.index-outer.result.now c.index-inner.ensures c.index-outer.ensures
+
+pub pair-requires-clause-inner : goal.pair-requires-clause-inner
+pair-requires-clause-inner c =
+    let at = (goal.at.pair-requires-clause-inner c).After-index-outer in
+    inner_fits c.args.self.now.sys.now c.requires.sides.system _ _ _ c.requires.unifier.spot c.index-inner.result.now c.index-outer.result.now (low at) (high at)
+
+pub pair-requires-clause-outer : goal.pair-requires-clause-outer
+pair-requires-clause-outer c =
+    let at = (goal.at.pair-requires-clause-outer c).After-index-outer in
+    outer_fits c.args.self.now.sys.now c.requires.sides.system _ _ _ c.requires.unifier.spot c.index-inner.result.now c.index-outer.result.now (low at) (high at)
+
+pub pair-requires-clause-there : goal.pair-requires-clause-there
+pair-requires-clause-there c =
+    has_position c.args.self.now c.requires.sides c.args.triple.now.inner c.args.triple.now.pos.now c.args.triple.now.outer c.requires.unifier.spot c.index-inner.result.now c.index-outer.result.now c.index-inner.ensures c.index-outer.ensures
+
+pub pair-requires-clause-few : goal.pair-requires-clause-few
+pair-requires-clause-few c =
+    let at = (goal.at.pair-requires-clause-few c).After-index-outer in
+    few_conditions c.args.self.now.sys.now c.requires.sides.system _ _ _ c.requires.unifier.spot c.index-inner.result.now c.index-outer.result.now (low at) (high at)
+
+pub returns-in-Ok : goal.returns-in-Ok
+returns-in-Ok c =
+    let at = (goal.at.returns-in-Ok c).After-index-outer in
+    let q = c.in-Ok.ensures in
+    overlap_there c.args.self.now.sys.now _ _ _ c.args.m.now c.requires.unifier _ _ (low at) (high at) c.in-Ok.overlap q.0 q.1 q.2
+
+pub returns-in-Err-TooLarge : goal.returns-in-Err-TooLarge
+returns-in-Err-TooLarge c =
+    let at = (goal.at.returns-in-Err-TooLarge c).After-index-outer in
+    let q =
+    subst (λ z. PairAnswers (values_of c.args.m.now) c.args.triple.now.inner c.args.triple.now.pos.now c.args.triple.now.outer (rule_view c.index-inner.result.now) (rule_view c.index-outer.result.now) (Err z)) c.in-Err-TooLarge.field-0-is
+    c.in-Err-TooLarge.ensures in
+    refused_there _ _ _ _ c.too_large.result (pair_too_large c.args.self.now.sys.now _ _ _ c.args.m.now c.requires.unifier _ _ (low at) (high at) q) c.too_large.ensures
