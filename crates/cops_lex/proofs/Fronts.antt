@@ -1,3 +1,61 @@
--- What follows from the kind of a token at the front.
+-- What stands at a front: what follows from the kind of a token, and that the text ends there, or why it has no tokens.
+use Rattle.std.proofs.Common.{◌≡◌, ℕ, ◌<◌, true, List, length, drop, Some, None, refl, sym, ap, subst, ◌∙◌, arith, length-drop}
+use Rattle.file_text.specs.declared.Kind.{Kind}
+use Rattle.file_text.specs.declared.Kind.TheVariants.{Id, LeftParen, RightParen, Comma, Bar, Arrow, Equal}
+use Rattle.file_text.specs.declared.Token.{Token}
+use Rattle.file_text.specs.Bytes.{comment_len}
+use Rattle.file_text.specs.Tokens.{kind_at, len_at, longest, is_comment_at, behind_white, IsReached, IsBadByte, IsLongId, IsOpenComment}
+use Rattle.cops_lex.specs.Reading.{Reading, reading, HasRead, IsAtEnd, IsFront}
 pub use Rattle.file_text.proofs.Fronts.{kind_some, arrow_two, equal_two}
 pub use Rattle.file_text.proofs.Names.{id_runs}
+
+pub front_of : (inside now : Reading) (place : ℕ) → inside ≡ now → IsFront now place → IsFront inside place
+front_of inside now place e f = subst (λ (r : Reading). IsFront r place) (sym e) f
+
+pub at_end : (r : Reading) (rest : List ℕ) (from : ℕ) → IsFront r from → rest ≡ drop from r.bytes → length rest ≡ 0 → IsAtEnd r
+at_end r rest from f is none ts h =
+    let read = f.reads ts h in
+    let last : from ≡ length r.bytes = omega (arith, length-drop from r.bytes, f.within, none, ap (λ (bs : List ℕ). length bs) is) in
+    record { pieces = read.pieces; end = f.behind; leads = read.leads; whole = sym f.begins ∙ last; tokens = read.tokens }
+
+reached : (r : Reading) (from : ℕ) (ts : List Token) → IsFront r from → HasRead r ts → IsReached r.bytes r.count from
+reached r from ts f h =
+    let read = f.reads ts h in
+    record { pieces = read.pieces; end = f.behind; leads = read.leads; behind = f.begins; counted = read.counted }
+
+pub bad_there : (r : Reading) (rest : List ℕ) (from : ℕ) (ts : List Token) → IsFront r from → HasRead r ts → rest ≡ drop from r.bytes → 0 < length rest → None ≡ kind_at rest → IsBadByte r.bytes from
+bad_there r rest from ts f h is some none =
+    let inside : from < length r.bytes = omega (arith, length-drop from r.bytes, f.within, some, ap (λ (bs : List ℕ). length bs) is) in
+    (r.count, reached r from ts f h, inside, ap kind_at (sym is) ∙ sym none)
+
+-- an identifier alone is so long
+long_id : (k : Kind) (rest : List ℕ) → longest < len_at k rest → k ≡ Id
+long_id Id rest long = refl
+long_id LeftParen rest long = absurd (omega (arith, long))
+long_id RightParen rest long = absurd (omega (arith, long))
+long_id Comma rest long = absurd (omega (arith, long))
+long_id Bar rest long = absurd (omega (arith, long))
+long_id Arrow rest long = absurd (omega (arith, long))
+long_id Equal rest long = absurd (omega (arith, long))
+
+pub long_there : (r : Reading) (rest : List ℕ) (from len : ℕ) (k : Kind) (ts : List Token) → IsFront r from → HasRead r ts → rest ≡ drop from r.bytes → Some k ≡ kind_at rest → len ≡ len_at k rest
+    → longest < len → IsLongId r.bytes from
+long_there r rest from len k ts f h is kind e long =
+    let far : longest < len_at k rest = subst (λ n. longest < n) e long in
+    let id : k ≡ Id = long_id k rest far in (
+      r.count,
+      reached r from ts f h,
+      ap kind_at (sym is) ∙ sym kind ∙ ap (λ (q : Kind). Some q) id,
+      subst (λ (bs : List ℕ). longest < len_at Id bs) is (subst (λ (q : Kind). longest < len_at q rest) id far),
+    )
+
+pub open_there : (bytes rest : List ℕ) (count at from : ℕ) (ts : List Token) → HasRead (reading bytes at count) ts → from ≡ behind_white bytes at → rest ≡ drop from bytes → true ≡ is_comment_at count rest
+    → None ≡ comment_len rest → IsOpenComment bytes (length bytes)
+open_there bytes rest count at from ts h place is begins none = (
+  count,
+  from,
+  record { pieces = h.pieces; end = at; leads = h.leads; behind = place; counted = h.counted },
+  ap (is_comment_at count) (sym is) ∙ sym begins,
+  ap comment_len (sym is) ∙ sym none,
+  refl,
+)

@@ -1,16 +1,10 @@
--- What was read so far, as the loop over the pieces goes on.
-use Rattle.std.proofs.Common.{◌≡◌, ℕ, ◌+◌, ◌≤◌, Bool, true, false, List, [], ◌∷◌, ◌++◌, drop, Some, refl, sym, ap, subst, ◌∙◌}
+-- What is read, as a lexer goes on.
+use Rattle.std.proofs.Common.{◌≡◌, ℕ, ◌+◌, ◌≤◌, Bool, true, List, [], ◌∷◌, ◌++◌, drop, Some, refl, sym, ap, subst, ◌∙◌}
 use Rattle.file_text.specs.declared.Kind.{Kind}
 use Rattle.file_text.specs.declared.Token.{Token}
 use Rattle.file_text.specs.Bytes.{white_len, comment_len}
 use Rattle.file_text.specs.Tokens.{kind_at, len_at, longest, open_after, is_comment_at, behind_white, Stands, StandsComment, Piece, token, comment, tokens_of, StandInTurn, opened}
-
--- Up to this place the text is these tokens, and so many brackets are open.
-pub record HasRead (bytes : List ℕ) (ts : List Token) (count : ℕ) (at : ℕ) : Type 0 where
-  pub pieces : List Piece
-  pub leads : StandInTurn bytes 0 0 pieces at
-  pub tokens : tokens_of pieces ≡ ts
-  pub counted : count ≡ opened 0 pieces
+use Rattle.cops_lex.specs.Reading.{Reading, reading, HasRead, IsFront}
 
 leads_token : (bytes : List ℕ) (at count : ℕ) (ps : List Piece) (m : ℕ) (t : Token) → StandInTurn bytes at count ps m → Stands bytes m (opened count ps) t → StandInTurn bytes at count (ps ++ token t ∷ []) t.to
 leads_token bytes at count [] m t l s = (subst (λ n. Stands bytes n count t) (sym l) s, refl)
@@ -42,7 +36,7 @@ opened_comment count [] to = refl
 opened_comment count (token u ∷ ps) to = opened_comment (open_after count u.kind) ps to
 opened_comment count (comment k ∷ ps) to = opened_comment count ps to
 
-read_token : (bytes : List ℕ) (ts : List Token) (count at : ℕ) (t : Token) → HasRead bytes ts count at → Stands bytes at count t → HasRead bytes (ts ++ t ∷ []) (open_after count t.kind) t.to
+read_token : (bytes : List ℕ) (ts : List Token) (count at : ℕ) (t : Token) → HasRead (reading bytes at count) ts → Stands bytes at count t → HasRead (reading bytes t.to (open_after count t.kind)) (ts ++ t ∷ [])
 read_token bytes ts count at t h s = record {
   pieces = h.pieces ++ token t ∷ [];
   leads = leads_token bytes 0 0 h.pieces at t h.leads (subst (λ n. Stands bytes at n t) h.counted s);
@@ -50,7 +44,7 @@ read_token bytes ts count at t h s = record {
   counted = ap (λ n. open_after n t.kind) h.counted ∙ sym (opened_token 0 h.pieces t);
 }
 
-read_comment : (bytes : List ℕ) (ts : List Token) (count at to : ℕ) → HasRead bytes ts count at → StandsComment bytes at count to → HasRead bytes ts count to
+read_comment : (bytes : List ℕ) (ts : List Token) (count at to : ℕ) → HasRead (reading bytes at count) ts → StandsComment bytes at count to → HasRead (reading bytes to count) ts
 read_comment bytes ts count at to h s = record {
   pieces = h.pieces ++ comment to ∷ [];
   leads = leads_comment bytes 0 0 h.pieces at to h.leads (subst (λ n. StandsComment bytes at n to) h.counted s);
@@ -58,33 +52,35 @@ read_comment bytes ts count at to h s = record {
   counted = h.counted ∙ sym (opened_comment 0 h.pieces to);
 }
 
--- the place that the loop finds behind the white space
+-- the place that is found behind the white space
 pub place_is : (bytes behind : List ℕ) (at white : ℕ) → white ≡ white_len behind → behind ≡ drop at bytes → at + white ≡ behind_white bytes at
 place_is bytes behind at white w b = ap (λ n. at + n) (w ∙ ap white_len b)
 
-abbrev made : Kind → ℕ → ℕ → Token
+abbrev pub made : Kind → ℕ → ℕ → Token
 made k f e = record { kind = k; from = f; to = e }
 
-pub push_token : (bytes left : List ℕ) (ts us : List Token) (count after at from len : ℕ) (r : Bool) (k : Kind) → HasRead bytes ts count at → from ≡ behind_white bytes at → left ≡ drop from bytes
-    → r ≡ is_comment_at count left → r ≡ false → Some k ≡ kind_at left → len ≡ len_at k left → len ≤ longest → after ≡ open_after count k → us ≡ ts ++ made k from (from + len) ∷ [] → HasRead bytes us after (from + len)
-push_token bytes left ts us count after at from len r k h place l test other kind e short opens new =
-    let stands : Stands bytes at count (made k from (from + len)) = record {
-      begins = place;
-      no_comment = ap (is_comment_at count) (sym l) ∙ sym test ∙ other;
-      kind = ap kind_at (sym l) ∙ sym kind;
-      ends = ap (λ n. from + n) (e ∙ ap (len_at k) l);
-      short = subst (λ n. n ≤ longest) (e ∙ ap (len_at k) l) short;
-    } in
-    let read = read_token bytes ts count at (made k from (from + len)) h stands in
-    subst (λ (vs : List Token). HasRead bytes vs after (from + len)) (sym new) (subst (λ n. HasRead bytes (ts ++ made k from (from + len) ∷ []) n (from + len)) (sym opens) read)
-
-pub skip_comment : (bytes left : List ℕ) (ts : List Token) (count at from len : ℕ) (r : Bool) → HasRead bytes ts count at → from ≡ behind_white bytes at → left ≡ drop from bytes
-    → r ≡ is_comment_at count left → r ≡ true → Some len ≡ comment_len left → HasRead bytes ts count (from + len)
-skip_comment bytes left ts count at from len r h place l test is closed =
-    let here : left ≡ drop (behind_white bytes at) bytes = l ∙ ap (λ n. drop n bytes) place in
+-- a comment is passed over
+pub skip_comment : (bytes rest : List ℕ) (count at from len : ℕ) (test : Bool) → from ≡ behind_white bytes at → rest ≡ drop from bytes
+    → test ≡ is_comment_at count rest → test ≡ true → Some len ≡ comment_len rest → (ts : List Token) → HasRead (reading bytes at count) ts → HasRead (reading bytes (from + len) count) ts
+skip_comment bytes rest count at from len test place r is begins closed ts h =
+    let here : rest ≡ drop (behind_white bytes at) bytes = r ∙ ap (λ n. drop n bytes) place in
     read_comment bytes ts count at (from + len) h (record {
-      begins = ap (is_comment_at count) (sym here) ∙ sym test ∙ is;
+      begins = ap (is_comment_at count) (sym here) ∙ sym is ∙ begins;
       len = len;
       closed = ap comment_len (sym here) ∙ sym closed;
       ends = ap (λ n. n + len) place;
     })
+
+-- the token at the front is read
+pub token_read : (r : Reading) (rest : List ℕ) (from len after : ℕ) (k : Kind) → IsFront r from → rest ≡ drop from r.bytes → Some k ≡ kind_at rest → len ≡ len_at k rest → len ≤ longest
+    → after ≡ open_after r.count k → (ts : List Token) → HasRead r ts → HasRead (reading r.bytes (from + len) after) (ts ++ made k from (from + len) ∷ [])
+token_read r rest from len after k f is kind long short opens ts h =
+    let stands : Stands r.bytes f.behind r.count (made k from (from + len)) = record {
+      begins = f.begins;
+      no_comment = f.no_comment;
+      kind = ap kind_at (sym is) ∙ sym kind;
+      ends = ap (λ n. from + n) (long ∙ ap (len_at k) is);
+      short = subst (λ n. n ≤ longest) (long ∙ ap (len_at k) is) short;
+    } in
+    subst (λ n. HasRead (reading r.bytes (from + len) n) (ts ++ made k from (from + len) ∷ [])) (sym opens)
+    (read_token r.bytes ts r.count f.behind (made k from (from + len)) (f.reads ts h) stands)

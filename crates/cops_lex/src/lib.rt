@@ -5,7 +5,8 @@ ghost use Rattle.std.specs.Prelude.{◌≡◌};
 ghost use Rattle.cops_lex.specs.declared.LexError.TheVariants.{NoMemory};
 
 pub use file_text::{Kind, Token};
-pub use scan::{is_id, tokens};
+pub use lexer::{Lexer, tokens};
+pub use scan::is_id;
 use std::alloc::AllocFailed;
 use thiserror::Error;
 
@@ -33,4 +34,5 @@ impl<T: Drop> From<AllocFailed<T>> for LexError {
     }
 }
 
+mod lexer;
 mod scan;

@@ -1,14 +1,11 @@
-ghost use Rattle.std.specs.Prelude.{◌≡◌, ◌<◌, ◌≤◌, ◌+◌, ◌||◌, length, Some, IfSome};
+//! What stands at the front of bytes.
+ghost use Rattle.std.specs.Prelude.{◌≡◌, ◌<◌, ◌≤◌, ◌+◌, length, Some, IfSome};
 ghost use Rattle.file_text.specs.Bytes as spec;
 ghost use Rattle.file_text.specs.Bytes.{white_len, run_len, comment_len};
 ghost use Rattle.file_text.specs.Tokens.{kind_at, len_at};
 ghost use Rattle.file_text.specs.Tokens as text;
-ghost use Rattle.cops_lex.specs.Answers.{TokensAnswers};
 
-use crate::{Kind, LexError, Token};
-use std::alloc::Global;
-
-const LONGEST: usize = 255;
+use crate::Kind;
 
 fn is_white(b: u8) -> bool
     ensures { result ≡ spec.is_white b }
@@ -43,9 +40,9 @@ fn begins_equal(bytes: &[u8]) -> bool
     }
 }
 
-// how much white space stands at the front
+/// How much white space stands at the front.
 #[tactic(auto, using(crate::proofs::Runs::white_more, crate::proofs::Runs::white_stops, crate::proofs::Runs::white_end))]
-fn skip_white(bytes: &[u8]) -> usize
+pub fn skip_white(bytes: &[u8]) -> usize
     ensures len { result ≡ white_len bytes.now }
     ensures within { result ≤ length bytes.now }
 {
@@ -76,8 +73,8 @@ fn skip_run(bytes: &[u8]) -> usize
     n
 }
 
-// the kind of the token at the front
-fn kind_of(bytes: &[u8]) -> Option<Kind>
+/// The kind of the token at the front.
+pub fn kind_of(bytes: &[u8]) -> Option<Kind>
     ensures { result ≡ kind_at bytes.now }
 {
     match bytes {
@@ -101,7 +98,7 @@ fn kind_of(bytes: &[u8]) -> Option<Kind>
 }
 
 #[tactic(auto, using(crate::proofs::Fronts::id_runs, crate::proofs::Fronts::arrow_two, crate::proofs::Fronts::equal_two, crate::proofs::Fronts::kind_some))]
-fn len_of(kind: Kind, bytes: &[u8]) -> usize
+pub fn len_of(kind: Kind, bytes: &[u8]) -> usize
     requires { kind_at bytes.now ≡ Some kind }
     ensures len { result ≡ len_at kind bytes.now }
     ensures within { result ≤ length bytes.now }
@@ -128,8 +125,8 @@ fn begins_comment(bytes: &[u8]) -> bool
     }
 }
 
-// whether a comment begins at the front, where so many brackets are open
-fn is_comment_at(count: usize, bytes: &[u8]) -> bool
+/// Whether a comment begins at the front, where so many brackets are open.
+pub fn is_comment_at(count: usize, bytes: &[u8]) -> bool
     ensures { result ≡ text.is_comment_at count bytes.now }
 {
     count == 0 && begins_comment(bytes)
@@ -147,9 +144,9 @@ fn count_after(count: usize, byte: u8) -> usize
     }
 }
 
-// how long the comment at the front is, if it is closed
+/// How long the comment at the front is, if it is closed.
 #[tactic(auto, using(crate::proofs::Runs::comment_start))]
-fn skip_comment(bytes: &[u8]) -> Option<usize>
+pub fn skip_comment(bytes: &[u8]) -> Option<usize>
     ensures len { result ≡ comment_len bytes.now }
     ensures within { IfSome result (λ n. n ≤ length bytes.now) }
     ensures some { IfSome result (λ n. 0 < n) }
@@ -166,8 +163,8 @@ fn skip_comment(bytes: &[u8]) -> Option<usize>
     None
 }
 
-// the count of open brackets behind a token
-fn open_after(count: usize, kind: Kind) -> usize
+/// The count of open brackets behind a token.
+pub fn open_after(count: usize, kind: Kind) -> usize
     requires { count < usize.MAX }
     ensures opened { result ≡ text.open_after count kind }
     ensures within { result ≤ count + 1 }
@@ -176,40 +173,5 @@ fn open_after(count: usize, kind: Kind) -> usize
         Kind::LeftParen => count + 1,
         Kind::RightParen => count.saturating_sub(1),
         Kind::Id | Kind::Comma | Kind::Bar | Kind::Arrow | Kind::Equal => count,
-    }
-}
-
-/// The tokens of a text, in order. A comment gives none.
-pub fn tokens(alloc: Global, bytes: &[u8]) -> Result<Vec<Token>, LexError>
-    ensures { TokensAnswers bytes.now result }
-{
-    let mut out = Vec::new(alloc);
-    let mut at = 0;
-    let mut count = 0;
-    'pieces: loop {
-        let (_, behind) = bytes.split_at(at);
-        let from = at + skip_white(behind);
-        let (_, left) = bytes.split_at(from);
-        if left.is_empty() {
-            return Ok(out);
-        }
-        if is_comment_at(count, left) {
-            let Some(len) = skip_comment(left) else {
-                return Err(LexError::CommentNotClosed { at: bytes.len() });
-            };
-            at = from + len;
-            continue;
-        }
-        let Some(kind) = kind_of(left) else {
-            return Err(LexError::BadByte { at: from });
-        };
-        let len = len_of(kind, left);
-        if len > LONGEST {
-            return Err(LexError::IdTooLong { at: from });
-        }
-        let to = from + len;
-        out.push(Token { kind, from, to })?;
-        count = open_after(count, kind);
-        at = to;
     }
 }

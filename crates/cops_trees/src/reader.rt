@@ -1,5 +1,4 @@
 ghost use Rattle.std.specs.Prelude.{◌≡◌};
-ghost use Rattle.file_text.specs.Tokens.{Spells};
 ghost use Rattle.cops_trees.specs.Answers.{TreeAnswers, error_of};
 ghost use Rattle.cops_trees.specs.States.{cause_of, error_at};
 ghost use Rattle.cops_trees.specs.declared.reader.SyntaxError.TheVariants.{NoMemory};
@@ -7,7 +6,7 @@ ghost use Rattle.cops_trees.specs.declared.reader.SyntaxError.TheVariants.{NoMem
 use crate::blocks::{Blocks, SyntaxRefusal};
 use crate::tree::FileText;
 use crate::word::word_at;
-use cops_lex::{LexError, Token};
+use cops_lex::{LexError, Lexer};
 use std::alloc::{AllocError, Global};
 use thiserror::Error;
 
@@ -76,18 +75,18 @@ fn refused(refusal: SyntaxRefusal, at: usize) -> SyntaxError
     }
 }
 
-/// The syntax tree that a text with these tokens spells, or the first refusal.
-pub fn read_tree<'a>(
-    alloc: Global,
-    bytes: &'a [u8],
-    tokens: &[Token],
-) -> Result<FileText<'a>, SyntaxError>
-    requires { Spells bytes.now tokens.now }
+/// The syntax tree that the bytes spell, or the first refusal. A token is taken, and read, before the next one.
+///
+/// A byte, an identifier or a comment for which a text has no tokens is told before any other refusal, wherever it stands:
+/// so behind a word that is refused the rest of the text is gone through for it.
+pub fn read_tree(alloc: Global, bytes: &[u8]) -> Result<FileText<'_>, SyntaxError>
     ensures { TreeAnswers bytes.now result }
 {
+    let mut lexer = Lexer::new(bytes);
     let mut blocks = Blocks::new();
-    'tokens: for token in tokens {
-        if let Some(refusal) = blocks.step(alloc, word_at(bytes, *token))? {
+    'tokens: while let Some(token) = lexer.next()? {
+        if let Some(refusal) = blocks.step(alloc, word_at(bytes, token))? {
+            lexer.finish()?;
             return Err(refused(refusal, token.from));
         }
     }

@@ -1,30 +1,28 @@
-use Rattle.std.proofs.Common.{arith}
 use Rattle.cops_trees.proofs.Parsed.{follows_start, follows_can, follows_next, follows_refused, follows_file, follows_missing, refused_as}
 use Rattle.cops_trees.proofs.reader.read_tree.Goals as goal
 
 pub tokens-init : goal.tokens-init
-tokens-init c = follows_start _ _ c.new-blocks.result c.new-blocks.ensures
+tokens-init c = follows_start _ _ c.new-blocks.result c.new-lexer.ensures.text c.new-lexer.ensures.none c.new-blocks.ensures
 
 pub step-requires : goal.step-requires
-step-requires c = follows_can _ _ _ _ c.tokens.invariant
+step-requires c = follows_can _ _ _ c.tokens.invariant
 
-pub returns-in-Some : goal.returns-in-Some
-returns-in-Some c =
+pub returns-in-Some-2 : goal.returns-in-Some-2
+returns-in-Some-2 c =
     refused_as _ _ _ c.refused.result c.refused.ensures
-    (follows_refused _ _ c.tokens.token-index _ c.tokens.blocks c.step.new.self _ c.in_ok-refusal.field-0 c.in-Some.refusal
-    c.requires c.tokens-test.true c.tokens.invariant c.word_at.ensures c.in_ok-refusal.ensures c.in-Some.is)
+    (follows_refused _ c.tokens.lexer c.next.new.self c.in-Some.token c.tokens.blocks c.step.new.self _ c.in_ok-refusal.field-0 c.in-Some-2.refusal
+    c.tokens.invariant (rw c.in-Some.is at c.in_ok-token.ensures.answer) c.in_ok-token.ensures.text c.in_ok-finish.ensures c.word_at.ensures c.in_ok-refusal.ensures c.in-Some-2.is)
 
 pub tokens-preserved : goal.tokens-preserved
 tokens-preserved c =
-    follows_next _ _ c.tokens.token-index _ c.tokens.blocks c.step.new.self _ c.in_ok-refusal.field-0 c.tokens-test.true c.tokens.invariant c.word_at.ensures c.in_ok-refusal.ensures c.in_default.is
+    follows_next _ c.tokens.lexer c.next.new.self c.in-Some.token c.tokens.blocks c.step.new.self _ c.in_ok-refusal.field-0
+    c.tokens.invariant (rw c.in-Some.is at c.in_ok-token.ensures.answer) c.in_ok-token.ensures.text c.word_at.ensures c.in_ok-refusal.ensures c.in_default-2.is
 
 pub returns-in-Ok : goal.returns-in-Ok
 returns-in-Ok c =
-    follows_file _ _ _ c.tokens.blocks c.finish.result c.in-Ok.file c.requires (omega arith) c.tokens.invariant
-    c.finish.ensures c.in-Ok.is
+    follows_file _ c.tokens.lexer c.tokens.blocks c.finish-2.result c.in-Ok.file c.tokens.invariant (rw c.in_default.is at c.in_ok-token.ensures.answer) c.finish-2.ensures c.in-Ok.is
 
 pub returns-in-Err : goal.returns-in-Err
 returns-in-Err c =
     refused_as _ _ _ c.refused-in-Err.result c.refused-in-Err.ensures
-    (follows_missing _ _ _ c.tokens.blocks c.finish.result c.in-Err.refusal c.requires (omega arith)
-    c.tokens.invariant c.finish.ensures c.in-Err.is)
+    (follows_missing _ c.tokens.lexer c.tokens.blocks c.finish-2.result c.in-Err.refusal c.tokens.invariant (rw c.in_default.is at c.in_ok-token.ensures.answer) c.finish-2.ensures c.in-Err.is)
