@@ -1,7 +1,8 @@
 -- The numbers that each of some relations has at the state at its place, and where they are put.
-use Rattle.std.proofs.Common.{◌≡◌, ◌↔◌, ◌⊎◌, inl, inr, ⊎_elim, ℕ, suc, ◌+◌, ◌<◌, ◌≤◌, List, [], ◌∷◌, length, get_or, take, drop, Option, None, Bor, ap, sym, subst, ◌∙◌, arith}
+use Rattle.std.proofs.Common.{◌≡◌, ◌↔◌, ◌⊎◌, inl, inr, ⊎_elim, ℕ, suc, ◌+◌, ◌<◌, ◌≤◌, List, [], ◌∷◌, length, get_or, take, drop, Option, None, Some, unwrap_or, Bor, refl, ap, sym, subst, ◌∙◌, arith}
 use Rattle.std.proofs.lemmas.List.{get_or-map}
 use Rattle.rewriting.specs.Lists.{IsAmong}
+use Rattle.number_sets.specs.Sets.{members}
 use Rattle.number_sets.specs.Relation.{Relates, row_of, members_at}
 use Rattle.number_sets.specs.declared.rows.NumberRelation.{NumberRelation}
 use Rattle.number_sets.specs.declared.words.NumberSet.{NumberSet}
@@ -17,18 +18,13 @@ at_is qs i h = any_default qs i 0 (get_or qs i 0) h
 pub relation_at : (es : List Evaluated) (i : ℕ) (e : Evaluated) (r : NumberRelation) → i < length es → e ≡ get_or es i e → r ≡ relation_of e → r ≡ get_or (relations es) i r
 relation_at es i e r inside is same = same ∙ ap relation_of is ∙ sym (get_or-map relation_of es i e r inside)
 
+-- a row, or an empty set in its place
+pub row_or_none : (o : Option (Bor NumberSet)) (none : Bor NumberSet) → members none.now ≡ [] → members (unwrap_or o none).now ≡ members_at o
+row_or_none None none e = e
+row_or_none (Some row) none e = refl
+
 module _ (all : List ℕ) (rs : List NumberRelation) (qs : List ℕ) where
   module _ (alike : length rs ≡ length qs) (i : ℕ) (r : NumberRelation) (inside : i < length rs) (is : r ≡ get_or rs i r) where
-    -- a state that is related to nothing
-    pub no_row : (set : List ℕ) (o : Option (Bor NumberSet)) → set ≡ [] → o ≡ None → members_at o ≡ row_of r (get_or qs i 0) → (k : ℕ) → IsAmong k set ↔ (IsAmong k all × AreRelated rs qs k)
-    no_row set o none absent row k = (
-      λ h. absurd (subst (IsAmong k) none h),
-      λ (n, z).
-          absurd
-          (subst (IsAmong k) (sym row ∙ ap members_at absent)
-          (zip_at (λ r q. Relates r q k) rs qs i r (get_or qs i 0) inside is (at_is qs i (omega (arith, alike))) z)),
-    )
-
     pub shared_more : (old new row : List ℕ) → row ≡ row_of r (get_or qs i 0) → ((k : ℕ) → IsAmong k new ↔ (IsAmong k old × IsAmong k row)) → ((k : ℕ) → IsAmong k old ↔ (IsAmong k all × AreRelated (take i rs) (take i qs) k))
         → (k : ℕ) → IsAmong k new ↔ (IsAmong k all × AreRelated (take (i + 1) rs) (take (i + 1) qs) k)
     shared_more old new row here kept front k =
@@ -64,23 +60,18 @@ module _ (r : NumberRelation) (rs : List NumberRelation) (qs : List ℕ) (n s : 
       subst (λ (ps : List ℕ). (IsAmong k row × AreRelated rs (drop 1 qs) k) ↔ AreRelated (r ∷ rs) ps k) (sym (first_state qs n s long is))
       (λ h. (subst (IsAmong k) here h.0, h.1), λ h. (subst (IsAmong k) (sym here) h.0, h.1))
 
-pub no_others : (qs : List ℕ) (k : ℕ) → 0 ≡ length qs → AreRelated [] qs k
-no_others [] k long = tt
-no_others (q ∷ qs) k long = absurd (omega arith)
+  -- what is put of the first, and kept of the others
+  pub related_rest : (old row front new : List ℕ) → old ≡ [] → row ≡ row_of r s → ((k : ℕ) → IsAmong k front ↔ (IsAmong k old ⊎ IsAmong k row)) → ((k : ℕ) → IsAmong k new ↔ (IsAmong k front × AreRelated rs (drop 1 qs) k))
+      → (k : ℕ) → IsAmong k new ↔ AreRelated (r ∷ rs) qs k
+  related_rest old row front new none here put kept k =
+      let f = related_first row here k in (
+        λ h. let p = (kept k).0 h in f.0 (⊎_elim (λ o. absurd (subst (IsAmong k) none o)) (λ i. i) ((put k).0 p.0), p.1),
+        λ z. let p = f.1 z in (kept k).1 ((put k).1 (inr p.0), p.1),
+      )
 
--- one row, and one more
-pub row_alone : (row qs : List ℕ) (k : ℕ) → 0 ≡ length qs → IsAmong k row ↔ (IsAmong k row × AreRelated [] qs k)
-row_alone row qs k long = (λ h. (h, no_others qs k long), λ h. h.0)
-
-pub row_and_one : (row second qs : List ℕ) (r : NumberRelation) (s k : ℕ) → 1 ≡ length qs → s ≡ get_or qs 0 s → second ≡ row_of r s → (IsAmong k row × IsAmong k second) ↔ (IsAmong k row × AreRelated (r ∷ []) qs k)
-row_and_one row second qs r s k long is here =
-    let rest : 0 ≡ length (drop 1 qs) = no_more qs long in
-    let both = related_first r [] qs 0 s long is second here k in
-    (λ h. (h.0, both.0 (h.1, no_others (drop 1 qs) k rest)), λ h. (h.0, (both.1 h.1).0))
-  where
-    no_more : (ps : List ℕ) → 1 ≡ length ps → 0 ≡ length (drop 1 ps)
-    no_more [] e = absurd (omega arith)
-    no_more (p ∷ ps) e = omega arith
+pub none_among : (xs : List ℕ) → ((k : ℕ) → IsAmong k xs → ⊥) → xs ≡ []
+none_among [] none = refl
+none_among (x ∷ xs) none = absurd (none x (inl refl))
 
 pub one_of_all : (rs : List NumberRelation) (all : List ℕ) (k : ℕ) → IsAmong k all → IsOneOf rs all k
 one_of_all [] all k h = h

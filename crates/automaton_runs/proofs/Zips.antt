@@ -55,8 +55,3 @@ zip_at R (u ∷ xs) (v ∷ ys) (suc i) x y h e f z = zip_at R xs ys i x y (omega
 pub first_and_rest : {X : Type 0} (xs : List X) (x : X) → 1 ≤ length xs → x ≡ get_or xs 0 x → xs ≡ x ∷ drop 1 xs
 first_and_rest [] x h e = absurd (omega arith)
 first_and_rest (y ∷ ys) x h e = ap (λ z. z ∷ ys) (sym e)
-
-pub one_alone : {X : Type 0} (xs : List X) (x : X) → 1 ≤ length xs → length xs < 2 → x ≡ get_or xs 0 x → xs ≡ x ∷ []
-one_alone [] x h l e = absurd (omega arith)
-one_alone (y ∷ []) x h l e = ap (λ z. z ∷ []) (sym e)
-one_alone (y ∷ z ∷ zs) x h l e = absurd (omega arith)

@@ -13,5 +13,6 @@ pub mod ChoicesView
 pub mod Relations
 pub mod Linear
 pub mod Reached
+pub mod Shared
 pub mod Twins
 pub mod Possible

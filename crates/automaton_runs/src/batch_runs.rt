@@ -13,125 +13,53 @@ ghost use Rattle.automaton_runs.specs.Counted.{Finds};
 ghost use Rattle.automaton_runs.specs.Indexed.{pointed};
 ghost use Rattle.automaton_runs.specs.Relations.{relation_of, relations};
 ghost use Rattle.automaton_runs.specs.Reached.{AreWhere, Reaches, IsOneOf, AreRelated, Leads, HaveLeads, HaveLeadsByFirst, IsReachedFrom};
+ghost use Rattle.automaton_runs.specs.Shared.{IsShared};
 
 use crate::batch::Batch;
 use crate::index::AutomatonIndex;
 use crate::linear::{linear, numbers};
 use crate::relations::Evaluated;
+use crate::sharing::Shared;
 use cert_model::Transition;
 use number_sets::{NumberRelation, NumberSet};
 use std::alloc::Global;
 use term_core::{NoMemory, Term};
 
-// Whether each of some relations has the state at its place: else they share no number, and no set need be made.
-fn are_lefts(args: &[Evaluated<'_>], states: &[u32]) -> bool
-    ensures asked { (k : ℕ) → AreRelated (relations args.now) states.now k → IsTrue result }
-    ensures alike { IsTrue result → length args.now ≡ length states.now }
-{
-    if args.len() != states.len() {
-        return false;
-    }
-    for place in 0..args.len() {
-        if !args[place].relation().has_left(states[place]) {
-            return false;
-        }
-    }
-    true
-}
-
-// The numbers of a set that each of some relations has at the state at its place.
-fn shared(
-    alloc: Global,
-    all: &NumberSet,
-    args: &[Evaluated<'_>],
-    states: &[u32],
-) -> Result<NumberSet, NoMemory>
-    requires { length args.now ≡ length states.now }
-    ensures { IfOk result (λ set. (k : ℕ) → IsAmong k (members set) ↔ (IsAmong k (members all.now) × AreRelated (relations args.now) states.now k)) }
-{
-    let mut set = all.copy(alloc)?;
-    for place in 0..args.len() {
-        match args[place].relation().row(states[place]) {
-            Some(row) => set.keep_shared(row),
-            None => return Ok(NumberSet::new(alloc)),
-        }
-    }
-    Ok(set)
-}
-
-// Relates the target to the numbers of a row that each of the other relations has at its state.
-fn put_row(
-    alloc: Global,
-    target: u32,
-    row: &NumberSet,
-    others: &[Evaluated<'_>],
-    states: &[u32],
-    made: &mut NumberRelation,
-) -> Result<(), NoMemory>
-    requires { length others.now ≡ length states.now }
-    ensures { OnOk result ((q k : ℕ) → Relates made.new q k ↔ (Relates made.old q k ⊎ ((q ≡ target) × (IsAmong k (members row.now) × AreRelated (relations others.now) states.now k)))) }
-{
-    match others {
-        [] => made.insert_all(alloc, target, row),
-        [other] => match other.relation().row(states[0]) {
-            Some(second) => made.insert_shared(alloc, target, row, second),
-            None => Ok(()),
-        },
-        _ => made.insert_all(alloc, target, &shared(alloc, row, others, states)?),
-    }
-}
-
-// The same for all relations; where there is none, the numbers are those of a set.
-fn put_shared(
-    alloc: Global,
-    target: u32,
-    all: &NumberSet,
-    args: &[Evaluated<'_>],
-    states: &[u32],
-    made: &mut NumberRelation,
-) -> Result<(), NoMemory>
-    requires { length args.now ≡ length states.now }
-    ensures { OnOk result ((q k : ℕ) → Relates made.new q k ↔ (Relates made.old q k ⊎ ((q ≡ target) × (IsOneOf (relations args.now) (members all.now) k × AreRelated (relations args.now) states.now k)))) }
-{
-    match args {
-        [] => made.insert_all(alloc, target, all),
-        [first, others @ ..] => match first.relation().row(states[0]) {
-            Some(row) => put_row(alloc, target, row, others, &states[1..], made),
-            None => Ok(()),
-        },
-    }
-}
-
 // Relates the target of a transition to the numbers by which the symbol leads to it.
-fn put_transition(
+fn put_transition<'a>(
     alloc: Global,
-    transition: &Transition,
+    transition: &'a Transition,
     f: u32,
-    all: &NumberSet,
-    args: &[Evaluated<'_>],
+    all: &'a NumberSet,
+    args: &'a [Evaluated<'_>],
+    shared: &mut Shared<'a>,
     made: &mut NumberRelation,
 ) -> Result<(), NoMemory>
-    ensures { OnOk result ((q k : ℕ) → Relates made.new q k ↔ (Relates made.old q k ⊎ Leads f (members all.now) (relations args.now) (transition_view transition.now) q k)) }
+    requires { IsShared (members all.now) (relations args.now) shared.old }
+    ensures shared { OnOk result (IsShared (members all.now) (relations args.now) shared.new) }
+    ensures made { OnOk result ((q k : ℕ) → Relates made.new q k ↔ (Relates made.old q k ⊎ Leads f (members all.now) (relations args.now) (transition_view transition.now) q k)) }
 {
-    if transition.symbol == Some(f) && are_lefts(args, &transition.args) {
-        put_shared(alloc, transition.target, all, args, &transition.args, made)?;
+    if transition.symbol == Some(f) {
+        shared.move_to(alloc, all, args, &transition.args)?;
+        shared.put(alloc, transition.target, made)?;
     }
     Ok(())
 }
 
 // The same for each of some transitions.
-fn put_transitions(
+fn put_transitions<'a>(
     alloc: Global,
-    transitions: &[&Transition],
+    transitions: &'a [&'a Transition],
     f: u32,
-    all: &NumberSet,
-    args: &[Evaluated<'_>],
+    all: &'a NumberSet,
+    args: &'a [Evaluated<'_>],
     made: &mut NumberRelation,
 ) -> Result<(), NoMemory>
     ensures { OnOk result ((q k : ℕ) → Relates made.new q k ↔ (Relates made.old q k ⊎ HaveLeads f (members all.now) (relations args.now) (pointed transitions.now) q k)) }
 {
+    let mut shared = Shared::new(alloc, all, args);
     for transition in transitions {
-        put_transition(alloc, transition, f, all, args, made)?;
+        put_transition(alloc, transition, f, all, args, &mut shared, made)?;
     }
     Ok(())
 }
@@ -151,7 +79,7 @@ fn put_by_first(
     for state in 0..first.lefts() {
         let state = state as u32;
         if first.has_left(state) {
-            put_transitions(alloc, index.with_first(state), f, all, args, made)?;
+            put_transitions(alloc, index.with_first(state), f, &*all, &*args, made)?;
         }
     }
     Ok(())
@@ -188,7 +116,7 @@ pub(crate) fn reached_from(
         Some(first) if has_few_lefts(first.relation(), transitions.len()) => {
             put_by_first(alloc, index, first.relation(), f, all, args, &mut made)?;
         }
-        _ => put_transitions(alloc, transitions, f, all, args, &mut made)?,
+        _ => put_transitions(alloc, transitions, f, &*all, &*args, &mut made)?,
     }
     Ok(made)
 }

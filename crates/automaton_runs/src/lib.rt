@@ -12,6 +12,7 @@ mod pools;
 mod possible;
 mod relations;
 mod runs;
+mod sharing;
 mod tails;
 mod width;
 

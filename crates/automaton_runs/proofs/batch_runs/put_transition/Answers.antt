@@ -1,17 +1,19 @@
-use Rattle.std.proofs.Common.{◌↔◌, ◌⊎◌, ◌≡◌, ◌∙◌, List, ℕ, sym, subst}
+use Rattle.std.proofs.Common.{◌∙◌, List, ℕ, sym, subst}
 use Rattle.number_sets.specs.Sets.{members}
-use Rattle.number_sets.specs.Relation.{Relates}
 use Rattle.cert_model.specs.EvidenceView.{transition_view}
-use Rattle.automaton_runs.specs.Reached.{IsOneOf, AreRelated}
 use Rattle.automaton_runs.specs.Relations.{relations}
+use Rattle.automaton_runs.specs.Shared.{IsIn, AreShared}
+use Rattle.automaton_runs.proofs.Shared.{put_as}
 use Rattle.automaton_runs.proofs.Led.{option_is, lead_put}
 use Rattle.automaton_runs.proofs.batch_runs.put_transition.Goals as goal
 
-pub returns-in_ok-put_shared : goal.returns-in_ok-put_shared
-returns-in_ok-put_shared c =
+pub returns-in_ok-put-clause-made : goal.returns-in_ok-put-clause-made
+returns-in_ok-put-clause-made c =
     let f = c.args.f in
     let all = members c.args.all.now in
     let rs = relations c.args.args.now in
     let t = transition_view c.args.transition.now in
-    lead_put f all rs t c.args.made.now c.put_shared.new.made (option_is t.symbol f (sym c.eq.ensures ∙ c.if-eq.true))
-    (subst (λ (l : List ℕ). (q k : ℕ) → Relates c.put_shared.new.made q k ↔ (Relates c.args.made.now q k ⊎ ((q ≡ t.target) × (IsOneOf rs all k × AreRelated rs l k)))) c.deref-then-are_lefts.ensures.value c.in_ok-put_shared.ensures)
+    let s = c.move_to.new.self in
+    let same : AreShared (members c.args.all.now) (relations c.args.args.now) c.args.transition.now.args.items (IsIn c.move_to.new.self.found c.move_to.new.self.made) =
+    subst (λ (qs : List ℕ). AreShared all rs qs (IsIn s.found s.made)) (c.in_ok-move_to.ensures.at ∙ c.deref.ensures.value) c.in_ok-move_to.ensures.shared in
+    lead_put f all rs t c.args.made.now c.put.new.relation (option_is t.symbol f (sym c.eq.ensures ∙ c.if-eq.true)) (put_as c.args.made.now t.target c.put.new.relation c.in_ok-put.ensures same)

@@ -3,7 +3,7 @@ use Rattle.std.proofs.lemmas.Bool.{false≢true}
 use Rattle.std.proofs.lemmas.List.{length-map}
 use Rattle.automaton_runs.specs.Relations.{relation_of, relations}
 use Rattle.automaton_runs.proofs.Shared.{relation_at, as_many, not_related}
-use Rattle.automaton_runs.proofs.batch_runs.are_lefts.Goals as goal
+use Rattle.automaton_runs.proofs.sharing.are_lefts.Goals as goal
 
 pub returns-then-args-states-clause-asked : goal.returns-then-args-states-clause-asked
 returns-then-args-states-clause-asked c k z = absurd (c.if-args-states.true (sym (length-map c.args.args.now relation_of) ∙ as_many (relations c.args.args.now) c.args.states.now k z))
