@@ -1,5 +1,5 @@
 -- How the entries of a text are read and judged, one after the other.
-use Rattle.std.proofs.Common.{◌≡◌, ◌⊎◌, inl, inr, ℕ, ◌+◌, ◌-◌, ◌<◌, ◌≤◌, List, [], ◌∷◌, ◌++◌, length, Option, Some, None, refl, sym, ap, subst, ◌∙◌, arith, length-append}
+use Rattle.std.proofs.Common.{◌≡◌, ◌⊎◌, inl, inr, ℕ, ◌-◌, ◌<◌, ◌≤◌, List, [], ◌∷◌, ◌++◌, length, Option, Some, None, refl, sym, ap, subst, ◌∙◌, arith, length-append}
 use Rattle.std.specs.Prelude.{codes, decimal, IfSome, IfNone}
 use Rattle.certificates.specs.Certificates.{PairEntry}
 use Rattle.cert_model.specs.declared.model.PairEntry as model
@@ -10,7 +10,7 @@ use Rattle.cert_grammar.specs.Words.{position_text}
 use Rattle.cert_grammar.specs.EvidenceText.{evidence_text, pairs_text}
 use Rattle.cert_grammar.specs.CertificateText.{measure_text, body_text, IsCertificateText}
 use Rattle.cert_openings.specs.Openings.{Opening, ortho_opening, quasi_opening, certificate_for, IsRead}
-use Rattle.cert_text.specs.Reading.{Reading, HasRead, IsAll, ReadsOn, IsAtEnd, HasTextOf}
+use Rattle.cert_text.specs.Reading.{Reading, HasRead, ReadsOn, IsAtEnd, HasTextOf}
 use Rattle.cert_check.proofs.Bounds.{last_short}
 
 -- entries are read up to the place, and have this tally
