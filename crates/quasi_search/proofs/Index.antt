@@ -73,9 +73,6 @@ pub record Indexing (list : List math.Reached) (entries : List Entry) (rest : Li
   pub split : list ≡ done ++ rest
   pub index : IsIndexOf done entries
 
-pub nothing_indexed : (list : List math.Reached) → Indexing list [] list
-nothing_indexed list = record { done = []; split = refl; index = record { all = refl; keyed = tt } }
-
 listed_middle : (t : Term) (before : List math.Reached) (x : math.Reached) (behind : List math.Reached) → x.term ≡ t → is_listed t (before ++ x ∷ behind) ≡ true
 listed_middle t [] x behind e = or_left (is_same x.term t) (is_listed t behind) (equal_same x.term t e)
 listed_middle t (y ∷ before) x behind e = or_right (is_same y.term t) (is_listed t (before ++ x ∷ behind)) (listed_middle t before x behind e)
@@ -114,10 +111,6 @@ module _ {S : Type 0} (m : HashMap (Vec ℕ Global) (Bor Reached) S) (key : Vec 
         split = whole ∙ sym (append_assoc so_far.done (reached_view r.now ∷ []) behind);
         index = one_more so_far.done so_far.index (new_term so_far.done (reached_view r.now) behind (subst IsWithoutRepetition whole once)) entries put;
       }
-
-pub indexing_ends : (list : List math.Reached) (entries : List Entry) (rest : List math.Reached) → Indexing list entries rest → rest ≡ [] → IsIndexOf list entries
-indexing_ends list entries rest so_far e =
-    subst (λ z. IsIndexOf z entries) (sym (so_far.split ∙ ap (λ z. so_far.done ++ z) e ∙ append-nil so_far.done)) so_far.index
 
 -- a look-up that finds none
 pub none_found : (list : List math.Reached) (t : Term) (o : Option (Bor Reached)) → ((x : Bor Reached) → o ≡ Some x → ⊥) → FindAnswers list t o → is_listed t list ≡ false
