@@ -2,3 +2,4 @@ pub mod Rejected
 pub mod Bounds
 pub mod Reading
 pub mod Texts
+pub mod FileYes

@@ -1,6 +1,7 @@
 //! The check of a certificate's text, entry by entry.
 ghost use Rattle.std.specs.Prelude.{◌≡◌, List, [], ◌∷◌, ◌++◌, OnOk, map};
 ghost use Rattle.rewriting.specs.Confluence.{IsConfluent};
+ghost use Rattle.join_systems.specs.FileRelation.{IsFromFile, IsFileConfluent};
 ghost use Rattle.certificates.specs.Certificates as math;
 ghost use Rattle.cert_model.specs.CertificateView.{pair_entry_view, measure_view, peak_view};
 ghost use Rattle.valid_certificates.specs.Entries.{IsPairShort};
@@ -16,6 +17,7 @@ use crate::{Verdict, linear_of};
 use cert_model::{MeasureCert, PairEntry, Peak, Rejected};
 use cert_text::{CertError, Opened, Pairs, one_answer, open_cert};
 use cops_names::Names;
+use join_systems::join_systems_keep_their_rules;
 use linear_interp::LinearMeasure;
 use measure::Measure;
 use noncon_check::check_peak;
@@ -154,9 +156,8 @@ fn judge_peak(alloc: Global, sys: &System, peak: &Peak) -> Result<(), BytesError
     Ok(())
 }
 
-/// Reads a certificate entry by entry and judges each as it comes, so that memory never holds them all: what a valid one
-/// shows; else why the bytes are no certificate, and at which place; else the first reason why it is not valid.
-pub fn check_bytes(
+// What a valid certificate shows of the system itself.
+fn judge_bytes(
     alloc: Global,
     sys: &System,
     names: &Names,
@@ -183,4 +184,23 @@ pub fn check_bytes(
             Ok(Verdict::No)
         }
     }
+}
+
+/// Reads a certificate entry by entry and judges each as it comes, so that memory never holds them all: what a valid one
+/// shows; else why the bytes are no certificate, and at which place; else the first reason why it is not valid.
+pub fn check_bytes(
+    alloc: Global,
+    sys: &System,
+    names: &Names,
+    bytes: &[u8],
+) -> Result<Verdict, BytesError>
+    requires names { sys.now.arities ≡ map (λ s. s.1) names.now.symbols }
+    ensures answers { BytesAnswers sys.now names.now bytes.now result }
+    ensures exact_refusal { (c : math.Certificate) → IsCertificateText names.now bytes.now c → IsNoRefusal result }
+    ensures yes { OnYes result (IsConfluent sys.now) }
+    ensures file { OnYes result (IsFromFile sys.now → IsFileConfluent sys.now) }
+    ensures no { OnNo result ((p : math.Peak) × IsCertificateText names.now bytes.now (math.peak_certificate p) × ReachesApart sys.now p) }
+{
+    join_systems_keep_their_rules();
+    judge_bytes(alloc, sys, names, bytes)
 }

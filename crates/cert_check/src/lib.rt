@@ -5,6 +5,7 @@ mod bytes;
 
 ghost use Rattle.std.specs.Prelude.{◌≡◌, OnOk, map};
 ghost use Rattle.rewriting.specs.Confluence.{IsConfluent};
+ghost use Rattle.join_systems.specs.FileRelation.{IsFromFile, IsFileConfluent};
 ghost use Rattle.certificates.specs.Certificates.{linear_measure};
 ghost use Rattle.cert_model.specs.CertificateView.{linear_entry_view, pair_entry_view, measure_view, certificate_view};
 ghost use Rattle.valid_certificates.specs.Entries.{ArePairsShort};
@@ -15,6 +16,7 @@ ghost use Rattle.cert_check.specs.Answers.{VerdictAnswers, OnYes, OnNo};
 
 pub use bytes::{BytesError, check_bytes};
 use cert_model::{Certificate, Linear, MeasureCert, PairEntry};
+use join_systems::join_systems_keep_their_rules;
 use linear_interp::LinearMeasure;
 use noncon_check::check_peak;
 use ortho_check::check_ortho;
@@ -56,9 +58,8 @@ fn check_measured(
     check_quasi(alloc, sys, &LinearMeasure { linear }, pairs)
 }
 
-/// Judges a certificate: one that is valid shows that the system is confluent, or,
-/// where it is a peak, that it is not.
-pub fn check(alloc: Global, sys: &System, cert: &Certificate) -> Result<Verdict, CheckError>
+// What a valid certificate shows of the system itself.
+fn judge(alloc: Global, sys: &System, cert: &Certificate) -> Result<Verdict, CheckError>
     requires { CanBeJudged sys.now (certificate_view cert.now) }
     ensures judged { VerdictAnswers sys.now (certificate_view cert.now) result }
     ensures yes { OnYes result (IsConfluent sys.now) }
@@ -78,4 +79,17 @@ pub fn check(alloc: Global, sys: &System, cert: &Certificate) -> Result<Verdict,
             Ok(Verdict::No)
         }
     }
+}
+
+/// Judges a certificate: one that is valid shows that the system is confluent, or,
+/// where it is a peak, that it is not; and the same of the relation of its file.
+pub fn check(alloc: Global, sys: &System, cert: &Certificate) -> Result<Verdict, CheckError>
+    requires { CanBeJudged sys.now (certificate_view cert.now) }
+    ensures judged { VerdictAnswers sys.now (certificate_view cert.now) result }
+    ensures yes { OnYes result (IsConfluent sys.now) }
+    ensures file { OnYes result (IsFromFile sys.now → IsFileConfluent sys.now) }
+    ensures no { OnNo result (IsPeakApart sys.now (certificate_view cert.now)) }
+{
+    join_systems_keep_their_rules();
+    judge(alloc, sys, cert)
 }

@@ -29,6 +29,8 @@ pub struct Linear {
 #[derive(Debug, Drop)]
 pub enum MeasureCert {
     Linear(Linear),
+    /// A precedence: the symbols of the unraveled system, the greatest first.
+    Lpo(Vec<Head>),
 }
 
 /// Evidence that a rule does not apply at a position of the first or second end, which is 1 or 2.
@@ -56,6 +58,15 @@ pub struct Peak {
     pub first: Derivation,
     pub second: Derivation,
     pub apart: NonJoin,
+}
+
+/// A step that simplifies a system. Rules and conditions are numbered from 1.
+#[derive(Debug, Drop)]
+pub enum Simp {
+    /// A rule whose conditions are never met goes.
+    Drop { rule: u32, evidence: InfEvidence },
+    /// A condition that only names its left side goes, and the left side is put for the name.
+    Inline { rule: u32, cond: u32 },
 }
 
 /// Evidence that a system is confluent, or that it is not.

@@ -21,6 +21,8 @@ pub record LinearEntry : Type 0 where
 -- a measure of terms over the unraveled system
 pub data MeasureCertificate : Type 0 where
   linear_measure : List LinearEntry → MeasureCertificate
+  -- all symbols of the unraveled system, the greatest first
+  precedence_measure : List Head → MeasureCertificate
 
 -- evidence that a rule does not apply at a position of one of two terms, the first or the second
 pub record Redex : Type 0 where
@@ -40,6 +42,12 @@ pub record Peak : Type 0 where
   pub first : Derivation
   pub second : Derivation
   pub apart : Apartness
+
+-- a step that simplifies a system: a rule whose conditions are never met is dropped; a condition that only names a term
+-- goes, and the term is put for the name. Rules and conditions are numbered from 1
+pub data Simplification : Type 0 where
+  dropped : ℕ → InfeasibilityEvidence → Simplification
+  inlined : ℕ → ℕ → Simplification
 
 pub data Certificate : Type 0 where
   ortho_certificate : List PairEntry → Certificate

@@ -257,6 +257,7 @@ fn put_rejection(out: &mut Vec<u8>, names: &Names, reason: &Rejected) -> Result<
         ),
         Rejected::PairExtra { entry } => put_number(out, b"pair extra ", *entry),
         Rejected::EvidenceFails { entry, reason } => put_entry(out, b"pair ", *entry, reason),
+        Rejected::Foreign { which } => put_number(out, b"peak foreign ", *which),
         Rejected::FirstBad(bad) => put_bad_step(out, b"peak first step ", bad),
         Rejected::SecondBad(bad) => put_bad_step(out, b"peak second step ", bad),
         Rejected::SameTerm => put_words(out, b"peak same term"),

@@ -1,5 +1,5 @@
 -- The names of a system: of its symbols, with their arities, and of the variables of each rule.
-use Rattle.std.specs.Prelude.{List, ℕ, zero, suc, Option, None, position, slice_get, option_map}
+use Rattle.std.specs.Prelude.{List, [], ◌∷◌, ◌++◌, map, ℕ, zero, suc, Option, None, position, slice_get, option_map}
 use Rattle.std.specs.Option.{option_and_then}
 use Rattle.std.specs.Str.{bytes_eq}
 
@@ -7,6 +7,15 @@ use Rattle.std.specs.Str.{bytes_eq}
 pub record NameTable : Type 0 where
   pub symbols : List (List ℕ × ℕ)
   pub variables : List (List (List ℕ))
+
+-- all names of some lists
+abbrev pub all_of : List (List (List ℕ)) → List (List ℕ)
+all_of [] = []
+all_of (ns ∷ rest) = ns ++ all_of rest
+
+-- the names of all symbols and of all variables of rules
+abbrev pub all_names : NameTable → List (List ℕ)
+all_names names = map (λ s. s.0) names.symbols ++ all_of names.variables
 
 -- the number of a symbol
 abbrev pub number_of : List (List ℕ × ℕ) → List ℕ → Option ℕ

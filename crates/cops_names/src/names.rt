@@ -1,6 +1,7 @@
 ghost use Rattle.std.specs.Prelude.{◌≡◌, ◌<◌, ◌^◌, ◌++◌, ◌∷◌, [], ◌↔◌, None, IsTrue, IfOk, OnOk, OnErr, length, map, option_map, slice_get, string_bytes};
 ghost use Rattle.std.specs.Bool.{OnTrue, OnFalse};
-ghost use Rattle.cops_names.specs.NameTable.{number_of, name_at, arity_at, variable_at};
+ghost use Rattle.cops_names.specs.NameTable.{number_of, name_at, arity_at, variable_at, all_of, all_names};
+ghost use Rattle.cops_names.specs.NameLists.{is_among};
 ghost use Rattle.cops_names.specs.NamesView.{texts_of};
 
 use indexmap::IndexMap;
@@ -108,6 +109,13 @@ impl Names {
         values_of(alloc, &self.symbols)
     }
 
+    /// Whether a symbol, or a variable of a rule, has this name.
+    pub fn is_used(&self, name: &str) -> bool
+        ensures { result ≡ is_among (all_names self.now) name.now }
+    {
+        self.symbol_number(name).is_some() || is_in_lists(&self.rules, name)
+    }
+
     /// The name of variable `k` of a rule.
     pub fn variable_name(&self, rule: u32, k: u32) -> Option<&str>
         ensures { option_map (λ name. name.now) result ≡ variable_at self.now rule k }
@@ -123,6 +131,28 @@ fn values_of(alloc: Global, symbols: &IndexMap<String, u32>) -> Result<Vec<u32>,
 {
     let values = symbols.values().copied().collect(alloc)?;
     Ok(values)
+}
+
+fn is_in_list(names: &[String], name: &str) -> bool
+    ensures { result ≡ is_among (texts_of names.now) name.now }
+{
+    for text in names {
+        if name == text.as_str() {
+            return true;
+        }
+    }
+    false
+}
+
+fn is_in_lists(lists: &[Vec<String>], name: &str) -> bool
+    ensures { result ≡ is_among (all_of (map (λ v. texts_of v.items) lists.now)) name.now }
+{
+    for names in lists {
+        if is_in_list(names, name) {
+            return true;
+        }
+    }
+    false
 }
 
 fn text_at(names: &[String], k: usize) -> Option<&str>

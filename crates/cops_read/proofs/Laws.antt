@@ -1,16 +1,19 @@
 -- The laws of files.
 use Rattle.cops_systems.specs.File.{no_tokens, no_tree, no_meaning}
-use Rattle.cops_read.specs.Answers.{SystemsAreSound, SystemsAreWithinLimits, RefusalsAreWithin}
+use Rattle.cops_read.specs.Answers.{SystemsAreSound, SystemsAreWithinLimits, SystemsTellTheirFile, RefusalsAreWithin}
 use Rattle.file_text.proofs.Within.{no_tokens_within, no_text_within}
-use Rattle.cops_systems.proofs.Sound.{system_is}
+use Rattle.cops_systems.proofs.Meant.{meant_is_system, meant_from_file, own_meant}
 use Rattle.cops_systems.proofs.Within.{is_within_limits}
 use Rattle.cops_systems.proofs.Places.{means_nothing_within}
 
 pub sound : SystemsAreSound
-sound bytes sys names h = system_is h.tree sys names h.meant
+sound bytes sys names h = meant_is_system h.tree sys names h.meant
 
 pub within_limits : SystemsAreWithinLimits
-within_limits bytes sys names h = is_within_limits h.tree sys names h.meant
+within_limits bytes sys names h own = is_within_limits h.tree sys names (own_meant h.tree sys names h.meant own)
+
+pub told : SystemsTellTheirFile
+told bytes sys names h = meant_from_file h.tree sys names h.meant
 
 pub refusals_within : RefusalsAreWithin
 refusals_within bytes (no_tokens cause) at h = no_tokens_within bytes cause at h

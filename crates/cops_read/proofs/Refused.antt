@@ -11,15 +11,14 @@ use Rattle.file_text.proofs.TextLaws.{one_tree_of, one_refusal_of, never_tree_an
 use Rattle.rewriting.specs.Rules.{System}
 use Rattle.cops_names.specs.NameTable.{NameTable}
 use Rattle.cops_systems.specs.Refusals.{MeaningCause, refusal_of}
-use Rattle.cops_systems.specs.File.{IsFile, IsSystemOf, FileCause, no_tokens, no_tree, no_meaning, IsNoFile}
+use Rattle.cops_systems.specs.File.{IsFile, IsMeant, FileCause, no_tokens, no_tree, no_meaning, IsNoFile}
 use Rattle.cops_read.specs.Answers.{OneSystem, OneRefusal, NeverSystemAndRefusal, SystemOrRefusal}
-use Rattle.cops_systems.proofs.Unique.{one_table, one_system}
-use Rattle.cops_systems.proofs.Means.{meaning}
+use Rattle.cops_systems.proofs.Meant.{one_meaning, meant_accepted, some_meaning}
 
 pub one_reading : OneSystem
 one_reading bytes sys other names others h g =
-    let again = subst (λ (t : FileTree). IsSystemOf t other others) (one_tree_of bytes g.tree h.tree g.spelled h.spelled) g.meant in
-    (one_system h.tree sys other names others h.meant again, one_table h.tree sys other names others h.meant again)
+    let again = subst (λ (t : FileTree). IsMeant t other others) (one_tree_of bytes g.tree h.tree g.spelled h.spelled) g.meant in
+    one_meaning h.tree sys other names others h.meant again
 
 same_refusal : (o : Option (MeaningCause × ℕ)) (c d : MeaningCause) (at place : ℕ) → o ≡ Some (c, at) → o ≡ Some (d, place) → (no_meaning c ≡ no_meaning d) × (at ≡ place)
 same_refusal o c d at place h g =
@@ -43,7 +42,7 @@ never_both bytes sys names (no_tokens c) at f h = never_tokens_and_refusal bytes
 never_both bytes sys names (no_tree c) at f h = never_tree_and_refusal bytes f.tree c at f.spelled h
 never_both bytes sys names (no_meaning c) at f h =
     let same = ap refusal_of (one_tree_of bytes h.tree f.tree h.spelled f.spelled) in
-    let none = f.meant.accepted in
+    let none = meant_accepted f.tree sys names f.meant in
     let some = h.refused in
     cc
 
@@ -52,7 +51,7 @@ module _ (bytes : List ℕ) where
   Either = ((sys : System) × (names : NameTable) × IsFile bytes sys names) ⊎ ((cause : FileCause) × (at : ℕ) × IsNoFile bytes cause at)
 
   of_tree : (file : FileTree) → IsText bytes file → (o : Option (MeaningCause × ℕ)) → refusal_of file ≡ o → Either
-  of_tree file spelled None e = let m = meaning file e in inl (m.system, m.names, record { tree = file; spelled = spelled; meant = m.is })
+  of_tree file spelled None e = let m = some_meaning file e in inl (m.system, m.names, record { tree = file; spelled = spelled; meant = m.is })
   of_tree file spelled (Some (cause, at)) e = inr (no_meaning cause, at, record { tree = file; spelled = spelled; refused = e })
 
   of_syntax : ((file : FileTree) × IsText bytes file) ⊎ ((cause : SyntaxCause) × (at : ℕ) × IsNoText bytes cause at) → Either

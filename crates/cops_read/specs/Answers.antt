@@ -2,6 +2,7 @@
 use Rattle.std.specs.Prelude.{◌≡◌, ◌≤◌, ◌⊎◌, ℕ, List, length, Result, Ok, Err}
 use Rattle.rewriting.specs.Rules.{System}
 use Rattle.rewriting.specs.Systems.{IsSystem}
+use Rattle.join_systems.specs.FileRelation.{IsFromFile}
 use Rattle.file_text.specs.Tokens.{bad_byte, long_id, open_comment}
 use Rattle.file_text.specs.Refusals.{unknown_block, repeated_block, other_condition_type, wrong_syntax, missing_rules}
 use Rattle.cops_names.specs.NameTable.{NameTable}
@@ -43,9 +44,14 @@ OneSystem = (bytes : List ℕ) (sys other : System) (names others : NameTable) �
 abbrev pub SystemsAreSound : Type 0
 SystemsAreSound = (bytes : List ℕ) (sys : System) (names : NameTable) → IsFile bytes sys names → IsSystem sys
 
--- and keeps the limits
+-- and keeps the limits, where it is that of the file's own rules
 abbrev pub SystemsAreWithinLimits : Type 0
-SystemsAreWithinLimits = (bytes : List ℕ) (sys : System) (names : NameTable) (file : IsFile bytes sys names) → IsWithinLimits file.tree.oriented sys names
+SystemsAreWithinLimits =
+    (bytes : List ℕ) (sys : System) (names : NameTable) (file : IsFile bytes sys names) → sys.own ≡ length sys.arities → IsWithinLimits file.tree.oriented sys names
+
+-- it is that of join rules, or all its symbols are the file's
+abbrev pub SystemsTellTheirFile : Type 0
+SystemsTellTheirFile = (bytes : List ℕ) (sys : System) (names : NameTable) → IsFile bytes sys names → IsFromFile sys
 
 -- two refusals of one text have one cause and one place
 abbrev pub OneRefusal : Type 0

@@ -1,7 +1,7 @@
 //! Reads the text of a conditional rewrite system: its syntax tree, then the system with names that this means.
 #![tactic(auto)]
 
-ghost use Rattle.cops_read.specs.Answers.{ReadAnswers, OneSystem, SystemsAreSound, SystemsAreWithinLimits, OneRefusal, RefusalsAreWithin, NeverSystemAndRefusal, SystemOrRefusal};
+ghost use Rattle.cops_read.specs.Answers.{ReadAnswers, OneSystem, SystemsAreSound, SystemsAreWithinLimits, SystemsTellTheirFile, OneRefusal, RefusalsAreWithin, NeverSystemAndRefusal, SystemOrRefusal};
 
 pub use cops_names::{NameSet, Names};
 use cops_syntax::parse;
@@ -24,6 +24,7 @@ pub fn one_reading()
     ensures one { OneSystem }
     ensures sound { SystemsAreSound }
     ensures limits { SystemsAreWithinLimits }
+    ensures told { SystemsTellTheirFile }
     ensures refusal { OneRefusal }
     ensures within { RefusalsAreWithin }
     ensures either { NeverSystemAndRefusal }

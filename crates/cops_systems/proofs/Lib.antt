@@ -11,5 +11,6 @@ pub mod Within
 pub mod Sound
 pub mod Wholes
 pub mod Means
+pub mod Meant
 pub mod Places
 pub mod Shaped

@@ -8,7 +8,7 @@ use Rattle.std.proofs.lemmas.Option.{slice_get-get_or}
 use Rattle.std.proofs.lemmas.List.Quantifiers.{position-Some}
 use Rattle.file_text.specs.Syntax.{Phrase, Phrases, word, call, none, more, count, ConditionTree, RuleTree, conditions_of, FileTree}
 use Rattle.rewriting.specs.Terms.{Term, var, app, Terms, nil, cons}
-use Rattle.rewriting.specs.Rules.{Condition, Rule, System}
+use Rattle.rewriting.specs.Rules.{Condition, Rule, System, system_of}
 use Rattle.cops_names.specs.NameTable.{NameTable, number_of}
 use Rattle.cops_names.specs.NameLists.{is_among, with_name}
 use Rattle.cops_systems.specs.Meaning.{with_symbol, sides, phrases_of_rule, variables_of, with_variables, with_all_variables, with_symbols, with_all_symbols, with_rule_symbols, rule_variables, IsSymbolOf, IsTermOf, AreTermsOf, AreConditionsOf, IsRuleOf, AreRulesOf}
@@ -160,7 +160,7 @@ meaning file accepted =
     let table = with_rule_symbols block [] file.rules in
     let m = rules_meant block table file.oriented [] 1 file.rules (sym (refusal_is file) ∙ accepted) (extends_refl table) in
     record {
-      system = record { arities = map (λ s. s.1) table; rules = m.rules };
+      system = system_of (map (λ s. s.1) table) m.rules;
       names = record { symbols = table; variables = map (rule_variables block) file.rules };
-      is = record { accepted = accepted; symbols = refl; arities = refl; variables = refl; rules = m.are };
+      is = record { accepted = accepted; symbols = refl; arities = refl; own = refl; variables = refl; rules = m.are };
     }

@@ -193,7 +193,7 @@ module _ (block : List (List ℕ)) (table : List (List ℕ × ℕ)) where
     rules_are oriented ts rs h.1 (All-tail (IsAllowed oriented) r rs a) (All-tail (λ list. length list ≤ 100) (rule_variables block t) (map (rule_variables block) ts) few),
   )
 
-conditions_few : (oriented : Bool) (rs : List Rule) → All (IsAllowed oriented) rs → condition_count rs ≤ 20 * length rs
+pub conditions_few : (oriented : Bool) (rs : List Rule) → All (IsAllowed oriented) rs → condition_count rs ≤ 20 * length rs
 conditions_few oriented [] h = omega arith
 conditions_few oriented (r ∷ rs) h = let here = (All-head (IsAllowed oriented) r rs h).few_conditions in let rest = conditions_few oriented rs (All-tail (IsAllowed oriented) r rs h) in omega arith
 

@@ -1,5 +1,5 @@
 -- A phrase means at most one term, and a tree at most one system.
-use Rattle.std.proofs.Common.{◌≡◌, ℕ, Bool, true, false, List, [], ◌∷◌, map, Option, Some, refl, sym, ap, ap₂, subst, ◌∙◌}
+use Rattle.std.proofs.Common.{◌≡◌, ℕ, Bool, true, false, List, [], ◌∷◌, map, Option, Some, refl, sym, ap, ap₂, subst, ◌∙◌, length}
 use Rattle.file_text.specs.Syntax.{Phrase, Phrases, word, call, none, more, ConditionTree, RuleTree, conditions_of, FileTree}
 use Rattle.rewriting.specs.Terms.{Term, var, app, Terms, nil, cons}
 use Rattle.rewriting.specs.Rules.{Condition, Rule, System}
@@ -68,5 +68,6 @@ pub one_system : (file : FileTree) (sys other : System) (names others : NameTabl
 one_system file sys other names others h g =
     let tables = one_table file sys other names others h g in
     let again = subst (λ (n : NameTable). AreRulesOf (variables_of file) n.symbols file.rules other.rules) (sym tables) g.rules in
-    ap₂ (λ (a : List ℕ) (r : List Rule). record { arities = a; rules = r }) (h.arities ∙ ap (λ (n : NameTable). map (λ s. s.1) n.symbols) tables ∙ sym g.arities)
-    (one_rules (variables_of file) names.symbols file.rules sys.rules other.rules h.rules again)
+    let symbols : sys.arities ≡ other.arities = h.arities ∙ ap (λ (n : NameTable). map (λ s. s.1) n.symbols) tables ∙ sym g.arities in
+    ap₂ (λ (a : List ℕ) (r : List Rule × ℕ). record { arities = a; rules = r.0; own = r.1 }) symbols
+    (ap₂ (λ (r : List Rule) (n : ℕ). (r, n)) (one_rules (variables_of file) names.symbols file.rules sys.rules other.rules h.rules again) (h.own ∙ ap length symbols ∙ sym g.own))

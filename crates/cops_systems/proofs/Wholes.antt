@@ -1,5 +1,5 @@
 -- From the rules that were read to the system that a file means.
-use Rattle.std.proofs.Common.{◌≡◌, ℕ, Bool, List, [], ◌∷◌, map, length, Err, sym, ap, subst, ◌∙◌}
+use Rattle.std.proofs.Common.{◌≡◌, ℕ, Bool, List, [], ◌∷◌, map, length, Err, sym, ap, subst, ◌∙◌, refl}
 use Rattle.file_text.specs.Syntax.{RuleTree, FileTree}
 use Rattle.cops_trees.specs.View as tree
 use Rattle.cops_trees.specs.View.{IsFileText}
@@ -31,7 +31,7 @@ module _ (file : FileTree) (text : FileText) (is_text : IsFileText text file) (o
     (same : other ≡ variables_of file) (first : start ≡ []) (all : texts ≡ text.rules.items) where
   -- the system of rules that were read
   abbrev system_of : List ℕ → List Rule → rules.System
-  system_of arities rs = record { arities = arities; rules = map rule_view rs }
+  system_of arities rs = rules.system_of arities (map rule_view rs)
 
   trees_are : tree.AreRules texts file.rules
   trees_are = subst (λ (rs : List RuleText). tree.AreRules rs file.rules) (sym all) is_text.rules
@@ -55,7 +55,7 @@ module _ (file : FileTree) (text : FileText) (is_text : IsFileText text file) (o
         subst (λ (b : Bool). AreRulesRead (variables_of file) b [] file.rules names.symbols names.variables rs) is_text.oriented h2
 
     meant : IsSystemOf file (system_of arities rs) names
-    meant = record { accepted = refusal_is file ∙ read_of.accepted; symbols = read_of.symbols; arities = is; variables = read_of.variables; rules = read_of.mean }
+    meant = record { accepted = refusal_is file ∙ read_of.accepted; symbols = read_of.symbols; arities = is; own = refl; variables = read_of.variables; rules = read_of.mean }
 
     pub rules_sound : IsSystem (system_of arities rs)
     rules_sound = system_is file (system_of arities rs) names meant

@@ -1,5 +1,7 @@
 -- What the parts of the reader answer that read rules.
-use Rattle.std.specs.Prelude.{◌≡◌, ℕ, ◌+◌, Bool, true, false, if◌then◌else◌, List, [], ◌∷◌, ◌++◌, map, length, Option, Some, None, option_map, Result, Ok, Err}
+use Rattle.std.specs.Prelude.{◌≡◌, ℕ, ◌+◌, Bool, true, false, if◌then◌else◌, List, [], ◌∷◌, ◌++◌, map, length, Option, Some, None, option_map, Result, Ok, Err, ◌||◌}
+use Rattle.std.specs.Option.{is_some}
+use Rattle.cops_trees.specs.declared.tree.RuleText.{RuleText}
 use Rattle.std.specs.Global.{Vec}
 use Rattle.file_text.specs.Syntax.{Phrase, ConditionTree, RuleTree, conditions_of, FileTree}
 use Rattle.rewriting.specs.Terms as math
@@ -12,10 +14,11 @@ use Rattle.term_core.specs.declared.systems.Rule.{Rule}
 use Rattle.cops_systems.specs.Meaning.{sides, phrases_of_rule, with_symbols, with_all_symbols, with_variables, with_all_variables, with_rule_symbols, rule_variables, IsTermOf, AreConditionsOf, IsRuleOf, AreRulesOf}
 use Rattle.cops_systems.specs.Uses.{Side, side_of}
 use Rattle.cops_names.specs.NameTable.{NameTable}
-use Rattle.cops_systems.specs.File.{IsSystemOf}
+use Rattle.cops_systems.specs.File.{IsSystemOf, IsJoinedFile, IsMeant}
 use Rattle.cops_systems.specs.Refusals.{MeaningCause, conditions_without_type, refusal_of}
 use Rattle.cops_systems.specs.Steps.{Tells, or_refusal, term_refusal}
 use Rattle.cops_systems.specs.declared.errors.ReadError.{ReadError}
+use Rattle.cops_systems.specs.declared.errors.ReadError.TheVariants.{NoMemory}
 
 -- at a bar
 abbrev pub bar_refusal : Bool → Option ℕ → Option (MeaningCause × ℕ)
@@ -130,7 +133,22 @@ module _ (block : List (List ℕ)) where
   RulesAnswers oriented table trees after listed (Ok v) = AreRulesRead oriented table trees after listed v.items
   RulesAnswers oriented table trees after listed (Err e) = Tells e (rules_refusal oriented table 1 trees)
 
+-- some rule has a bar
+abbrev pub have_bars : List RuleText → Bool
+have_bars [] = false
+have_bars (r ∷ rs) = is_some r.bar || have_bars rs
+
+-- the system of the rules of a tree, with its names, or the one refusal
+abbrev pub ListAnswers : FileTree → Result (rules.System × NameTable) ReadError → Type 0
+ListAnswers file (Ok found) = IsSystemOf file found.0 found.1
+ListAnswers file (Err e) = Tells e (refusal_of file)
+
+-- the oriented system of join rules; memory may be refused
+abbrev pub JoinedAnswers : FileTree → Result (rules.System × NameTable) ReadError → Type 0
+JoinedAnswers file (Ok found) = IsJoinedFile file found.0 found.1
+JoinedAnswers file (Err e) = e ≡ NoMemory
+
 -- the system that the tree of a file means, with its names, or the one refusal
 abbrev pub FileAnswers : FileTree → Result (rules.System × NameTable) ReadError → Type 0
-FileAnswers file (Ok found) = IsSystemOf file found.0 found.1
+FileAnswers file (Ok found) = IsMeant file found.0 found.1
 FileAnswers file (Err e) = Tells e (refusal_of file)

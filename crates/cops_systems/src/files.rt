@@ -1,17 +1,19 @@
-ghost use Rattle.std.specs.Prelude.{◌≡◌, [], IfOk, OnOk, map};
+ghost use Rattle.std.specs.Prelude.{◌≡◌, ◌&&◌, [], IfOk, OnOk, map};
 ghost use Rattle.file_text.specs.Syntax as syntax;
 ghost use Rattle.cops_trees.specs.View.{IsFileText, names_view};
 ghost use Rattle.cops_names.specs.NameLists.{with_names};
-ghost use Rattle.cops_systems.specs.RuleSteps.{FileAnswers};
+ghost use Rattle.cops_systems.specs.File.{IsSystemOf};
+ghost use Rattle.cops_systems.specs.RuleSteps.{have_bars, ListAnswers, FileAnswers, JoinedAnswers};
 
 use crate::block::Block;
 use crate::errors::ReadError;
 use crate::heads::{Scope, text_of};
 use crate::rules::read_rules;
 use cops_names::{NameSet, Names};
-use cops_trees::{FileText, Name};
+use cops_trees::{FileText, Name, RuleText};
+use join_names::add_join_names;
 use std::alloc::Global;
-use term_core::{NoMemory, System};
+use term_core::{NoMemory, System, join_system};
 
 fn add_names<'a>(block: &mut NameSet<'a>, names: &[Name<'a>]) -> Result<(), NoMemory>
     ensures { OnOk result (block.new ≡ with_names block.old (map (λ n. n.text) (names_view names.now))) }
@@ -31,13 +33,14 @@ fn read_block<'a>(alloc: Global, names: &[Name<'a>]) -> Result<Block<'a>, NoMemo
     Ok(Block::new(block))
 }
 
-/// The system that the tree means, with its names, or the first refusal.
-pub fn read_file<'a>(alloc: Global, file: FileText<'a>) -> Result<(System, Names), ReadError>
+// The system of the tree's rules, with its names, or the first refusal.
+fn read_list<'a>(alloc: Global, file: FileText<'a>) -> Result<(System, Names), ReadError>
     requires { (tree : syntax.FileTree) × IsFileText file tree }
-    ensures { (tree : syntax.FileTree) → IsFileText file.entry tree → FileAnswers tree result }
+    ensures { (tree : syntax.FileTree) → IsFileText file.entry tree → ListAnswers tree result }
 {
     let FileText {
         oriented,
+        joins: _,
         variables,
         rules,
     } = file;
@@ -50,4 +53,51 @@ pub fn read_file<'a>(alloc: Global, file: FileText<'a>) -> Result<(System, Names
     let arities = scope.names.arities(alloc)?;
     let system = System::of_sound(arities, rules);
     Ok((system, scope.names))
+}
+
+fn have_conditions(rules: &[RuleText]) -> bool
+    ensures { result ≡ have_bars rules.now }
+{
+    for rule in rules {
+        if rule.bar.is_some() {
+            return true;
+        }
+    }
+    false
+}
+
+// Whether there are conditions that ask for common reducts.
+fn asks_joins(file: &FileText) -> bool
+    ensures { result ≡ (file.now.joins && have_bars file.now.rules.items) }
+{
+    file.joins && have_conditions(&file.rules)
+}
+
+// The oriented system of join rules, with two symbols more.
+fn join_list(alloc: Global, list: System, names: Names) -> Result<(System, Names), ReadError>
+    requires { (tree : syntax.FileTree) × IsSystemOf tree list names }
+    ensures { (tree : syntax.FileTree) → IsSystemOf tree list names → JoinedAnswers tree result }
+{
+    let mut names = names;
+    add_join_names(alloc, &mut names)?;
+    let (arities, rules, _own) = list.into_parts();
+    // The rules are sound, and the limits leave room for `join`, so no fault is found.
+    match join_system(alloc, arities, rules) {
+        Ok(system) => Ok((system, names)),
+        Err(_) => Err(ReadError::NoMemory),
+    }
+}
+
+/// The system that the tree means, with its names, or the first refusal.
+pub fn read_file<'a>(alloc: Global, file: FileText<'a>) -> Result<(System, Names), ReadError>
+    requires { (tree : syntax.FileTree) × IsFileText file tree }
+    ensures { (tree : syntax.FileTree) → IsFileText file.entry tree → FileAnswers tree result }
+{
+    let joins = asks_joins(&file);
+    let (list, names) = read_list(alloc, file)?;
+    if joins {
+        join_list(alloc, list, names)
+    } else {
+        Ok((list, names))
+    }
 }

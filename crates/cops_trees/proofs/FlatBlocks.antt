@@ -3,7 +3,7 @@ use Rattle.std.proofs.Common.{◌≡◌, ℕ, Bool, true, false, cond, ◌&&◌,
 use Rattle.std.proofs.lemmas.Slice.Eq.{bytes_eq-Decides}
 use Rattle.std.specs.Str.{bytes_eq}
 use Rattle.file_text.specs.Syntax.{Name, RuleTree, FileTree}
-use Rattle.file_text.specs.Grammar.{Word, id, left_paren, right_paren, comma, bar, arrow, equal, Block, condition_type, variables, rules, has_block, oriented_in, variables_in, rules_in}
+use Rattle.file_text.specs.Grammar.{Word, id, left_paren, right_paren, comma, bar, arrow, equal, Block, condition_type, variables, rules, has_block, oriented_in, joins_in, variables_in, rules_in}
 use Rattle.file_text.specs.Refusals.{SyntaxCause, repeated_block, unknown_block, other_condition_type}
 use Rattle.file_text.proofs.Machine as machine
 use Rattle.cops_trees.specs.Flat as lists
@@ -12,18 +12,18 @@ use Rattle.cops_trees.proofs.FlatTrees.{rules_of, reading_of, shown, step_of, cl
 -- the identifiers of the first block of variables
 abbrev pub held : List Block → Option (List Name)
 held [] = None
-held (condition_type p q ∷ bs) = held bs
+held (condition_type p q j ∷ bs) = held bs
 held (variables p names ∷ bs) = Some names
 held (rules p rs ∷ bs) = held bs
 
 abbrev pub holding : List Block → lists.Stage → lists.Blocks
-holding bs s = record { oriented = oriented_in bs; variables = held bs; rules = option_map rules_of (rules_in bs); stage = s }
+holding bs s = record { oriented = oriented_in bs; joins = joins_in bs; variables = held bs; rules = option_map rules_of (rules_in bs); stage = s }
 
 abbrev pub stage_of : machine.State → lists.Stage
 stage_of (machine.outside bs) = lists.outside
 stage_of (machine.behind_bracket bs) = lists.at_title
 stage_of (machine.behind_type bs at) = lists.at_type
-stage_of (machine.behind_oriented bs at q) = lists.at_type_end
+stage_of (machine.behind_oriented bs at q joins) = lists.at_type_end joins
 stage_of (machine.in_variables bs at names) = lists.variables names
 stage_of (machine.in_rules bs at r) = lists.rules (reading_of r)
 
@@ -31,7 +31,7 @@ abbrev pub before : machine.State → List Block
 before (machine.outside bs) = bs
 before (machine.behind_bracket bs) = bs
 before (machine.behind_type bs at) = bs
-before (machine.behind_oriented bs at q) = bs
+before (machine.behind_oriented bs at q joins) = bs
 before (machine.in_variables bs at names) = bs
 before (machine.in_rules bs at r) = bs
 
@@ -46,91 +46,109 @@ mapped (Err c) = Err c
 abbrev pub IsFresh : machine.State → Type 0
 IsFresh (machine.outside bs) = Unit {0}
 IsFresh (machine.behind_bracket bs) = Unit {0}
-IsFresh (machine.behind_type bs at) = Unit {0}
-IsFresh (machine.behind_oriented bs at q) = Unit {0}
+IsFresh (machine.behind_type bs at) = oriented_in bs ≡ false
+IsFresh (machine.behind_oriented bs at q joins) = oriented_in bs ≡ false
 IsFresh (machine.in_variables bs at names) = held bs ≡ None
 IsFresh (machine.in_rules bs at r) = rules_in bs ≡ None
 
 -- ---- one more block
 
-same_blocks : (o o2 : Bool) (v v2 : Option (List Name)) (r r2 : Option (List lists.Rule)) (s : lists.Stage) → o ≡ o2 → v ≡ v2 → r ≡ r2
-    → (let b : lists.Blocks = record { oriented = o; variables = v; rules = r; stage = s } in b) ≡ record { oriented = o2; variables = v2; rules = r2; stage = s }
-same_blocks o o2 v v2 r r2 s e f g = rw (e, f, g) refl
+same_blocks : (o o2 j j2 : Bool) (v v2 : Option (List Name)) (r r2 : Option (List lists.Rule)) (s : lists.Stage) → o ≡ o2 → j ≡ j2 → v ≡ v2 → r ≡ r2
+    → (let b : lists.Blocks = record { oriented = o; joins = j; variables = v; rules = r; stage = s } in b) ≡ record { oriented = o2; joins = j2; variables = v2; rules = r2; stage = s }
+same_blocks o o2 j j2 v v2 r r2 s e h f g = rw (e, h, f, g) refl
 
-type_push : (bs : List Block) (p q : ℕ) → oriented_in (bs ++ condition_type p q ∷ []) ≡ true
-type_push [] p q = refl
-type_push (condition_type a b ∷ bs) p q = refl
-type_push (variables a names ∷ bs) p q = type_push bs p q
-type_push (rules a rs ∷ bs) p q = type_push bs p q
+type_push : (bs : List Block) (p q : ℕ) (j : Bool) → oriented_in (bs ++ condition_type p q j ∷ []) ≡ true
+type_push [] p q j = refl
+type_push (condition_type a b c ∷ bs) p q j = refl
+type_push (variables a names ∷ bs) p q j = type_push bs p q j
+type_push (rules a rs ∷ bs) p q j = type_push bs p q j
 
-type_keeps : (bs : List Block) (p q : ℕ) → (held (bs ++ condition_type p q ∷ []) ≡ held bs) × (rules_in (bs ++ condition_type p q ∷ []) ≡ rules_in bs)
-type_keeps [] p q = (refl, refl)
-type_keeps (condition_type a b ∷ bs) p q = type_keeps bs p q
-type_keeps (variables a names ∷ bs) p q = (refl, (type_keeps bs p q).1)
-type_keeps (rules a rs ∷ bs) p q = ((type_keeps bs p q).0, refl)
+joins_push : (bs : List Block) (p q : ℕ) (j : Bool) → oriented_in bs ≡ false → joins_in (bs ++ condition_type p q j ∷ []) ≡ j
+joins_push [] p q j e = refl
+joins_push (condition_type a b c ∷ bs) p q j e = absurd cc
+joins_push (variables a names ∷ bs) p q j e = joins_push bs p q j e
+joins_push (rules a rs ∷ bs) p q j e = joins_push bs p q j e
+
+variables_keep_joins : (bs : List Block) (p : ℕ) (names : List Name) → joins_in (bs ++ variables p names ∷ []) ≡ joins_in bs
+variables_keep_joins [] p names = refl
+variables_keep_joins (condition_type a b c ∷ bs) p names = refl
+variables_keep_joins (variables a vs ∷ bs) p names = variables_keep_joins bs p names
+variables_keep_joins (rules a rs ∷ bs) p names = variables_keep_joins bs p names
+
+rules_keep_joins : (bs : List Block) (p : ℕ) (rs : List RuleTree) → joins_in (bs ++ rules p rs ∷ []) ≡ joins_in bs
+rules_keep_joins [] p rs = refl
+rules_keep_joins (condition_type a b c ∷ bs) p rs = refl
+rules_keep_joins (variables a vs ∷ bs) p rs = rules_keep_joins bs p rs
+rules_keep_joins (rules a qs ∷ bs) p rs = rules_keep_joins bs p rs
+
+type_keeps : (bs : List Block) (p q : ℕ) (j : Bool) → (held (bs ++ condition_type p q j ∷ []) ≡ held bs) × (rules_in (bs ++ condition_type p q j ∷ []) ≡ rules_in bs)
+type_keeps [] p q j = (refl, refl)
+type_keeps (condition_type a b c ∷ bs) p q j = type_keeps bs p q j
+type_keeps (variables a names ∷ bs) p q j = (refl, (type_keeps bs p q j).1)
+type_keeps (rules a rs ∷ bs) p q j = ((type_keeps bs p q j).0, refl)
 
 variables_push : (bs : List Block) (p : ℕ) (names : List Name) → held bs ≡ None → held (bs ++ variables p names ∷ []) ≡ Some names
 variables_push [] p names e = refl
-variables_push (condition_type a b ∷ bs) p names e = variables_push bs p names e
+variables_push (condition_type a b c ∷ bs) p names e = variables_push bs p names e
 variables_push (variables a vs ∷ bs) p names e = absurd cc
 variables_push (rules a rs ∷ bs) p names e = variables_push bs p names e
 
 variables_keeps : (bs : List Block) (p : ℕ) (names : List Name) → (oriented_in (bs ++ variables p names ∷ []) ≡ oriented_in bs) × (rules_in (bs ++ variables p names ∷ []) ≡ rules_in bs)
 variables_keeps [] p names = (refl, refl)
-variables_keeps (condition_type a b ∷ bs) p names = (refl, (variables_keeps bs p names).1)
+variables_keeps (condition_type a b c ∷ bs) p names = (refl, (variables_keeps bs p names).1)
 variables_keeps (variables a vs ∷ bs) p names = variables_keeps bs p names
 variables_keeps (rules a rs ∷ bs) p names = ((variables_keeps bs p names).0, refl)
 
 rules_push : (bs : List Block) (p : ℕ) (rs : List RuleTree) → rules_in bs ≡ None → rules_in (bs ++ rules p rs ∷ []) ≡ Some rs
 rules_push [] p rs e = refl
-rules_push (condition_type a b ∷ bs) p rs e = rules_push bs p rs e
+rules_push (condition_type a b c ∷ bs) p rs e = rules_push bs p rs e
 rules_push (variables a vs ∷ bs) p rs e = rules_push bs p rs e
 rules_push (rules a qs ∷ bs) p rs e = absurd cc
 
 rules_keeps : (bs : List Block) (p : ℕ) (rs : List RuleTree) → (oriented_in (bs ++ rules p rs ∷ []) ≡ oriented_in bs) × (held (bs ++ rules p rs ∷ []) ≡ held bs)
 rules_keeps [] p rs = (refl, refl)
-rules_keeps (condition_type a b ∷ bs) p rs = (refl, (rules_keeps bs p rs).1)
+rules_keeps (condition_type a b c ∷ bs) p rs = (refl, (rules_keeps bs p rs).1)
 rules_keeps (variables a vs ∷ bs) p rs = ((rules_keeps bs p rs).0, refl)
 rules_keeps (rules a qs ∷ bs) p rs = rules_keeps bs p rs
 
-with_type_of : (bs : List Block) (p q : ℕ) (s : lists.Stage) → lists.with_type (holding bs s) ≡ holding (bs ++ condition_type p q ∷ []) lists.outside
-with_type_of bs p q s =
-    let k = type_keeps bs p q in
-    same_blocks _ _ _ _ _ _ _ (sym (type_push bs p q)) (sym k.0) (ap (option_map rules_of) (sym k.1))
+with_type_of : (bs : List Block) (p q : ℕ) (j : Bool) (s : lists.Stage) → oriented_in bs ≡ false → lists.with_type (holding bs s) j ≡ holding (bs ++ condition_type p q j ∷ []) lists.outside
+with_type_of bs p q j s e =
+    let k = type_keeps bs p q j in
+    same_blocks _ _ _ _ _ _ _ _ _ (sym (type_push bs p q j)) (sym (joins_push bs p q j e)) (sym k.0) (ap (option_map rules_of) (sym k.1))
 
 with_variables_of : (bs : List Block) (p : ℕ) (names : List Name) (s : lists.Stage) → held bs ≡ None → lists.with_variables (holding bs s) names ≡ holding (bs ++ variables p names ∷ []) lists.outside
 with_variables_of bs p names s e =
     let k = variables_keeps bs p names in
-    same_blocks _ _ _ _ _ _ _ (sym k.0) (sym (variables_push bs p names e)) (ap (option_map rules_of) (sym k.1))
+    same_blocks _ _ _ _ _ _ _ _ _ (sym k.0) (sym (variables_keep_joins bs p names)) (sym (variables_push bs p names e)) (ap (option_map rules_of) (sym k.1))
 
 with_rules_of : (bs : List Block) (p : ℕ) (rs : List RuleTree) (s : lists.Stage) → rules_in bs ≡ None → lists.with_rules (holding bs s) (rules_of rs) ≡ holding (bs ++ rules p rs ∷ []) lists.outside
 with_rules_of bs p rs s e =
     let k = rules_keeps bs p rs in
-    same_blocks _ _ _ _ _ _ _ (sym k.0) (sym k.1) (sym (ap (option_map rules_of) (rules_push bs p rs e)))
+    same_blocks _ _ _ _ _ _ _ _ _ (sym k.0) (sym (rules_keep_joins bs p rs)) (sym k.1) (sym (ap (option_map rules_of) (rules_push bs p rs e)))
 
 -- ---- titles
 
 has_type : (bs : List Block) → has_block bs (codes "CONDITIONTYPE") ≡ oriented_in bs
 has_type [] = refl
-has_type (condition_type p q ∷ bs) = refl
+has_type (condition_type p q j ∷ bs) = refl
 has_type (variables p names ∷ bs) = has_type bs
 has_type (rules p rs ∷ bs) = has_type bs
 
 has_variables : (bs : List Block) → has_block bs (codes "VAR") ≡ is_some (held bs)
 has_variables [] = refl
-has_variables (condition_type p q ∷ bs) = has_variables bs
+has_variables (condition_type p q j ∷ bs) = has_variables bs
 has_variables (variables p names ∷ bs) = refl
 has_variables (rules p rs ∷ bs) = has_variables bs
 
 has_rules : (bs : List Block) → has_block bs (codes "RULES") ≡ is_some (option_map rules_of (rules_in bs))
 has_rules [] = refl
-has_rules (condition_type p q ∷ bs) = has_rules bs
+has_rules (condition_type p q j ∷ bs) = has_rules bs
 has_rules (variables p names ∷ bs) = has_rules bs
 has_rules (rules p rs ∷ bs) = refl
 
 has_none : (bs : List Block) (text : List ℕ) → bytes_eq text (codes "CONDITIONTYPE") ≡ false → bytes_eq text (codes "VAR") ≡ false → bytes_eq text (codes "RULES") ≡ false → has_block bs text ≡ false
 has_none [] text a b c = refl
-has_none (condition_type p q ∷ bs) text a b c = ap (λ (t : Bool). t || has_block bs text) a ∙ has_none bs text a b c
+has_none (condition_type p q j ∷ bs) text a b c = ap (λ (t : Bool). t || has_block bs text) a ∙ has_none bs text a b c
 has_none (variables p names ∷ bs) text a b c = ap (λ (t : Bool). t || has_block bs text) b ∙ has_none bs text a b c
 has_none (rules p rs ∷ bs) text a b c = ap (λ (t : Bool). t || has_block bs text) c ∙ has_none bs text a b c
 
@@ -187,7 +205,7 @@ not_mapped (Some x) e = absurd cc
 
 title_fresh : (bs : List Block) (at : ℕ) (a b c h : Bool) (t : machine.State) → Tests bs a b c h → cond h (Err repeated_block) (begun bs at a b c) ≡ Ok t → IsFresh t
 title_fresh bs at a b c true t k e = absurd cc
-title_fresh bs at true b c false t k e = subst IsFresh (ok_is (machine.behind_type bs at) t e) tt
+title_fresh bs at true b c false t k e = subst IsFresh (ok_is (machine.behind_type bs at) t e) (sym (k.typed refl))
 title_fresh bs at false true c false t k e = subst IsFresh (ok_is (machine.in_variables bs at []) t e) (not_some (held bs) (k.named refl))
 title_fresh bs at false false true false t k e = subst IsFresh (ok_is (machine.in_rules bs at machine.no_rule) t e) (not_mapped (rules_in bs) (k.ruled refl))
 title_fresh bs at false false false false t k e = absurd cc
@@ -263,7 +281,14 @@ rule_step_of bs at s r equal e = other_step_of bs at s r.rules r.part r.opens r.
 -- ---- a step
 
 type_step_of : (bs : List Block) (at : ℕ) (name : Name) → lists.type_step (holding bs lists.at_type) name ≡ mapped (machine.step_type bs at (id name))
-type_step_of bs at name = elim (bytes_eq name.text (codes "ORIENTED")) as (λ b. cond b (Ok (lists.at_stage (holding bs lists.at_type) lists.at_type_end)) (Err other_condition_type) ≡ mapped (cond b (Ok (machine.behind_oriented bs at name.at)) (Err other_condition_type))) [ true ↦ refl | false ↦ refl ]
+type_step_of bs at name = by_tests (bytes_eq name.text (codes "ORIENTED")) (bytes_eq name.text (codes "JOIN"))
+  where
+    by_tests : (a b : Bool)
+        → cond a (Ok (lists.at_stage (holding bs lists.at_type) (lists.at_type_end false))) (cond b (Ok (lists.at_stage (holding bs lists.at_type) (lists.at_type_end true))) (Err other_condition_type))
+        ≡ mapped (cond a (Ok (machine.behind_oriented bs at name.at false)) (cond b (Ok (machine.behind_oriented bs at name.at true)) (Err other_condition_type)))
+    by_tests true b = refl
+    by_tests false true = refl
+    by_tests false false = refl
 
 -- a word leads both readers the same way
 pub block_step_of : (s : machine.State) (w : Word) → IsFresh s → lists.step_blocks (blocks_of s) w ≡ mapped (machine.step s w)
@@ -273,8 +298,8 @@ block_step_of (machine.behind_bracket bs) (id name) fresh = title_of bs name
 block_step_of (machine.behind_bracket bs) _ fresh = refl
 block_step_of (machine.behind_type bs at) (id name) fresh = type_step_of bs at name
 block_step_of (machine.behind_type bs at) _ fresh = refl
-block_step_of (machine.behind_oriented bs at q) right_paren fresh = ap (λ (b : lists.Blocks). Ok b) (with_type_of bs at q lists.at_type_end)
-block_step_of (machine.behind_oriented bs at q) _ fresh = refl
+block_step_of (machine.behind_oriented bs at q joins) right_paren fresh = ap (λ (b : lists.Blocks). Ok b) (with_type_of bs at q joins (lists.at_type_end joins) fresh)
+block_step_of (machine.behind_oriented bs at q joins) _ fresh = refl
 block_step_of (machine.in_variables bs at names) (id name) fresh = refl
 block_step_of (machine.in_variables bs at names) right_paren fresh = ap (λ (b : lists.Blocks). Ok b) (with_variables_of bs at names (lists.variables names) fresh)
 block_step_of (machine.in_variables bs at names) _ fresh = refl
@@ -285,19 +310,21 @@ rules_fresh bs at (Some rs) q t fresh e = subst IsFresh (ok_is (machine.outside 
 rules_fresh bs at None None t fresh e = absurd cc
 rules_fresh bs at None (Some r) t fresh e = subst IsFresh (ok_is (machine.in_rules bs at r) t e) fresh
 
-type_fresh : (bs : List Block) (at q : ℕ) (b : Bool) (c : SyntaxCause) (t : machine.State) → cond b (Ok (machine.behind_oriented bs at q)) (Err c) ≡ Ok t → IsFresh t
-type_fresh bs at q true c t e = subst IsFresh (ok_is (machine.behind_oriented bs at q) t e) tt
-type_fresh bs at q false c t e = absurd cc
+type_fresh : (bs : List Block) (at q : ℕ) (a b : Bool) (t : machine.State) → oriented_in bs ≡ false
+    → cond a (Ok (machine.behind_oriented bs at q false)) (cond b (Ok (machine.behind_oriented bs at q true)) (Err other_condition_type)) ≡ Ok t → IsFresh t
+type_fresh bs at q true b t fresh e = subst IsFresh (ok_is (machine.behind_oriented bs at q false) t e) fresh
+type_fresh bs at q false true t fresh e = subst IsFresh (ok_is (machine.behind_oriented bs at q true) t e) fresh
+type_fresh bs at q false false t fresh e = absurd cc
 
 pub fresh_next : (s t : machine.State) (w : Word) → IsFresh s → machine.step s w ≡ Ok t → IsFresh t
 fresh_next (machine.outside bs) t left_paren fresh e = subst IsFresh (ok_is (machine.behind_bracket bs) t e) tt
 fresh_next (machine.outside bs) t _ fresh e = absurd cc
 fresh_next (machine.behind_bracket bs) t (id name) fresh e = title_fresh bs name.at _ _ _ _ t (tests bs name.text) e
 fresh_next (machine.behind_bracket bs) t _ fresh e = absurd cc
-fresh_next (machine.behind_type bs at) t (id name) fresh e = type_fresh bs at name.at _ _ t e
+fresh_next (machine.behind_type bs at) t (id name) fresh e = type_fresh bs at name.at _ _ t fresh e
 fresh_next (machine.behind_type bs at) t _ fresh e = absurd cc
-fresh_next (machine.behind_oriented bs at q) t right_paren fresh e = subst IsFresh (ok_is (machine.outside (bs ++ condition_type at q ∷ [])) t e) tt
-fresh_next (machine.behind_oriented bs at q) t _ fresh e = absurd cc
+fresh_next (machine.behind_oriented bs at q joins) t right_paren fresh e = subst IsFresh (ok_is (machine.outside (bs ++ condition_type at q joins ∷ [])) t e) tt
+fresh_next (machine.behind_oriented bs at q joins) t _ fresh e = absurd cc
 fresh_next (machine.in_variables bs at names) t (id name) fresh e = subst IsFresh (ok_is (machine.in_variables bs at (names ++ name ∷ [])) t e) fresh
 fresh_next (machine.in_variables bs at names) t right_paren fresh e = subst IsFresh (ok_is (machine.outside (bs ++ variables at names ∷ [])) t e) tt
 fresh_next (machine.in_variables bs at names) t _ fresh e = absurd cc
@@ -307,14 +334,14 @@ pub can_step_of : (s : machine.State) → lists.CanStep (stage_of s)
 can_step_of (machine.outside bs) = tt
 can_step_of (machine.behind_bracket bs) = tt
 can_step_of (machine.behind_type bs at) = tt
-can_step_of (machine.behind_oriented bs at q) = tt
+can_step_of (machine.behind_oriented bs at q joins) = tt
 can_step_of (machine.in_variables bs at names) = tt
 can_step_of (machine.in_rules bs at r) = can_step r.opens r.last
 
 -- ---- the end
 
 abbrev pub file_of : FileTree → lists.File
-file_of f = record { oriented = f.oriented; variables = f.variables; rules = rules_of f.rules }
+file_of f = record { oriented = f.oriented; joins = f.joins; variables = f.variables; rules = rules_of f.rules }
 
 abbrev pub mapped_file : Result FileTree SyntaxCause → Result lists.File SyntaxCause
 mapped_file (Ok f) = Ok (file_of f)
@@ -322,18 +349,18 @@ mapped_file (Err c) = Err c
 
 names_held : (bs : List Block) → lists.names_or_none (held bs) ≡ variables_in bs
 names_held [] = refl
-names_held (condition_type p q ∷ bs) = names_held bs
+names_held (condition_type p q j ∷ bs) = names_held bs
 names_held (variables p names ∷ bs) = refl
 names_held (rules p rs ∷ bs) = names_held bs
 
-whole_of : (bs : List Block) (o : Option (List RuleTree)) → lists.whole_file (oriented_in bs) (held bs) (option_map rules_of o) ≡ mapped_file (machine.file_or_missing bs o)
+whole_of : (bs : List Block) (o : Option (List RuleTree)) → lists.whole_file (oriented_in bs) (joins_in bs) (held bs) (option_map rules_of o) ≡ mapped_file (machine.file_or_missing bs o)
 whole_of bs None = refl
-whole_of bs (Some rs) = ap (λ (vs : List Name). Ok record { oriented = oriented_in bs; variables = vs; rules = rules_of rs }) (names_held bs)
+whole_of bs (Some rs) = ap (λ (vs : List Name). Ok record { oriented = oriented_in bs; joins = joins_in bs; variables = vs; rules = rules_of rs }) (names_held bs)
 
 pub finish_of : (s : machine.State) → lists.finish (blocks_of s) ≡ mapped_file (machine.finish s)
 finish_of (machine.outside bs) = whole_of bs (rules_in bs)
 finish_of (machine.behind_bracket bs) = refl
 finish_of (machine.behind_type bs at) = refl
-finish_of (machine.behind_oriented bs at q) = refl
+finish_of (machine.behind_oriented bs at q joins) = refl
 finish_of (machine.in_variables bs at names) = refl
 finish_of (machine.in_rules bs at r) = refl

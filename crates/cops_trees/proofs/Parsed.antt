@@ -56,6 +56,7 @@ are_rules (r ∷ rs) (t ∷ ts) e =
 is_file : (f : FileText) (t : syntax.FileTree) → file_view f ≡ file_of t → IsFileText f t
 is_file f t e = record {
   oriented = ap (λ (g : lists.File). g.oriented) e;
+  joins = ap (λ (g : lists.File). g.joins) e;
   variables = ap (λ (g : lists.File). g.variables) e;
   rules = are_rules f.rules.items t.rules (ap (λ (g : lists.File). g.rules) e);
 }

@@ -72,13 +72,14 @@ abbrev pub stage_view : Stage → flat.Stage
 stage_view Outside = flat.outside
 stage_view Title = flat.at_title
 stage_view ConditionType = flat.at_type
-stage_view TypeEnd = flat.at_type_end
+stage_view (TypeEnd joins) = flat.at_type_end joins
 stage_view (Variables names) = flat.variables (names_view names.items)
 stage_view (Rules r) = flat.rules (reading_view r)
 
 abbrev pub blocks_view : Blocks → flat.Blocks
 blocks_view b = record {
   oriented = b.oriented;
+  joins = b.joins;
   variables = option_map (λ v. names_view v.items) b.variables;
   rules = option_map (λ v. rules_view v.items) b.rules;
   stage = stage_view b.stage;
@@ -97,7 +98,7 @@ passed None b = Ok (blocks_view b)
 passed (Some refusal) b = Err (cause_of refusal)
 
 abbrev pub file_view : FileText → flat.File
-file_view f = record { oriented = f.oriented; variables = names_view f.variables.items; rules = rules_view f.rules.items }
+file_view f = record { oriented = f.oriented; joins = f.joins; variables = names_view f.variables.items; rules = rules_view f.rules.items }
 
 abbrev pub ended_file : Result FileText SyntaxRefusal → Result flat.File SyntaxCause
 ended_file (Ok f) = Ok (file_view f)

@@ -48,5 +48,6 @@ names_view ns = map name_view ns
 
 pub record IsFileText (file : FileText) (tree : syntax.FileTree) : Type 0 where
   pub oriented : file.oriented ≡ tree.oriented
+  pub joins : file.joins ≡ tree.joins
   pub variables : names_view file.variables.items ≡ tree.variables
   pub rules : AreRules file.rules.items tree.rules

@@ -26,7 +26,7 @@ enum Stage<'a> {
     Outside,
     Title,
     ConditionType,
-    TypeEnd,
+    TypeEnd(bool),
     Variables(Vec<Name<'a>>),
     Rules(Reading<'a>),
 }
@@ -36,6 +36,7 @@ enum Stage<'a> {
 #[derive(Drop)]
 pub struct Blocks<'a> {
     oriented: bool,
+    joins: bool,
     variables: Option<Vec<Name<'a>>>,
     rules: Option<Vec<RuleText<'a>>>,
     stage: Stage<'a>,
@@ -48,6 +49,7 @@ impl<'a> Blocks<'a> {
     {
         Blocks {
             oriented: false,
+            joins: false,
             variables: None,
             rules: None,
             stage: Stage::Outside,
@@ -106,7 +108,10 @@ impl<'a> Blocks<'a> {
             return Some(SyntaxRefusal::Syntax);
         };
         if name.is(b"ORIENTED") {
-            self.stage = Stage::TypeEnd;
+            self.stage = Stage::TypeEnd(false);
+            None
+        } else if name.is(b"JOIN") {
+            self.stage = Stage::TypeEnd(true);
             None
         } else {
             Some(SyntaxRefusal::ConditionTypeOther)
@@ -114,12 +119,13 @@ impl<'a> Blocks<'a> {
     }
 
     // A word behind a condition type.
-    fn close_type(&mut self, word: Word<'a>) -> Option<SyntaxRefusal>
-        ensures { passed result self.new ≡ flat.stage_step (blocks_view self.old) flat.at_type_end (word_view word.entry) }
+    fn close_type(&mut self, joins: bool, word: Word<'a>) -> Option<SyntaxRefusal>
+        ensures { passed result self.new ≡ flat.stage_step (blocks_view self.old) (flat.at_type_end joins) (word_view word.entry) }
     {
         match word {
             Word::RightParen => {
                 self.oriented = true;
+                self.joins = joins;
                 self.stage = Stage::Outside;
                 None
             }
@@ -161,7 +167,10 @@ impl<'a> Blocks<'a> {
             Stage::Outside => Ok(self.begin(word)),
             Stage::Title => Ok(self.titled(alloc, word)),
             Stage::ConditionType => Ok(self.typed(word)),
-            Stage::TypeEnd => Ok(self.close_type(word)),
+            Stage::TypeEnd(joins) => {
+                let joins = *joins;
+                Ok(self.close_type(joins, word))
+            }
             Stage::Variables(names) => match word {
                 Word::Id(name) => {
                     names.push(name)?;
@@ -194,6 +203,7 @@ impl<'a> Blocks<'a> {
     {
         let Blocks {
             oriented,
+            joins,
             variables,
             rules,
             stage,
@@ -210,6 +220,7 @@ impl<'a> Blocks<'a> {
         };
         Ok(FileText {
             oriented,
+            joins,
             variables,
             rules,
         })

@@ -42,10 +42,11 @@ pub struct RuleText<'a> {
     pub conditions: Vec<CondText<'a>>,
 }
 
-/// A file: whether it has a condition type, the identifiers of its variables' block, and its rules.
+/// A file: whether it has a condition type, and whether that is `JOIN`, the identifiers of its variables' block, and its rules.
 #[derive(Debug, Drop)]
 pub struct FileText<'a> {
     pub oriented: bool,
+    pub joins: bool,
     pub variables: Vec<Name<'a>>,
     pub rules: Vec<RuleText<'a>>,
 }

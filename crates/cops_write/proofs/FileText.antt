@@ -2,7 +2,7 @@
 use Rattle.std.proofs.Common.{◌≡◌, ℕ, Bool, true, false, List, [], ◌∷◌, ◌++◌, map, Some, refl, sym, ap, ap₂, ◌∙◌, subst, append_assoc, append-nil, codes}
 use Rattle.file_text.specs.declared.Kind.TheVariants.{Id, LeftParen, RightParen}
 use Rattle.file_text.specs.Syntax.{Name, RuleTree, FileTree}
-use Rattle.file_text.specs.Grammar.{Word, id, left_paren, right_paren, spelled_rules, Block, condition_type, variables, rules, spelled_block, spelled_blocks, oriented_in, variables_in, rules_in, are_distinct, SpellTree}
+use Rattle.file_text.specs.Grammar.{Word, id, left_paren, right_paren, spelled_rules, Block, condition_type, variables, rules, spelled_block, spelled_blocks, oriented_in, joins_in, variables_in, rules_in, are_distinct, SpellTree}
 use Rattle.file_text.specs.Texts.{words_of, IsText}
 use Rattle.file_text.proofs.Names.{IsName, ends_id, condition_type_name, oriented_name, variables_name, rules_name}
 use Rattle.file_text.proofs.Lexemes.{Lexeme, lexeme, Reads, reads_end, reads_white, reads_id, reads_block, reads_closing_bracket, spelled}
@@ -144,8 +144,9 @@ record Blocks (names : List (List ℕ)) (rs : List RuleTree) (ws : List Word) : 
   variables : map (λ n. n.text) (variables_in blocks) ≡ names
   whole : rules_in blocks ≡ Some trees
   plain : oriented_in blocks ≡ false
+  no_joins : joins_in blocks ≡ false
   distinct : are_distinct blocks ≡ true
-  also : (p q : ℕ) → are_distinct (condition_type p q ∷ blocks) ≡ true
+  also : (p q : ℕ) → are_distinct (condition_type p q false ∷ blocks) ≡ true
 
 blocks_behind : (names : List (List ℕ)) (rs : List RuleTree) (ws : List Word) → Have ws (block_tokens names (last_tokens rs)) → Blocks names rs ws
 blocks_behind [] rs ws e =
@@ -158,6 +159,7 @@ blocks_behind [] rs ws e =
       variables = refl;
       whole = refl;
       plain = refl;
+      no_joins = refl;
       distinct = refl;
       also = λ p q. refl;
     }
@@ -179,6 +181,7 @@ blocks_behind (x ∷ xs) rs ws e =
       variables = p.same;
       whole = refl;
       plain = refl;
+      no_joins = refl;
       distinct = refl;
       also = λ p q. refl;
     }
@@ -188,6 +191,7 @@ pub record Written (conditional : Bool) (names : List (List ℕ)) (rs : List Rul
   pub tree : FileTree
   pub spelled : IsText (file_text conditional names rs) tree
   pub oriented : tree.oriented ≡ conditional
+  pub joins : tree.joins ≡ false
   pub variables : map (λ n. n.text) tree.variables ≡ names
   pub alike : RulesAlike rs tree.rules
 
@@ -196,6 +200,7 @@ record WholeFile (conditional : Bool) (names : List (List ℕ)) (rs : List RuleT
   tree : FileTree
   whole : SpellTree ws tree
   oriented : tree.oriented ≡ conditional
+  joins : tree.joins ≡ false
   variables : map (λ n. n.text) tree.variables ≡ names
   alike : RulesAlike rs tree.rules
 
@@ -203,9 +208,10 @@ whole_file : (conditional : Bool) (names : List (List ℕ)) (rs : List RuleTree)
 whole_file false names rs ws e =
     let b = blocks_behind names rs ws e in
     record {
-      tree = record { oriented = false; variables = variables_in b.blocks; rules = b.trees };
-      whole = record { blocks = b.blocks; spelled = b.split; distinct = b.distinct; oriented = sym b.plain; variables = refl; rules = b.whole };
+      tree = record { oriented = false; joins = false; variables = variables_in b.blocks; rules = b.trees };
+      whole = record { blocks = b.blocks; spelled = b.split; distinct = b.distinct; oriented = sym b.plain; joins = sym b.no_joins; variables = refl; rules = b.whole };
       oriented = refl;
+      joins = refl;
       variables = b.variables;
       alike = b.alike;
     }
@@ -216,14 +222,15 @@ whole_file true names rs ws e =
     let m = next_name n.rest (codes "ORIENTED") (right ∷ rest) n.left in
     let c = next_fixed m.rest right rest tt m.left in
     let b = blocks_behind names rs c.rest c.left in
-    let split : ws ≡ spelled_blocks (condition_type n.name.at m.name.at ∷ b.blocks) =
+    let split : ws ≡ spelled_blocks (condition_type n.name.at m.name.at false ∷ b.blocks) =
     o.split ∙ ap (λ (w : List Word). left_paren ∷ w) (n.split ∙ titled n.name (codes "CONDITIONTYPE") n.rest n.same
     ∙ ap (λ (w : List Word). id (record { at = n.name.at; text = codes "CONDITIONTYPE" }) ∷ w) (m.split ∙ titled m.name (codes "ORIENTED") m.rest m.same
     ∙ ap (λ (w : List Word). id (record { at = m.name.at; text = codes "ORIENTED" }) ∷ w) (c.split ∙ ap (λ (w : List Word). right_paren ∷ w) b.split))) in
     record {
-      tree = record { oriented = true; variables = variables_in b.blocks; rules = b.trees };
-      whole = record { blocks = condition_type n.name.at m.name.at ∷ b.blocks; spelled = split; distinct = b.also n.name.at m.name.at; oriented = refl; variables = refl; rules = b.whole };
+      tree = record { oriented = true; joins = false; variables = variables_in b.blocks; rules = b.trees };
+      whole = record { blocks = condition_type n.name.at m.name.at false ∷ b.blocks; spelled = split; distinct = b.also n.name.at m.name.at; oriented = refl; joins = refl; variables = refl; rules = b.whole };
       oriented = refl;
+      joins = refl;
       variables = b.variables;
       alike = b.alike;
     }
@@ -238,6 +245,7 @@ written conditional names rs h k =
       tree = w.tree;
       spelled = record { tokens = s.0; spelled = s.1; whole = w.whole };
       oriented = w.oriented;
+      joins = w.joins;
       variables = w.variables;
       alike = w.alike;
     }

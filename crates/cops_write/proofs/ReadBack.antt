@@ -1,5 +1,5 @@
 -- What is written of a file's system is a file of it.
-use Rattle.std.proofs.Common.{◌≡◌, ◌⊎◌, inl, inr, ℕ, Bool, true, List, [], ◌∷◌, ◌++◌, map, sym, ap, ap₂, ◌∙◌, subst, codes}
+use Rattle.std.proofs.Common.{◌≡◌, ◌⊎◌, inl, inr, ℕ, Bool, true, List, [], ◌∷◌, ◌++◌, map, sym, ap, ap₂, ◌∙◌, subst, codes, ◌&&◌}
 use Rattle.std.specs.Str.{bytes_eq}
 use Rattle.file_text.specs.Syntax.{FileTree}
 use Rattle.file_text.specs.Texts.{IsText}
@@ -9,7 +9,8 @@ use Rattle.cops_names.specs.NameTable.{NameTable}
 use Rattle.cops_names.specs.NameLists.{is_among, with_names}
 use Rattle.cops_systems.specs.Meaning.{variables_of, rule_variables}
 use Rattle.cops_systems.specs.Uses.{events}
-use Rattle.cops_systems.specs.File.{IsSystemOf, IsFile}
+use Rattle.cops_systems.specs.File.{IsSystemOf, have_conditions, IsFile}
+use Rattle.cops_systems.proofs.Meant.{own_meant}
 use Rattle.cops_write.specs.Text.{block_text, type_text, system_text}
 use Rattle.cops_write.specs.Laws.{WrittenIsRead}
 use Rattle.cops_write.proofs.Trees.{RulesHaveNames}
@@ -78,16 +79,17 @@ module _ (tree : FileTree) (sys : System) (names : NameTable) (m : IsSystemOf tr
           (events_alike block other w.tree.oriented 1 tree.rules w.tree.rules w.alike agree (λ e. w.oriented ∙ e)) m.accepted;
       symbols = m.symbols ∙ same_table block other names.symbols [] tree.rules w.tree.rules sys.rules w.alike agree m.rules;
       arities = m.arities;
+      own = m.own;
       variables = m.variables ∙ same_lists block other names.symbols tree.rules w.tree.rules sys.rules w.alike agree m.rules;
       rules = rules_mean block other names.symbols tree.rules w.tree.rules sys.rules w.alike agree m.rules;
     }
 
     file_again : IsFile (system_text names sys) sys names
-    file_again = record { tree = w.tree; spelled = subst (λ (bytes : List ℕ). IsText bytes w.tree) (sym same_text) w.spelled; meant = means_it }
+    file_again = record { tree = w.tree; spelled = subst (λ (bytes : List ℕ). IsText bytes w.tree) (sym same_text) w.spelled; meant = inl (ap (λ (b : Bool). b && have_conditions w.tree.rules) w.joins, means_it) }
 
 -- what is written of the system that a tree means is a file of it, where each identifier of the tree is one of a text
 pub tree_is_written : (tree : FileTree) (sys : System) (names : NameTable) → IsSystemOf tree sys names → RulesHaveNames tree.rules → IsFile (system_text names sys) sys names
 tree_is_written tree sys names m have = file_again tree sys names m have (again tree sys names m have)
 
 pub read_back : WrittenIsRead
-read_back bytes sys names h = tree_is_written h.tree sys names h.meant (text_has bytes h.tree h.spelled)
+read_back bytes sys names h own = tree_is_written h.tree sys names (own_meant h.tree sys names h.meant own) (text_has bytes h.tree h.spelled)

@@ -72,7 +72,8 @@ title_goes k bs at text s ws free e =
     ∙ goes_step k (behind_bracket bs) s (id_at at text) ws (ap (λ (b : Bool). if b then None else taken (titled bs record { at = at; text = text })) free ∙ e)
 
 pub block_goes : (k : Bool) (bs : List Block) (b : Block) → (has_block bs (title b) && k) ≡ false → goes k (outside bs) (spelled_block b) ≡ Some (outside (bs ++ b ∷ []))
-block_goes k bs (condition_type p q) free = title_goes k bs p (codes "CONDITIONTYPE") (behind_type bs p) (id_at q (codes "ORIENTED") ∷ right_paren ∷ []) free refl
+block_goes k bs (condition_type p q false) free = title_goes k bs p (codes "CONDITIONTYPE") (behind_type bs p) (id_at q (codes "ORIENTED") ∷ right_paren ∷ []) free refl
+block_goes k bs (condition_type p q true) free = title_goes k bs p (codes "CONDITIONTYPE") (behind_type bs p) (id_at q (codes "JOIN") ∷ right_paren ∷ []) free refl
 block_goes k bs (variables p names) free = title_goes k bs p (codes "VAR") (in_variables bs p []) (map (λ n. id n) names ++ right_paren ∷ []) free refl ∙ names_go k bs p [] names
 block_goes k bs (rules p rs) free =
     let all = rules_accepted rs in

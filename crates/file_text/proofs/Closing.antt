@@ -1,8 +1,8 @@
 -- Each state can be closed: some words lead from it to whole blocks.
-use Rattle.std.proofs.Common.{◌≡◌, ℕ, List, [], ◌∷◌, ◌++◌, map, Some, None, refl, sym, ap, ◌∙◌, append_assoc, codes}
+use Rattle.std.proofs.Common.{◌≡◌, ℕ, List, [], ◌∷◌, ◌++◌, map, Some, None, refl, sym, ap, ◌∙◌, append_assoc, codes, false}
 use Rattle.std.proofs.lemmas.List.{append-nil}
 use Rattle.file_text.specs.Syntax.{Name, Phrase, word, call, none, with_last, ConditionTree, RuleTree}
-use Rattle.file_text.specs.Grammar.{Word, id, left_paren, right_paren, arrow, equal, spelled, spelled_rule, spelled_rules, id_at, Block, condition_type, variables, rules, spelled_block, spelled_blocks}
+use Rattle.file_text.specs.Grammar.{Word, id, left_paren, right_paren, arrow, equal, spelled, spelled_rule, spelled_rules, id_at, type_text, Block, condition_type, variables, rules, spelled_block, spelled_blocks}
 use Rattle.file_text.proofs.Machine.{Last, want, first, bare, done, Opens, Part, left, right, condition_left, condition_right, Reading, guard_with, ended, State, outside, behind_bracket, behind_type, behind_oriented, in_variables, in_rules}
 use Rattle.file_text.proofs.ReadingWords.{commaed, begun, open_words, last_words, part_words, reading_words, arguments-last, rules-last, ended_reads}
 
@@ -11,7 +11,7 @@ abbrev pub state_words : State → List Word
 state_words (outside bs) = spelled_blocks bs
 state_words (behind_bracket bs) = spelled_blocks bs ++ left_paren ∷ []
 state_words (behind_type bs at) = spelled_blocks bs ++ left_paren ∷ id_at at (codes "CONDITIONTYPE") ∷ []
-state_words (behind_oriented bs at oriented) = spelled_blocks bs ++ left_paren ∷ id_at at (codes "CONDITIONTYPE") ∷ id_at oriented (codes "ORIENTED") ∷ []
+state_words (behind_oriented bs at oriented joins) = spelled_blocks bs ++ left_paren ∷ id_at at (codes "CONDITIONTYPE") ∷ id_at oriented (type_text joins) ∷ []
 state_words (in_variables bs at names) = spelled_blocks bs ++ left_paren ∷ id_at at (codes "VAR") ∷ map (λ n. id n) names
 state_words (in_rules bs at r) = spelled_blocks bs ++ left_paren ∷ id_at at (codes "RULES") ∷ reading_words r
 
@@ -103,9 +103,9 @@ pub state_closes : (s : State) → (rest : List Word) × (bs : List Block) × (s
 state_closes (outside bs) = ([], bs, append-nil (spelled_blocks bs))
 state_closes (behind_bracket bs) = (id_at 0 (codes "VAR") ∷ right_paren ∷ [], bs ++ variables 0 [] ∷ [], block_closes bs (left_paren ∷ []) _ (variables 0 []) refl)
 state_closes (behind_type bs at) =
-    (id_at 0 (codes "ORIENTED") ∷ right_paren ∷ [], bs ++ condition_type at 0 ∷ [], block_closes bs (left_paren ∷ id_at at (codes "CONDITIONTYPE") ∷ []) _ (condition_type at 0) refl)
-state_closes (behind_oriented bs at oriented) =
-    (right_paren ∷ [], bs ++ condition_type at oriented ∷ [], block_closes bs (left_paren ∷ id_at at (codes "CONDITIONTYPE") ∷ id_at oriented (codes "ORIENTED") ∷ []) _ (condition_type at oriented) refl)
+    (id_at 0 (codes "ORIENTED") ∷ right_paren ∷ [], bs ++ condition_type at 0 false ∷ [], block_closes bs (left_paren ∷ id_at at (codes "CONDITIONTYPE") ∷ []) _ (condition_type at 0 false) refl)
+state_closes (behind_oriented bs at oriented joins) =
+    (right_paren ∷ [], bs ++ condition_type at oriented joins ∷ [], block_closes bs (left_paren ∷ id_at at (codes "CONDITIONTYPE") ∷ id_at oriented (type_text joins) ∷ []) _ (condition_type at oriented joins) refl)
 state_closes (in_variables bs at names) =
     (right_paren ∷ [], bs ++ variables at names ∷ [], block_closes bs (left_paren ∷ id_at at (codes "VAR") ∷ map (λ n. id n) names) _ (variables at names) refl)
 state_closes (in_rules bs at r) =

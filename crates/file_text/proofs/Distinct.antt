@@ -78,7 +78,7 @@ abbrev pub IsNew : State → Type 0
 IsNew (outside bs) = are_distinct bs ≡ true
 IsNew (behind_bracket bs) = are_distinct bs ≡ true
 IsNew (behind_type bs at) = HasNew bs (codes "CONDITIONTYPE")
-IsNew (behind_oriented bs at oriented) = HasNew bs (codes "CONDITIONTYPE")
+IsNew (behind_oriented bs at oriented joins) = HasNew bs (codes "CONDITIONTYPE")
 IsNew (in_variables bs at names) = HasNew bs (codes "VAR")
 IsNew (in_rules bs at r) = HasNew bs (codes "RULES")
 
@@ -111,12 +111,14 @@ bracket_new bs _ t e d free = absurd cc
 
 type_new : (bs : List Block) (at : ℕ) (w : Word) (t : State) → step_type bs at w ≡ Ok t → HasNew bs (codes "CONDITIONTYPE") → IsNew t
 type_new bs at (id name) t e h =
-    one_of (bytes_eq name.text (codes "ORIENTED")) (behind_oriented bs at name.at) (Err other_condition_type) t e (λ is same. made_new (behind_oriented bs at name.at) t same h) (λ e. absurd cc)
+    one_of (bytes_eq name.text (codes "ORIENTED")) (behind_oriented bs at name.at false) (one_or (bytes_eq name.text (codes "JOIN")) (behind_oriented bs at name.at true) (Err other_condition_type)) t e
+    (λ is same. made_new (behind_oriented bs at name.at false) t same h)
+    (λ e. one_of (bytes_eq name.text (codes "JOIN")) (behind_oriented bs at name.at true) (Err other_condition_type) t e (λ is same. made_new (behind_oriented bs at name.at true) t same h) (λ e. absurd cc))
 type_new bs at _ t e h = absurd cc
 
-oriented_new : (bs : List Block) (at oriented : ℕ) (w : Word) (t : State) → step_oriented bs at oriented w ≡ Ok t → HasNew bs (codes "CONDITIONTYPE") → IsNew t
-oriented_new bs at oriented right_paren t e h = ended_new bs (condition_type at oriented) t e h
-oriented_new bs at oriented _ t e h = absurd cc
+oriented_new : (bs : List Block) (at oriented : ℕ) (joins : Bool) (w : Word) (t : State) → step_oriented bs at oriented joins w ≡ Ok t → HasNew bs (codes "CONDITIONTYPE") → IsNew t
+oriented_new bs at oriented joins right_paren t e h = ended_new bs (condition_type at oriented joins) t e h
+oriented_new bs at oriented joins _ t e h = absurd cc
 
 variables_new : (bs : List Block) (at : ℕ) (names : List Name) (w : Word) (t : State) → step_variables bs at names w ≡ Ok t → HasNew bs (codes "VAR") → IsNew t
 variables_new bs at names (id name) t e h = made_new (in_variables bs at (names ++ name ∷ [])) t e h
@@ -132,7 +134,7 @@ any_new : (s t : State) (w : Word) → step_any s w ≡ Ok t → repeats s w ≡
 any_new (outside bs) t w e free h = outside_new bs w t e h
 any_new (behind_bracket bs) t w e free h = bracket_new bs w t e h free
 any_new (behind_type bs at) t w e free h = type_new bs at w t e h
-any_new (behind_oriented bs at oriented) t w e free h = oriented_new bs at oriented w t e h
+any_new (behind_oriented bs at oriented joins) t w e free h = oriented_new bs at oriented joins w t e h
 any_new (in_variables bs at names) t w e free h = variables_new bs at names w t e h
 any_new (in_rules bs at r) t w e free h = rules_new bs at (closing r w) (step_term r.rules r.part r.opens r.last w) t e h
 

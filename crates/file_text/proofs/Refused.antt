@@ -20,7 +20,7 @@ cause_is c d e = cc
 -- ---- a word that calls for one of the three causes is refused
 
 has_title_one : (text : List ℕ) (b : Block) → bytes_eq text (title b) ≡ true → is_title text ≡ true
-has_title_one text (condition_type p q) e = first_of (bytes_eq text (codes "CONDITIONTYPE")) (bytes_eq text (codes "VAR")) (bytes_eq text (codes "RULES")) e
+has_title_one text (condition_type p q joins) e = first_of (bytes_eq text (codes "CONDITIONTYPE")) (bytes_eq text (codes "VAR")) (bytes_eq text (codes "RULES")) e
   where
     first_of : (a b c : Bool) → a ≡ true → (a || b || c) ≡ true
     first_of true b c e = refl
@@ -81,10 +81,15 @@ refuses_repeated front w s e (bs, name, split, is, there) =
     ap (λ (s : State). step s w) (same_state front _ s (behind_bracket bs) e split (bracket_go bs)) ∙ ap (step (behind_bracket bs)) is
     ∙ ap (λ (b : Bool). if b then refuse repeated_block else titled bs name) there
 
+no_type : {A : Type 0} (a b : Bool) (x y z : A) → (a || b) ≡ false → (if a then x else if b then y else z) ≡ z
+no_type true b x y z e = absurd cc
+no_type false true x y z e = absurd cc
+no_type false false x y z e = refl
+
 pub refuses_other : (front : List Word) (w : Word) (s : State) → goes true (outside []) front ≡ Some s → IsOtherConditionType front w → step s w ≡ Err other_condition_type
 refuses_other front w s e (bs, p, name, split, is, other) =
     ap (λ (s : State). step s w) (same_state front _ s (behind_type bs p) e split (type_go bs p)) ∙ ap (step (behind_type bs p)) is
-    ∙ ap (λ (b : Bool). if b then made (behind_oriented bs p name.at) else refuse other_condition_type) other
+    ∙ no_type (bytes_eq name.text (codes "ORIENTED")) (bytes_eq name.text (codes "JOIN")) (made (behind_oriented bs p name.at false)) (made (behind_oriented bs p name.at true)) (refuse other_condition_type) other
 
 -- ---- the cause of a step that is refused
 
@@ -128,13 +133,14 @@ bracket_blames bs (bar at) c e = wrong_blames _ _ c e
 bracket_blames bs arrow c e = wrong_blames _ _ c e
 bracket_blames bs equal c e = wrong_blames _ _ c e
 
-other_of : (b : Bool) (x : State) (d : SyntaxCause) → (if b then made x else refuse other_condition_type) ≡ Err d → (other_condition_type ≡ d) × (b ≡ false)
-other_of true x d e = absurd cc
-other_of false x d e = (cause_is other_condition_type d e, refl)
+other_of : (a b : Bool) (x y : State) (d : SyntaxCause) → (if a then made x else if b then made y else refuse other_condition_type) ≡ Err d → (other_condition_type ≡ d) × ((a || b) ≡ false)
+other_of true b x y d e = absurd cc
+other_of false true x y d e = absurd cc
+other_of false false x y d e = (cause_is other_condition_type d e, refl)
 
 type_blames : (bs : List Block) (at : ℕ) (w : Word) (c : SyntaxCause) → step_type bs at w ≡ Err c → Blames (spelled_blocks bs ++ left_paren ∷ id_at at (codes "CONDITIONTYPE") ∷ []) w c
 type_blames bs at (id name) c e =
-    let h = other_of (bytes_eq name.text (codes "ORIENTED")) (behind_oriented bs at name.at) c e in
+    let h = other_of (bytes_eq name.text (codes "ORIENTED")) (bytes_eq name.text (codes "JOIN")) (behind_oriented bs at name.at false) (behind_oriented bs at name.at true) c e in
     subst (Blames (spelled_blocks bs ++ left_paren ∷ id_at at (codes "CONDITIONTYPE") ∷ []) (id name)) h.0 (bs, at, name, refl, refl, h.1)
 type_blames bs at left_paren c e = wrong_blames _ _ c e
 type_blames bs at right_paren c e = wrong_blames _ _ c e
@@ -143,14 +149,14 @@ type_blames bs at (bar p) c e = wrong_blames _ _ c e
 type_blames bs at arrow c e = wrong_blames _ _ c e
 type_blames bs at equal c e = wrong_blames _ _ c e
 
-oriented_blames : (front : List Word) (bs : List Block) (at oriented : ℕ) (w : Word) (c : SyntaxCause) → step_oriented bs at oriented w ≡ Err c → Blames front w c
-oriented_blames front bs at oriented right_paren c e = absurd cc
-oriented_blames front bs at oriented (id f) c e = wrong_blames _ _ c e
-oriented_blames front bs at oriented left_paren c e = wrong_blames _ _ c e
-oriented_blames front bs at oriented comma c e = wrong_blames _ _ c e
-oriented_blames front bs at oriented (bar p) c e = wrong_blames _ _ c e
-oriented_blames front bs at oriented arrow c e = wrong_blames _ _ c e
-oriented_blames front bs at oriented equal c e = wrong_blames _ _ c e
+oriented_blames : (front : List Word) (bs : List Block) (at oriented : ℕ) (joins : Bool) (w : Word) (c : SyntaxCause) → step_oriented bs at oriented joins w ≡ Err c → Blames front w c
+oriented_blames front bs at oriented joins right_paren c e = absurd cc
+oriented_blames front bs at oriented joins (id f) c e = wrong_blames _ _ c e
+oriented_blames front bs at oriented joins left_paren c e = wrong_blames _ _ c e
+oriented_blames front bs at oriented joins comma c e = wrong_blames _ _ c e
+oriented_blames front bs at oriented joins (bar p) c e = wrong_blames _ _ c e
+oriented_blames front bs at oriented joins arrow c e = wrong_blames _ _ c e
+oriented_blames front bs at oriented joins equal c e = wrong_blames _ _ c e
 
 variables_blame : (front : List Word) (bs : List Block) (at : ℕ) (names : List Name) (w : Word) (c : SyntaxCause) → step_variables bs at names w ≡ Err c → Blames front w c
 variables_blame front bs at names right_paren c e = absurd cc
@@ -170,7 +176,7 @@ any_blames : (s : State) (w : Word) (c : SyntaxCause) → step_any s w ≡ Err c
 any_blames (outside bs) w c e = outside_blames bs w c e
 any_blames (behind_bracket bs) w c e = bracket_blames bs w c e
 any_blames (behind_type bs at) w c e = type_blames bs at w c e
-any_blames (behind_oriented bs at oriented) w c e = oriented_blames _ bs at oriented w c e
+any_blames (behind_oriented bs at oriented joins) w c e = oriented_blames _ bs at oriented joins w c e
 any_blames (in_variables bs at names) w c e = variables_blame _ bs at names w c e
 any_blames (in_rules bs at r) w c e = rules_blame _ w bs at (closing r w) (step_term r.rules r.part r.opens r.last w) c e
 
@@ -182,7 +188,7 @@ repeats_words (behind_bracket bs) w e = go w e
     go (id name) e = (bs, name, refl, refl, e)
     go _ e = absurd cc
 repeats_words (behind_type bs at) w e = absurd cc
-repeats_words (behind_oriented bs at oriented) w e = absurd cc
+repeats_words (behind_oriented bs at oriented joins) w e = absurd cc
 repeats_words (in_variables bs at names) w e = absurd cc
 repeats_words (in_rules bs at r) w e = absurd cc
 

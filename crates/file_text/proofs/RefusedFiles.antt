@@ -53,7 +53,7 @@ refused_end ws (outside bs) c e is = go (rules_in bs) refl is
     go (Some rs) some is = absurd cc
 refused_end ws (behind_bracket bs) c e is = wrong_end ws (behind_bracket bs) c e is (λ cs h. cc)
 refused_end ws (behind_type bs at) c e is = wrong_end ws (behind_type bs at) c e is (λ cs h. cc)
-refused_end ws (behind_oriented bs at oriented) c e is = wrong_end ws (behind_oriented bs at oriented) c e is (λ cs h. cc)
+refused_end ws (behind_oriented bs at oriented joins) c e is = wrong_end ws (behind_oriented bs at oriented joins) c e is (λ cs h. cc)
 refused_end ws (in_variables bs at names) c e is = wrong_end ws (in_variables bs at names) c e is (λ cs h. cc)
 refused_end ws (in_rules bs at r) c e is = wrong_end ws (in_rules bs at r) c e is (λ cs h. cc)
 
@@ -67,7 +67,7 @@ end_refused ws s wrong_syntax e h = go s e
     go (outside bs) e = absurd (h bs (sym (goes_words ws (outside bs) e)))
     go (behind_bracket bs) e = refl
     go (behind_type bs at) e = refl
-    go (behind_oriented bs at oriented) e = refl
+    go (behind_oriented bs at oriented joins) e = refl
     go (in_variables bs at names) e = refl
     go (in_rules bs at r) e = refl
 end_refused ws s missing_rules e (bs, spelled, none) = ap finish (is_outside ws s bs e spelled) ∙ ap (file_or_missing bs) none

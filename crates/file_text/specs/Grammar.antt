@@ -1,5 +1,5 @@
 -- How a syntax tree is spelled in words, and which tree a list of words spells.
-use Rattle.std.specs.Prelude.{◌≡◌, ℕ, Bool, true, false, List, [], ◌∷◌, ◌++◌, map, Option, Some, None, codes, not, ◌&&◌}
+use Rattle.std.specs.Prelude.{◌≡◌, ℕ, Bool, true, false, List, [], ◌∷◌, ◌++◌, map, Option, Some, None, codes, not, ◌&&◌, if◌then◌else◌}
 use Rattle.std.specs.List.{list_any}
 use Rattle.std.specs.Str.{bytes_eq}
 use Rattle.file_text.specs.Syntax.{Name, Phrase, Phrases, word, call, none, more, ConditionTree, Guard, RuleTree, FileTree}
@@ -58,19 +58,23 @@ id_at at text = id record { at = at; text = text }
 
 -- a block of a file, with the places of its own words
 pub data Block : Type 0 where
-  condition_type : ℕ → ℕ → Block
+  condition_type : ℕ → ℕ → Bool → Block
   variables : ℕ → List Name → Block
   rules : ℕ → List RuleTree → Block
 
 -- the identifier that tells what a block is
 abbrev pub title : Block → List ℕ
-title (condition_type p q) = codes "CONDITIONTYPE"
+title (condition_type p q joins) = codes "CONDITIONTYPE"
 title (variables p names) = codes "VAR"
 title (rules p rs) = codes "RULES"
 
--- block = "(" "CONDITIONTYPE" "ORIENTED" ")" | "(" "VAR" { id } ")" | "(" "RULES" { rule } ")"
+-- the condition type: the conditions ask for common reducts, or not
+abbrev pub type_text : Bool → List ℕ
+type_text joins = if joins then codes "JOIN" else codes "ORIENTED"
+
+-- block = "(" "CONDITIONTYPE" ( "ORIENTED" | "JOIN" ) ")" | "(" "VAR" { id } ")" | "(" "RULES" { rule } ")"
 abbrev pub spelled_block : Block → List Word
-spelled_block (condition_type p q) = left_paren ∷ id_at p (codes "CONDITIONTYPE") ∷ id_at q (codes "ORIENTED") ∷ right_paren ∷ []
+spelled_block (condition_type p q joins) = left_paren ∷ id_at p (codes "CONDITIONTYPE") ∷ id_at q (type_text joins) ∷ right_paren ∷ []
 spelled_block (variables p names) = left_paren ∷ id_at p (codes "VAR") ∷ (map (λ n. id n) names ++ right_paren ∷ [])
 spelled_block (rules p rs) = left_paren ∷ id_at p (codes "RULES") ∷ (spelled_rules rs ++ right_paren ∷ [])
 
@@ -88,22 +92,28 @@ abbrev pub are_distinct : List Block → Bool
 are_distinct [] = true
 are_distinct (b ∷ bs) = not (has_block bs (title b)) && are_distinct bs
 
--- what the blocks hold: whether a condition type, the identifiers of the first block of variables, the rules of the first block of rules
+-- what the blocks hold: whether a condition type, and whether it asks for common reducts, the identifiers of the first block of variables, the rules of the first block of rules
 abbrev pub oriented_in : List Block → Bool
 oriented_in [] = false
-oriented_in (condition_type p q ∷ bs) = true
+oriented_in (condition_type p q joins ∷ bs) = true
 oriented_in (variables p names ∷ bs) = oriented_in bs
 oriented_in (rules p rs ∷ bs) = oriented_in bs
 
+abbrev pub joins_in : List Block → Bool
+joins_in [] = false
+joins_in (condition_type p q joins ∷ bs) = joins
+joins_in (variables p names ∷ bs) = joins_in bs
+joins_in (rules p rs ∷ bs) = joins_in bs
+
 abbrev pub variables_in : List Block → List Name
 variables_in [] = []
-variables_in (condition_type p q ∷ bs) = variables_in bs
+variables_in (condition_type p q joins ∷ bs) = variables_in bs
 variables_in (variables p names ∷ bs) = names
 variables_in (rules p rs ∷ bs) = variables_in bs
 
 abbrev pub rules_in : List Block → Option (List RuleTree)
 rules_in [] = None
-rules_in (condition_type p q ∷ bs) = rules_in bs
+rules_in (condition_type p q joins ∷ bs) = rules_in bs
 rules_in (variables p names ∷ bs) = rules_in bs
 rules_in (rules p rs ∷ bs) = Some rs
 
@@ -113,5 +123,6 @@ pub record SpellTree (ws : List Word) (file : FileTree) : Type 0 where
   pub spelled : ws ≡ spelled_blocks blocks
   pub distinct : are_distinct blocks ≡ true
   pub oriented : file.oriented ≡ oriented_in blocks
+  pub joins : file.joins ≡ joins_in blocks
   pub variables : file.variables ≡ variables_in blocks
   pub rules : rules_in blocks ≡ Some file.rules

@@ -27,11 +27,15 @@ IsUnknownBlock front w = (bs : List Block) × (name : Name) × (front ≡ spelle
 abbrev pub IsRepeatedBlock : List Word → Word → Type 0
 IsRepeatedBlock front w = (bs : List Block) × (name : Name) × (front ≡ spelled_blocks bs ++ left_paren ∷ []) × (w ≡ id name) × (has_block bs name.text ≡ true)
 
--- behind the title of a condition type stands an identifier that is not the one that is known
+-- the two condition types
+abbrev pub is_type : List ℕ → Bool
+is_type text = bytes_eq text (codes "ORIENTED") || bytes_eq text (codes "JOIN")
+
+-- behind the title of a condition type stands an identifier that is none
 abbrev pub IsOtherConditionType : List Word → Word → Type 0
 IsOtherConditionType front w =
     (bs : List Block) × (p : ℕ) × (name : Name) × (front ≡ spelled_blocks bs ++ left_paren ∷ id_at p (codes "CONDITIONTYPE") ∷ []) × (w ≡ id name)
-    × (bytes_eq name.text (codes "ORIENTED") ≡ false)
+    × (is_type name.text ≡ false)
 
 -- a word that goes on with no list of blocks, for none of these causes
 pub record IsWrongSyntax (front : List Word) (w : Word) : Type 0 where

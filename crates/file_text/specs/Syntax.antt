@@ -48,9 +48,10 @@ guarded (Some g) = g.first ∷ g.others
 abbrev pub conditions_of : RuleTree → List ConditionTree
 conditions_of r = guarded r.guard
 
--- whether there is a condition type, the identifiers of the variables' block, and the rules
+-- whether there is a condition type, whether it asks for common reducts, the identifiers of the variables' block, and the rules
 pub record FileTree : Type 0 where
   pub oriented : Bool
+  pub joins : Bool
   pub variables : List Name
   pub rules : List RuleTree
 

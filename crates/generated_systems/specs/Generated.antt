@@ -3,7 +3,7 @@
 use Rattle.std.specs.Prelude.{ℕ, zero, suc, ◌+◌, ◌-◌, ◌*◌, List, [], ◌∷◌, ◌++◌, flat_map, replicate, codes, decimal}
 use Rattle.std.specs.List.{range_with_len}
 use Rattle.rewriting.specs.Terms.{Term, var, app, nil, cons}
-use Rattle.rewriting.specs.Rules.{Rule, System}
+use Rattle.rewriting.specs.Rules.{Rule, System, system_of}
 use Rattle.cops_names.specs.NameTable.{NameTable}
 
 -- the symbols by number, in the order in which the rules name them: p1, z, true, s, false, f1, p2, f2, p3, f3, ..
@@ -51,7 +51,7 @@ abbrev pub arities : ℕ → List ℕ
 arities n = 1 ∷ 0 ∷ 0 ∷ 1 ∷ 0 ∷ 1 ∷ replicate (2 * (n - 1)) 1
 
 abbrev pub generated : ℕ → System
-generated n = record { arities = arities n; rules = flat_map rules_for (range_with_len 0 n) }
+generated n = system_of (arities n) (flat_map rules_for (range_with_len 0 n))
 
 -- the names of pk and fk
 abbrev pub p_name : ℕ → List ℕ

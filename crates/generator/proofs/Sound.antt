@@ -5,7 +5,7 @@ use Rattle.std.specs.List.{range_with_len}
 use Rattle.std.proofs.lemmas.List.{length-replicate, map-append}
 use Rattle.rewriting.specs.Terms.{app, nil, cons, Fits}
 use Rattle.rewriting.specs.Signatures.{IsOver}
-use Rattle.rewriting.specs.Rules.{Rule}
+use Rattle.rewriting.specs.Rules.{Rule, system_of}
 use Rattle.rewriting.specs.Systems.{IsRule, AreRules, condition_count, IsSystem, rule_variables}
 use Rattle.term_core.specs.RuleView.{rule_view, AreCounted}
 use Rattle.term_core.specs.declared.systems.Rule as program
@@ -117,10 +117,10 @@ is_system n h =
 
 -- arities and rules that are those of a generated system make it
 module _ (n : ℕ) (symbols : List ℕ) (rules : List program.Rule) (h : n ≤ 200) (symbols_are : symbols ≡ arities n) (rules_are : map rule_view rules ≡ (generated n).rules) where
-  pub made : record { arities = symbols; rules = map rule_view rules } ≡ generated n
-  made = ap (λ (a : List ℕ). record { arities = a; rules = map rule_view rules }) symbols_are ∙ ap (λ (rs : List Rule). record { arities = arities n; rules = rs }) rules_are
+  pub made : system_of symbols (map rule_view rules) ≡ generated n
+  made = ap (λ (a : List ℕ). system_of a (map rule_view rules)) symbols_are ∙ ap (λ (rs : List Rule). system_of (arities n) rs) rules_are
 
-  pub is_made : IsSystem (record { arities = symbols; rules = map rule_view rules })
+  pub is_made : IsSystem (system_of symbols (map rule_view rules))
   is_made = subst IsSystem (sym made) (is_system n h)
 
 counted_behind : (old new : List program.Rule) → AreCounted old → AreCounted new → AreCounted (old ++ new)

@@ -27,6 +27,7 @@ means_it n g h =
           (omega (arith, tree_count 0 n));
       symbols = sym (all_symbols n g h);
       arities = sym (arities_are n);
+      own = refl;
       variables = all_variables 0 n;
       rules = mean;
     }

@@ -3,7 +3,7 @@ use Rattle.std.proofs.Common.{◌≡◌, ◌⊎◌, inl, inr, ℕ, suc, ◌<◌,
 use Rattle.rewriting.specs.Rules.{Rule, System, rule_at, EachRule}
 use Rattle.rewriting.specs.Unraveling.{unraveled, heads}
 use Rattle.rewriting.proofs.Conditions.{Order, is_smaller, is_equal, is_greater, order}
-use Rattle.certificates.specs.Reasons.{wrong_shape, wrong_coefficient, overflow_at, smaller_variable, smaller_constant}
+use Rattle.certificates.specs.Reasons.{wrong_shape, wrong_coefficient, overflow_at, smaller_variable, smaller_constant, not_ordered}
 use Rattle.interpretations.specs.Size.{DoesUnravelingFit, IsFirstTooLarge}
 use Rattle.interpretations.specs.Judgement.{Judgement, good, not_good, unraveling_large}
 use Rattle.interpretations.specs.Linear.{Interpretation, coefficient, constant, HasShape, AreAllNumbersGood, Overflows, AreCoefficientsKept, Falls}
@@ -99,6 +99,7 @@ module _ (sys : System) where
     measure_cases (not_good (smaller_constant n)) (fit, shape, numbers, a) =
         at_rule (not_good (smaller_constant n)) n a.rule fit shape numbers (fails_there n (IsConstantKept es) a (not_where_kept a.rule a.here.2))
         (inr (a.here.0, inr ((a.here.1, a.here.2), refl)))
+    measure_cases (not_good (not_ordered n)) h = absurd h
     measure_cases (unraveling_large i) h = inl (i, h, refl)
 
     -- the least variable is one, and a variable excludes the constant

@@ -3,7 +3,7 @@ use Rattle.std.specs.Prelude.{ℕ, suc, ◌≡◌, ◌<◌, ◌≤◌, ◌⊎◌
 use Rattle.rewriting.specs.Rules.{Rule, System, rule_at}
 use Rattle.rewriting.specs.Unraveling.{unraveled, heads}
 use Rattle.certificates.specs.Certificates.{LinearEntry}
-use Rattle.certificates.specs.Reasons.{wrong_shape, wrong_coefficient, overflow_at, smaller_variable, smaller_constant}
+use Rattle.certificates.specs.Reasons.{wrong_shape, wrong_coefficient, overflow_at, smaller_variable, smaller_constant, not_ordered}
 use Rattle.interpretations.specs.Size.{DoesUnravelingFit, IsFirstTooLarge}
 use Rattle.interpretations.specs.Judgement.{Judgement, good, not_good, unraveling_large}
 use Rattle.interpretations.specs.Linear.{Interpretation, coefficient, constant, IsEntry, HasShape, AreNumbersGood, AreAllNumbersGood, Overflows, AreCoefficientsKept, Falls, IsGood}
@@ -45,4 +45,5 @@ IsInterpretationJudged sys es (not_good (wrong_coefficient m)) = DoesUnravelingF
 IsInterpretationJudged sys es (not_good (overflow_at n)) = DoesUnravelingFit sys × HasShape sys es × AreAllNumbersGood sys es × FailsAt sys es n (Overflows es)
 IsInterpretationJudged sys es (not_good (smaller_variable n x)) = DoesUnravelingFit sys × HasShape sys es × AreAllNumbersGood sys es × FailsAt sys es n (IsFirstSmaller es x)
 IsInterpretationJudged sys es (not_good (smaller_constant n)) = DoesUnravelingFit sys × HasShape sys es × AreAllNumbersGood sys es × FailsAt sys es n (IsConstantKept es)
+IsInterpretationJudged sys es (not_good (not_ordered n)) = ⊥
 IsInterpretationJudged sys es (unraveling_large i) = IsFirstTooLarge sys i

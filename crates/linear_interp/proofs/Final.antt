@@ -152,6 +152,7 @@ module _ (sys : math.System) (es : Interpretation) where
   judged_here fit s numbers (Err (Reason (reason.Constant n))) h = (fit, s, numbers, fails_at n (IsConstantKept es) h)
   judged_here fit s numbers (Err (Reason (reason.Shape n))) h = absurd h
   judged_here fit s numbers (Err (Reason (reason.Coefficient n))) h = absurd h
+  judged_here fit s numbers (Err (Reason (reason.Order n))) h = absurd h
   judged_here fit s numbers (Err (Unraveling n)) h = absurd h
   judged_here fit s numbers (Err NoMemory) h = tt
 

@@ -91,6 +91,7 @@ decided es r number left right result ready pl pr d = by_result result d
     by_result (Err (Reason (reason.Overflow m))) h = absurd h
     by_result (Err (Reason (reason.Shape m))) h = absurd h
     by_result (Err (Reason (reason.Coefficient m))) h = absurd h
+    by_result (Err (Reason (reason.Order m))) h = absurd h
     by_result (Err (Unraveling m)) h = absurd h
     by_result (Err NoMemory) h = tt
 
@@ -134,6 +135,7 @@ failed es rs i r (Reason (reason.Constant n)) before lt is h =
     record { place = i; is_number = (let a = h.0 in omega (arith, a)); rule = rule_view r; is_rule = at_place rs i r lt is; before = before; here = h.1 }
 failed es rs i r (Reason (reason.Shape n)) before lt is h = absurd h
 failed es rs i r (Reason (reason.Coefficient n)) before lt is h = absurd h
+failed es rs i r (Reason (reason.Order n)) before lt is h = absurd h
 failed es rs i r (Unraveling n) before lt is h = absurd h
 failed es rs i r NoMemory before lt is h = tt
 

@@ -23,6 +23,7 @@ SumsDecide left right rule (Err (Reason (reason.Constant n))) = (n ≡ rule) × 
 SumsDecide left right rule (Err (Reason (reason.Overflow n))) = ⊥
 SumsDecide left right rule (Err (Reason (reason.Shape n))) = ⊥
 SumsDecide left right rule (Err (Reason (reason.Coefficient n))) = ⊥
+SumsDecide left right rule (Err (Reason (reason.Order n))) = ⊥
 SumsDecide left right rule (Err (Unraveling n)) = ⊥
 SumsDecide left right rule (Err NoMemory) = ⊥
 
@@ -48,6 +49,7 @@ RuleAnswers es r number (Err (Reason (reason.Variable n x))) = (n ≡ number) ×
 RuleAnswers es r number (Err (Reason (reason.Constant n))) = (n ≡ number) × IsConstantKept es r
 RuleAnswers es r number (Err (Reason (reason.Shape n))) = ⊥
 RuleAnswers es r number (Err (Reason (reason.Coefficient n))) = ⊥
+RuleAnswers es r number (Err (Reason (reason.Order n))) = ⊥
 RuleAnswers es r number (Err (Unraveling n)) = ⊥
 RuleAnswers es r number (Err NoMemory) = Unit {0}
 
@@ -67,5 +69,6 @@ RulesAnswers es rs (Err (Reason (reason.Variable n x))) = IsFirstAt es rs n (IsF
 RulesAnswers es rs (Err (Reason (reason.Constant n))) = IsFirstAt es rs n (IsConstantKept es)
 RulesAnswers es rs (Err (Reason (reason.Shape n))) = ⊥
 RulesAnswers es rs (Err (Reason (reason.Coefficient n))) = ⊥
+RulesAnswers es rs (Err (Reason (reason.Order n))) = ⊥
 RulesAnswers es rs (Err (Unraveling n)) = ⊥
 RulesAnswers es rs (Err NoMemory) = Unit {0}

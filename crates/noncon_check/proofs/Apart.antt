@@ -6,7 +6,7 @@ use Rattle.rewriting.specs.Signatures.{IsOver}
 use Rattle.rewriting.specs.Systems.{IsSystem, IsWellFormed}
 use Rattle.rewriting.proofs.Common.{Term, System, apply}
 use Rattle.rewriting.proofs.Laws.{well_formed}
-use Rattle.certificates.specs.Certificates.{Redex, Peak, by_normal_forms}
+use Rattle.certificates.specs.Certificates.{Apartness, Redex, Peak, by_normal_forms}
 use Rattle.certificates.specs.Evidence.{InfeasibilityEvidence}
 use Rattle.certificates.specs.Judging.{Derives}
 use Rattle.certificates.specs.Reasons.{EvidenceReason, Rejection, redex_extra}
@@ -16,13 +16,13 @@ use Rattle.renumbering.specs.Rows.{naming}
 use Rattle.term_core.specs.declared.systems.Rule as program
 use Rattle.validity.specs.declared.CheckError.{CheckError}
 use Rattle.validity.specs.declared.CheckError.TheVariants.{Rejected, NoMemory}
-use Rattle.valid_certificates.specs.Peaks.{RedexPlace, chosen, IsRedexJudged, AreRefuted, AreNotRefuted, IsMissed, AreNotShownApart, LeadsTo, IsPeakRejected, first_fails, second_fails, not_apart}
+use Rattle.valid_certificates.specs.Peaks.{RedexPlace, chosen, IsRedexJudged, AreRefuted, AreNotRefuted, IsMissed, AreNotShownApart, LeadsTo, HasFileSymbols, IsPeakRejected, foreign_start, first_fails, second_fails, not_apart}
 use Rattle.valid_certificates.specs.Laws.{ReachesApart, ValidPeaksReachApart}
 use Rattle.validity.specs.Answers.{PeakAnswers}
 use Rattle.redex_conditions.specs.Judged.{IsJudgedAt}
 use Rattle.redex_conditions.specs.Redexes.{redexes, AreRedexesOf}
 use Rattle.noncon_check.specs.Walks.{Judgement, IsEntry, IsAbsent, Pass, Fail, PlacesAnswer}
-use Rattle.noncon_check.specs.Ends.{FirstAnswers, SecondAnswers, ApartAnswers, AreJudgedFrom, EndAnswers}
+use Rattle.noncon_check.specs.Ends.{FirstAnswers, SecondAnswers, SymbolAnswers, EndsAnswers, ApartAnswers, AreJudgedFrom, EndAnswers}
 use Rattle.redex_conditions.proofs.Numbers.{AreBelow, redex_judged, same_redexes}
 use Rattle.redex_conditions.proofs.Places.{redexes_are}
 use Rattle.noncon_check.proofs.Walks.{pass_append, pass_fail, fail_append, pass_to, fail_to, answers_to}
@@ -146,18 +146,35 @@ module _ (sys : System) (u v : Term) where
         shown long = (differ, (a.places ++ b.places, both sys u v a.places b.places a.are b.are, all_refuted es 0 (a.places ++ b.places) after all_pass long))
 
 -- the answer for a peak
-pub first_rejected : (sys : System) (peak : Peak) (e : CheckError) → FirstAnswers sys peak (Err e) → PeakAnswers sys peak (Err e)
-first_rejected sys peak (Rejected reason) (bad, is, h) = subst (IsPeakRejected sys peak) (sym is) (first_fails bad h)
-first_rejected sys peak NoMemory h = tt
+pub start_rejected : (sys : System) (peak : Peak) (e : CheckError) → SymbolAnswers sys 0 peak.start (Err e) → PeakAnswers sys peak (Err e)
+start_rejected sys peak (Rejected reason) h = subst (IsPeakRejected sys peak) (sym h.1) (foreign_start h.0)
+start_rejected sys peak NoMemory h = tt
 
-pub second_rejected : (sys : System) (peak : Peak) (u : Term) (e : CheckError) → Derives sys [] peak.start peak.first u → SecondAnswers sys peak (Err e) → PeakAnswers sys peak (Err e)
-second_rejected sys peak u (Rejected reason) first (bad, is, h) = subst (IsPeakRejected sys peak) (sym is) (second_fails u bad first h)
-second_rejected sys peak u NoMemory first h = tt
+pub first_foreign : (sys : System) (u v : Term) (a : Apartness) (e : CheckError) → SymbolAnswers sys 1 u (Err e) → EndsAnswers sys u v a (Err e)
+first_foreign sys u v a (Rejected reason) h = inl h
+first_foreign sys u v a NoMemory h = tt
 
-pub ends_judged : (sys : System) (peak : Peak) (u v : Term) (a : Result (Unit {0}) CheckError) → LeadsTo sys peak u v → ApartAnswers sys u v peak.apart a → PeakAnswers sys peak a
-ends_judged sys peak u v (Ok _) ends h = record { u = u; v = v; ends = ends; apart = h }
-ends_judged sys peak u v (Err (Rejected reason)) ends h = not_apart u v (rejected_view reason) ends h
-ends_judged sys peak u v (Err NoMemory) ends h = tt
+pub second_foreign : (sys : System) (u v : Term) (a : Apartness) (e : CheckError) → HasFileSymbols sys u → SymbolAnswers sys 2 v (Err e) → EndsAnswers sys u v a (Err e)
+second_foreign sys u v a (Rejected reason) own h = inr (inl (own, h.0, h.1))
+second_foreign sys u v a NoMemory own h = tt
+
+pub apart_judged : (sys : System) (u v : Term) (a : Apartness) (r : Result (Unit {0}) CheckError) → HasFileSymbols sys u → HasFileSymbols sys v → ApartAnswers sys u v a r → EndsAnswers sys u v a r
+apart_judged sys u v a (Ok _) own own' h = record { first = own; second = own'; apart = h }
+apart_judged sys u v a (Err (Rejected reason)) own own' h = inr (inr (own, own', h))
+apart_judged sys u v a (Err NoMemory) own own' h = tt
+
+pub first_rejected : (sys : System) (peak : Peak) (e : CheckError) → HasFileSymbols sys peak.start → FirstAnswers sys peak (Err e) → PeakAnswers sys peak (Err e)
+first_rejected sys peak (Rejected reason) own (bad, is, h) = subst (IsPeakRejected sys peak) (sym is) (first_fails own bad h)
+first_rejected sys peak NoMemory own h = tt
+
+pub second_rejected : (sys : System) (peak : Peak) (u : Term) (e : CheckError) → HasFileSymbols sys peak.start → Derives sys [] peak.start peak.first u → SecondAnswers sys peak (Err e) → PeakAnswers sys peak (Err e)
+second_rejected sys peak u (Rejected reason) own first (bad, is, h) = subst (IsPeakRejected sys peak) (sym is) (second_fails own u bad first h)
+second_rejected sys peak u NoMemory own first h = tt
+
+pub ends_judged : (sys : System) (peak : Peak) (u v : Term) (a : Result (Unit {0}) CheckError) → HasFileSymbols sys peak.start → LeadsTo sys peak u v → EndsAnswers sys u v peak.apart a → PeakAnswers sys peak a
+ends_judged sys peak u v (Ok _) own ends h = record { start = own; u = u; v = v; ends = ends; apart = h }
+ends_judged sys peak u v (Err (Rejected reason)) own ends h = not_apart own u v (rejected_view reason) ends h
+ends_judged sys peak u v (Err NoMemory) own ends h = tt
 
 pub peak_sound : ValidPeaksReachApart → (sys : System) (peak : Peak) → IsSystem sys → IsOver sys.arities peak.start → (a : Result (Unit {0}) CheckError) → PeakAnswers sys peak a → OnOk a (ReachesApart sys peak)
 peak_sound law sys peak good over (Ok _) h = law sys peak (well_formed sys good) over h

@@ -4,13 +4,13 @@ use Rattle.rewriting.specs.Terms as math
 use Rattle.rewriting.specs.Rules.{System}
 use Rattle.certificates.specs.Certificates.{Peak, Apartness, Redex}
 use Rattle.certificates.specs.Judging.{Derives, IsFirstBad}
-use Rattle.certificates.specs.Reasons.{first_bad, second_bad, BadStep}
+use Rattle.certificates.specs.Reasons.{foreign, first_bad, second_bad, BadStep}
 use Rattle.term_core.specs.View.{view}
 use Rattle.term_core.specs.declared.terms.Term.{Term}
 use Rattle.cert_model.specs.ReasonView.{rejected_view}
 use Rattle.validity.specs.declared.CheckError.{CheckError}
 use Rattle.validity.specs.declared.CheckError.TheVariants.{Rejected, NoMemory}
-use Rattle.valid_certificates.specs.Peaks.{RedexPlace, IsRedexJudged, AreShownApart, AreNotShownApart}
+use Rattle.valid_certificates.specs.Peaks.{RedexPlace, IsRedexJudged, AreShownApart, AreNotShownApart, HasFileSymbols, AreValidEnds, AreNoValidEnds}
 use Rattle.redex_conditions.specs.Redexes.{AreRedexesOf}
 use Rattle.noncon_check.specs.Walks.{PlacesAnswer}
 
@@ -34,6 +34,18 @@ abbrev pub ApartAnswers : System → math.Term → math.Term → Apartness → R
 ApartAnswers sys u v apart (Ok _) = AreShownApart sys u v apart
 ApartAnswers sys u v apart (Err (Rejected reason)) = AreNotShownApart sys u v apart (rejected_view reason)
 ApartAnswers sys u v apart (Err NoMemory) = Unit {0}
+
+-- a term has only symbols of the file
+abbrev pub SymbolAnswers : System → ℕ → math.Term → Result (Unit {0}) CheckError → Type 0
+SymbolAnswers sys which t (Ok _) = HasFileSymbols sys t
+SymbolAnswers sys which t (Err (Rejected reason)) = (HasFileSymbols sys t → ⊥) × (rejected_view reason ≡ foreign which)
+SymbolAnswers sys which t (Err NoMemory) = ⊥
+
+-- two ends are valid, or the first reason why not
+abbrev pub EndsAnswers : System → math.Term → math.Term → Apartness → Result (Unit {0}) CheckError → Type 0
+EndsAnswers sys u v apart (Ok _) = AreValidEnds sys u v apart
+EndsAnswers sys u v apart (Err (Rejected reason)) = AreNoValidEnds sys u v apart (rejected_view reason)
+EndsAnswers sys u v apart (Err NoMemory) = Unit {0}
 
 -- the redexes of the end with this number are judged by the entries from a number on
 pub record AreJudgedFrom (sys : System) (which : ℕ) (t : math.Term) (es : List Redex) (at : ℕ) (result : Result ℕ CheckError) : Type 0 where

@@ -4,17 +4,17 @@ ghost use Rattle.rewriting.specs.Signatures.{IsOver};
 ghost use Rattle.certificates.specs.Sizes.{IsShort};
 ghost use Rattle.term_core.specs.View.{view};
 ghost use Rattle.cert_model.specs.DerivationView.{derivation_view};
-ghost use Rattle.cert_model.specs.CertificateView.{peak_view};
+ghost use Rattle.cert_model.specs.CertificateView.{apart_view, peak_view};
 ghost use Rattle.valid_certificates.specs.Laws.{ReachesApart};
 ghost use Rattle.validity.specs.Answers.{PeakAnswers};
-ghost use Rattle.noncon_check.specs.Ends.{FirstAnswers, SecondAnswers};
+ghost use Rattle.noncon_check.specs.Ends.{FirstAnswers, SecondAnswers, SymbolAnswers, EndsAnswers};
 ghost use Rattle.noncon_check.specs.Judges.{AreFew};
 
 use crate::ends::check_apart;
-use cert_model::{Peak, Rejected};
+use cert_model::{NonJoin, Peak, Rejected};
 use derivation::{ReplayError, replay};
 use std::alloc::Global;
-use term_core::{System, Term};
+use term_core::{System, Term, has_symbols_below};
 use valid_certificates::valid_peaks_reach_apart;
 use validity::CheckError;
 
@@ -44,6 +44,35 @@ fn second_end(alloc: Global, sys: &System, peak: &Peak) -> Result<Term, CheckErr
     }
 }
 
+// That a term has only symbols of the file.
+fn check_symbols(sys: &System, t: &Term, which: u32) -> Result<(), CheckError>
+    ensures { SymbolAnswers sys.now which (view t.now) result }
+{
+    if has_symbols_below(sys.own() as usize, t) {
+        Ok(())
+    } else {
+        Err(CheckError::Rejected(Rejected::Foreign { which }))
+    }
+}
+
+// That both ends have only symbols of the file, and are shown to be apart.
+fn check_ends(
+    alloc: Global,
+    sys: &System,
+    first: &Term,
+    second: &Term,
+    apart: &NonJoin,
+) -> Result<(), CheckError>
+    requires first { math.Fits (view first.now) }
+    requires second { math.Fits (view second.now) }
+    requires few { AreFew (apart_view apart.now) }
+    ensures { EndsAnswers sys.now (view first.now) (view second.now) (apart_view apart.now) result }
+{
+    check_symbols(sys, first, 1)?;
+    check_symbols(sys, second, 2)?;
+    check_apart(alloc, sys, first, second, apart)
+}
+
 // Whether the peak is valid, or the first reason why it is not.
 fn judge_peak(alloc: Global, sys: &System, peak: &Peak) -> Result<(), CheckError>
     requires start { math.Fits (view peak.now.start) }
@@ -52,9 +81,10 @@ fn judge_peak(alloc: Global, sys: &System, peak: &Peak) -> Result<(), CheckError
     requires few { AreFew (peak_view peak.now).apart }
     ensures { PeakAnswers sys.now (peak_view peak.now) result }
 {
+    check_symbols(sys, &peak.start, 0)?;
     let first = first_end(alloc, sys, peak)?;
     let second = second_end(alloc, sys, peak)?;
-    check_apart(alloc, sys, &first, &second, &peak.apart)
+    check_ends(alloc, sys, &first, &second, &peak.apart)
 }
 
 /// Whether a peak shows that the system is not confluent: its derivations have no bad step, and its ends are shown to

@@ -16,7 +16,7 @@ use Rattle.certificates.specs.Judging.{Derives}
 use Rattle.certificates.proofs.Unique.{derives_unique}
 use Rattle.cops_names.specs.NameTable.{NameTable}
 use Rattle.valid_certificates.specs.Certificates.{IsValid}
-use Rattle.valid_certificates.specs.Peaks.{RedexPlace, IsRedexJudged, AreRedexes, AreRefuted, AreShownApart, chosen, entry_place}
+use Rattle.valid_certificates.specs.Peaks.{RedexPlace, IsRedexJudged, AreRedexes, AreRefuted, AreShownApart, HasFileSymbols, AreValidEnds, chosen, entry_place}
 use Rattle.cert_model.specs.CertificateView.{redex_view}
 use Rattle.cert_model.specs.declared.model.Redex.{Redex}
 use Rattle.first_found.specs.Rows.{AreFirsts, HasNone, SomeHasNone}
@@ -121,15 +121,25 @@ module _ (sys : System) (u v : Term) where
 
 -- the certificate of two listed terms
 module _ (names : NameTable) (sys : System) (t : Term) (x y : Reached) (first : Derives sys [] t x.by x.term) (second : Derives sys [] t y.by y.term) where
+  valid_ends : (a : Apartness) → IsValid sys (peak_of t x y a) → AreValidEnds sys x.term y.term a
+  valid_ends a h =
+      subst₂ (λ u v. AreValidEnds sys u v a) (derives_unique sys [] t x.by h.u x.term h.ends.first first) (derives_unique sys [] t y.by h.v y.term h.ends.second second) h.apart
+
   valid_apart : (a : Apartness) → IsValid sys (peak_of t x y a) → AreShownApart sys x.term y.term a
-  valid_apart a h =
-      subst₂ (λ u v. AreShownApart sys u v a) (derives_unique sys [] t x.by h.u x.term h.ends.first first) (derives_unique sys [] t y.by h.v y.term h.ends.second second) h.apart
+  valid_apart a h = (valid_ends a h).apart
+
+  -- where one of the three terms has another symbol than the file's
+  pub foreign_gives : (HasFileSymbols sys t × HasFileSymbols sys x.term × HasFileSymbols sys y.term → ⊥) → (c : Certificate) → GivesPeak names sys (try_ends t x y) c → ⊥
+  foreign_gives no_file c (((a, tries, is), text), valid) =
+      let h : IsValid sys (peak_of t x y a) = subst (IsValid sys) is valid in
+      let ends = valid_ends a h in
+      no_file (h.start, ends.first, ends.second)
 
   module _ (a : Apartness) (tries : TriesApart sys x.term y.term a) where
-    pub gives : AreShownApart sys x.term y.term a → (c : Certificate) → c ≡ peak_of t x y a → HasText names c → GivesPeak names sys (try_ends t x y) c
-    gives shown c is text = (
+    pub gives : HasFileSymbols sys t × HasFileSymbols sys x.term × HasFileSymbols sys y.term → AreShownApart sys x.term y.term a → (c : Certificate) → c ≡ peak_of t x y a → HasText names c → GivesPeak names sys (try_ends t x y) c
+    gives file shown c is text = (
       ((a, tries, is), text),
-      subst (IsValid sys) (sym is) (record { u = x.term; v = y.term; ends = record { first = first; second = second }; apart = shown }),
+      subst (IsValid sys) (sym is) (record { start = file.0; u = x.term; v = y.term; ends = record { first = first; second = second }; apart = record { first = file.1; second = file.2; apart = shown } }),
     )
 
     pub without_text : (c : Certificate) → c ≡ peak_of t x y a → (HasText names c → ⊥) → (d : Certificate) → GivesPeak names sys (try_ends t x y) d → ⊥

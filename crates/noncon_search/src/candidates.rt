@@ -1,10 +1,11 @@
 // The certificate that two listed terms of a start make.
-ghost use Rattle.std.specs.Prelude.{◌≡◌, ◌∷◌, [], IfOk};
+ghost use Rattle.std.specs.Prelude.{◌≡◌, ◌∷◌, [], ◌↔◌, IfOk, IsTrue};
 ghost use Rattle.rewriting.specs.Terms as math;
 ghost use Rattle.certificates.specs.Certificates.{by_rigid_caps};
 ghost use Rattle.term_core.specs.View.{view};
 ghost use Rattle.cert_model.specs.CertificateView.{certificate_view, apart_view};
 ghost use Rattle.reach.specs.ReachedView.{reached_view};
+ghost use Rattle.valid_certificates.specs.Peaks.{HasFileSymbols};
 ghost use Rattle.search_spaces.specs.PeakItems.{try_ends, TriesApart};
 ghost use Rattle.noncon_search.specs.Ends.{end_view, IsEnd, AreEnds};
 ghost use Rattle.noncon_search.specs.Answers.{peak_of, EntriesAnswers, CapsAnswers, ApartAnswers, CandidateAnswers};
@@ -19,7 +20,7 @@ use reach::Reached;
 use rule_index::IndexedSystem;
 use std::alloc::Global;
 use tcap_infeasible::{ComparedCaps, compare_rigid_caps, made_caps_clash};
-use term_core::{NoMemory, Term, try_clone};
+use term_core::{NoMemory, Term, has_symbols_below, try_clone};
 
 // An entry with valid evidence for each redex of both ends, the first that is tried; none where a redex has none.
 fn entries_for(
@@ -141,6 +142,14 @@ fn certificate(
     }))
 }
 
+// Whether three terms have only symbols of the file.
+fn have_file_symbols(sys: &IndexedSystem<'_>, start: &Term, first: &Term, second: &Term) -> bool
+    ensures { IsTrue result ↔ (HasFileSymbols sys.now (view start.now) × HasFileSymbols sys.now (view first.now) × HasFileSymbols sys.now (view second.now)) }
+{
+    let own = sys.system().own() as usize;
+    has_symbols_below(own, start) && has_symbols_below(own, first) && has_symbols_below(own, second)
+}
+
 /// The certificate that two ends make, where it is valid and has a text.
 pub fn candidate(
     alloc: Global,
@@ -153,6 +162,9 @@ pub fn candidate(
     requires ends { AreEnds sys.now (view start.now) (first.now ∷ second.now ∷ []) }
     ensures { CandidateAnswers names.now sys.now (try_ends (view start.now) (end_view first.now) (end_view second.now)) result }
 {
+    if !have_file_symbols(sys, start, &first.listed.term, &second.listed.term) {
+        return Ok(None);
+    }
     let Some(apart) = apart(alloc, sys, start, first, second)? else {
         return Ok(None);
     };

@@ -5,8 +5,9 @@ use Rattle.rewriting.specs.Classes.{IsDeterministic}
 use Rattle.unifier_run.specs.Overlaps.{Overlap, AreOverlaps}
 use Rattle.interpretations.specs.Judgement.{good}
 use Rattle.interpretations.proofs.OneJudgement.{judgement_once}
-use Rattle.certificates.specs.Certificates.{PairEntry, MeasureCertificate, linear_measure, ortho_certificate, quasi_certificate}
+use Rattle.certificates.specs.Certificates.{PairEntry, MeasureCertificate, linear_measure, precedence_measure, ortho_certificate, quasi_certificate}
 use Rattle.certificates.specs.Reasons.{Rejection}
+use Rattle.path_orders.proofs.OneJudgement.{judgement_once as precedence_once}
 use Rattle.rewriting.proofs.Once.{IsOnce}
 use Rattle.interpretations.specs.Judgement.{Judgement}
 use Rattle.valid_certificates.specs.Kinds.{Kind, ortho, quasi}
@@ -84,6 +85,7 @@ module _ (Is : Judgement → Type 0) (sys : System) where
 
 measure_once : (sys : System) (m : MeasureCertificate) → IsOnce Judgement (IsMeasureJudged sys m)
 measure_once sys (linear_measure es) = judgement_once sys es
+measure_once sys (precedence_measure order) = precedence_once sys order
 
 pub ortho_one_tally : OrthoEntriesHaveOneTally
 ortho_one_tally sys = record { one = ortho_tally_once sys; some = λ es. ortho_tally sys es (every_certificate sys (ortho_certificate es)) }

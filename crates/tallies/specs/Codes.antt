@@ -4,7 +4,7 @@ use mathlib.Core.Logic.{inl, inr}
 use Rattle.std.specs.Coded.{Coded, code_by, coded×, coded⊎, coded_ℕ, coded_bool, coded_list, coded_option}
 use Rattle.rewriting.specs.Codes.{coded_system}
 use Rattle.rewriting.specs.Rules.{System}
-use Rattle.certificates.specs.Reasons.{StepReason, no_such_rule, no_such_hypothesis, no_redex, wrong_count, unbound, condition_fails, too_large, BadStep, Class, left_linear, type3, extended_oriented, right_stable, deterministic, Blame, MeasureReason, wrong_shape, wrong_coefficient, overflow_at, smaller_variable, smaller_constant, EvidenceReason, not_allowed, not_root, sides_differ, tcap_unifies, tcap_large, conflict_number, conflict_left, conflict_unifies, conflict_large, auto_number, auto_any, auto_misses, auto_wide, auto_not_closed, auto_wide_right, auto_reaches, join_left, join_right, join_differs, unfeasible_number, unfeasible_first, unfeasible_second, first_reducible, second_reducible, unfeasible_unifies, unfeasible_large, Rejection, class_fails, not_irreducible, measure_fails, unraveling_large, pair_large, too_many_pairs, pair_missing, pair_extra, evidence_fails, first_bad, second_bad, same_term, not_normal, redex_extra, redex_fails, caps_unify, caps_large}
+use Rattle.certificates.specs.Reasons.{StepReason, no_such_rule, no_such_hypothesis, no_redex, wrong_count, unbound, condition_fails, too_large, BadStep, Class, left_linear, type3, extended_oriented, right_stable, deterministic, Blame, MeasureReason, wrong_shape, wrong_coefficient, overflow_at, smaller_variable, smaller_constant, not_ordered, EvidenceReason, not_allowed, not_root, sides_differ, tcap_unifies, tcap_large, conflict_number, conflict_left, conflict_unifies, conflict_large, auto_number, auto_any, auto_misses, auto_wide, auto_not_closed, auto_wide_right, auto_reaches, join_left, join_right, join_differs, unfeasible_number, unfeasible_first, unfeasible_second, first_reducible, second_reducible, unfeasible_unifies, unfeasible_large, Rejection, class_fails, not_irreducible, measure_fails, unraveling_large, pair_large, too_many_pairs, pair_missing, pair_extra, evidence_fails, foreign, first_bad, second_bad, same_term, not_normal, redex_extra, redex_fails, caps_unify, caps_large}
 use Rattle.valid_certificates.specs.Kinds.{Kind, ortho, quasi}
 use Rattle.tallies.specs.Tally.{Tally, passed, failed}
 use Rattle.tallies.specs.Runs.{PairRun, OrthoRun, QuasiRun}
@@ -86,9 +86,10 @@ measure_numbers (wrong_coefficient i) = (1, (i, 0))
 measure_numbers (overflow_at i) = (2, (i, 0))
 measure_numbers (smaller_variable i x) = (3, (i, x))
 measure_numbers (smaller_constant i) = (4, (i, 0))
+measure_numbers (not_ordered i) = (5, (i, 0))
 
 abbrev measure_reason_of : ℕ × (ℕ × ℕ) → MeasureReason
-measure_reason_of (n, (i, x)) = get_or (wrong_shape i ∷ wrong_coefficient i ∷ overflow_at i ∷ smaller_variable i x ∷ []) n (smaller_constant i)
+measure_reason_of (n, (i, x)) = get_or (wrong_shape i ∷ wrong_coefficient i ∷ overflow_at i ∷ smaller_variable i x ∷ smaller_constant i ∷ []) n (not_ordered i)
 
 pub measure_reason_back : (r : MeasureReason) → measure_reason_of (measure_numbers r) ≡ r
 measure_reason_back (wrong_shape i) = refl
@@ -96,6 +97,7 @@ measure_reason_back (wrong_coefficient i) = refl
 measure_reason_back (overflow_at i) = refl
 measure_reason_back (smaller_variable i x) = refl
 measure_reason_back (smaller_constant i) = refl
+measure_reason_back (not_ordered i) = refl
 
 abbrev coded_measure_reason : Coded MeasureReason
 coded_measure_reason = code_by (ℕ × (ℕ × ℕ)) (coded× coded_ℕ (coded× coded_ℕ coded_ℕ)) measure_numbers measure_reason_of measure_reason_back
@@ -191,6 +193,7 @@ rejection_parts too_many_pairs = inl (3, (0, ([], 0)))
 rejection_parts (pair_missing i p j) = inl (4, (i, (p, j)))
 rejection_parts (pair_extra n) = inl (5, (n, ([], 0)))
 rejection_parts (evidence_fails n why) = inr (inr (inr (inr (0, (n, why)))))
+rejection_parts (foreign which) = inl (10, (which, ([], 0)))
 rejection_parts (first_bad bad) = inr (inr (inr (inl (0, bad))))
 rejection_parts (second_bad bad) = inr (inr (inr (inl (1, bad))))
 rejection_parts same_term = inl (6, (0, ([], 0)))
@@ -198,12 +201,12 @@ rejection_parts (not_normal n p i) = inl (7, (n, (p, i)))
 rejection_parts (redex_extra n) = inl (8, (n, ([], 0)))
 rejection_parts (redex_fails n why) = inr (inr (inr (inr (1, (n, why)))))
 rejection_parts caps_unify = inl (9, (0, ([], 0)))
-rejection_parts caps_large = inl (10, (0, ([], 0)))
+rejection_parts caps_large = inl (11, (0, ([], 0)))
 
 abbrev rejection_of : RejectionParts → Rejection
 rejection_of (inl (n, (i, (p, j)))) =
     get_or
-    (not_irreducible i j ∷ unraveling_large i ∷ pair_large i p j ∷ too_many_pairs ∷ pair_missing i p j ∷ pair_extra i ∷ same_term ∷ not_normal i p j ∷ redex_extra i ∷ caps_unify ∷ []) n
+    (not_irreducible i j ∷ unraveling_large i ∷ pair_large i p j ∷ too_many_pairs ∷ pair_missing i p j ∷ pair_extra i ∷ same_term ∷ not_normal i p j ∷ redex_extra i ∷ caps_unify ∷ foreign i ∷ []) n
     caps_large
 rejection_of (inr (inl blame)) = class_fails blame
 rejection_of (inr (inr (inl why))) = measure_fails why
@@ -220,6 +223,7 @@ rejection_back too_many_pairs = refl
 rejection_back (pair_missing i p j) = refl
 rejection_back (pair_extra n) = refl
 rejection_back (evidence_fails n why) = refl
+rejection_back (foreign which) = refl
 rejection_back (first_bad bad) = refl
 rejection_back (second_bad bad) = refl
 rejection_back same_term = refl

@@ -12,3 +12,4 @@ pub mod Counting
 pub mod Entries
 pub mod Noting
 pub mod Moving
+pub mod JoinRules

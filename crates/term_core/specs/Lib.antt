@@ -7,3 +7,4 @@ pub mod SubstView
 pub mod Counting
 pub mod HeadView
 pub mod Noting
+pub mod JoinAnswers

@@ -3,6 +3,7 @@ use Rattle.std.specs.Prelude.{◌≡◌, ◌+◌, ◌<◌, ◌≤◌, ℕ, map, 
 use Rattle.rewriting.specs.Terms as terms
 use Rattle.rewriting.specs.Terms.{IsVariable, Fits}
 use Rattle.rewriting.specs.Signatures.{Signature, IsOver}
+pub use Rattle.rewriting.specs.Signatures.{HasSymbolsBelow, HaveSymbolsBelow}
 use Rattle.rewriting.specs.Rules as math
 use Rattle.rewriting.specs.Systems.{Each, terms_of_rule, rule_variables, IsRule, IsSystem}
 use Rattle.term_core.specs.RuleView.{rule_view, AreCounted}
@@ -13,17 +14,7 @@ use Rattle.term_core.specs.declared.systems.SystemFault.{SystemFault}
 use Rattle.term_core.specs.declared.systems.SystemFault.TheVariants.{BadSymbol, BadArity, LeftVariable, BadVariables, TooLarge}
 
 abbrev pub system_view : Inside → math.System
-system_view s = record { arities = s.arities.items; rules = map rule_view s.rules.items }
-
--- every symbol of the term has a number below n
-abbrev mutual
-  pub HasSymbolsBelow : ℕ → terms.Term → Type 0
-  HasSymbolsBelow n (terms.var x) = Unit {0}
-  HasSymbolsBelow n (terms.app f ts) = (f < n) × HaveSymbolsBelow n ts
-
-  pub HaveSymbolsBelow : ℕ → terms.Terms → Type 0
-  HaveSymbolsBelow n terms.nil = Unit {0}
-  HaveSymbolsBelow n (terms.cons t ts) = HasSymbolsBelow n t × HaveSymbolsBelow n ts
+system_view s = record { arities = s.arities.items; rules = map rule_view s.rules.items; own = s.own }
 
 -- every symbol of the rule is one of the symbols
 abbrev pub AreSymbolsKnown : Signature → math.Rule → Type 0
@@ -83,7 +74,7 @@ FirstFaultAnswers arities rules (Err fault) = (r : Rule) × FirstAt arities rule
 
 -- the system of what was handed in, or the first rule with a fault, and its first fault
 abbrev pub MakeAnswers : Signature → List Rule → Result math.System SystemFault → Type 0
-MakeAnswers arities rules (Ok s) = s ≡ record { arities = arities; rules = map rule_view rules }
+MakeAnswers arities rules (Ok s) = s ≡ math.system_of arities (map rule_view rules)
 MakeAnswers arities rules (Err fault) = (r : Rule) × FirstAt arities rules (fault_rule fault) r × HasFault arities r fault
 
 -- what a system keeps

@@ -1,6 +1,7 @@
 //! Terms, positions, substitutions, rules and systems.
 #![tactic(auto)]
 
+mod joins;
 mod positions;
 mod soundness;
 mod subst;
@@ -8,8 +9,9 @@ mod systems;
 mod terms;
 mod variables;
 
+pub use joins::{JoinError, join_system};
 pub use positions::{replace, subterm};
-pub use soundness::is_over;
+pub use soundness::{has_symbols_below, is_over};
 pub use subst::Subst;
 pub use systems::{Cond, Head, Rule, System, SystemFault};
 pub use terms::{

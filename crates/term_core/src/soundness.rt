@@ -19,8 +19,9 @@ fn is_variable(t: &Term) -> bool
     matches!(t, Term::Var(_))
 }
 
+/// Whether each symbol of a term, of any size, has a number below `count`.
 #[tactic(auto, using(crate::proofs::Over::below_from, crate::proofs::Over::below_symbol, crate::proofs::Over::below_args))]
-fn has_symbols_below(count: usize, t: &Term) -> bool
+pub fn has_symbols_below(count: usize, t: &Term) -> bool
     ensures { IsTrue result ↔ HasSymbolsBelow count (view t.now) }
 {
     match t {

@@ -1,9 +1,12 @@
 ghost use Rattle.std.specs.Prelude.{◌≡◌, ◌<◌, ◌+◌, ◌^◌, OnOk, map, length};
+ghost use Rattle.rewriting.specs.Rules.{system_of};
 ghost use Rattle.rewriting.specs.Systems.{condition_count, IsSystem};
 ghost use Rattle.term_core.specs.RuleView.{rule_view, AreCounted};
 
+use crate::joins::JoinError;
 use crate::soundness::first_fault;
 use crate::terms::Term;
+use std::alloc::Global;
 use std::marker::Model;
 
 /// A condition `left == right` of a rule.
@@ -44,11 +47,12 @@ pub enum Head {
     Aux { rule: u32, cond: u32 },
 }
 
-/// A conditional rewrite system: the arities of its symbols, and its rules.
+/// A conditional rewrite system: the arities of its symbols, its rules, and how many of the symbols are its file's.
 #[derive(Debug, Drop)]
 pub struct System {
     arities: Vec<u32>,
     rules: Vec<Rule>,
+    own: u32,
 }
 
 impl Model for System {
@@ -67,6 +71,7 @@ impl Model for System {
 
 impl System {
     ghost use Rattle.term_core.specs.SystemView.{MakeAnswers, AreSound};
+    ghost use Rattle.term_core.specs.JoinAnswers.{WithRulesAnswers};
 
     /// The system of these symbols and rules, where each rule is sound as it is handed in, its `vars` included;
     /// or the first fault of the first rule that has one.
@@ -77,16 +82,75 @@ impl System {
         ensures sound { OnOk result (AreSound arities.items rules.items) }
     {
         first_fault(&arities, &rules)?;
-        Ok(System { arities, rules })
+        let own = arities.len() as u32;
+        Ok(System {
+            arities,
+            rules,
+            own,
+        })
     }
 
     /// The system of symbols and rules that are known to be sound, so that nothing is tested.
     pub fn of_sound(arities: Vec<u32>, rules: Vec<Rule>) -> System
-        requires sound { IsSystem (record { arities = arities.items; rules = map rule_view rules.items }) }
+        requires sound { IsSystem (system_of arities.items (map rule_view rules.items)) }
         requires counted { AreCounted rules.items }
-        ensures { result ≡ record { arities = arities.items; rules = map rule_view rules.items } }
+        ensures { result ≡ system_of arities.items (map rule_view rules.items) }
     {
-        System { arities, rules }
+        let count = arities.len() as u32;
+        System {
+            arities,
+            rules,
+            own: count,
+        }
+    }
+
+    /// The system of these arities, rules and number of the file's symbols, where the rules are known to be sound, so that
+    /// nothing is tested. With `into_parts` a system gets other rules without a copy.
+    pub fn of_parts(arities: Vec<u32>, rules: Vec<Rule>, own: u32) -> System
+        requires sound { IsSystem (record { arities = arities.items; rules = map rule_view rules.items; own = own }) }
+        requires counted { AreCounted rules.items }
+        ensures { result ≡ record { arities = arities.items; rules = map rule_view rules.items; own = own } }
+    {
+        System {
+            arities,
+            rules,
+            own,
+        }
+    }
+
+    /// The system with other rules, each sound over its symbols, or the first fault of the first rule that has one. The
+    /// symbols and how many of them are the file's stay.
+    pub fn with_rules(&self, alloc: Global, rules: Vec<Rule>) -> Result<System, JoinError>
+        requires few_symbols { length self.now.arities + condition_count (map rule_view rules.items) < 2 ^ 31 }
+        requires few_rules { length rules.items + condition_count (map rule_view rules.items) < 2 ^ 31 }
+        ensures answer { WithRulesAnswers self.now rules.items result }
+        ensures sound { OnOk result (AreSound self.now.arities rules.items) }
+    {
+        first_fault(&self.arities, &rules)?;
+        let mut arities = Vec::with_capacity(alloc, self.arities.len())?;
+        arities.extend_from_slice(&self.arities)?;
+        Ok(System {
+            arities,
+            rules,
+            own: self.own,
+        })
+    }
+
+    /// The arities, the rules, and how many symbols are the file's: the parts of which `of_parts` makes the system again.
+    pub fn into_parts(self) -> (Vec<u32>, Vec<Rule>, u32)
+        ensures arities { result.0.items ≡ self.arities }
+        ensures rules { map rule_view result.1.items ≡ self.rules }
+        ensures own { result.2 ≡ self.own }
+        ensures counted { AreCounted result.1.items }
+    {
+        (self.arities, self.rules, self.own)
+    }
+
+    /// How many symbols are the file's: the first ones.
+    pub fn own(&self) -> u32
+        ensures { result ≡ self.now.own }
+    {
+        self.own
     }
 
     /// The arity of each symbol.

@@ -2,7 +2,7 @@
 use Rattle.std.proofs.Common.{◌≡◌, ℕ, zero, suc, ◌+◌, ◌^◌, ◌<◌, refl, sym, ap, ap₂, ◌∙◌, subst, List, [], ◌∷◌, ◌++◌, map, length, take, arith, slice_get, Some, Result, Ok, Err, IfOk, Vec, Global}
 use Rattle.std.proofs.lemmas.List.{length-append, length-map}
 use Rattle.rewriting.specs.Rules as rules
-use Rattle.rewriting.specs.Rules.{rule_at}
+use Rattle.rewriting.specs.Rules.{rule_at, system_of}
 use Rattle.rewriting.specs.Systems.{condition_count, IsSystem, DoSidesFit}
 use Rattle.rewriting.specs.Terms.{Term}
 use Rattle.rewriting.specs.Variables.{with_variables, variables}
@@ -117,8 +117,8 @@ first_large sys n h =
     subst (IsFirstTooLarge sys) (sym e) record { rule = h.rule; is_rule = h.is_rule; before = before_fit sys h.place h.before; here = h.here }
 
 abbrev made : List ℕ → List rules.Rule → rules.System
-made arities rs = record { arities = arities; rules = rs }
+made arities rs = system_of arities rs
 
 pub is_unraveled : (sys : rules.System) (u : Unraveled) (v : List Rule) (arities : List ℕ) → map rule_view v ≡ unraveled_rules (length sys.arities) sys.rules → DoSidesFit (unraveled_rules (length sys.arities) sys.rules)
-    → arities ≡ (unraveled sys).arities → u.system ≡ record { arities = arities; rules = map rule_view v } → map head_view u.heads.items ≡ heads sys → IsUnraveled sys u
+    → arities ≡ (unraveled sys).arities → u.system ≡ system_of arities (map rule_view v) → map head_view u.heads.items ≡ heads sys → IsUnraveled sys u
 is_unraveled sys u v arities r fit a s h = record { system = s ∙ ap₂ made a r; heads = h; fits = all_fit sys fit }

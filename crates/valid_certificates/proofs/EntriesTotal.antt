@@ -17,7 +17,7 @@ use Rattle.rewriting.proofs.Equality.{fits_decided}
 use Rattle.rewriting.proofs.Matched.{instance_matched}
 use Rattle.certificates.specs.Certificates.{PairEntry, Apartness, Peak, Redex, by_normal_forms, by_rigid_caps}
 use Rattle.certificates.specs.Evidence.{InfeasibilityEvidence, PairEvidence}
-use Rattle.certificates.specs.Reasons.{tcap_large, BadStep, Rejection, pair_large, too_many_pairs, pair_missing, pair_extra, evidence_fails, first_bad, second_bad, same_term, not_normal, redex_extra, redex_fails, caps_unify, caps_large}
+use Rattle.certificates.specs.Reasons.{tcap_large, BadStep, Rejection, pair_large, too_many_pairs, pair_missing, pair_extra, evidence_fails, foreign, first_bad, second_bad, same_term, not_normal, redex_extra, redex_fails, caps_unify, caps_large}
 use Rattle.certificates.specs.Sizes.{DoConditionsFit}
 use Rattle.certificates.specs.Judging.{Derives, IsFirstBad}
 use Rattle.certificates.proofs.DerivationTotal.{derivation_total}
@@ -25,9 +25,11 @@ use Rattle.valid_certificates.specs.Kinds.{Kind}
 use Rattle.valid_certificates.specs.Evidence.{IsInfeasibilityJudged}
 use Rattle.valid_certificates.specs.PairEvidence.{IsPairJudged}
 use Rattle.valid_certificates.specs.Entries.{triple_of, AreSettled, AreNotSettled, DoSettle, DoNotSettle, pair_is_large, pairs_are_many, entry_fails}
-use Rattle.valid_certificates.specs.Peaks.{MatchesAt, RedexPlace, IsRedex, AreRedexes, chosen, at_redex, AreConditionsAt, IsRedexJudged, entry_place, AreRefuted, AreNotRefuted, AreShownApart, AreNotShownApart, LeadsTo, IsValidPeak, IsPeakRejected, first_fails, second_fails, not_apart}
+use Rattle.valid_certificates.specs.Peaks.{MatchesAt, RedexPlace, IsRedex, AreRedexes, chosen, at_redex, AreConditionsAt, IsRedexJudged, entry_place, AreRefuted, AreNotRefuted, AreShownApart, AreNotShownApart, LeadsTo, HasFileSymbols, IsValidPeak, IsPeakRejected, foreign_start, first_fails, second_fails, not_apart}
 use Rattle.valid_certificates.proofs.EvidenceTotal.{HasJudgement}
 use Rattle.valid_certificates.proofs.OneOverlaps.{IsSame}
+use Rattle.valid_certificates.proofs.FileSymbols.{below_decided}
+use Rattle.rewriting.proofs.Decided.{IsDecided}
 use Rattle.valid_certificates.proofs.RedexTotal.{redexes_total}
 
 -- it is valid, or rejected for some reason
@@ -175,17 +177,29 @@ module _ (sys : System) (judged : (cs : List Condition) (e : InfeasibilityEviden
     abbrev PeakAnswer : Type 0
     PeakAnswer = HasAnswer (IsValidPeak sys peak) (IsPeakRejected sys peak)
 
-    at_ends : (u v : Term) → LeadsTo sys peak u v → HasAnswer (AreShownApart sys u v peak.apart) (AreNotShownApart sys u v peak.apart) → PeakAnswer
-    at_ends u v ends (inl h) = inl (record { u = u; v = v; ends = ends; apart = h })
-    at_ends u v ends (inr (r, f)) = inr (r, not_apart u v r ends f)
+    at_ends : (u v : Term) → HasFileSymbols sys peak.start → LeadsTo sys peak u v → HasAnswer (AreShownApart sys u v peak.apart) (AreNotShownApart sys u v peak.apart) → PeakAnswer
+    at_ends u v own ends h = go (below_decided sys.own u) (below_decided sys.own v) h
+      where
+        go : IsDecided (HasFileSymbols sys u) → IsDecided (HasFileSymbols sys v) → HasAnswer (AreShownApart sys u v peak.apart) (AreNotShownApart sys u v peak.apart) → PeakAnswer
+        go (inr f) d h = inr (foreign 1, not_apart own u v (foreign 1) ends (inl (f, refl)))
+        go (inl a) (inr f) h = inr (foreign 2, not_apart own u v (foreign 2) ends (inr (inl (a, f, refl))))
+        go (inl a) (inl b) (inl h) = inl (record { start = own; u = u; v = v; ends = ends; apart = record { first = a; second = b; apart = h } })
+        go (inl a) (inl b) (inr (r, f)) = inr (r, not_apart own u v r ends (inr (inr (a, b, f))))
 
-    pub peak_total : PeakAnswer
-    peak_total = first (derivation_total sys [] peak.start peak.first)
+    from_own : HasFileSymbols sys peak.start → PeakAnswer
+    from_own own = first (derivation_total sys [] peak.start peak.first)
       where
         second : (u : Term) → Derives sys [] peak.start peak.first u → ((v : Term) × Derives sys [] peak.start peak.second v) ⊎ ((bad : BadStep) × IsFirstBad sys [] peak.start peak.second bad) → PeakAnswer
-        second u h (inr (bad, f)) = inr (second_bad bad, second_fails u bad h f)
-        second u h (inl (v, k)) = at_ends u v (record { first = h; second = k }) (apart_total u v peak.apart)
+        second u h (inr (bad, f)) = inr (second_bad bad, second_fails own u bad h f)
+        second u h (inl (v, k)) = at_ends u v own (record { first = h; second = k }) (apart_total u v peak.apart)
 
         first : ((u : Term) × Derives sys [] peak.start peak.first u) ⊎ ((bad : BadStep) × IsFirstBad sys [] peak.start peak.first bad) → PeakAnswer
-        first (inr (bad, f)) = inr (first_bad bad, first_fails bad f)
+        first (inr (bad, f)) = inr (first_bad bad, first_fails own bad f)
         first (inl (u, h)) = second u h (derivation_total sys [] peak.start peak.second)
+
+    pub peak_total : PeakAnswer
+    peak_total = go (below_decided sys.own peak.start)
+      where
+        go : IsDecided (HasFileSymbols sys peak.start) → PeakAnswer
+        go (inl own) = from_own own
+        go (inr f) = inr (foreign 0, foreign_start f)

@@ -10,5 +10,6 @@ pub mod OneEvidence
 pub mod OneCertificate
 pub mod EvidenceTotal
 pub mod RedexTotal
+pub mod FileSymbols
 pub mod EntriesTotal
 pub mod Total

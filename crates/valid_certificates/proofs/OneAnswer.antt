@@ -1,5 +1,5 @@
 -- A peak is valid, or rejected for one reason.
-use Rattle.std.proofs.Common.{◌≡◌, ◌≢◌, inl, inr, ℕ, suc, List, [], ◌∷◌, Option, Some, None, sym, ap, ap₂, ◌∙◌, subst, subst₂}
+use Rattle.std.proofs.Common.{refl, ◌≡◌, ◌≢◌, inl, inr, ℕ, suc, List, [], ◌∷◌, Option, Some, None, sym, ap, ap₂, ◌∙◌, subst, subst₂}
 use Rattle.rewriting.proofs.Common.{Term, Condition, Rule, System, Bindings}
 use Rattle.rewriting.specs.Overlaps.{conditions_under}
 use Rattle.unifier_run.specs.Run.{Binding, Outcome, unifier, clash, too_large}
@@ -15,7 +15,7 @@ use Rattle.certificates.specs.Reasons.{EvidenceReason, BadStep, StepReason, Reje
 use Rattle.certificates.proofs.Unique.{matches_unique, derives_unique}
 use Rattle.certificates.proofs.Outcomes.{never_both as ends_or_fails, fails_unique}
 use Rattle.valid_certificates.specs.Evidence.{IsInfeasibilityJudged}
-use Rattle.valid_certificates.specs.Peaks.{RedexPlace, chosen, at_redex, AreConditionsAt, IsRedexJudged, AreRefuted, AreNotRefuted, AreShownApart, AreNotShownApart, LeadsTo, IsValidPeak, IsPeakRejected, first_fails, second_fails, not_apart}
+use Rattle.valid_certificates.specs.Peaks.{RedexPlace, chosen, at_redex, AreConditionsAt, IsRedexJudged, AreRefuted, AreNotRefuted, AreShownApart, AreNotShownApart, LeadsTo, HasFileSymbols, AreValidEnds, AreNoValidEnds, IsValidPeak, IsPeakRejected, foreign_start, first_fails, second_fails, not_apart}
 use Rattle.valid_certificates.specs.Laws.{IsOneAnswer}
 use Rattle.valid_certificates.proofs.OneList.{redexes_once}
 
@@ -98,6 +98,23 @@ module _ (sys : System) (u v : Term) where
   not_apart_once by_rigid_caps x y (inr ((b, h), _)) (inl a) = absurd (caps_large_alone (unifier b) (no_unifier b) h a.0)
   not_apart_once by_rigid_caps x y (inr a) (inr b) = a.1 ∙ sym b.1
 
+module _ (sys : System) (u v : Term) (a : Apartness) where
+  ends_once : (x y : Rejection) → AreNoValidEnds sys u v a x → AreNoValidEnds sys u v a y → x ≡ y
+  ends_once x y (inl f) (inl g) = f.1 ∙ sym g.1
+  ends_once x y (inl f) (inr (inl g)) = absurd (f.0 g.0)
+  ends_once x y (inl f) (inr (inr g)) = absurd (f.0 g.0)
+  ends_once x y (inr (inl f)) (inl g) = absurd (g.0 f.0)
+  ends_once x y (inr (inl f)) (inr (inl g)) = f.2 ∙ sym g.2
+  ends_once x y (inr (inl f)) (inr (inr g)) = absurd (f.1 g.1)
+  ends_once x y (inr (inr f)) (inl g) = absurd (g.0 f.0)
+  ends_once x y (inr (inr f)) (inr (inl g)) = absurd (g.1 f.1)
+  ends_once x y (inr (inr f)) (inr (inr g)) = not_apart_once sys u v a x y f.2 g.2
+
+  ends_or_not : (x : Rejection) → AreValidEnds sys u v a → AreNoValidEnds sys u v a x → ⊥
+  ends_or_not x h (inl f) = f.0 h.first
+  ends_or_not x h (inr (inl f)) = f.1 h.second
+  ends_or_not x h (inr (inr f)) = apart_or_not sys u v a x h.apart f.2
+
 module _ (sys : System) (peak : Peak) where
   -- both ends are determined
   one_first : (u v w x : Term) → LeadsTo sys peak u v → LeadsTo sys peak w x → u ≡ w
@@ -113,28 +130,36 @@ module _ (sys : System) (peak : Peak) where
   second_or_bad v bad d f = ends_or_fails sys [] 1 peak.start peak.second v bad.path bad.reason d f
 
   pub one_reason : (r s : Rejection) → IsPeakRejected sys peak r → IsPeakRejected sys peak s → r ≡ s
-  one_reason r s (first_fails bad f) (first_fails other g) =
+  one_reason r s (foreign_start f) (foreign_start g) = refl
+  one_reason r s (foreign_start f) (first_fails own other g) = absurd (f own)
+  one_reason r s (foreign_start f) (second_fails own u other d g) = absurd (f own)
+  one_reason r s (foreign_start f) (not_apart own u v reason ends g) = absurd (f own)
+  one_reason r s (first_fails own bad f) (foreign_start g) = absurd (g own)
+  one_reason r s (first_fails own bad f) (first_fails own' other g) =
       let same = fails_unique sys [] 1 peak.start peak.first bad.path other.path bad.reason other.reason f g in
       ap₂ (λ (p : List ℕ) (why : StepReason). first_bad (record { path = p; reason = why })) same.path same.reason
-  one_reason r s (first_fails bad f) (second_fails u other d g) = absurd (first_or_bad u bad d f)
-  one_reason r s (first_fails bad f) (not_apart u v reason ends g) = absurd (first_or_bad u bad ends.first f)
-  one_reason r s (second_fails u bad d f) (first_fails other g) = absurd (first_or_bad u other d g)
-  one_reason r s (second_fails u bad d f) (second_fails w other e g) =
+  one_reason r s (first_fails own bad f) (second_fails own' u other d g) = absurd (first_or_bad u bad d f)
+  one_reason r s (first_fails own bad f) (not_apart own' u v reason ends g) = absurd (first_or_bad u bad ends.first f)
+  one_reason r s (second_fails own u bad d f) (foreign_start g) = absurd (g own)
+  one_reason r s (second_fails own u bad d f) (first_fails own' other g) = absurd (first_or_bad u other d g)
+  one_reason r s (second_fails own u bad d f) (second_fails own' w other e g) =
       let same = fails_unique sys [] 1 peak.start peak.second bad.path other.path bad.reason other.reason f g in
       ap₂ (λ (p : List ℕ) (why : StepReason). second_bad (record { path = p; reason = why })) same.path same.reason
-  one_reason r s (second_fails u bad d f) (not_apart w v reason ends g) = absurd (second_or_bad v bad ends.second f)
-  one_reason r s (not_apart u v reason ends f) (first_fails other g) = absurd (first_or_bad u other ends.first g)
-  one_reason r s (not_apart u v reason ends f) (second_fails w other d g) = absurd (second_or_bad v other ends.second g)
-  one_reason r s (not_apart u v reason ends f) (not_apart w x other ends' g) =
-      not_apart_once sys w x peak.apart reason other
-      (subst₂ (λ a b. AreNotShownApart sys a b peak.apart reason) (one_first u v w x ends ends') (one_second u v w x ends ends') f) g
+  one_reason r s (second_fails own u bad d f) (not_apart own' w v reason ends g) = absurd (second_or_bad v bad ends.second f)
+  one_reason r s (not_apart own u v reason ends f) (foreign_start g) = absurd (g own)
+  one_reason r s (not_apart own u v reason ends f) (first_fails own' other g) = absurd (first_or_bad u other ends.first g)
+  one_reason r s (not_apart own u v reason ends f) (second_fails own' w other d g) = absurd (second_or_bad v other ends.second g)
+  one_reason r s (not_apart own u v reason ends f) (not_apart own' w x other ends' g) =
+      ends_once sys w x peak.apart reason other
+      (subst₂ (λ a b. AreNoValidEnds sys a b peak.apart reason) (one_first u v w x ends ends') (one_second u v w x ends ends') f) g
 
   pub never_both : (r : Rejection) → IsPeakRejected sys peak r → IsValidPeak sys peak → ⊥
-  never_both r (first_fails bad f) valid = first_or_bad valid.u bad valid.ends.first f
-  never_both r (second_fails u bad d f) valid = second_or_bad valid.v bad valid.ends.second f
-  never_both r (not_apart u v reason ends f) valid =
-      apart_or_not sys valid.u valid.v peak.apart reason valid.apart
-      (subst₂ (λ a b. AreNotShownApart sys a b peak.apart reason) (one_first u v valid.u valid.v ends valid.ends) (one_second u v valid.u valid.v ends valid.ends) f)
+  never_both r (foreign_start f) valid = f valid.start
+  never_both r (first_fails own bad f) valid = first_or_bad valid.u bad valid.ends.first f
+  never_both r (second_fails own u bad d f) valid = second_or_bad valid.v bad valid.ends.second f
+  never_both r (not_apart own u v reason ends f) valid =
+      ends_or_not sys valid.u valid.v peak.apart reason valid.apart
+      (subst₂ (λ a b. AreNoValidEnds sys a b peak.apart reason) (one_first u v valid.u valid.v ends valid.ends) (one_second u v valid.u valid.v ends valid.ends) f)
 
 pub peak_answer : (sys : System) (peak : Peak) → IsOneAnswer (IsValidPeak sys peak) (IsPeakRejected sys peak)
 peak_answer sys peak = record { one_reason = one_reason sys peak; never_both = never_both sys peak }

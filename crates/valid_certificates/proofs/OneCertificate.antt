@@ -5,9 +5,10 @@ use Rattle.rewriting.specs.Classes.{IsLeftLinear, IsType3, IsExtendedOriented, I
 use Rattle.rewriting.proofs.Conditions.{Order, is_smaller, is_equal, is_greater, order}
 use Rattle.unifier_run.specs.Overlaps.{Triple, Overlap}
 use Rattle.interpretations.specs.Judgement.{Judgement, good, not_good, unraveling_large}
-use Rattle.certificates.specs.Certificates.{PairEntry, MeasureCertificate, linear_measure, ortho_certificate, quasi_certificate, peak_certificate}
+use Rattle.certificates.specs.Certificates.{PairEntry, MeasureCertificate, linear_measure, precedence_measure, ortho_certificate, quasi_certificate, peak_certificate}
 use Rattle.certificates.specs.Reasons.{EvidenceReason, Class, left_linear, type3, extended_oriented, right_stable, deterministic, Blame, MeasureReason, Rejection, class_fails, not_irreducible, measure_fails, unraveling_large as large_unraveling, pair_large, evidence_fails}
 use Rattle.certificates.specs.Blames.{IsInClass}
+use Rattle.path_orders.proofs.OneJudgement.{judgement_once as precedence_once}
 use Rattle.valid_certificates.specs.Kinds.{Kind}
 use Rattle.valid_certificates.specs.Kinds.{ortho, quasi}
 use Rattle.valid_certificates.specs.PairEvidence.{IsPairJudged}
@@ -204,6 +205,7 @@ module _ (sys : System) where
 
 measure_judged_once : (sys : System) (m : MeasureCertificate) → IsOnce Judgement (IsMeasureJudged sys m)
 measure_judged_once sys (linear_measure es) = judgement_once sys es
+measure_judged_once sys (precedence_measure order) = precedence_once sys order
 
 pub certificate_answer : CertificatesHaveOneAnswer
 certificate_answer sys (ortho_certificate es) = ortho_answer sys es

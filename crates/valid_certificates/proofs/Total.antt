@@ -7,11 +7,12 @@ use Rattle.unifier_run.proofs.Total.{all_clash_decided}
 use Rattle.interpretations.specs.Judgement.{Judgement, good, not_good, unraveling_large}
 use Rattle.interpretations.proofs.Total.{interpretation_total}
 use Rattle.certificates.specs.Blames.{IsInClass, IsBlamed}
-use Rattle.certificates.specs.Certificates.{PairEntry, MeasureCertificate, linear_measure, Certificate, ortho_certificate, quasi_certificate, peak_certificate}
+use Rattle.certificates.specs.Certificates.{PairEntry, MeasureCertificate, linear_measure, precedence_measure, Certificate, ortho_certificate, quasi_certificate, peak_certificate}
 use Rattle.certificates.specs.Reasons.{Class, left_linear, type3, extended_oriented, right_stable, deterministic, Blame, class_fails, not_irreducible, measure_fails, unraveling_large as large_unraveling}
 use Rattle.certificates.proofs.ClassTotal.{FirstSide, class_total, sides_total}
 use Rattle.caps.proofs.Total.{caps_total, pair_total as caps_of_two}
 use Rattle.automata.proofs.Total.{automaton_total}
+use Rattle.path_orders.proofs.Decided.{precedence_total}
 use Rattle.valid_certificates.specs.Kinds.{Kind, ortho, quasi}
 use Rattle.valid_certificates.specs.Confluence.{IsInOrthoClasses, IsValidOrtho, IsOrthoRejected, not_left_linear, not_type3, not_oriented, not_right_stable, ortho_pairs_fail, AreRightSidesIrreducible, IsFirstReducible, IsValidQuasi, IsQuasiRejected, not_deterministic, side_is_reducible, measure_is_bad, unraveling_is_large, quasi_pairs_fail}
 use Rattle.valid_certificates.specs.Certificates.{IsMeasureJudged, IsValid, IsRejected}
@@ -76,6 +77,7 @@ module _ (sys : System) (classes : (class : Class) → EachRule sys (IsInClass s
 -- the measure of a certificate is judged
 measure_total : (sys : System) (m : MeasureCertificate) → (j : Judgement) × IsMeasureJudged sys m j
 measure_total sys (linear_measure es) = interpretation_total sys es
+measure_total sys (precedence_measure order) = precedence_total sys order
 
 -- all right sides of conditions are irreducible, or a first is not
 right_sides_total : (sys : System) → AreRightSidesIrreducible sys ⊎ ((i : ℕ) × (k : ℕ) × IsFirstReducible sys i k)

@@ -5,6 +5,9 @@ use Rattle.rewriting.specs.Confluence.{AreApart}
 use Rattle.rewriting.specs.Infeasibility.{IsInfeasible}
 use Rattle.rewriting.specs.Systems.{IsWellFormed}
 use Rattle.rewriting.proofs.Common.{Term, Condition, System, IsOver}
+use Rattle.rewriting.specs.Reduction.{Reaches}
+use Rattle.rewriting.proofs.Laws.{keeps_over}
+use Rattle.join_systems.proofs.Files.{files_are_apart}
 use Rattle.caps.proofs.Reducts.{never_met as caps_refute}
 use Rattle.caps.proofs.Rigid.{rigid_apart}
 use Rattle.automata.proofs.Kept.{refutes as automaton_refutes}
@@ -13,7 +16,7 @@ use Rattle.certificates.specs.Evidence.{InfeasibilityEvidence, by_caps, by_autom
 use Rattle.certificates.specs.Reasons.{tcap_large}
 use Rattle.certificates.proofs.Unique.{derives_unique}
 use Rattle.valid_certificates.specs.Evidence.{IsInfeasibilityJudged}
-use Rattle.valid_certificates.specs.Peaks.{RedexPlace, AreRedexes, chosen, IsRedexJudged, AreRefuted, AreShownApart, LeadsTo, IsValidPeak}
+use Rattle.valid_certificates.specs.Peaks.{RedexPlace, AreRedexes, chosen, IsRedexJudged, AreRefuted, AreShownApart, LeadsTo, HasFileSymbols, IsValidPeak}
 use Rattle.valid_certificates.specs.Laws.{IsUnjoinable, ValidPeaksReachApart}
 use Rattle.valid_certificates.proofs.Ends.{end_reached}
 use Rattle.valid_certificates.proofs.Normal.{IsNeverMet, HasNoRedex, normal_apart}
@@ -58,12 +61,20 @@ shown_apart sys u v by_rigid_caps good h = rigid_apart sys u v good h
 ends_unjoinable : (sys : System) (peak : Peak) → IsWellFormed sys → IsOver sys.arities peak.start → (valid : IsValidPeak sys peak) → (u v : Term) → LeadsTo sys peak u v
     → IsUnjoinable sys peak.start u v
 ends_unjoinable sys peak good over valid u v ends =
+    let one : Reaches sys peak.start u = end_reached sys peak.start peak.first u good over ends.first in
+    let other : Reaches sys peak.start v = end_reached sys peak.start peak.second v good over ends.second in
+    let same_u : valid.u ≡ u = derives_unique sys [] peak.start peak.first valid.u u valid.ends.first ends.first in
+    let same_v : valid.v ≡ v = derives_unique sys [] peak.start peak.second valid.v v valid.ends.second ends.second in
+    let apart : AreApart sys u v = subst₂ (AreApart sys) same_u same_v (shown_apart sys valid.u valid.v peak.apart good valid.apart.apart) in
+    let u_file : HasFileSymbols sys u = subst (HasFileSymbols sys) same_u valid.apart.first in
+    let v_file : HasFileSymbols sys v = subst (HasFileSymbols sys) same_v valid.apart.second in
     record {
-      one = end_reached sys peak.start peak.first u good over ends.first;
-      other = end_reached sys peak.start peak.second v good over ends.second;
-      apart =
-          subst₂ (AreApart sys) (derives_unique sys [] peak.start peak.first valid.u u valid.ends.first ends.first)
-          (derives_unique sys [] peak.start peak.second valid.v v valid.ends.second ends.second) (shown_apart sys valid.u valid.v peak.apart good valid.apart);
+      one = one;
+      other = other;
+      apart = apart;
+      file_one = files_are_apart.reaches sys peak.start u (over, valid.start) (keeps_over sys peak.start u good over one, u_file) one;
+      file_other = files_are_apart.reaches sys peak.start v (over, valid.start) (keeps_over sys peak.start v good over other, v_file) other;
+      file_apart = files_are_apart.apart sys u v apart;
     }
 
 pub valid_peaks : ValidPeaksReachApart

@@ -2,7 +2,8 @@
 use Rattle.rewriting.specs.Rules.{System}
 use Rattle.interpretations.specs.Judgement.{Judgement}
 use Rattle.interpretations.specs.Judged as linear
-use Rattle.certificates.specs.Certificates.{MeasureCertificate, linear_measure, Certificate, ortho_certificate, quasi_certificate, peak_certificate}
+use Rattle.path_orders.specs.Judged as path
+use Rattle.certificates.specs.Certificates.{MeasureCertificate, linear_measure, precedence_measure, Certificate, ortho_certificate, quasi_certificate, peak_certificate}
 use Rattle.certificates.specs.Reasons.{Rejection}
 use Rattle.valid_certificates.specs.Confluence.{IsValidOrtho, IsOrthoRejected, IsValidQuasi, IsQuasiRejected}
 use Rattle.valid_certificates.specs.Peaks.{IsValidPeak, IsPeakRejected}
@@ -10,6 +11,7 @@ use Rattle.valid_certificates.specs.Peaks.{IsValidPeak, IsPeakRejected}
 -- what the measure of a certificate is judged to be
 abbrev pub IsMeasureJudged : System → MeasureCertificate → Judgement → Type 0
 IsMeasureJudged sys (linear_measure es) j = linear.IsInterpretationJudged sys es j
+IsMeasureJudged sys (precedence_measure order) j = path.IsPrecedenceJudged sys order j
 
 abbrev pub IsValid : System → Certificate → Type 0
 IsValid sys (ortho_certificate es) = IsValidOrtho sys es

@@ -6,16 +6,20 @@ use Rattle.rewriting.specs.Rules.{System}
 use Rattle.rewriting.specs.Systems.{IsWellFormed}
 use Rattle.rewriting.specs.Reduction.{Reaches}
 use Rattle.rewriting.specs.Confluence.{AreApart}
+use Rattle.join_systems.specs.FileRelation.{FileReaches, AreFileApart}
 use Rattle.certificates.specs.Certificates.{Peak, Certificate}
 use Rattle.certificates.specs.Reasons.{Rejection}
 use Rattle.valid_certificates.specs.Peaks.{LeadsTo, IsValidPeak}
 use Rattle.valid_certificates.specs.Certificates.{IsValid, IsRejected}
 
--- the term reaches both, and they have no common reduct
+-- the term reaches both, and they have no common reduct; all the same by the file's relation
 pub record IsUnjoinable (sys : System) (t u v : Term) : Type 0 where
   pub one : Reaches sys t u
   pub other : Reaches sys t v
   pub apart : AreApart sys u v
+  pub file_one : FileReaches sys t u
+  pub file_other : FileReaches sys t v
+  pub file_apart : AreFileApart sys u v
 
 -- the peak's derivations lead to two terms, and whichever they are, the start reaches both and they have no common reduct
 pub record ReachesApart (sys : System) (peak : Peak) : Type 0 where

@@ -6,6 +6,7 @@ use Rattle.rewriting.specs.Terms.{Term}
 use Rattle.rewriting.specs.Positions.{Position, subterm, IsBefore}
 use Rattle.rewriting.specs.Substitutions.{Substitution, Bindings, apply, Matches}
 use Rattle.rewriting.specs.Unifiers.{even, odd}
+use Rattle.rewriting.specs.Signatures.{HasSymbolsBelow}
 use Rattle.rewriting.specs.Rules.{Condition, Rule, System, rule_at}
 use Rattle.rewriting.specs.Overlaps.{conditions_under}
 use Rattle.unifier_run.specs.Run.{Binding, unifier, clash}
@@ -14,7 +15,7 @@ use Rattle.certificates.specs.Evidence.{InfeasibilityEvidence}
 use Rattle.certificates.specs.Certificates.{Apartness, Peak, Redex, by_normal_forms, by_rigid_caps}
 use Rattle.certificates.specs.Judging.{Derives, IsFirstBad, RuleMatches}
 use Rattle.certificates.specs.Sizes.{DoConditionsFit}
-use Rattle.certificates.specs.Reasons.{EvidenceReason, tcap_large, BadStep, Rejection, first_bad, second_bad, same_term, not_normal, redex_extra, redex_fails, caps_unify, caps_large}
+use Rattle.certificates.specs.Reasons.{EvidenceReason, tcap_large, BadStep, Rejection, foreign, first_bad, second_bad, same_term, not_normal, redex_extra, redex_fails, caps_unify, caps_large}
 use Rattle.valid_certificates.specs.Evidence.{IsInfeasibilityJudged}
 
 -- the left side of the rule with a number matches at the position
@@ -112,16 +113,36 @@ pub record LeadsTo (sys : System) (peak : Peak) (u v : Term) : Type 0 where
   pub first : Derives sys [] peak.start peak.first u
   pub second : Derives sys [] peak.start peak.second v
 
--- the peak is valid: its ends are shown to be apart
+-- the term has only symbols of the file
+abbrev pub HasFileSymbols : System → Term → Type 0
+HasFileSymbols sys t = HasSymbolsBelow sys.own t
+
+-- two ends of a peak have only symbols of the file, and are shown to be apart
+pub record AreValidEnds (sys : System) (u v : Term) (a : Apartness) : Type 0 where
+  pub first : HasFileSymbols sys u
+  pub second : HasFileSymbols sys v
+  pub apart : AreShownApart sys u v a
+
+-- the first reason why not
+abbrev pub AreNoValidEnds : System → Term → Term → Apartness → Rejection → Type 0
+AreNoValidEnds sys u v a reason =
+    ((HasFileSymbols sys u → ⊥) × (reason ≡ foreign 1))
+    ⊎ (HasFileSymbols sys u × (HasFileSymbols sys v → ⊥) × (reason ≡ foreign 2))
+    ⊎ (HasFileSymbols sys u × HasFileSymbols sys v × AreNotShownApart sys u v a reason)
+
+-- the peak is valid: it starts from a term of file symbols, and its ends are such terms and shown to be apart
 pub record IsValidPeak (sys : System) (peak : Peak) : Type 0 where
+  pub start : HasFileSymbols sys peak.start
   pub u : Term
   pub v : Term
   pub ends : LeadsTo sys peak u v
-  pub apart : AreShownApart sys u v peak.apart
+  pub apart : AreValidEnds sys u v peak.apart
 
 -- the first reason, in the order of judging, why it is not
 pub data IsPeakRejected (sys : System) (peak : Peak) : Rejection → Type 0 where
-  first_fails : (bad : BadStep) → IsFirstBad sys [] peak.start peak.first bad → IsPeakRejected sys peak (first_bad bad)
-  second_fails : (u : Term) (bad : BadStep) → Derives sys [] peak.start peak.first u → IsFirstBad sys [] peak.start peak.second bad
+  foreign_start : (HasFileSymbols sys peak.start → ⊥) → IsPeakRejected sys peak (foreign 0)
+  first_fails : HasFileSymbols sys peak.start → (bad : BadStep) → IsFirstBad sys [] peak.start peak.first bad → IsPeakRejected sys peak (first_bad bad)
+  second_fails : HasFileSymbols sys peak.start → (u : Term) (bad : BadStep) → Derives sys [] peak.start peak.first u → IsFirstBad sys [] peak.start peak.second bad
       → IsPeakRejected sys peak (second_bad bad)
-  not_apart : (u v : Term) (reason : Rejection) → LeadsTo sys peak u v → AreNotShownApart sys u v peak.apart reason → IsPeakRejected sys peak reason
+  not_apart : HasFileSymbols sys peak.start → (u v : Term) (reason : Rejection) → LeadsTo sys peak u v → AreNoValidEnds sys u v peak.apart reason
+      → IsPeakRejected sys peak reason

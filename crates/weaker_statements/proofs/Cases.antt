@@ -1,15 +1,28 @@
 -- The cases in which the weaker statements hold.
-use Rattle.std.proofs.Common.{refl}
+use Rattle.std.proofs.Common.{refl, arith}
 use Rattle.rewriting.specs.Relations.{done}
 use Rattle.rewriting.specs.Examples.{constant}
 use Rattle.measure.proofs.NoRules.{no_rules_bound}
 use Rattle.level_theorem.proofs.Counterexamples.{forked_apart}
+use Rattle.join_systems.proofs.Files.{files_are_apart}
+use Rattle.level_theorem.specs.Example.{forked}
 use Rattle.weaker_statements.specs.Peaks.{EndsMatter}
 use Rattle.weaker_statements.specs.Measures.{JudgementsMatter}
 
 pub ends_matter : EndsMatter
 ends_matter = (
-  (constant 1, constant 2, record { one = forked_apart.0; other = forked_apart.1; apart = forked_apart.2 }),
+  (
+    constant 1,
+    constant 2,
+    record {
+      one = forked_apart.0;
+      other = forked_apart.1;
+      apart = forked_apart.2;
+      file_one = files_are_apart.reaches forked (constant 0) (constant 1) ((refl, tt), (omega arith, tt)) ((refl, tt), (omega arith, tt)) forked_apart.0;
+      file_other = files_are_apart.reaches forked (constant 0) (constant 2) ((refl, tt), (omega arith, tt)) ((refl, tt), (omega arith, tt)) forked_apart.1;
+      file_apart = files_are_apart.apart forked (constant 1) (constant 2) forked_apart.2;
+    },
+  ),
   λ h. (h.apart (constant 0) (constant 0) (record { first = refl; second = refl })).apart (constant 0) done done,
 )
 

@@ -1,6 +1,6 @@
 -- A way to judge systems that keeps the law of bounds, and calls a system good and bad at once.
 use Rattle.std.specs.Prelude.{◌≡◌, []}
-use Rattle.rewriting.specs.Rules.{System}
+use Rattle.rewriting.specs.Rules.{System, system_of}
 use Rattle.rewriting.specs.Systems.{IsWellFormed}
 use Rattle.rewriting.specs.Descents.{AreDescentsBounded}
 use Rattle.certificates.specs.Reasons.{smaller_constant}
@@ -13,7 +13,7 @@ IsJudgedTwice sys (not_good why) = why ≡ smaller_constant 1
 IsJudgedTwice sys (unraveling_large i) = ⊥
 
 abbrev pub nothing : System
-nothing = record { arities = []; rules = [] }
+nothing = system_of ([]) ([])
 
 -- where it judges good, descents are bounded; and it judges a system without rules both
 pub record JudgementsMatter : Type 0 where

@@ -22,3 +22,6 @@ returns-clause-either c = refused.never_both
 
 pub returns-clause-some : goal.returns-clause-some
 returns-clause-some c = refused.some_reading
+
+pub returns-clause-told : goal.returns-clause-told
+returns-clause-told c = laws.told

@@ -1,49 +1,13 @@
-use Rattle.std.proofs.Common.{◌≡◌, ◌∙◌, ap, map, List, ℕ, [], refl}
-use Rattle.file_text.specs.Syntax.{Name, FileTree}
-use Rattle.cops_trees.specs.View.{IsFileText, names_view}
-use Rattle.cops_trees.specs.declared.tree.Name as program
-use Rattle.cops_trees.specs.declared.tree.FileText.{FileText}
-use Rattle.cops_names.specs.NameTable.{NameTable}
-use Rattle.cops_names.specs.NameLists.{with_names}
-use Rattle.cops_systems.specs.Meaning.{variables_of}
-use Rattle.cops_systems.specs.RuleSteps.{FileAnswers}
-use Rattle.cops_systems.proofs.Tells.{handed}
-use Rattle.cops_systems.proofs.Wholes.{rules_told, rules_sound, rules_counted, file_read}
+use Rattle.std.proofs.Common.{◌≡◌, ◌∙◌, sym, inl}
+use Rattle.cops_systems.proofs.Meant.{asks_of, meant_joined}
 use Rattle.cops_systems.proofs.files.read_file.Goals as goal
 
-block_is : (file : FileTree) (text : FileText) (block : List (List ℕ)) (items : List program.Name) → IsFileText text file → block ≡ with_names [] (map (λ n. n.text) (names_view items))
-    → items ≡ text.variables.items → block ≡ variables_of file
-block_is file text block items h e same =
-    e ∙ ap (λ (ns : List program.Name). with_names [] (map (λ (n : Name). n.text) (names_view ns))) same ∙ ap (λ (ns : List Name). with_names [] (map (λ (n : Name). n.text) ns)) h.variables
+pub returns-then-joins : goal.returns-then-joins
+returns-then-joins c tree h =
+    let asks = sym (asks_of c.args.file tree h) ∙ sym c.asks_joins-joins.ensures ∙ c.if-joins.true in
+    meant_joined tree c.join_list.result asks (c.join_list.ensures tree (c.in_ok-list.ensures tree h))
 
-pub returns-in_err-rules : goal.returns-in_err-rules
-returns-in_err-rules c tree h =
-    handed (FileAnswers tree) c.in_err-rules.field-0.0 c.from_residual-in_err-rules.result c.from_residual-in_err-rules.ensures.1
-    (rules_told tree c.args.file h c.in_ok-read_block.field-0 c.new.result.symbols c.args.file.rules.items
-    (block_is tree c.args.file c.in_ok-read_block.field-0 c.deref.result.now h c.in_ok-read_block.ensures c.deref.ensures.value) (ap (λ (n : NameTable). n.symbols) c.new.ensures) refl
-    c.read_rules.new.scope.names.symbols c.read_rules.new.scope.names.variables c.in_err-rules.field-0.0 c.in_err-rules.ensures.rules)
-
-pub read_rules-requires-clause-texts : goal.read_rules-requires-clause-texts
-read_rules-requires-clause-texts c = (c.requires.0.rules, c.requires.1.rules)
-
-pub of_sound-system-requires-clause-sound : goal.of_sound-system-requires-clause-sound
-of_sound-system-requires-clause-sound c =
-    let tree = c.requires.0 in
-    let h = c.requires.1 in
-    rules_sound tree c.args.file h c.in_ok-read_block.field-0 c.new.result.symbols c.args.file.rules.items
-    (block_is tree c.args.file c.in_ok-read_block.field-0 c.deref.result.now h c.in_ok-read_block.ensures c.deref.ensures.value) (ap (λ (n : NameTable). n.symbols) c.new.ensures) refl
-    c.read_rules.new.scope.names c.in_ok-arities.arities.items c.in_ok-rules.rules.items c.in_ok-rules.ensures.rules c.in_ok-arities.ensures
-
-pub of_sound-system-requires-clause-counted : goal.of_sound-system-requires-clause-counted
-of_sound-system-requires-clause-counted c =
-    let tree = c.requires.0 in
-    let h = c.requires.1 in
-    rules_counted tree c.args.file h c.in_ok-read_block.field-0 c.new.result.symbols c.args.file.rules.items
-    (block_is tree c.args.file c.in_ok-read_block.field-0 c.deref.result.now h c.in_ok-read_block.ensures c.deref.ensures.value) (ap (λ (n : NameTable). n.symbols) c.new.ensures) refl
-    c.read_rules.new.scope.names c.in_ok-arities.arities.items c.in_ok-rules.rules.items c.in_ok-rules.ensures.rules c.in_ok-arities.ensures
-
-pub returns : goal.returns
-returns c tree h =
-    file_read tree c.args.file h c.in_ok-read_block.field-0 c.new.result.symbols c.args.file.rules.items
-    (block_is tree c.args.file c.in_ok-read_block.field-0 c.deref.result.now h c.in_ok-read_block.ensures c.deref.ensures.value) (ap (λ (n : NameTable). n.symbols) c.new.ensures) refl
-    c.read_rules.new.scope.names c.in_ok-arities.arities.items c.in_ok-rules.rules.items c.in_ok-rules.ensures.rules c.in_ok-arities.ensures c.of_sound-system.result c.of_sound-system.ensures
+pub returns-else-joins : goal.returns-else-joins
+returns-else-joins c tree h =
+    let asks = sym (asks_of c.args.file tree h) ∙ sym c.asks_joins-joins.ensures ∙ c.if-joins.false in
+    inl (asks, c.in_ok-list.ensures tree h)
