@@ -75,7 +75,7 @@ module _ (sys : System) (classes : (class : Class) → EachRule sys (IsInClass s
     quasi_total = with_class (classes deterministic)
 
 -- the measure of a certificate is judged
-measure_total : (sys : System) (m : MeasureCertificate) → (j : Judgement) × IsMeasureJudged sys m j
+pub measure_total : (sys : System) (m : MeasureCertificate) → (j : Judgement) × IsMeasureJudged sys m j
 measure_total sys (linear_measure es) = interpretation_total sys es
 measure_total sys (precedence_measure order) = precedence_total sys order
 
