@@ -3,10 +3,11 @@ use Rattle.std.specs.Prelude.{◌≡◌, ◌≤◌, ◌⊎◌, ℕ, List, length
 use Rattle.rewriting.specs.Rules.{System}
 use Rattle.rewriting.specs.Systems.{IsSystem}
 use Rattle.join_systems.specs.FileRelation.{IsFromFile}
+use Rattle.file_text.specs.Syntax.{has_type}
 use Rattle.file_text.specs.Tokens.{bad_byte, long_id, open_comment}
 use Rattle.file_text.specs.Refusals.{unknown_block, repeated_block, other_condition_type, wrong_syntax, missing_rules}
 use Rattle.cops_names.specs.NameTable.{NameTable}
-use Rattle.cops_systems.specs.Limits.{IsWithinLimits}
+use Rattle.cops_systems.specs.Limits.{KeepsLimits}
 use Rattle.cops_systems.specs.File.{IsFile, FileCause, no_tokens, no_tree, no_meaning, IsNoFile}
 use Rattle.cops_systems.specs.Refusals.{conditions_without_type, too_deep, variable_with_arguments, left_variable, arity_differs}
 pub use Rattle.cops_systems.specs.Counts.{cause_of_count, most_of}
@@ -44,10 +45,9 @@ OneSystem = (bytes : List ℕ) (sys other : System) (names others : NameTable) �
 abbrev pub SystemsAreSound : Type 0
 SystemsAreSound = (bytes : List ℕ) (sys : System) (names : NameTable) → IsFile bytes sys names → IsSystem sys
 
--- and keeps the limits, where it is that of the file's own rules
+-- and what the file has keeps the limits
 abbrev pub SystemsAreWithinLimits : Type 0
-SystemsAreWithinLimits =
-    (bytes : List ℕ) (sys : System) (names : NameTable) (file : IsFile bytes sys names) → sys.own ≡ length sys.arities → IsWithinLimits file.tree.oriented sys names
+SystemsAreWithinLimits = (bytes : List ℕ) (sys : System) (names : NameTable) (file : IsFile bytes sys names) → KeepsLimits (has_type file.tree) sys names
 
 -- it is that of join rules, or all its symbols are the file's
 abbrev pub SystemsTellTheirFile : Type 0
