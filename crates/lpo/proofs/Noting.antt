@@ -15,6 +15,11 @@ use Rattle.term_core.specs.declared.terms.Term.TheVariants.{Fun}
 use Rattle.lpo.proofs.Steps.{behind_first, views_split}
 use Rattle.lpo.specs.Listed.{HasSymbol, HaveSymbol, OccursAt, listed, IsNoted, AreListed, ListedAnswers}
 
+pub listed_at : (lists : List (Vec ℕ Global)) (f : ℕ) (v : Vec ℕ Global) → f < length lists → v ≡ get_or lists f v → listed lists f ≡ v.items
+listed_at [] f v lt is = absurd (omega (arith, lt))
+listed_at (x ∷ lists) zero v lt is = ap (λ (z : Vec ℕ Global). z.items) (sym is)
+listed_at (x ∷ lists) (suc f) v lt is = listed_at lists f v (omega (arith, lt)) is
+
 -- one list is replaced
 there : (lists : List (Vec ℕ Global)) (g : ℕ) (b v : Vec ℕ Global) (xs : List ℕ) → g < length lists → v.items ≡ (get_or lists g b).items ++ xs → listed (set lists g v) g ≡ listed lists g ++ xs
 there [] g b v xs lt e = absurd (omega (arith, lt))
