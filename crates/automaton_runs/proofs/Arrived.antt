@@ -13,7 +13,8 @@ use Rattle.rewriting.specs.Lists.{IsAmong}
 use Rattle.automaton_runs.specs.Reached.{AreWhere}
 use Rattle.automaton_runs.specs.Arrivals.{IsArrivalBefore, AreArrivals, AreBatchArrivals, HaveBatchArrivals, IsFrontArrival, AreFrontArrivals}
 use Rattle.automaton_runs.specs.Choices.{Choices, Batch, Holds, choice_of, AreChoices}
-use Rattle.automaton_runs.proofs.ChoiceLists.{before_behind, before_fronts, among_place, place_among, pair_at}
+use Rattle.rewriting.proofs.Members.{among_place, place_among}
+use Rattle.automaton_runs.proofs.ChoiceLists.{before_behind, before_fronts, pair_at}
 use Rattle.rewriting.proofs.Lists.{among_left, among_right, among_either, among_map, among_of_map}
 use Rattle.automaton_runs.proofs.Members.{contains_in, in_contains}
 use Rattle.automaton_runs.proofs.Ordered.{IsOrdered, ordered_append, ordered_from_pairs, pairs_from_ordered}

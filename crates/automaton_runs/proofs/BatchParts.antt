@@ -11,7 +11,7 @@ use Rattle.number_sets.specs.declared.rows.NumberRelation.{NumberRelation}
 use Rattle.automaton_runs.specs.Choices.{as_lists, Batch, Holds, choice_of}
 use Rattle.automaton_runs.specs.BatchView.{AreStatesAt, IsFirstPlace}
 use Rattle.automaton_runs.specs.Leaves.{AreStatesIn, AreZeros}
-use Rattle.automaton_runs.proofs.ChoiceLists.{place_among}
+use Rattle.rewriting.proofs.Members.{place_among}
 use Rattle.automaton_runs.proofs.Members.{mapped_more}
 use Rattle.automaton_runs.proofs.Twins.{all_of}
 

@@ -1,7 +1,7 @@
 -- Lists of the choices of a state of each pool: what is on them, and in which order.
 use Rattle.std.proofs.Common.{◌≡◌, ℕ, zero, suc, ◌+◌, ◌-◌, ◌*◌, ◌<◌, ◌≤◌, inl, inr, ⊎_elim, List, [], ◌∷◌, ◌++◌, map, length, get_or, take, drop, AllPairs, Some, slice_get, Vec, Global, refl, ap, ap₂, sym, subst, ◌∙◌, length-append, suc-mul, arith}
 use Rattle.std.proofs.lemmas.List.{length-map, get_or-map, drop_more}
-use Rattle.std.proofs.lemmas.Option.{same_Some, none-some, get_or_from_slice_get, slice_get_within}
+use Rattle.std.proofs.lemmas.Option.{get_or_from_slice_get, slice_get_within}
 use Rattle.rewriting.specs.Positions.{IsBefore}
 use Rattle.rewriting.specs.Lists.{IsAmong}
 use Rattle.rewriting.proofs.Lists.{among_left, among_right, among_either, among_map, among_of_map}
@@ -118,17 +118,6 @@ before_fronts [] (y ∷ g) r s long h = absurd (omega arith)
 before_fronts (x ∷ f) [] r s long h = absurd h
 before_fronts (x ∷ f) (y ∷ g) r s long (inl l) = inl l
 before_fronts (x ∷ f) (y ∷ g) r s long (inr (e, h)) = inr (e, before_fronts f g r s (omega arith) h)
-
--- what is on a list, by places
-pub among_place : {X : Type 0} (x : X) (xs : List X) → IsAmong x xs → (j : ℕ) × (slice_get xs j ≡ Some x)
-among_place x [] h = absurd h
-among_place x (y ∷ ys) (inl e) = (0, ap Some (sym e))
-among_place x (y ∷ ys) (inr h) = let r = among_place x ys h in (suc r.0, r.1)
-
-pub place_among : {X : Type 0} (xs : List X) (j : ℕ) (x : X) → slice_get xs j ≡ Some x → IsAmong x xs
-place_among [] j x e = absurd (none-some x e)
-place_among (y ∷ ys) zero x e = inl (sym (same_Some y x e))
-place_among (y ∷ ys) (suc j) x e = inr (place_among ys j x e)
 
 pub pair_at : {X : Type 0} (R : X → X → Type 0) (xs : List X) (i j : ℕ) (x y : X) → AllPairs R xs → i < j → slice_get xs i ≡ Some x → slice_get xs j ≡ Some y → R x y
 pair_at {X = X} R xs i j x y h l e f =

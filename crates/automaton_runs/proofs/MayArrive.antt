@@ -24,7 +24,8 @@ use Rattle.automaton_runs.proofs.NumberedLeaves.{AreGiven, linear_reach}
 use Rattle.automaton_runs.proofs.Evaluated.{reach_related}
 use Rattle.automaton_runs.proofs.Shared.{one_of_all}
 use Rattle.automaton_runs.proofs.BatchParts.{front_place, behind_place}
-use Rattle.automaton_runs.proofs.ChoiceLists.{in_choices, of_choices, of_long, ordered_choices, among_place, place_among, pair_at}
+use Rattle.rewriting.proofs.Members.{among_place, at_place, place_among}
+use Rattle.automaton_runs.proofs.ChoiceLists.{in_choices, of_choices, of_long, ordered_choices, pair_at}
 use Rattle.automaton_runs.proofs.Ordered.{IsOrdered, ordered_append, pairs_from_ordered}
 
 -- one more state with all numbers
@@ -70,11 +71,6 @@ facing R (u ∷ xs) [] m x z e = absurd z
 facing {X = X} R (u ∷ xs) (v ∷ ys) zero x z e = (v, refl, subst (λ (w : X). R w v) (same_Some u x e) z.0)
 facing R (u ∷ xs) (v ∷ ys) (suc m) x z e = facing R xs ys m x z.1 e
 
-there_is : {X : Type 0} (xs : List X) (i : ℕ) → i < length xs → (x : X) × (slice_get xs i ≡ Some x)
-there_is [] i h = absurd (omega arith)
-there_is (x ∷ xs) zero h = (x, refl)
-there_is (x ∷ xs) (suc i) h = there_is xs i (omega arith)
-
 -- the relations give the states of each choice with a front
 module _ (fronts pools : List (List ℕ)) (rs made : List NumberRelation) (all : List ℕ) (each : AreAllStatesIn fronts rs) (anywhere : AllZip (IsAnywhere all) pools made) where
   fronts_give : (j : ℕ) (front cs : List ℕ) → slice_get fronts j ≡ Some front → length rs ≡ length front → IsAmong j all → AreOf pools cs → AreGiven (MayHave (rs ++ made) j) 0 (front ++ cs)
@@ -87,7 +83,7 @@ module _ (fronts pools : List (List ℕ)) (rs made : List NumberRelation) (all :
     where
       in_front : (i : ℕ) → i < length front → MayHave (rs ++ made) j i (get_or (front ++ cs) i 0)
       in_front i l =
-          let r = there_is rs i (omega arith) in
+          let r = at_place rs i (omega arith) in
           let state : slice_get front i ≡ Some (get_or (front ++ cs) i 0) = slice_get-get_or front i 0 l ∙ ap Some (sym (get_or_append_left front cs 0 i l)) in
           (r.0, front_place rs made i (omega arith) ∙ r.1, (each i r.0 r.1 (get_or (front ++ cs) i 0) j).1 (front, at, state))
 

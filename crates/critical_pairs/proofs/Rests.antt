@@ -1,5 +1,5 @@
 -- The triples that are still to come, as a search goes on.
-use Rattle.std.proofs.Common.{ℕ, zero, suc, ◌≡◌, ◌+◌, ◌-◌, ◌<◌, ◌≤◌, inl, inr, List, [], ◌∷◌, ◌++◌, map, length, drop, get_or, slice_get, None, Some, refl, sym, ap, ap₂, ◌∙◌, subst, subst₂, arith, ◌^◌}
+use Rattle.std.proofs.Common.{ℕ, zero, suc, ◌≡◌, ◌+◌, ◌-◌, ◌<◌, ◌≤◌, List, [], ◌∷◌, ◌++◌, map, length, drop, get_or, slice_get, None, Some, refl, sym, ap, ap₂, ◌∙◌, subst, subst₂, arith, ◌^◌}
 use Rattle.std.proofs.lemmas.Option.{slice_get_within}
 use Rattle.rewriting.specs.Lists.{IsAmong}
 use Rattle.rewriting.specs.Terms.{app, Fits}
@@ -10,6 +10,7 @@ use Rattle.rule_index.specs.Roots.{rules_with_root}
 use Rattle.rule_index.proofs.Walks.{ascending, listed_rule}
 use Rattle.unifier_run.specs.Overlaps.{Triple}
 use Rattle.unifier_run.specs.Triples.{triples_at, counted, triples_from, all_triples}
+use Rattle.rewriting.proofs.Members.{place_among}
 use Rattle.critical_pairs.specs.Offers.{DoesPass}
 use Rattle.critical_pairs.specs.Places.{RootAt, place_view, places_of, triples_of, IsRootAt}
 use Rattle.critical_pairs.specs.Cursors.{rest_of_places, rest_of, IsCursor, StandsBefore, CandidateAnswers, IsEntered}
@@ -34,11 +35,6 @@ drop_end [] zero h = refl
 drop_end [] (suc k) h = refl
 drop_end (x ∷ xs) zero h = absurd (omega arith)
 drop_end (x ∷ xs) (suc k) h = drop_end xs k (omega arith)
-
-pub among_at : {A : Type 0} (xs : List A) (k : ℕ) (x : A) → slice_get xs k ≡ Some x → IsAmong x xs
-among_at [] k x e = absurd (cc)
-among_at (y ∷ ys) zero x e = inl (cc)
-among_at (y ∷ ys) (suc k) x e = inr (among_at ys k x e)
 
 none_done : (sys : System) (j : ℕ) (qs : List RootAt) → rest_of_places sys j qs 0 ≡ triples_of j (length sys.rules) qs
 none_done sys j [] = refl
@@ -65,7 +61,7 @@ module _ (sys : System) (h : IsSystem sys) (j k c : ℕ) (ps : List RootAt) (at 
 -- before an inner rule
 module _ (sys : System) (h : IsSystem sys) (c d : Cursor) (i : ℕ) (is : IsCursor sys c) (s : StandsBefore sys c i) where
   root : IsRootAt sys c.outer s.at
-  root = is.places s.at (among_at _ c.place s.at s.is_place)
+  root = is.places s.at (place_among _ c.place s.at s.is_place)
 
   -- the triple is the next one, and behind it are those of the later inner rules
   pub next_there : d.outer ≡ c.outer → d.places ≡ c.places → d.place ≡ c.place → d.candidate ≡ suc c.candidate → DoesPass sys (rest_of sys c) ((i, (s.at.0, c.outer)) ∷ rest_of sys d)
@@ -135,7 +131,7 @@ view_at (y ∷ ys) (suc k) x h e = view_at ys k x (omega arith) e
 -- within one outer rule
 module _ (sys : System) (h : IsSystem sys) (index : List (List ℕ)) (by_root : IsIndexOf sys index) (b c d : Cursor) (is : IsCursor sys b) (o : c.outer ≡ b.outer) (ps : c.places ≡ b.places) (x : Program.Place) (l : c.place < length c.places.items) (e : x ≡ get_or c.places.items c.place x) where
   here_root : IsRootAt sys c.outer (place_view x)
-  here_root = subst (λ z. IsRootAt sys z (place_view x)) (sym o) (is.places (place_view x) (subst (λ z. IsAmong (place_view x) (map place_view z.items)) ps (among_at _ c.place _ (view_at c.places.items c.place x l e))))
+  here_root = subst (λ z. IsRootAt sys z (place_view x)) (sym o) (is.places (place_view x) (subst (λ z. IsAmong (place_view x) (map place_view z.items)) ps (place_among _ c.place _ (view_at c.places.items c.place x l e))))
 
   pub stands_here : (i : ℕ) → CandidateAnswers (listed index x.root) x.pos.items c.outer c.candidate (Some i) → StandsBefore sys c i
   stands_here i a =

@@ -10,15 +10,6 @@ use Rattle.measure_grid.specs.Grid.{choices, ranges, entries_of}
 use Rattle.measure_grid.specs.Pruned.{Prefix, extended}
 use Rattle.measure_grid.proofs.Grid.{node}
 
--- lists that end with one more are the same in both parts
-pub last_once : {X : Type 0} (xs ys : List X) (x y : X) → xs ++ x ∷ [] ≡ ys ++ y ∷ [] → (xs ≡ ys) × (x ≡ y)
-last_once [] [] x y e = (refl, cc)
-last_once [] (z ∷ []) x y e = absurd (cc)
-last_once [] (z ∷ w ∷ ys) x y e = absurd (cc)
-last_once (z ∷ []) [] x y e = absurd (cc)
-last_once (z ∷ w ∷ xs) [] x y e = absurd (cc)
-last_once (z ∷ xs) (w ∷ ys) x y e = let same = last_once xs ys x y (cc) in let a = same.0 in (cc, same.1)
-
 -- what a list of images is split into
 record IsSplit {X Y : Type 0} (f : X → Y) (xs : List X) (y : Y) (behind : List Y) : Type 0 where
   left : List X

@@ -6,6 +6,7 @@ use Rattle.rewriting.specs.Lists.{IsAmong}
 use Rattle.rewriting.specs.Rules.{System}
 use Rattle.rewriting.specs.Unraveling.{Head, heads, unraveled}
 use Rattle.rewriting.proofs.Lists.{among_middle}
+use Rattle.rewriting.proofs.Members.{last_once}
 use Rattle.certificates.specs.Certificates.{LinearEntry, linear_measure}
 use Rattle.interpretations.specs.Linear.{Interpretation}
 use Rattle.interpretations.specs.Judgement.{good}
@@ -23,7 +24,7 @@ use Rattle.measure_grid.proofs.Grid.{node}
 use Rattle.measure_grid.proofs.Shape.{as_many_columns, chosen_entries, chosen_numbers}
 use Rattle.grid_search.specs.Columns.{FollowsIn, IsLastOf, IsIn, AdvanceAnswers}
 use Rattle.grid_search.proofs.Columns.{one_place}
-use Rattle.grid_search.proofs.Extensions.{last_once, extension, column_at, column_is, head_of}
+use Rattle.grid_search.proofs.Extensions.{extension, column_at, column_is, head_of}
 use Rattle.grid_search.specs.Walks.{StandsAt, HasComeTo, HasDoneWith, HasOneMore}
 
 module _ (sys : System) where

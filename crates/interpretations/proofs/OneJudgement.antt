@@ -8,16 +8,7 @@ use Rattle.interpretations.specs.Size.{DoesUnravelingFit, IsFirstTooLarge}
 use Rattle.interpretations.specs.Judgement.{Judgement, good, not_good, unraveling_large}
 use Rattle.interpretations.specs.Linear.{Interpretation, coefficient, constant, HasShape, AreAllNumbersGood, Overflows, AreCoefficientsKept, Falls}
 use Rattle.interpretations.specs.Judged.{IsFirstMisshapen, IsFirstBad, FailsAt, IsFirstSmaller, IsConstantKept, IsInterpretationJudged}
-use Rattle.rewriting.proofs.Once.{IsOnce, or_once, test_once, with_once, fact_once, once_within}
-
--- at most one number has a property that no two numbers have
-least_once : (P : ℕ → Type 0) → ((i k : ℕ) → i < k → P i → P k → ⊥) → IsOnce ℕ P
-least_once P apart i k h q = go (order i k)
-  where
-    go : Order i k → i ≡ k
-    go (is_smaller lt) = absurd (apart i k lt h q)
-    go (is_equal e) = e
-    go (is_greater lt) = absurd (apart k i lt q h)
+use Rattle.rewriting.proofs.Once.{IsOnce, or_once, test_once, with_once, fact_once, least_once, once_within}
 
 module _ (sys : System) where
   large_apart : (i k : ℕ) → i < k → IsFirstTooLarge sys i → IsFirstTooLarge sys k → ⊥

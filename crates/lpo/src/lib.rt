@@ -2,11 +2,13 @@
 #![tactic(auto)]
 
 mod compare;
+mod listed;
 mod places;
 mod rules;
+mod symbols;
 
 ghost use Rattle.std.specs.Prelude.{◌<◌, ◌^◌, MatchBool, map, length};
-ghost use Rattle.rewriting.specs.Lists.{AreDistinct};
+ghost use Rattle.rewriting.specs.Lists.{IsSorted};
 ghost use Rattle.rewriting.specs.Rules as math;
 ghost use Rattle.interpretations.specs.Size.{DoesUnravelingFit};
 ghost use Rattle.path_orders.specs.Judged.{IsPrecedenceJudged};
@@ -17,10 +19,14 @@ ghost use Rattle.measure.specs.Answers.{ShowsAnswers};
 ghost use Rattle.unravel.specs.Answers.{IsUnraveled};
 ghost use Rattle.lpo.specs.Answers.{HasPrefix, IsOf, PrefixAnswers};
 ghost use Rattle.lpo.specs.Places.{ArePlaces};
+ghost use Rattle.lpo.specs.Symbols.{IsHeadBefore};
 
-pub use crate::places::{no_places, symbol_of};
+pub use crate::listed::{is_listed_dead, rules_by_symbol};
+pub use crate::places::no_places;
 use crate::places::{is_one_missing, place_all};
-pub use crate::rules::{first_unordered, is_one_dead};
+use crate::rules::first_unordered;
+pub use crate::rules::is_one_dead;
+pub use crate::symbols::symbol_of;
 use cert_model::MeasureReason;
 use measure::{Measure, MeasureError, Partial};
 use std::alloc::Global;
@@ -34,7 +40,7 @@ fn judge_placed(
     order: &[Head],
     places: &mut [u32],
 ) -> Result<(), MeasureError>
-    requires distinct { AreDistinct (map head_view heads.now) }
+    requires sorted { IsSorted IsHeadBefore (map head_view heads.now) }
     requires few_heads { length heads.now < 2 ^ 31 }
     requires few_rules { length rules.now < 2 ^ 31 }
     requires so_far { ArePlaces (map head_view heads.now) (map head_view order.now) 0 places.old }
@@ -88,7 +94,7 @@ pub fn check_lpo(alloc: Global, sys: &System, order: &[Head]) -> Result<(), Meas
 
 // Whether some rule, all of whose symbols are among the first ones of a precedence, is not ordered, while no symbol has a place.
 fn is_dead(heads: &[Head], rules: &[Rule], prefix: &[Head], places: &mut [u32]) -> bool
-    requires distinct { AreDistinct (map head_view heads.now) }
+    requires sorted { IsSorted IsHeadBefore (map head_view heads.now) }
     requires few_heads { length heads.now < 2 ^ 31 }
     requires so_far { ArePlaces (map head_view heads.now) (map head_view prefix.now) 0 places.old }
     ensures { (sys : math.System) → IsOf sys (map head_view heads.now) (map rule_view rules.now) → IsPrefix sys (map head_view prefix.now) → MatchBool result (IsDead sys (map head_view prefix.now)) (IsDead sys (map head_view prefix.now) → ⊥) }

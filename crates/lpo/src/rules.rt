@@ -47,7 +47,8 @@ fn have_places(places: &[u32], ts: &[Term]) -> bool
     }
 }
 
-fn is_dead(places: &[u32], rule: &Rule) -> bool
+/// Whether a rule, all of whose symbols have places, is not ordered.
+pub(crate) fn is_dead(places: &[u32], rule: &Rule) -> bool
     ensures { result ≡ is_dead_at places.now (rule_view rule.now) }
 {
     has_places(places, &rule.left) && has_places(places, &rule.right) && !is_ordered(places, rule)

@@ -1,5 +1,6 @@
 -- A relation that holds of one thing at most, put together from others.
-use Rattle.std.proofs.Common.{Option, Some, None, ◌≡◌, ◌⊎◌, inl, inr, sym, ◌∙◌, subst}
+use Rattle.std.proofs.Common.{Option, Some, None, ◌≡◌, ◌⊎◌, inl, inr, ℕ, ◌<◌, sym, ◌∙◌, subst}
+use Rattle.rewriting.proofs.Conditions.{Order, is_smaller, is_equal, is_greater, order}
 
 abbrev pub IsOnce : (A : Type 0) → (A → Type 0) → Type 0
 IsOnce A R = (r s : A) → R r → R s → r ≡ s
@@ -29,6 +30,15 @@ fact_once A H x r s h k = h.1 ∙ sym k.1
 -- one of two facts that exclude each other
 pub facts_once : (A H K : Type 0) (x y : A) → (H → K → ⊥) → IsOnce A (λ r. (H × (r ≡ x)) ⊎ (K × (r ≡ y)))
 facts_once A H K x y apart = or_once A (λ r. H × (r ≡ x)) (λ r. K × (r ≡ y)) (λ r s h k. apart h.0 k.0) (fact_once A H x) (fact_once A K y)
+
+-- at most one number has a property that no two numbers have
+pub least_once : (P : ℕ → Type 0) → ((i k : ℕ) → i < k → P i → P k → ⊥) → IsOnce ℕ P
+least_once P apart i k h q = go (order i k)
+  where
+    go : Order i k → i ≡ k
+    go (is_smaller lt) = absurd (apart i k lt h q)
+    go (is_equal e) = e
+    go (is_greater lt) = absurd (apart k i lt q h)
 
 -- a relation within another
 pub once_within : (A : Type 0) (R S : A → Type 0) → ((r : A) → R r → S r) → IsOnce A S → IsOnce A R

@@ -16,7 +16,8 @@ use Rattle.automaton_runs.specs.Arrivals.{IsArrivalBefore}
 use Rattle.automaton_runs.specs.Choices.{Choices, Batch, choice_of, AreChoices}
 use Rattle.automaton_runs.specs.Reached.{AreWhere}
 use Rattle.automaton_runs.specs.declared.runs.Arrival.{Arrival}
-use Rattle.automaton_runs.proofs.ChoiceLists.{before_behind, before_fronts, among_place, place_among, pair_at}
+use Rattle.rewriting.proofs.Members.{among_place, place_among}
+use Rattle.automaton_runs.proofs.ChoiceLists.{before_behind, before_fronts, pair_at}
 use Rattle.tree_automata.specs.Accepts.{IsOneAccepting}
 use Rattle.tree_automata.specs.Batches.{HoldsIn, IsFailureIn, FailureInAnswers, LackingAtAnswers, batch_at, HoldsBelow, HoldsThroughout, IsFirstFailure, FailureAnswers}
 

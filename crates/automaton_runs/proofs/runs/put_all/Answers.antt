@@ -5,7 +5,7 @@ use Rattle.automaton_runs.specs.Arrivals.{arrival_view, AreFrontArrivals}
 use Rattle.automaton_runs.specs.Choices.{Batch, occurrences_of}
 use Rattle.automaton_runs.proofs.Arrived.{Pair, none_of_fronts, fronts_more, arrivals_end}
 use Rattle.automaton_runs.proofs.BatchParts.{list_at}
-use Rattle.automaton_runs.proofs.ChoiceLists.{place_among}
+use Rattle.rewriting.proofs.Members.{place_among}
 use Rattle.automaton_runs.proofs.runs.put_all.Goals as goal
 
 pub loop-front-init : goal.loop-front-init

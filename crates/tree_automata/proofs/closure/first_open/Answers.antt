@@ -6,7 +6,7 @@ use Rattle.term_core.specs.View.{view}
 use Rattle.automaton_runs.specs.Choices.{Batch, occurrences_of}
 use Rattle.automaton_runs.specs.Reached.{AreWhere}
 use Rattle.automaton_runs.proofs.BatchParts.{list_at}
-use Rattle.automaton_runs.proofs.ChoiceLists.{place_among}
+use Rattle.rewriting.proofs.Members.{place_among}
 use Rattle.tree_automata.specs.Kept.{IsKeptBy}
 use Rattle.tree_automata.specs.Batches.{batch_at, FailureInAnswers}
 use Rattle.tree_automata.proofs.Batches.{throughout, open_here, below_past}

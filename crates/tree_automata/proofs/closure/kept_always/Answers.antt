@@ -5,7 +5,7 @@ use Rattle.rewriting.specs.Variables.{variable_occurrences}
 use Rattle.term_core.specs.View.{view}
 use Rattle.automaton_runs.specs.Choices.{Batch}
 use Rattle.automaton_runs.specs.Reached.{AreWhere}
-use Rattle.automaton_runs.proofs.ChoiceLists.{place_among}
+use Rattle.rewriting.proofs.Members.{place_among}
 use Rattle.tree_automata.specs.Kept.{IsKeptBy}
 use Rattle.tree_automata.specs.Batches.{batch_at}
 use Rattle.tree_automata.proofs.Lists.{first_of}

@@ -9,7 +9,7 @@ use Rattle.automaton_runs.specs.Counted.{Finds}
 use Rattle.automaton_runs.specs.Choices.{Batch, occurrences_of}
 use Rattle.automaton_runs.specs.Reached.{AreWhere}
 use Rattle.automaton_runs.proofs.BatchParts.{list_at}
-use Rattle.automaton_runs.proofs.ChoiceLists.{place_among}
+use Rattle.rewriting.proofs.Members.{place_among}
 use Rattle.tree_automata.specs.Accepts.{IsOneAccepting}
 use Rattle.tree_automata.specs.Batches.{batch_at}
 use Rattle.tree_automata.proofs.Batches.{IsNot, below_more, throughout, excluded, not_excluded, none_in}

@@ -1,7 +1,7 @@
 use Rattle.std.proofs.Common.{◌≡◌, ℕ, [], length, get_or, length-append, subst, arith}
 use Rattle.std.proofs.lemmas.Option.{slice_get-get_or}
 use Rattle.automaton_runs.specs.Choices.{Batch, Holds, choice_of, occurrences_of}
-use Rattle.automaton_runs.proofs.ChoiceLists.{place_among}
+use Rattle.rewriting.proofs.Members.{place_among}
 use Rattle.automaton_runs.proofs.batch.Batch.occurrences.Goals as goal
 
 pub returns-clause-wide : goal.returns-clause-wide

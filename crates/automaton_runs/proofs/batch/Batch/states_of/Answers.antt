@@ -7,7 +7,7 @@ use Rattle.number_sets.specs.Relation.{Relates}
 use Rattle.automaton_runs.specs.Choices.{Batch, Holds, choice_of}
 use Rattle.automaton_runs.specs.BatchView.{AreStatesAt}
 use Rattle.automaton_runs.proofs.BatchParts.{states_behind, states_found, states_absent, states_alone}
-use Rattle.automaton_runs.proofs.ChoiceLists.{place_among}
+use Rattle.rewriting.proofs.Members.{place_among}
 use Rattle.automaton_runs.proofs.batch.Batch.states_of.Goals as goal
 
 pub returns-then-has_only_zeros : goal.returns-then-has_only_zeros
