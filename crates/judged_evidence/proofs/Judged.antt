@@ -1,6 +1,5 @@
 -- Evidence that conditions are never met, whatever its kind.
-use Rattle.rewriting.proofs.Common.{Condition, System}
-use Rattle.certificates.specs.Evidence.{InfeasibilityEvidence, by_caps, by_automaton}
+use Rattle.certificates.specs.Evidence.{by_caps, by_automaton}
 use Rattle.caps.proofs.Reducts.{never_met as caps_refute}
 use Rattle.caps.proofs.Total.{caps_total}
 use Rattle.caps.proofs.Unique.{one_judgement}

@@ -1,9 +1,8 @@
 -- Good steps lead from join rules to fewer of them.
-use Rattle.std.proofs.Common.{◌≡◌, ℕ, zero, suc, ◌⊎◌, inl, inr, ◌<◌, refl, sym, ap, ◌∙◌, subst, subst₂, List, [], ◌∷◌, ◌++◌, map, length, take, drop, slice_get, Some, None}
-use Rattle.rewriting.specs.Lists.{IsAmong}
+use Rattle.std.proofs.Common.{◌≡◌, ℕ, zero, suc, ◌⊎◌, inl, inr, refl, sym, ap, ◌∙◌, subst, List, [], ◌∷◌, ◌++◌, map, length, take, drop, slice_get, Some}
 use Rattle.rewriting.specs.Infeasibility.{IsInfeasible}
-use Rattle.rewriting.specs.Systems.{IsRuleOver, IsWellFormed}
-use Rattle.rewriting.proofs.Common.{Term, var, app, Condition, Rule, System}
+use Rattle.rewriting.specs.Systems.{IsWellFormed}
+use Rattle.rewriting.proofs.Common.{var, app, Condition, Rule, System}
 use Rattle.rewriting.proofs.Conditions.{no_feasible}
 use Rattle.join_systems.specs.Joined.{joined_condition, joined_rule, last_rule, joined, IsJoined}
 use Rattle.join_systems.specs.FileRelation.{IsFromFile}

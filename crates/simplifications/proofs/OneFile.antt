@@ -1,11 +1,10 @@
 -- Systems from files in which the same terms are reached at every level have one file's relation.
-use Rattle.std.proofs.Common.{◌≡◌, ℕ, zero, suc, ◌⊎◌, inl, inr, ◌↔◌, length, sym, subst, subst₂}
+use Rattle.std.proofs.Common.{ℕ, zero, suc, inl, inr, sym, subst}
 use Rattle.rewriting.specs.Signatures.{HasSymbolsBelow}
 use Rattle.rewriting.specs.Systems.{IsWellFormed}
 use Rattle.rewriting.proofs.Common.{Term, done, more, IsOver, System, Reaches}
 use Rattle.rewriting.proofs.Laws.{keeps_over}
 use Rattle.rewriting.proofs.Over.{IsOver-apply, step_over}
-use Rattle.join_systems.specs.Joined.{joined, IsJoined}
 use Rattle.join_systems.specs.JoinReduction.{JReaches}
 use Rattle.join_systems.specs.FileRelation.{IsFileTerm, FileReaches, IsFileConfluent, AreFileApart, IsFromFile}
 use Rattle.join_systems.proofs.Levels.{jlevel, jlevel_of_step}
