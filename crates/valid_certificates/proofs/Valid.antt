@@ -2,20 +2,17 @@
 use Rattle.std.proofs.Common.{◌≡◌, inl, inr, List, [], ◌∷◌, Some, None, refl, sym, subst, subst₂}
 use Rattle.rewriting.specs.Lists.{IsAmong}
 use Rattle.rewriting.specs.Confluence.{AreApart}
-use Rattle.rewriting.specs.Infeasibility.{IsInfeasible}
 use Rattle.rewriting.specs.Systems.{IsWellFormed}
-use Rattle.rewriting.proofs.Common.{Term, Condition, System, IsOver}
+use Rattle.rewriting.proofs.Common.{Term, System, IsOver}
 use Rattle.rewriting.specs.Reduction.{Reaches}
 use Rattle.rewriting.proofs.Laws.{keeps_over}
 use Rattle.join_systems.proofs.Files.{files_are_apart}
-use Rattle.caps.proofs.Reducts.{never_met as caps_refute}
 use Rattle.caps.proofs.Rigid.{rigid_apart}
-use Rattle.automata.proofs.Kept.{refutes as automaton_refutes}
 use Rattle.certificates.specs.Certificates.{Apartness, Peak, Redex, by_normal_forms, by_rigid_caps}
-use Rattle.certificates.specs.Evidence.{InfeasibilityEvidence, by_caps, by_automaton}
+use Rattle.certificates.specs.Evidence.{InfeasibilityEvidence}
 use Rattle.certificates.specs.Reasons.{tcap_large}
 use Rattle.certificates.proofs.Unique.{derives_unique}
-use Rattle.valid_certificates.specs.Evidence.{IsInfeasibilityJudged}
+use Rattle.judged_evidence.proofs.Judged.{judged_infeasible}
 use Rattle.valid_certificates.specs.Peaks.{RedexPlace, AreRedexes, chosen, IsRedexJudged, AreRefuted, AreShownApart, LeadsTo, HasFileSymbols, IsValidPeak}
 use Rattle.valid_certificates.specs.Laws.{IsUnjoinable, ValidPeaksReachApart}
 use Rattle.valid_certificates.proofs.Ends.{end_reached}
@@ -28,10 +25,6 @@ judged_at sys u v [] es h r l = absurd l
 judged_at sys u v (q ∷ rs) [] h r l = absurd h
 judged_at sys u v (q ∷ rs) (e ∷ es) h r (inl is) = subst (λ x. (i : InfeasibilityEvidence) × IsRedexJudged sys (chosen u v x.which) x i None) (sym is) (e.evidence, h.1)
 judged_at sys u v (q ∷ rs) (e ∷ es) h r (inr l) = judged_at sys u v rs es h.2 r l
-
-pub judged_infeasible : (sys : System) (cs : List Condition) (e : InfeasibilityEvidence) → IsInfeasibilityJudged sys cs e None → IsInfeasible sys cs
-judged_infeasible sys cs by_caps h = caps_refute sys cs h
-judged_infeasible sys cs (by_automaton k a) h = automaton_refutes sys cs k a h
 
 -- a rule does not apply where its evidence is valid
 never_met : (sys : System) (t : Term) (r : RedexPlace) (e : InfeasibilityEvidence) → IsRedexJudged sys t r e None → IsNeverMet sys t r.position r.rule

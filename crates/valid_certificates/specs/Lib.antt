@@ -1,5 +1,4 @@
 pub mod Kinds
-pub mod Evidence
 pub mod PairEvidence
 pub mod Entries
 pub mod Confluence
