@@ -6,7 +6,7 @@ ghost use Rattle.term_core.specs.View.{view, views};
 ghost use Rattle.matching.specs.Lists.{AreLeastMatches, HaveNoMatches};
 ghost use Rattle.matching.specs.Trails.{IsNoted, without};
 
-use crate::instances::matches;
+use crate::instances::has_shape;
 use std::alloc::Global;
 use term_core::{NoMemory, Subst, Term, equal, try_clone};
 
@@ -84,7 +84,7 @@ fn match_all_noted(
 
 /// The same as `match_onto`, in place: where the pattern matches, the values become the least extension. The variables that are
 /// bound for that are put on the trail, where it does not match, too.
-#[tactic(auto, using(crate::proofs::Unmatched::no_instance, crate::proofs::Noted::noted_none))]
+#[tactic(auto, using(crate::proofs::Shapes::no_shape, crate::proofs::Noted::noted_none))]
 pub fn match_further(
     alloc: Global,
     values: &mut Subst,
@@ -96,7 +96,7 @@ pub fn match_further(
     ensures noted { OnOk result (IsNoted values.old trail.old.items values.new trail.new.items) }
 {
     // Most patterns do not match, and then nothing is bound.
-    if !matches(pattern, subject) {
+    if !has_shape(pattern, subject) {
         return Ok(false);
     }
     match_noted(alloc, values, trail, pattern, subject)

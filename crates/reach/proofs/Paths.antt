@@ -1,5 +1,5 @@
 -- Paths that go on and come back.
-use Rattle.std.proofs.Common.{◌≡◌, ℕ, List, [], ◌∷◌, ◌++◌, map, length, take, drop, slice_get, Some, refl, sym, ap, ap₂, ◌∙◌, le_refl}
+use Rattle.std.proofs.Common.{◌≡◌, ℕ, List, [], ◌∷◌, ◌++◌, map, length, take, drop, slice_get, None, Some, option_map, refl, sym, ap, ap₂, ◌∙◌, le_refl}
 use Rattle.std.proofs.lemmas.List.{take_all, take-append-le}
 use Rattle.rewriting.specs.Substitutions.{Bindings}
 use Rattle.rewriting.specs.Matching.{IsLeastMatch, HasNoMatch}
@@ -12,6 +12,11 @@ use Rattle.reach.specs.PathView.{by_of, met_view, path_view, IsSamePath, IsAhead
 use Rattle.reach.specs.declared.solutions.Met.{Met}
 use Rattle.reach.specs.declared.solutions.Path.{Path}
 use Rattle.reach.proofs.Solving.{solution_found, solution_missed}
+use Rattle.std.specs.FinMap.{empty}
+use Rattle.rewriting.specs.Terms as math
+use Rattle.rewriting.specs.Tests.{match_onto}
+use Rattle.rewriting.proofs.MatchedOnto.{least_found, none_found}
+use Rattle.reach_lists.specs.Lists.{unconditional}
 
 abbrev solved : Bindings → List Met → lists.Solution
 solved v ms = record { values = v; by = map met_view ms }
@@ -64,3 +69,13 @@ module _ (c : Condition) (w : lists.Reached) (p q : Path) (noted : IsNoted p.val
       by = by;
     };
   }
+
+-- the match of a left side
+module _ (left part : math.Term) where
+  pub match_found : (b : Bindings) (p : Path) → b ≡ empty → IsLeastMatch b p.values left part → p.by.items ≡ [] → Some (path_view p) ≡ option_map unconditional (match_onto empty left part)
+  match_found b p e least none =
+      ap (λ ms. Some (solved p.values ms)) none
+      ∙ sym (ap (option_map unconditional) (ap (λ c. match_onto c left part) (sym e) ∙ least_found b p.values left part least))
+
+  pub match_missed : (b : Bindings) → b ≡ empty → HasNoMatch b left part → None ≡ option_map unconditional (match_onto empty left part)
+  match_missed b e unlike = sym (ap (option_map unconditional) (ap (λ c. match_onto c left part) (sym e) ∙ none_found b left part unlike))
