@@ -2,7 +2,8 @@
 use Rattle.std.proofs.Common.{◌≡◌, ℕ, suc, Bool, true, false, List, [], ◌∷◌, ◌++◌, length, Option, Some, None, refl, sym, ap, ◌∙◌, subst, codes}
 use Rattle.rewriting.specs.Unraveling.{Head, file, auxiliary}
 use Rattle.certificates.specs.Evidence.{Transition, InfeasibilityEvidence, by_caps, by_automaton, PairEvidence, trivial_pair, infeasible_pair, conflicting_pair, joined_pair, unfeasible_pair}
-use Rattle.certificates.specs.Certificates.{PairEntry, LinearEntry, linear_measure, Redex, Apartness, by_normal_forms, by_rigid_caps, Certificate, ortho_certificate, quasi_certificate, peak_certificate}
+use Rattle.certificates.specs.Certificates.{PairEntry, LinearEntry, linear_measure, precedence_measure, Redex, Apartness, by_normal_forms, by_rigid_caps, Certificate, ortho_certificate, quasi_certificate, peak_certificate}
+use Rattle.cert_grammar.proofs.Runs.{no_name}
 use Rattle.cert_grammar.specs.Marks.{Naming, Counted, has_arity, is_few, Mark, fixed, word, symbol, behind}
 use Rattle.cert_grammar.specs.WordMarks.{number, number_for, term_marks, derivation_marks}
 use Rattle.cert_grammar.specs.CertificateMarks.{state, accepting_marks, states_marks, head_marks, transitions_marks, infeasibility_marks, evidence_marks, pairs_marks, measured_marks, entries_marks, redexes_marks, apart_marks, body_marks, answer_marks, certificate_marks}
@@ -109,6 +110,7 @@ other_body (quasi_certificate (linear_measure es) ps) given x i =
       other = quasi_certificate (linear_measure m.other) r.other;
       same = ap (λ (l : List Mark). body_with (codes "quasi") true given (fixed (codes "linear\n") ∷ (l ++ pairs_marks x 1 ps))) m.same ∙ ap (λ (l : List Mark). body_with (codes "quasi") true given (fixed (codes "linear\n") ∷ (entries_marks every_name 1 m.other ++ l))) r.same;
     }
+other_body (quasi_certificate (precedence_measure order) ps) given x i = absurd (no_name i.0)
 other_body (peak_certificate p) given x i =
     let a = have_append (term_marks x 1 1 p.start) (fixed (codes "\n") ∷ (derivation_marks p.first ++ (derivation_marks p.second ++ apart_marks x p.apart))) i in
     let b = have_append (derivation_marks p.second) (apart_marks x p.apart) (have_append (derivation_marks p.first) (derivation_marks p.second ++ apart_marks x p.apart) a.1).1 in

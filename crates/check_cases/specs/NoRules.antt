@@ -1,6 +1,6 @@
 -- A measure of the cases: it knows systems without rules.
-use Rattle.std.specs.Prelude.{◌≡◌, ◌≢◌, [], refl}
-use Rattle.rewriting.specs.Rules.{System}
+use Rattle.std.specs.Prelude.{◌≡◌, ◌≢◌, List, [], ◌∷◌, refl}
+use Rattle.rewriting.specs.Rules.{Rule, System}
 use Rattle.certificates.specs.Reasons.{smaller_constant}
 use Rattle.interpretations.specs.Judgement.{Judgement, good, not_good, unraveling_large}
 
@@ -21,3 +21,10 @@ judged_once sys (not_good v) (not_good w) h q =
     cc
 judged_once sys (unraveling_large i) k h q = absurd h
 judged_once sys j (unraveling_large i) h q = absurd q
+
+pub judged_somehow : (sys : System) → (j : Judgement) × IsJudgedWithoutRules sys j
+judged_somehow sys = go sys.rules refl
+  where
+    go : (rs : List Rule) → sys.rules ≡ rs → (j : Judgement) × IsJudgedWithoutRules sys j
+    go [] none = (good, none)
+    go (r ∷ rs) some = (not_good (smaller_constant 1), (refl, λ none. cc))

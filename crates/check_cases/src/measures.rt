@@ -11,7 +11,7 @@ pub struct NoRules;
 
 impl Measure for NoRules {
     ghost use Rattle.measure.proofs.NoRules.{no_rules_bound};
-    ghost use Rattle.check_cases.specs.NoRules.{IsJudgedWithoutRules, judged_once};
+    ghost use Rattle.check_cases.specs.NoRules.{IsJudgedWithoutRules, judged_once, judged_somehow};
 
     ghost judged = { λ m s j. IsJudgedWithoutRules s j };
 
@@ -21,6 +21,8 @@ impl Measure for NoRules {
             _ => Err(MeasureError::Reason(MeasureReason::Constant { rule: 1 })),
         }
     }
+
+    ghost some_judgement = { λ m s. judged_somehow s };
 
     ghost one_judgement = { λ m s j k h q. judged_once s j k h q };
 

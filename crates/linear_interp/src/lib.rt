@@ -74,6 +74,7 @@ impl<'a> Measure for LinearMeasure<'a> {
     ghost use Rattle.interpretations.specs.Judged.{IsInterpretationJudged};
     ghost use Rattle.interpretations.proofs.Bound.{good_bounds};
     ghost use Rattle.interpretations.proofs.OneJudgement.{judgement_once};
+    ghost use Rattle.interpretations.proofs.Total.{interpretation_total};
     ghost use Rattle.cert_model.specs.CertificateView.{linear_entry_view};
     ghost use Rattle.std.specs.Prelude.{map};
 
@@ -82,6 +83,8 @@ impl<'a> Measure for LinearMeasure<'a> {
     fn shows(&self, alloc: Global, sys: &System) -> Result<(), MeasureError> {
         check_linear(alloc, sys, self.linear)
     }
+
+    ghost some_judgement = { λ m s. interpretation_total s (map linear_entry_view m.linear.now.entries.items) };
 
     ghost one_judgement = { λ m s j k h q. judgement_once s (map linear_entry_view m.linear.now.entries.items) j k h q };
 

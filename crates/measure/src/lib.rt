@@ -50,7 +50,10 @@ pub trait Measure {
     fn shows(&self, alloc: Global, sys: &System) -> Result<(), MeasureError>
         ensures { ShowsAnswers (judged self.now sys.now) result };
 
-    /// The measure has one judgement at most, so that it is good or not, whichever judgement is named.
+    /// The measure has a judgement for each system.
+    ghost some_judgement: { (m : Self) (s : math.System) → (j : Judgement) × judged m s j };
+
+    /// And no two, so that it is good or not, whichever judgement is named.
     ghost one_judgement: { (m : Self) (s : math.System) (j k : Judgement) → judged m s j → judged m s k → j ≡ k };
 
     /// Where the measure is good, each term over the symbols of the unraveled system has a number that no list of

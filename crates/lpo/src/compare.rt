@@ -1,0 +1,127 @@
+//! Terms are compared by the lexicographic path order.
+// Each pair of a part of the one and a part of the other is compared once at most, so there are no more comparisons than the
+// product of the sizes; where each argument is tried anew they are exponentially many. Tests of equality come on top, for
+// each pair within the size of its first part.
+ghost use Rattle.std.specs.Prelude.{◌≡◌, ◌+◌, ◌≤◌, ◌&&◌, nat_eq, length};
+ghost use Rattle.rewriting.specs.Terms.{app, size, size_all};
+ghost use Rattle.term_core.specs.View.{view, views};
+ghost use Rattle.path_orders.specs.Comparing.{compared, exceeds, exceeds_each, exceeds_from, is_greater, reaches};
+ghost use Rattle.lpo.specs.Places.{before_by, place_in};
+
+use term_core::{Term, equal};
+
+/// The place of a symbol in the precedence, from 1, or 0.
+pub fn place(places: &[u32], symbol: u32) -> u32
+    ensures { result ≡ place_in places.now symbol }
+{
+    match places.get(symbol as usize) {
+        Some(place) => *place,
+        None => 0,
+    }
+}
+
+fn is_before(places: &[u32], f: u32, g: u32) -> bool
+    ensures { result ≡ before_by places.now f g }
+{
+    let first = place(places, f);
+    first > 0 && first < place(places, g)
+}
+
+fn is_same_symbol(f: u32, args: &[Term], g: u32, others: &[Term]) -> bool
+    ensures { result ≡ (nat_eq f g && nat_eq (length args.now) (length others.now)) }
+{
+    f == g && args.len() == others.len()
+}
+
+/// Whether one term is greater than another.
+#[cycle(compare)]
+pub fn is_above(places: &[u32], s: &Term, t: &Term) -> bool
+    ensures { result ≡ is_greater (before_by places.now) (view s.now) (view t.now) }
+{
+    match s {
+        Term::Var(_) => false,
+        Term::Fun(f, args) => is_above_from(places, *f, args, t),
+    }
+}
+
+// The same for a term with this symbol and these arguments.
+#[cycle(compare)]
+fn is_above_from(places: &[u32], f: u32, args: &[Term], t: &Term) -> bool
+    ensures { result ≡ exceeds (before_by places.now) f (compared (before_by places.now) (views args.now)) (view t.now) }
+{
+    match t {
+        Term::Var(_) => is_reached(places, args, t),
+        Term::Fun(g, others) => {
+            if is_before(places, f, *g) {
+                is_above_each(places, f, args, others)
+            } else if is_same_symbol(f, args, *g, others) {
+                is_above_behind(places, f, args, args, t, others)
+            } else {
+                is_reached(places, args, t)
+            }
+        }
+    }
+}
+
+// Whether the term is greater than each of some.
+#[cycle(compare)]
+fn is_above_each(places: &[u32], f: u32, args: &[Term], ts: &[Term]) -> bool
+    ensures { result ≡ exceeds_each (before_by places.now) f (compared (before_by places.now) (views args.now)) (views ts.now) }
+{
+    match ts {
+        [] => true,
+        [first, rest @ ..] => {
+            is_above_from(places, f, args, first) && is_above_each(places, f, args, rest)
+        }
+    }
+}
+
+// The same symbol stands at both roots, and the arguments before `rest` and `ts` are the same.
+#[cycle(compare)]
+fn is_above_behind(
+    places: &[u32],
+    f: u32,
+    args: &[Term],
+    rest: &[Term],
+    t: &Term,
+    ts: &[Term],
+) -> bool
+    requires behind { size_all (views args.now) + size_all (views ts.now) + 1 ≡ size_all (views rest.now) + size (view t.now) }
+    requires within { size_all (views rest.now) ≤ size_all (views args.now) }
+    ensures { result ≡ exceeds_from (before_by places.now) f (compared (before_by places.now) (views args.now)) (compared (before_by places.now) (views rest.now)) (view t.now) (views ts.now) }
+{
+    match rest {
+        [] => false,
+        [left, behind @ ..] => match ts {
+            [] => false,
+            [right, others @ ..] => {
+                if equal(left, right) {
+                    is_above_behind(places, f, args, behind, t, others)
+                } else if is_above(places, left, right) {
+                    is_above_each(places, f, args, others)
+                } else {
+                    is_reached(places, behind, t)
+                }
+            }
+        },
+    }
+}
+
+// Whether one of the terms equals another term or is greater.
+#[cycle(compare)]
+fn is_reached(places: &[u32], ss: &[Term], t: &Term) -> bool
+    ensures { result ≡ reaches (compared (before_by places.now) (views ss.now)) (view t.now) }
+{
+    match ss {
+        [] => false,
+        [first, rest @ ..] => {
+            if equal(first, t) {
+                true
+            } else if is_above(places, first, t) {
+                true
+            } else {
+                is_reached(places, rest, t)
+            }
+        }
+    }
+}

@@ -1,0 +1,148 @@
+//! Lexicographic path orders of the unraveled system as a measure.
+#![tactic(auto)]
+
+mod compare;
+mod places;
+mod rules;
+
+ghost use Rattle.std.specs.Prelude.{◌<◌, ◌^◌, MatchBool, map, length};
+ghost use Rattle.rewriting.specs.Lists.{AreDistinct};
+ghost use Rattle.rewriting.specs.Rules as math;
+ghost use Rattle.interpretations.specs.Size.{DoesUnravelingFit};
+ghost use Rattle.path_orders.specs.Judged.{IsPrecedenceJudged};
+ghost use Rattle.path_orders.specs.Dead.{IsDead, IsPrefix};
+ghost use Rattle.term_core.specs.HeadView.{head_view};
+ghost use Rattle.term_core.specs.RuleView.{rule_view};
+ghost use Rattle.measure.specs.Answers.{ShowsAnswers};
+ghost use Rattle.unravel.specs.Answers.{IsUnraveled};
+ghost use Rattle.lpo.specs.Answers.{HasPrefix, IsOf, PrefixAnswers};
+ghost use Rattle.lpo.specs.Places.{ArePlaces};
+
+pub use crate::places::{no_places, symbol_of};
+use crate::places::{is_one_missing, place_all};
+pub use crate::rules::{first_unordered, is_one_dead};
+use cert_model::MeasureReason;
+use measure::{Measure, MeasureError, Partial};
+use std::alloc::Global;
+use term_core::{Head, NoMemory, Rule, System};
+use unravel::{UnravelError, Unraveled, unravel};
+
+// Judges a precedence by the symbols and rules of an unraveled system, while no symbol has a place.
+fn judge_placed(
+    heads: &[Head],
+    rules: &[Rule],
+    order: &[Head],
+    places: &mut [u32],
+) -> Result<(), MeasureError>
+    requires distinct { AreDistinct (map head_view heads.now) }
+    requires few_heads { length heads.now < 2 ^ 31 }
+    requires few_rules { length rules.now < 2 ^ 31 }
+    requires so_far { ArePlaces (map head_view heads.now) (map head_view order.now) 0 places.old }
+    ensures { (sys : math.System) → IsOf sys (map head_view heads.now) (map rule_view rules.now) → DoesUnravelingFit sys → ShowsAnswers (IsPrecedenceJudged sys (map head_view order.now)) result }
+{
+    if let Some(k) = place_all(heads, order, places) {
+        return Err(MeasureError::Reason(MeasureReason::Shape {
+            entry: k as u32 + 1,
+        }));
+    }
+    if is_one_missing(places) {
+        return Err(MeasureError::Reason(MeasureReason::Shape {
+            entry: order.len() as u32 + 1,
+        }));
+    }
+    match first_unordered(places, rules) {
+        Some(i) => Err(MeasureError::Reason(MeasureReason::Order { rule: i as u32 + 1 })),
+        None => Ok(()),
+    }
+}
+
+// Judges a precedence for an unraveled system.
+fn judge(
+    alloc: Global,
+    sys: &System,
+    unraveled: &Unraveled,
+    order: &[Head],
+) -> Result<(), MeasureError>
+    requires { IsUnraveled sys.now unraveled.now }
+    ensures { ShowsAnswers (IsPrecedenceJudged sys.now (map head_view order.now)) result }
+{
+    let rules = unraveled.system.rules();
+    let heads: &[Head] = &unraveled.heads;
+    let mut places = no_places(alloc, heads, order)?;
+    judge_placed(heads, rules, order, &mut places)
+}
+
+/// Judges a precedence, the greatest symbol first, for the unraveling of a system by the lexicographic path order (Baader
+/// and Nipkow, Term Rewriting and All That, chapter 5): good, or the first reason why it is not, or the first rule of which
+/// a side of the unraveled system does not fit.
+pub fn check_lpo(alloc: Global, sys: &System, order: &[Head]) -> Result<(), MeasureError>
+    ensures { ShowsAnswers (IsPrecedenceJudged sys.now (map head_view order.now)) result }
+{
+    let unraveled = match unravel(alloc, sys) {
+        Ok(unraveled) => unraveled,
+        Err(UnravelError::TooLarge { rule }) => return Err(MeasureError::Unraveling { rule }),
+        Err(UnravelError::NoMemory) => return Err(MeasureError::NoMemory),
+    };
+    judge(alloc, sys, &unraveled, order)
+}
+
+// Whether some rule, all of whose symbols are among the first ones of a precedence, is not ordered, while no symbol has a place.
+fn is_dead(heads: &[Head], rules: &[Rule], prefix: &[Head], places: &mut [u32]) -> bool
+    requires distinct { AreDistinct (map head_view heads.now) }
+    requires few_heads { length heads.now < 2 ^ 31 }
+    requires so_far { ArePlaces (map head_view heads.now) (map head_view prefix.now) 0 places.old }
+    ensures { (sys : math.System) → IsOf sys (map head_view heads.now) (map rule_view rules.now) → IsPrefix sys (map head_view prefix.now) → MatchBool result (IsDead sys (map head_view prefix.now)) (IsDead sys (map head_view prefix.now) → ⊥) }
+{
+    // Distinct symbols all have places.
+    match place_all(heads, prefix, places) {
+        Some(_) => false,
+        None => is_one_dead(places, rules),
+    }
+}
+
+/// Whether the first symbols of a precedence are dead: whether some rule of the unraveled system, all of whose symbols are
+/// among them, is not ordered.
+pub fn lpo_prefix(
+    alloc: Global,
+    unraveled: &Unraveled,
+    prefix: &[Head],
+) -> Result<Partial, NoMemory>
+    requires { HasPrefix unraveled.now (map head_view prefix.now) }
+    ensures { (sys : math.System) → IsUnraveled sys unraveled.now → PrefixAnswers sys (map head_view prefix.now) result }
+{
+    let rules = unraveled.system.rules();
+    let heads: &[Head] = &unraveled.heads;
+    let mut places = no_places(alloc, heads, prefix)?;
+    if is_dead(heads, rules, prefix, &mut places) {
+        Ok(Partial::Dead)
+    } else {
+        Ok(Partial::Unknown)
+    }
+}
+
+/// A precedence as a measure, the greatest symbol first.
+#[derive(Clone, Copy, Debug)]
+pub struct Lpo<'a> {
+    pub order: &'a [Head],
+}
+
+impl<'a> Measure for Lpo<'a> {
+    ghost use Rattle.path_orders.specs.Judged.{IsPrecedenceJudged};
+    ghost use Rattle.path_orders.proofs.Bound.{good_bounds};
+    ghost use Rattle.path_orders.proofs.Decided.{precedence_total};
+    ghost use Rattle.path_orders.proofs.OneJudgement.{judgement_once};
+    ghost use Rattle.term_core.specs.HeadView.{head_view};
+    ghost use Rattle.std.specs.Prelude.{map};
+
+    ghost judged = { λ m s j. IsPrecedenceJudged s (map head_view m.order.now) j };
+
+    fn shows(&self, alloc: Global, sys: &System) -> Result<(), MeasureError> {
+        check_lpo(alloc, sys, self.order)
+    }
+
+    ghost some_judgement = { λ m s. precedence_total s (map head_view m.order.now) };
+
+    ghost one_judgement = { λ m s j k h q. judgement_once s (map head_view m.order.now) j k h q };
+
+    ghost bounds = { λ m s well h. good_bounds s (map head_view m.order.now) well h.1 };
+}
