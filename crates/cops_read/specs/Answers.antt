@@ -1,13 +1,14 @@
 -- What a reader of a file answers, and laws of files.
-use Rattle.std.specs.Prelude.{◌≡◌, ◌≤◌, ◌⊎◌, ℕ, List, length, Result, Ok, Err}
+use Rattle.std.specs.Prelude.{◌≡◌, ◌≤◌, ◌⊎◌, ℕ, List, length, map, All, Result, Ok, Err}
 use Rattle.rewriting.specs.Rules.{System}
 use Rattle.rewriting.specs.Systems.{IsSystem}
 use Rattle.join_systems.specs.FileRelation.{IsFromFile}
 use Rattle.file_text.specs.Tokens.{bad_byte, long_id, open_comment}
 use Rattle.file_text.specs.Refusals.{unknown_block, repeated_block, other_condition_type, wrong_syntax, missing_rules}
 use Rattle.cops_names.specs.NameTable.{NameTable}
+use Rattle.cops_systems.specs.Bounds.{most_conditions}
 use Rattle.cops_systems.specs.Limits.{IsWithinLimits}
-use Rattle.cops_systems.specs.File.{IsFile, FileCause, no_tokens, no_tree, no_meaning, IsNoFile}
+use Rattle.cops_systems.specs.File.{IsFile, IsJoinedFile, FileCause, no_tokens, no_tree, no_meaning, IsNoFile}
 use Rattle.cops_systems.specs.Refusals.{conditions_without_type, too_deep, variable_with_arguments, left_variable, arity_differs}
 pub use Rattle.cops_systems.specs.Counts.{cause_of_count, most_of}
 use Rattle.cops_systems.specs.declared.errors.ReadError.{ReadError}
@@ -48,6 +49,20 @@ SystemsAreSound = (bytes : List ℕ) (sys : System) (names : NameTable) → IsFi
 abbrev pub SystemsAreWithinLimits : Type 0
 SystemsAreWithinLimits =
     (bytes : List ℕ) (sys : System) (names : NameTable) (file : IsFile bytes sys names) → sys.own ≡ length sys.arities → IsWithinLimits file.tree.oriented sys names
+
+-- the join rules that it stands for keep them, where it is theirs
+abbrev pub JoinRulesAreWithinLimits : Type 0
+JoinRulesAreWithinLimits =
+    (bytes : List ℕ) (sys : System) (names : NameTable) (file : IsFile bytes sys names) (joined : IsJoinedFile file.tree sys names)
+    → IsWithinLimits file.tree.oriented joined.rules joined.table
+
+-- and no rule of any has more conditions than a file's rule may have
+abbrev pub ConditionsAreFew : Type 0
+ConditionsAreFew = (bytes : List ℕ) (sys : System) (names : NameTable) → IsFile bytes sys names → All (λ r. length r.conditions ≤ most_conditions) sys.rules
+
+-- the names are those of its symbols, with their arities
+abbrev pub SymbolsAreNamed : Type 0
+SymbolsAreNamed = (bytes : List ℕ) (sys : System) (names : NameTable) → IsFile bytes sys names → sys.arities ≡ map (λ s. s.1) names.symbols
 
 -- it is that of join rules, or all its symbols are the file's
 abbrev pub SystemsTellTheirFile : Type 0

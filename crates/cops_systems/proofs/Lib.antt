@@ -12,5 +12,6 @@ pub mod Sound
 pub mod Wholes
 pub mod Means
 pub mod Meant
+pub mod MeantLimits
 pub mod Places
 pub mod Shaped

@@ -11,6 +11,15 @@ returns-clause-sound c = laws.sound
 pub returns-clause-limits : goal.returns-clause-limits
 returns-clause-limits c = laws.within_limits
 
+pub returns-clause-join_limits : goal.returns-clause-join_limits
+returns-clause-join_limits c = laws.join_limits
+
+pub returns-clause-conditions : goal.returns-clause-conditions
+returns-clause-conditions c = laws.conditions
+
+pub returns-clause-named : goal.returns-clause-named
+returns-clause-named c = laws.named
+
 pub returns-clause-refusal : goal.returns-clause-refusal
 returns-clause-refusal c = refused.one_refusal
 
