@@ -1,5 +1,5 @@
 -- What a reader of a file answers, and laws of files.
-use Rattle.std.specs.Prelude.{◌≡◌, ◌≤◌, ◌⊎◌, ℕ, List, length, Result, Ok, Err}
+use Rattle.std.specs.Prelude.{◌≡◌, ◌≤◌, ◌⊎◌, ℕ, List, length, map, All, Result, Ok, Err}
 use Rattle.rewriting.specs.Rules.{System}
 use Rattle.rewriting.specs.Systems.{IsSystem}
 use Rattle.join_systems.specs.FileRelation.{IsFromFile}
@@ -48,6 +48,10 @@ SystemsAreSound = (bytes : List ℕ) (sys : System) (names : NameTable) → IsFi
 -- and what the file has keeps the limits
 abbrev pub SystemsAreWithinLimits : Type 0
 SystemsAreWithinLimits = (bytes : List ℕ) (sys : System) (names : NameTable) (file : IsFile bytes sys names) → KeepsLimits (has_type file.tree) sys names
+
+-- the names are those of its symbols, with their arities
+abbrev pub SymbolsAreNamed : Type 0
+SymbolsAreNamed = (bytes : List ℕ) (sys : System) (names : NameTable) → IsFile bytes sys names → sys.arities ≡ map (λ s. s.1) names.symbols
 
 -- it is that of join rules, or all its symbols are the file's
 abbrev pub SystemsTellTheirFile : Type 0

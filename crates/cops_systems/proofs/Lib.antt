@@ -13,5 +13,6 @@ pub mod Wholes
 pub mod Means
 pub mod Meant
 pub mod Kept
+pub mod Named
 pub mod Places
 pub mod Shaped
