@@ -133,7 +133,8 @@ module _ (block : List (List ℕ)) (symbols : List (List ℕ × ℕ)) where
       let late_names : Extends second_names names = all_variables_extend block second_names (sides (conditions_of t)) in
       let left = term_meant names table [] (side_of number 0 true) 1 0 0 t.left (left_accepted block typed table number t h)
       (extends_trans _ _ _ (symbols_extend block (with_symbols block table t.left) t.right) late) (extends_trans _ _ _ (variables_extend block (with_variables block [] t.left) t.right) late_names) in
-      let right = term_meant names (with_symbols block table t.left) (with_variables block [] t.left) (side_of number 0 false) 1 0 0 t.right (right_accepted block typed table number t h) late late_names in
+      let right = term_meant names (with_symbols block table t.left) (with_variables block [] t.left) (side_of number 0 false) 1 0 0 t.right
+      (right_accepted block typed table number t h) late late_names in
       let last = conditions_meant names second second_names number 1 (conditions_of t) (conditions_accepted block typed table number t h) e (extends_refl names) in
       record { rule = record { left = left.term; right = right.term; conditions = last.conditions }; is = record { left = left.is; right = right.is; conditions = last.are } }
 
@@ -141,7 +142,8 @@ module _ (block : List (List ℕ)) (symbols : List (List ℕ × ℕ)) where
     pub rules : List Rule
     pub are : AreRulesOf block symbols ts rules
 
-  rules_meant : (typed : Bool) (table : List (List ℕ × ℕ)) (number : ℕ) (ts : List RuleTree) → rules_refusal block typed table number ts ≡ None → Extends (with_rule_symbols block table ts) symbols → RulesMeant ts
+  rules_meant : (typed : Bool) (table : List (List ℕ × ℕ)) (number : ℕ) (ts : List RuleTree) → rules_refusal block typed table number ts ≡ None
+      → Extends (with_rule_symbols block table ts) symbols → RulesMeant ts
   rules_meant typed table number [] h e = record { rules = []; are = tt }
   rules_meant typed table number (t ∷ ts) h e =
       let next = with_all_symbols block table (phrases_of_rule t) in

@@ -68,7 +68,8 @@ module _ (bytes : List ℕ) where
       subst (λ (n : ℕ). n ≤ length bytes) (ap (λ (r : MeaningCause × ℕ). r.1) pair) h
 
   -- the first refusal is at an event
-  refusal_within : (block : List (List ℕ)) (typed : Bool) (front es : List Event) (cause : MeaningCause) (at : ℕ) → EventsWithin es → first_refusal block typed front es ≡ Some (cause, at) → at ≤ length bytes
+  refusal_within : (block : List (List ℕ)) (typed : Bool) (front es : List Event) (cause : MeaningCause) (at : ℕ) → EventsWithin es → first_refusal block typed front es ≡ Some (cause, at)
+      → at ≤ length bytes
   refusal_within block typed front [] cause at h e = absurd cc
   refusal_within block typed front (x ∷ es) cause at h e =
       here_or_later (event_cause block typed front x) (place x) (first_refusal block typed (front ++ x ∷ []) es) cause at h.0 (refusal_within block typed (front ++ x ∷ []) es cause at h.1) e

@@ -180,7 +180,8 @@ module _ (block : List (List ℕ)) where
           }
 
       pub rules_step_as : (P : RuleTree → Type 0) (n : IsNext P ts i) (other : List (List ℕ)) (after : List (List ℕ × ℕ)) (longer : List (List (List ℕ))) (r : Rule) → other ≡ block
-          → IsRuleRead other typed now (i + 1) n.item after (rule_variables other n.item) r × (longer ≡ listed ++ rule_variables other n.item ∷ []) → Rules typed table ts (suc i) after longer (rs ++ r ∷ [])
+          → IsRuleRead other typed now (i + 1) n.item after (rule_variables other n.item) r × (longer ≡ listed ++ rule_variables other n.item ∷ [])
+          → Rules typed table ts (suc i) after longer (rs ++ r ∷ [])
       rules_step_as P n other after longer r same g =
           let here = subst (λ (b : List (List ℕ)). IsRuleRead b typed now (i + 1) n.item after (rule_variables b n.item) r × (longer ≡ listed ++ rule_variables b n.item ∷ [])) same g in
           rules_step P n after longer (rule_variables block n.item) r here.0 here.1

@@ -257,7 +257,8 @@ module _ (block : List (List ℕ)) where
         let rest = few_conditions (with_symbols block (with_symbols block table c.left) c.right) (with_variables block (with_variables block names c.left) c.right) rule (number + 1) cs ds (none_then (condition_refusal block table names rule number c) _ h) m.2 (omega arith) in
         omega arith
 
-    no_conditions : (typed : Bool) (guard : Option Guard) (ds : List Condition) → bar_refusal typed (option_map (λ g. g.at) guard) ≡ None → AreConditionsOf block symbols variables (guarded guard) ds → typed ≡ false → ds ≡ []
+    no_conditions : (typed : Bool) (guard : Option Guard) (ds : List Condition) → bar_refusal typed (option_map (λ g. g.at) guard) ≡ None
+        → AreConditionsOf block symbols variables (guarded guard) ds → typed ≡ false → ds ≡ []
     no_conditions typed None [] h m e = refl
     no_conditions typed None (d ∷ ds) h m e = absurd m
     no_conditions true (Some g) ds h m e = absurd cc
@@ -325,7 +326,8 @@ module _ (block : List (List ℕ)) where
           conditions = no_conditions symbols (rule_variables block t) typed t.guard r.conditions (none_first _ _ late) m.conditions;
         }
 
-  rules_table : (typed : Bool) (table : List (List ℕ × ℕ)) (number : ℕ) (ts : List RuleTree) → rules_refusal block typed table number ts ≡ None → IsTable table → IsTable (with_rule_symbols block table ts)
+  rules_table : (typed : Bool) (table : List (List ℕ × ℕ)) (number : ℕ) (ts : List RuleTree) → rules_refusal block typed table number ts ≡ None → IsTable table
+      → IsTable (with_rule_symbols block table ts)
   rules_table typed table number [] h is = is
   rules_table typed table number (t ∷ ts) h is =
       rules_table typed (with_all_symbols block table (phrases_of_rule t)) (number + 1) ts (none_then (rule_refusal block typed table number t) _ h)

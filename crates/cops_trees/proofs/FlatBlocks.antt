@@ -95,7 +95,8 @@ rules_keeps (condition_type a b c ∷ bs) p rs = (refl, (rules_keeps bs p rs).1)
 rules_keeps (variables a vs ∷ bs) p rs = ((rules_keeps bs p rs).0, refl)
 rules_keeps (rules a qs ∷ bs) p rs = rules_keeps bs p rs
 
-with_type_of : (bs : List Block) (p q : ℕ) (kind : ConditionType) (s : lists.Stage) → type_in bs ≡ None → lists.with_type (holding bs s) kind ≡ holding (bs ++ condition_type p q kind ∷ []) lists.outside
+with_type_of : (bs : List Block) (p q : ℕ) (kind : ConditionType) (s : lists.Stage) → type_in bs ≡ None
+    → lists.with_type (holding bs s) kind ≡ holding (bs ++ condition_type p q kind ∷ []) lists.outside
 with_type_of bs p q kind s e =
     let k = type_keeps bs p q kind in
     same_blocks _ _ _ _ _ _ _ (sym (type_push bs p q kind e)) (sym k.0) (ap (option_map rules_of) (sym k.1))
@@ -161,7 +162,8 @@ begun bs at a b c = cond a (Ok (machine.behind_type bs at)) (cond b (Ok (machine
 abbrev entered : List Block → Bool → Bool → Bool → Result lists.Blocks SyntaxCause
 entered bs a b c =
     let h = holding bs lists.at_title in
-    cond a (lists.enter h (is_some h.condition_type) lists.at_type) (cond b (lists.enter h (is_some h.variables) (lists.variables [])) (cond c (lists.enter h (is_some h.rules) (lists.rules lists.no_rules)) (Err unknown_block)))
+    cond a (lists.enter h (is_some h.condition_type) lists.at_type)
+    (cond b (lists.enter h (is_some h.variables) (lists.variables [])) (cond c (lists.enter h (is_some h.rules) (lists.rules lists.no_rules)) (Err unknown_block)))
 
 either : (h k : Bool) (s : machine.State) → h ≡ k → cond k (Err repeated_block) (Ok (blocks_of s)) ≡ mapped (cond h (Err repeated_block) (Ok s))
 either true k s e = rw (sym e) refl
@@ -268,7 +270,8 @@ type_step_of : (bs : List Block) (at : ℕ) (name : Name) → lists.type_step (h
 type_step_of bs at name = by_tests (bytes_eq name.text (codes "ORIENTED")) (bytes_eq name.text (codes "JOIN"))
   where
     by_tests : (a b : Bool)
-        → cond a (Ok (lists.at_stage (holding bs lists.at_type) (lists.at_type_end Oriented))) (cond b (Ok (lists.at_stage (holding bs lists.at_type) (lists.at_type_end Join))) (Err other_condition_type))
+        → cond a (Ok (lists.at_stage (holding bs lists.at_type) (lists.at_type_end Oriented)))
+        (cond b (Ok (lists.at_stage (holding bs lists.at_type) (lists.at_type_end Join))) (Err other_condition_type))
         ≡ mapped (cond a (Ok (machine.behind_type_word bs at name.at Oriented)) (cond b (Ok (machine.behind_type_word bs at name.at Join)) (Err other_condition_type)))
     by_tests true b = refl
     by_tests false true = refl

@@ -228,7 +228,14 @@ whole_file true names rs ws e =
     ∙ ap (λ (w : List Word). id (record { at = m.name.at; text = codes "ORIENTED" }) ∷ w) (c.split ∙ ap (λ (w : List Word). right_paren ∷ w) b.split))) in
     record {
       tree = record { condition_type = Some Oriented; variables = variables_in b.blocks; rules = b.trees };
-      whole = record { blocks = condition_type n.name.at m.name.at Oriented ∷ b.blocks; spelled = split; distinct = b.also n.name.at m.name.at; condition_type = refl; variables = refl; rules = b.whole };
+      whole = record {
+        blocks = condition_type n.name.at m.name.at Oriented ∷ b.blocks;
+        spelled = split;
+        distinct = b.also n.name.at m.name.at;
+        condition_type = refl;
+        variables = refl;
+        rules = b.whole;
+      };
       condition_type = refl;
       variables = b.variables;
       alike = b.alike;

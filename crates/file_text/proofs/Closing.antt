@@ -105,8 +105,11 @@ state_closes (outside bs) = ([], bs, append-nil (spelled_blocks bs))
 state_closes (behind_bracket bs) = (id_at 0 (codes "VAR") ∷ right_paren ∷ [], bs ++ variables 0 [] ∷ [], block_closes bs (left_paren ∷ []) _ (variables 0 []) refl)
 state_closes (behind_type bs at) =
     (id_at 0 (codes "ORIENTED") ∷ right_paren ∷ [], bs ++ condition_type at 0 Oriented ∷ [], block_closes bs (left_paren ∷ id_at at (codes "CONDITIONTYPE") ∷ []) _ (condition_type at 0 Oriented) refl)
-state_closes (behind_type_word bs at place kind) =
-    (right_paren ∷ [], bs ++ condition_type at place kind ∷ [], block_closes bs (left_paren ∷ id_at at (codes "CONDITIONTYPE") ∷ id_at place (type_text kind) ∷ []) _ (condition_type at place kind) refl)
+state_closes (behind_type_word bs at place kind) = (
+  right_paren ∷ [],
+  bs ++ condition_type at place kind ∷ [],
+  block_closes bs (left_paren ∷ id_at at (codes "CONDITIONTYPE") ∷ id_at place (type_text kind) ∷ []) _ (condition_type at place kind) refl,
+)
 state_closes (in_variables bs at names) =
     (right_paren ∷ [], bs ++ variables at names ∷ [], block_closes bs (left_paren ∷ id_at at (codes "VAR") ∷ map (λ n. id n) names) _ (variables at names) refl)
 state_closes (in_rules bs at r) =

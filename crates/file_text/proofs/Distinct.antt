@@ -113,9 +113,11 @@ bracket_new bs _ t e d free = absurd cc
 
 type_new : (bs : List Block) (at : ℕ) (w : Word) (t : State) → step_type bs at w ≡ Ok t → HasNew bs (codes "CONDITIONTYPE") → IsNew t
 type_new bs at (id name) t e h =
-    one_of (bytes_eq name.text (codes "ORIENTED")) (behind_type_word bs at name.at Oriented) (one_or (bytes_eq name.text (codes "JOIN")) (behind_type_word bs at name.at Join) (Err other_condition_type)) t e
+    one_of (bytes_eq name.text (codes "ORIENTED")) (behind_type_word bs at name.at Oriented)
+    (one_or (bytes_eq name.text (codes "JOIN")) (behind_type_word bs at name.at Join) (Err other_condition_type)) t e
     (λ is same. made_new (behind_type_word bs at name.at Oriented) t same h)
-    (λ e. one_of (bytes_eq name.text (codes "JOIN")) (behind_type_word bs at name.at Join) (Err other_condition_type) t e (λ is same. made_new (behind_type_word bs at name.at Join) t same h) (λ e. absurd cc))
+    (λ e. one_of (bytes_eq name.text (codes "JOIN")) (behind_type_word bs at name.at Join) (Err other_condition_type) t e
+    (λ is same. made_new (behind_type_word bs at name.at Join) t same h) (λ e. absurd cc))
 type_new bs at _ t e h = absurd cc
 
 type_word_new : (bs : List Block) (at place : ℕ) (kind : ConditionType) (w : Word) (t : State) → step_type_word bs at place kind w ≡ Ok t → HasNew bs (codes "CONDITIONTYPE") → IsNew t

@@ -91,7 +91,8 @@ no_type false false x y z e = refl
 pub refuses_other : (front : List Word) (w : Word) (s : State) → goes true (outside []) front ≡ Some s → IsOtherConditionType front w → step s w ≡ Err other_condition_type
 refuses_other front w s e (bs, p, name, split, is, other) =
     ap (λ (s : State). step s w) (same_state front _ s (behind_type bs p) e split (type_go bs p)) ∙ ap (step (behind_type bs p)) is
-    ∙ no_type (bytes_eq name.text (codes "ORIENTED")) (bytes_eq name.text (codes "JOIN")) (made (behind_type_word bs p name.at Oriented)) (made (behind_type_word bs p name.at Join)) (refuse other_condition_type) other
+    ∙ no_type (bytes_eq name.text (codes "ORIENTED")) (bytes_eq name.text (codes "JOIN"))
+    (made (behind_type_word bs p name.at Oriented)) (made (behind_type_word bs p name.at Join)) (refuse other_condition_type) other
 
 -- ---- the cause of a step that is refused
 

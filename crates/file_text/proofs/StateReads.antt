@@ -55,7 +55,8 @@ bracket_reads bs _ t e = absurd cc
 
 type_reads : (bs : List Block) (at : ℕ) (w : Word) (t : State) → step_type bs at w ≡ Ok t → state_words t ≡ spelled_blocks bs ++ left_paren ∷ id_at at (codes "CONDITIONTYPE") ∷ w ∷ []
 type_reads bs at (id name) t e =
-    one_of (bytes_eq name.text (codes "ORIENTED")) (behind_type_word bs at name.at Oriented) (one_or (bytes_eq name.text (codes "JOIN")) (behind_type_word bs at name.at Join) (Err other_condition_type)) t e
+    one_of (bytes_eq name.text (codes "ORIENTED")) (behind_type_word bs at name.at Oriented)
+    (one_or (bytes_eq name.text (codes "JOIN")) (behind_type_word bs at name.at Join) (Err other_condition_type)) t e
     (λ is h. made_reads (behind_type_word bs at name.at Oriented) t _ h (word (codes "ORIENTED") is))
     (λ e. one_of (bytes_eq name.text (codes "JOIN")) (behind_type_word bs at name.at Join) (Err other_condition_type) t e
     (λ is h. made_reads (behind_type_word bs at name.at Join) t _ h (word (codes "JOIN") is))

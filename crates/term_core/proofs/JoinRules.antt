@@ -41,12 +41,14 @@ right_large c room a (inl lt) h = large_size c (omega (arith, a, lt)) h
 right_large c room a (inr lt) h = large_depth c (inr lt) h
 
 -- rules whose conditions were found to fit, one after another
-fit_step : (rs : List Rule) (i : ℕ) (r : Rule) → i < length rs → r ≡ get_or rs i r → DoJoinsFit (rule_view r).conditions → DoAllJoinsFit (map rule_view (take i rs)) → DoAllJoinsFit (map rule_view (take (suc i) rs))
+fit_step : (rs : List Rule) (i : ℕ) (r : Rule) → i < length rs → r ≡ get_or rs i r → DoJoinsFit (rule_view r).conditions → DoAllJoinsFit (map rule_view (take i rs))
+    → DoAllJoinsFit (map rule_view (take (suc i) rs))
 fit_step [] i r h e good before = absurd (omega arith)
 fit_step (s ∷ rs) zero r h e good before = (subst (λ q. DoJoinsFit (rule_view q).conditions) e good, tt)
 fit_step (s ∷ rs) (suc i) r h e good before = (before.0, fit_step rs i r (omega arith) e good before.1)
 
-pub fit_more : (rs : List Rule) (i : ℕ) (r : Rule) → i < length rs → r ≡ get_or rs i r → DoJoinsFit (rule_view r).conditions → DoAllJoinsFit (map rule_view (take i rs)) → DoAllJoinsFit (map rule_view (take (i + 1) rs))
+pub fit_more : (rs : List Rule) (i : ℕ) (r : Rule) → i < length rs → r ≡ get_or rs i r → DoJoinsFit (rule_view r).conditions → DoAllJoinsFit (map rule_view (take i rs))
+    → DoAllJoinsFit (map rule_view (take (i + 1) rs))
 fit_more rs i r h e good before = rw add-one (fit_step rs i r h e good before)
 
 pub all_fit : (rs : List Rule) (i : ℕ) → length rs ≤ i → DoAllJoinsFit (map rule_view (take i rs)) → DoAllJoinsFit (map rule_view rs)
@@ -54,14 +56,19 @@ all_fit [] i h all = tt
 all_fit (r ∷ rs) zero h all = absurd (omega arith)
 all_fit (r ∷ rs) (suc i) h all = (all.0, all_fit rs i (omega arith) all.1)
 
-first : (rs : List Rule) (i : ℕ) (r : Rule) → i < length rs → r ≡ get_or rs i r → DoAllJoinsFit (map rule_view (take i rs)) → (DoJoinsFit (rule_view r).conditions → ⊥) → IsFirstLarge (map rule_view rs) (suc i)
+first : (rs : List Rule) (i : ℕ) (r : Rule) → i < length rs → r ≡ get_or rs i r → DoAllJoinsFit (map rule_view (take i rs)) → (DoJoinsFit (rule_view r).conditions → ⊥)
+    → IsFirstLarge (map rule_view rs) (suc i)
 first [] i r h e before large = absurd (omega arith)
-first (s ∷ rs) zero r h e before large = record { before = []; rule = rule_view r; after = map rule_view rs; split = ap (λ q. rule_view q ∷ map rule_view rs) (sym e); numbered = sym (zero-add 1); fit_before = tt; large = large }
+first (s ∷ rs) zero r h e before large =
+    let split = ap (λ q. rule_view q ∷ map rule_view rs) (sym e) in
+    record { before = []; rule = rule_view r; after = map rule_view rs; split = split; numbered = sym (zero-add 1); fit_before = tt; large = large }
 first (s ∷ rs) (suc i) r h e before large =
     let f = first rs i r (omega arith) e before.1 large in
-    record { before = rule_view s ∷ f.before; rule = f.rule; after = f.after; split = ap (λ q. rule_view s ∷ q) f.split; numbered = omega (arith, f.numbered); fit_before = (before.0, f.fit_before); large = f.large }
+    let split = ap (λ q. rule_view s ∷ q) f.split in
+    record { before = rule_view s ∷ f.before; rule = f.rule; after = f.after; split = split; numbered = omega (arith, f.numbered); fit_before = (before.0, f.fit_before); large = f.large }
 
-pub first_at : (rs : List Rule) (i : ℕ) (r : Rule) → i < length rs → r ≡ get_or rs i r → DoAllJoinsFit (map rule_view (take i rs)) → (DoJoinsFit (rule_view r).conditions → ⊥) → IsFirstLarge (map rule_view rs) (i + 1)
+pub first_at : (rs : List Rule) (i : ℕ) (r : Rule) → i < length rs → r ≡ get_or rs i r → DoAllJoinsFit (map rule_view (take i rs)) → (DoJoinsFit (rule_view r).conditions → ⊥)
+    → IsFirstLarge (map rule_view rs) (i + 1)
 first_at rs i r h e before large = rw add-one (first rs i r h e before large)
 
 -- sound rules make a system

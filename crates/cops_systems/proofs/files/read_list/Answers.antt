@@ -24,7 +24,8 @@ pub returns-in_err-rules : goal.returns-in_err-rules
 returns-in_err-rules c tree h =
     handed (ListAnswers tree) c.in_err-rules.field-0.0 c.from_residual-in_err-rules.result c.from_residual-in_err-rules.ensures.1
     (rules_told tree c.args.file h c.in_ok-read_block.field-0 c.new.result.symbols c.is_some-has_type.result c.args.file.rules.items
-    (block_is tree c.args.file c.in_ok-read_block.field-0 c.deref.result.now h c.in_ok-read_block.ensures c.deref.ensures.value) (ap (λ (n : NameTable). n.symbols) c.new.ensures) (type_is tree c.args.file c.is_some-has_type.result h c.is_some-has_type.ensures) refl
+    (block_is tree c.args.file c.in_ok-read_block.field-0 c.deref.result.now h c.in_ok-read_block.ensures c.deref.ensures.value) (ap (λ (n : NameTable). n.symbols) c.new.ensures)
+    (type_is tree c.args.file c.is_some-has_type.result h c.is_some-has_type.ensures) refl
     c.read_rules.new.scope.names.symbols c.read_rules.new.scope.names.variables c.in_err-rules.field-0.0 c.in_err-rules.ensures.rules)
 
 pub read_rules-requires-clause-texts : goal.read_rules-requires-clause-texts
@@ -35,7 +36,8 @@ of_sound-system-requires-clause-sound c =
     let tree = c.requires.0 in
     let h = c.requires.1 in
     rules_sound tree c.args.file h c.in_ok-read_block.field-0 c.new.result.symbols c.is_some-has_type.result c.args.file.rules.items
-    (block_is tree c.args.file c.in_ok-read_block.field-0 c.deref.result.now h c.in_ok-read_block.ensures c.deref.ensures.value) (ap (λ (n : NameTable). n.symbols) c.new.ensures) (type_is tree c.args.file c.is_some-has_type.result h c.is_some-has_type.ensures) refl
+    (block_is tree c.args.file c.in_ok-read_block.field-0 c.deref.result.now h c.in_ok-read_block.ensures c.deref.ensures.value) (ap (λ (n : NameTable). n.symbols) c.new.ensures)
+    (type_is tree c.args.file c.is_some-has_type.result h c.is_some-has_type.ensures) refl
     c.read_rules.new.scope.names c.in_ok-arities.arities.items c.in_ok-rules.rules.items c.in_ok-rules.ensures.rules c.in_ok-arities.ensures
 
 pub of_sound-system-requires-clause-counted : goal.of_sound-system-requires-clause-counted
@@ -43,11 +45,13 @@ of_sound-system-requires-clause-counted c =
     let tree = c.requires.0 in
     let h = c.requires.1 in
     rules_counted tree c.args.file h c.in_ok-read_block.field-0 c.new.result.symbols c.is_some-has_type.result c.args.file.rules.items
-    (block_is tree c.args.file c.in_ok-read_block.field-0 c.deref.result.now h c.in_ok-read_block.ensures c.deref.ensures.value) (ap (λ (n : NameTable). n.symbols) c.new.ensures) (type_is tree c.args.file c.is_some-has_type.result h c.is_some-has_type.ensures) refl
+    (block_is tree c.args.file c.in_ok-read_block.field-0 c.deref.result.now h c.in_ok-read_block.ensures c.deref.ensures.value) (ap (λ (n : NameTable). n.symbols) c.new.ensures)
+    (type_is tree c.args.file c.is_some-has_type.result h c.is_some-has_type.ensures) refl
     c.read_rules.new.scope.names c.in_ok-arities.arities.items c.in_ok-rules.rules.items c.in_ok-rules.ensures.rules c.in_ok-arities.ensures
 
 pub returns : goal.returns
 returns c tree h =
     file_read tree c.args.file h c.in_ok-read_block.field-0 c.new.result.symbols c.is_some-has_type.result c.args.file.rules.items
-    (block_is tree c.args.file c.in_ok-read_block.field-0 c.deref.result.now h c.in_ok-read_block.ensures c.deref.ensures.value) (ap (λ (n : NameTable). n.symbols) c.new.ensures) (type_is tree c.args.file c.is_some-has_type.result h c.is_some-has_type.ensures) refl
+    (block_is tree c.args.file c.in_ok-read_block.field-0 c.deref.result.now h c.in_ok-read_block.ensures c.deref.ensures.value) (ap (λ (n : NameTable). n.symbols) c.new.ensures)
+    (type_is tree c.args.file c.is_some-has_type.result h c.is_some-has_type.ensures) refl
     c.read_rules.new.scope.names c.in_ok-arities.arities.items c.in_ok-rules.rules.items c.in_ok-rules.ensures.rules c.in_ok-arities.ensures c.of_sound-system.result c.of_sound-system.ensures
