@@ -1,5 +1,5 @@
 -- Paths that go on and come back.
-use Rattle.std.proofs.Common.{◌≡◌, ℕ, List, [], ◌∷◌, ◌++◌, map, length, take, drop, slice_get, None, Some, option_map, refl, sym, ap, ap₂, ◌∙◌, le_refl}
+use Rattle.std.proofs.Common.{◌≡◌, ℕ, List, [], ◌∷◌, ◌++◌, map, length, take, drop, slice_get, None, Some, option_map, sym, ap, ap₂, ◌∙◌, le_refl}
 use Rattle.std.proofs.lemmas.List.{take_all, take-append-le}
 use Rattle.rewriting.specs.Substitutions.{Bindings}
 use Rattle.rewriting.specs.Matching.{IsLeastMatch, HasNoMatch}
@@ -8,10 +8,11 @@ use Rattle.matching.specs.Trails.{without, IsNoted}
 use Rattle.matching.proofs.Noted.{noted_back, noted_before}
 use Rattle.reach_lists.specs.Solutions as lists
 use Rattle.reach.specs.ReachedView.{list_view}
-use Rattle.reach.specs.PathView.{by_of, met_view, path_view, IsSamePath, IsAhead, IsEntered, IsMissed}
+use Rattle.reach.specs.PathView.{by_of, met_view, path_view, IsSamePath, IsEntered, IsMissed}
 use Rattle.reach.specs.declared.solutions.Met.{Met}
 use Rattle.reach.specs.declared.solutions.Path.{Path}
 use Rattle.reach.proofs.Solving.{solution_found, solution_missed}
+use Rattle.reach.proofs.Offered.{map_push}
 use Rattle.std.specs.FinMap.{empty}
 use Rattle.rewriting.specs.Terms as math
 use Rattle.rewriting.specs.Tests.{match_onto}
@@ -24,24 +25,8 @@ solved v ms = record { values = v; by = map met_view ms }
 pub same_view : (p q : Path) → IsSamePath p q → path_view q ≡ path_view p
 same_view p q h = ap₂ solved h.values h.by
 
-pub same_none : (p : Path) → IsSamePath p p
-same_none p = record { values = refl; trail = refl; by = refl }
-
 pub same_both : (p q r : Path) → IsSamePath p q → IsSamePath q r → IsSamePath p r
 same_both p q r h k = record { values = k.values ∙ h.values; trail = k.trail ∙ h.trail; by = k.by ∙ h.by }
-
--- a path that went on, came back to where it went on to, and then to where it was
-pub came_back : (p q r s : Path) (bound met : ℕ) → bound ≡ length p.trail.items → met ≡ length p.by.items → IsAhead p q → IsSamePath q r
-    → s.values ≡ without r.values (drop bound r.trail.items) → s.trail.items ≡ take bound r.trail.items → s.by.items ≡ take met r.by.items → IsSamePath p s
-came_back p q r s bound met e k ahead same values trail by = record {
-  values = values ∙ ap₂ (λ b xs. without b (drop bound xs)) same.values same.trail ∙ ap (λ n. without q.values (drop n q.trail.items)) e ∙ ahead.values;
-  trail = trail ∙ ap (take bound) same.trail ∙ ap (λ n. take n q.trail.items) e ∙ ahead.trail;
-  by = by ∙ ap (take met) same.by ∙ ap (λ n. take n q.by.items) k ∙ ahead.by;
-}
-
-map_push : {A B : Type 0} (f : A → B) (xs : List A) (x : A) → map f (xs ++ x ∷ []) ≡ map f xs ++ f x ∷ []
-map_push f [] x = refl
-map_push f (y ∷ xs) x = ap (λ z. f y ∷ z) (map_push f xs x)
 
 -- a condition, and a term of its list
 module _ (c : Condition) (w : lists.Reached) (p q : Path) (noted : IsNoted p.values p.trail.items q.values q.trail.items) where
