@@ -5,3 +5,4 @@ pub mod Confluence
 pub mod Peaks
 pub mod Certificates
 pub mod Laws
+pub mod CarriedBack
