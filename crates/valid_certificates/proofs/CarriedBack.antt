@@ -1,5 +1,5 @@
 -- A term that reaches two terms without a common reduct behind steps that simplify the system does so before them.
-use Rattle.std.proofs.Common.{sym, subst, subst₂, ℕ}
+use Rattle.std.proofs.Common.{subst, ℕ}
 use Rattle.rewriting.specs.Terms.{Term}
 use Rattle.rewriting.specs.Signatures.{Signature, IsOver, HasSymbolsBelow}
 use Rattle.rewriting.specs.Rules.{System}

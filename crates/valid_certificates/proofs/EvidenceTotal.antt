@@ -1,5 +1,5 @@
 -- Evidence for an overlap is valid, or there is a first reason why it is not.
-use Rattle.std.proofs.Common.{◌≡◌, ◌⊎◌, inl, inr, ℕ, List, [], ◌∷◌, Option, Some, None, refl, subst}
+use Rattle.std.proofs.Common.{◌≡◌, ◌⊎◌, inl, inr, ℕ, [], ◌∷◌, Option, Some, None, refl, subst}
 use Rattle.rewriting.proofs.Common.{Term, cons, nil, Position, Condition, System}
 use Rattle.rewriting.proofs.Equality.{same}
 use Rattle.unifier_run.specs.Run.{Outcome, unifier, clash, too_large, IsOutcome}

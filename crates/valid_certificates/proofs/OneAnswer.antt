@@ -15,7 +15,7 @@ use Rattle.certificates.proofs.Unique.{matches_unique, derives_unique}
 use Rattle.certificates.proofs.Outcomes.{never_both as ends_or_fails, fails_unique}
 use Rattle.judged_evidence.specs.Evidence.{IsInfeasibilityJudged}
 use Rattle.judged_evidence.proofs.Judged.{evidence_once}
-use Rattle.valid_certificates.specs.Peaks.{RedexPlace, chosen, at_redex, AreConditionsAt, IsRedexJudged, AreRefuted, AreNotRefuted, AreShownApart, AreNotShownApart, LeadsTo, HasFileSymbols, AreValidEnds, AreNoValidEnds, IsValidPeak, IsPeakRejected, foreign_start, first_fails, second_fails, not_apart}
+use Rattle.valid_certificates.specs.Peaks.{RedexPlace, chosen, at_redex, AreConditionsAt, IsRedexJudged, AreRefuted, AreNotRefuted, AreShownApart, AreNotShownApart, LeadsTo, AreValidEnds, AreNoValidEnds, IsValidPeak, IsPeakRejected, foreign_start, first_fails, second_fails, not_apart}
 use Rattle.valid_certificates.specs.Laws.{IsOneAnswer}
 use Rattle.valid_certificates.proofs.OneList.{redexes_once}
 
