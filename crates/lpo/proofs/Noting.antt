@@ -94,7 +94,8 @@ module _ (number : ℕ) where
 
 -- the symbols of a term, and of terms
 module _ (number : ℕ) where
-  pub noted_symbol : (t : code.Term) (f : ℕ) (args : Vec code.Term Global) (items : List code.Term) (a b c : List (Vec ℕ Global)) → t ≡ Fun f args → items ≡ args.items → IsNoted number (λ g. g ≡ f) a b
+  pub noted_symbol : (t : code.Term) (f : ℕ) (args : Vec code.Term Global) (items : List code.Term) (a b c : List (Vec ℕ Global)) → t ≡ Fun f args → items ≡ args.items
+      → IsNoted number (λ g. g ≡ f) a b
       → IsNoted number (λ g. HaveSymbol g (views items)) b c → IsNoted number (λ g. HasSymbol g (view t)) a c
   noted_symbol t f args items a b c is same x y =
       let shown : view t ≡ app f (views items) = ap view is ∙ (view-Fun f args ∙ ap (λ (z : List code.Term). app f (views z)) (sym same)) in
@@ -103,13 +104,15 @@ module _ (number : ℕ) where
   pub noted_argument : (ts : List code.Term) (first : code.Term) (a b c : List (Vec ℕ Global)) → 1 ≤ length ts → first ≡ get_or ts 0 first → IsNoted number (λ g. HasSymbol g (view first)) a b
       → IsNoted number (λ g. HaveSymbol g (views (behind_first ts))) b c → IsNoted number (λ g. HaveSymbol g (views ts)) a c
   noted_argument ts first a b c le is x y =
-      subst (λ z. IsNoted number (λ g. HaveSymbol g z) a c) (sym (views_split ts first le is)) (noted_both number (λ g. HasSymbol g (view first)) (λ g. HaveSymbol g (views (behind_first ts))) a b c x y)
+      subst (λ z. IsNoted number (λ g. HaveSymbol g z) a c) (sym (views_split ts first le is))
+      (noted_both number (λ g. HasSymbol g (view first)) (λ g. HaveSymbol g (views (behind_first ts))) a b c x y)
 
 -- one more rule is listed
 pub none_listed : (rules : List math.Rule) (lists : List (Vec ℕ Global)) → ((f : ℕ) → listed lists f ≡ []) → AreListed rules 0 lists
 none_listed rules lists none = record { only = λ f n i. absurd (subst (IsAmong n) (none f) i); all = λ f n r lt less. absurd (omega (arith, less)) }
 
-pub one_listed : (rules : List math.Rule) (k : ℕ) (r : math.Rule) (a b : List (Vec ℕ Global)) → AreListed rules k a → slice_get rules k ≡ Some r → IsNoted k (λ f. OccursAt f r) a b → AreListed rules (k + 1) b
+pub one_listed : (rules : List math.Rule) (k : ℕ) (r : math.Rule) (a b : List (Vec ℕ Global)) → AreListed rules k a → slice_get rules k ≡ Some r → IsNoted k (λ f. OccursAt f r) a b
+    → AreListed rules (k + 1) b
 one_listed rules k r a b h is x = record { only = λ f n i. only f n (x.only f n i); all = all }
   where
     only : (f n : ℕ) → IsAmong n (listed a f) ⊎ ((n ≡ k) × OccursAt f r) → (n < k + 1) × ((q : math.Rule) × (slice_get rules n ≡ Some q) × OccursAt f q)
@@ -135,7 +138,8 @@ abbrev pub AreAliveSoFar : List ℕ → List math.Rule → List ℕ → ℕ → 
 AreAliveSoFar places rs numbers i = (j n : ℕ) (r : math.Rule) → j < i → slice_get numbers j ≡ Some n → slice_get rs n ≡ Some r → is_dead_at places r ≡ false
 
 module _ (places : List ℕ) (rs : List math.Rule) (numbers : List ℕ) where
-  pub one_alive : (i n : ℕ) (r : math.Rule) → AreAliveSoFar places rs numbers i → slice_get numbers i ≡ Some n → slice_get rs n ≡ Some r → is_dead_at places r ≡ false → AreAliveSoFar places rs numbers (i + 1)
+  pub one_alive : (i n : ℕ) (r : math.Rule) → AreAliveSoFar places rs numbers i → slice_get numbers i ≡ Some n → slice_get rs n ≡ Some r → is_dead_at places r ≡ false
+      → AreAliveSoFar places rs numbers (i + 1)
   one_alive i n r before at is alive j m q less there here = go (cases_lt j i)
     where
       go : (j < i) ⊎ (i ≤ j) → is_dead_at places q ≡ false

@@ -67,7 +67,8 @@ module _ (sys : math.System) (order : Precedence) (h : Head) (f : ℕ) (is : sli
       go (suc i) at o = both_ways (is_dead_at ps d.rule) (none i d.rule (all i d.rule at o) at) (dead_test sys (order ++ h ∷ []) ps a d.rule d.left d.right d.unordered)
 
 -- where each symbol stands and no rule is dead, each rule is ordered
-module _ (sys : math.System) (order : Precedence) (ps : List ℕ) (a : ArePlaces (heads sys) order (length order) ps) (full : (f : ℕ) → f < length ps → place_in ps f ≡ 0 → ⊥) (sound : IsSystem (unraveled sys)) where
+module _ (sys : math.System) (order : Precedence) (ps : List ℕ) (a : ArePlaces (heads sys) order (length order) ps) (full : (f : ℕ) → f < length ps → place_in ps f ≡ 0 → ⊥)
+    (sound : IsSystem (unraveled sys)) where
   place : (f : ℕ) → f < length (unraveled sys).arities → (k : ℕ) × StandsAt sys order f k
   place f lt = go (place_in ps f) refl
     where

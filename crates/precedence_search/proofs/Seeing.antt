@@ -58,7 +58,8 @@ module _ (sys : math.System) (hs : List Head) (rs : List math.Rule) (of : IsOf s
       full = full_placed ps (let few = places_of.few in let many = places_of.as_many in let all = is_whole e in omega (arith, few, many, all))
 
 -- the last symbol, with its rules
-module _ (sys : math.System) (hs : List Head) (rs : List math.Rule) (of : IsOf sys hs rs) (before : Precedence) (h : Head) (f : ℕ) (is : slice_get hs f ≡ Some h) (ps : List ℕ) (a : HasItsPlaces hs (before ++ h ∷ []) ps) where
+module _ (sys : math.System) (hs : List Head) (rs : List math.Rule) (of : IsOf sys hs rs) (before : Precedence) (h : Head) (f : ℕ) (is : slice_get hs f ≡ Some h) (ps : List ℕ)
+    (a : HasItsPlaces hs (before ++ h ∷ []) ps) where
   pub sees_last : (lists : List (Vec ℕ Global)) (count : ℕ) (b : Bool) → AreListed rs count lists → length rs ≤ count → f < length lists → ListedAnswers ps rs (listed lists f) b
       → IsAliveBefore sys (before ++ h ∷ []) → MatchBool b (IsDead sys (before ++ h ∷ [])) (IsDead sys (before ++ h ∷ []) → ⊥)
   sees_last lists count true all most inside answer alive = sees_dead sys hs rs of (before ++ h ∷ []) ps a answer
@@ -81,7 +82,8 @@ last_shown items x e =
     let split = last_split items (length items - 1) x (omega (arith, within)) e in
     (map head_view split.0, ap (map head_view) split.1 ∙ map-append head_view split.0 (x ∷ []))
 
-pub sees_order : (sys : math.System) (hs : List Head) (rs : List math.Rule) → IsOf sys hs rs → (order before : Precedence) (h : Head) (f : ℕ) → order ≡ before ++ h ∷ [] → slice_get hs f ≡ Some h → (ps : List ℕ)
+pub sees_order : (sys : math.System) (hs : List Head) (rs : List math.Rule) → IsOf sys hs rs → (order before : Precedence) (h : Head) (f : ℕ) → order ≡ before ++ h ∷ [] → slice_get hs f ≡ Some h
+    → (ps : List ℕ)
     → HasItsPlaces hs order ps → (lists : List (Vec ℕ Global)) (count : ℕ) (b : Bool) → AreListed rs count lists → length rs ≤ count → f < length lists → ListedAnswers ps rs (listed lists f) b
     → IsAliveBefore sys order → MatchBool b (IsDead sys order) (IsDead sys order → ⊥)
 sees_order sys hs rs of order before h f e is ps a lists count b all most inside answer alive =
@@ -95,7 +97,8 @@ last_has_symbol hs order before h e ps a none = last_known hs before h ps (subst
 pub some_free : (hs : List Head) (order : Precedence) (ps : List ℕ) → HasItsPlaces hs order ps → length order < length hs → FreeAnswers ps 0 None → ⊥
 some_free hs order ps a less none = let full = none_free ps (λ f lt e. none f (omega arith) lt e) in let few = a.few in let many = a.as_many in omega (arith, full, few, many, less)
 
-pub down : (sys : math.System) (hs : List Head) → HasHeads sys hs → (order longer : Precedence) (ps : List ℕ) (f : ℕ) → HasItsPlaces hs order ps → FreeAnswers ps 0 (Some f) → IsLonger hs order f longer → GoesDown sys order longer
+pub down : (sys : math.System) (hs : List Head) → HasHeads sys hs → (order longer : Precedence) (ps : List ℕ) (f : ℕ) → HasItsPlaces hs order ps → FreeAnswers ps 0 (Some f)
+    → IsLonger hs order f longer → GoesDown sys order longer
 down sys hs same order longer ps f a free (h, is, e) = (
   ap length e ∙ (let sum = length-append order (h ∷ []) in omega (arith, sum)),
   λ n come alive.
@@ -103,7 +106,8 @@ down sys hs same order longer ps f a free (h, is, e) = (
       (walking.go_down sys order n ps f h come alive (subst (λ z. ArePlaces z order (length order) ps) same a) free (subst (λ z. slice_get z f ≡ Some h) same is)),
 )
 
-module _ (sys : math.System) (hs : List Head) (same : HasHeads sys hs) (before order : Precedence) (f : ℕ) (last : IsLonger hs order f before) (ps : List ℕ) (a : HasItsPlaces hs order ps) (n : ℕ) (done : HasDoneWith sys before n) where
+module _ (sys : math.System) (hs : List Head) (same : HasHeads sys hs) (before order : Precedence) (f : ℕ) (last : IsLonger hs order f before) (ps : List ℕ) (a : HasItsPlaces hs order ps) (n : ℕ)
+    (done : HasDoneWith sys before n) where
   here : HasDoneWith sys (order ++ last.0 ∷ []) n
   here = subst (λ z. HasDoneWith sys z n) last.2 done
 

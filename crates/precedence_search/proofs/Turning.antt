@@ -118,27 +118,32 @@ module _ (hs : List Head) (order : Precedence) (h : Head) where
       none n.symbol (s.1 ∙ (sym s.2 ∙ get_last order h))
 
 -- the same for the code's lists
-pub last_put : (heads items new : List code.Head) (f : ℕ) (d : code.Head) → f < length heads → new ≡ items ++ get_or heads f d ∷ [] → IsLonger (map head_view heads) (map head_view items) f (map head_view new)
+pub last_put : (heads items new : List code.Head) (f : ℕ) (d : code.Head) → f < length heads → new ≡ items ++ get_or heads f d ∷ []
+    → IsLonger (map head_view heads) (map head_view items) f (map head_view new)
 last_put heads items new f d lt e = (head_view (get_or heads f d), map_get head_view heads f d lt, ap (map head_view) e ∙ map-append head_view items (get_or heads f d ∷ []))
 
-pub put_in_place : (hs : List Head) (order longer : Precedence) (f n : ℕ) (ps : List ℕ) → AreDistinct hs → IsLonger hs order f longer → ArePlaces hs order (length order) ps → get_or ps f 0 ≡ 0 → n ≡ length longer
+pub put_in_place : (hs : List Head) (order longer : Precedence) (f n : ℕ) (ps : List ℕ) → AreDistinct hs → IsLonger hs order f longer → ArePlaces hs order (length order) ps → get_or ps f 0 ≡ 0
+    → n ≡ length longer
     → ArePlaces hs longer (length longer) (slice_set ps f n)
 put_in_place hs order longer f n ps distinct (h, is, e) a free many =
     let last : n ≡ suc (length order) = many ∙ (ap length e ∙ long hs order h) in
-    subst (λ z. ArePlaces hs z (length z) (slice_set ps f n)) (sym e) (subst (λ z. ArePlaces hs (order ++ h ∷ []) (length (order ++ h ∷ [])) (slice_set ps f z)) (sym last) (put_place hs order h distinct f is ps a free))
+    subst (λ z. ArePlaces hs z (length z) (slice_set ps f n)) (sym e)
+    (subst (λ z. ArePlaces hs (order ++ h ∷ []) (length (order ++ h ∷ [])) (slice_set ps f z)) (sym last) (put_place hs order h distinct f is ps a free))
 
-module _ (heads items new : List code.Head) (x : code.Head) (e : items ≡ new ++ x ∷ []) (ps : List ℕ) (a : ArePlaces (map head_view heads) (map head_view items) (length (map head_view items)) ps) where
-  shown : map head_view items ≡ map head_view new ++ head_view x ∷ []
-  shown = ap (map head_view) e ∙ map-append head_view new (x ∷ [])
+module _ (heads items new : List code.Head) (x : code.Head) (e : items ≡ new ++ x ∷ []) (ps : List ℕ) (a : ArePlaces (map head_view heads) (map head_view items) (length (map head_view items)) ps)
+  where
+    shown : map head_view items ≡ map head_view new ++ head_view x ∷ []
+    shown = ap (map head_view) e ∙ map-append head_view new (x ∷ [])
 
-  before : ArePlaces (map head_view heads) (map head_view new ++ head_view x ∷ []) (length (map head_view new ++ head_view x ∷ [])) ps
-  before = subst (λ z. ArePlaces (map head_view heads) z (length z) ps) shown a
+    before : ArePlaces (map head_view heads) (map head_view new ++ head_view x ∷ []) (length (map head_view new ++ head_view x ∷ [])) ps
+    before = subst (λ z. ArePlaces (map head_view heads) z (length z) ps) shown a
 
-  pub taken_inside : (f : ℕ) → AreDistinct (map head_view heads) → slice_get (map head_view heads) f ≡ Some (head_view x) → f < length ps
-  taken_inside f distinct is = place_inside (map head_view heads) (map head_view new) (head_view x) distinct f is ps before
+    pub taken_inside : (f : ℕ) → AreDistinct (map head_view heads) → slice_get (map head_view heads) f ≡ Some (head_view x) → f < length ps
+    taken_inside f distinct is = place_inside (map head_view heads) (map head_view new) (head_view x) distinct f is ps before
 
-  pub taken_in_place : (f : ℕ) → AreDistinct (map head_view heads) → slice_get (map head_view heads) f ≡ Some (head_view x) → ArePlaces (map head_view heads) (map head_view new) (length (map head_view new)) (slice_set ps f 0)
-  taken_in_place f distinct is = take_place (map head_view heads) (map head_view new) (head_view x) distinct f is ps before
+    pub taken_in_place : (f : ℕ) → AreDistinct (map head_view heads) → slice_get (map head_view heads) f ≡ Some (head_view x)
+        → ArePlaces (map head_view heads) (map head_view new) (length (map head_view new)) (slice_set ps f 0)
+    taken_in_place f distinct is = take_place (map head_view heads) (map head_view new) (head_view x) distinct f is ps before
 
-  pub taken_known : ((f : ℕ) → slice_get (map head_view heads) f ≡ Some (head_view x) → ⊥) → ⊥
-  taken_known none = last_known (map head_view heads) (map head_view new) (head_view x) ps before none
+    pub taken_known : ((f : ℕ) → slice_get (map head_view heads) f ≡ Some (head_view x) → ⊥) → ⊥
+    taken_known none = last_known (map head_view heads) (map head_view new) (head_view x) ps before none

@@ -67,5 +67,6 @@ pub smaller : (a b k x y : ℕ) → suc a ≡ b → x < k → a * k + x < b * k 
 smaller a b k x y e lt = subst (λ z. a * k + x < z * k + y) e (omega (arith, lt))
 
 -- where it goes on
-pub goes : (sys : System) (order next : Precedence) (b other : Bool) → b ≡ other → ((n : ℕ) → HasDoneWith sys order n → GoesOn sys next n b) → (n : ℕ) → HasDoneWith sys order n → GoesOn sys next n other
+pub goes : (sys : System) (order next : Precedence) (b other : Bool) → b ≡ other → ((n : ℕ) → HasDoneWith sys order n → GoesOn sys next n b) → (n : ℕ) → HasDoneWith sys order n
+    → GoesOn sys next n other
 goes sys order next b other is h n done = subst (GoesOn sys next n) is (h n done)

@@ -129,7 +129,8 @@ module _ (sys : System) where
   one_longer order h = let sum = length-append order (h ∷ []) in omega (arith, sum)
 
   -- to the least symbol that is left
-  pub go_down : (order : Precedence) (n : ℕ) (ps : List ℕ) (f : ℕ) (h : Head) → HasComeTo sys order n → (IsDead sys order → ⊥) → HasItsPlaces (heads sys) order ps → FreeAnswers ps 0 (Some f) → slice_get (heads sys) f ≡ Some h
+  pub go_down : (order : Precedence) (n : ℕ) (ps : List ℕ) (f : ℕ) (h : Head) → HasComeTo sys order n → (IsDead sys order → ⊥) → HasItsPlaces (heads sys) order ps → FreeAnswers ps 0 (Some f)
+      → slice_get (heads sys) f ≡ Some h
       → HasComeTo sys (order ++ h ∷ []) n
   go_down order n ps f h (left, w) alive a (low, inside, free, least) is = below left w first.0 first.1
     where
@@ -162,7 +163,8 @@ module _ (sys : System) where
     own : left ≡ before ++ after
     behind : at_child.behind ≡ map (with_next order) (map (behind_all (before ++ h ∷ [])) (picks after))
 
-  of_child : (order : Precedence) (h : Head) (left : List Head) (n : ℕ) → IsAtChild extensions (IsDeadPrefix sys) (Barren (length left)) (Walked (length order) (suc (length left))) (node (order ++ h ∷ []) left) n → IsAtSymbol order h left n
+  of_child : (order : Precedence) (h : Head) (left : List Head) (n : ℕ)
+      → IsAtChild extensions (IsDeadPrefix sys) (Barren (length left)) (Walked (length order) (suc (length left))) (node (order ++ h ∷ []) left) n → IsAtSymbol order h left n
   of_child order h left n child =
       let at = mapped_at (with_next child.parent.entries) (picks child.parent.left) child.before (node (order ++ h ∷ []) left) child.behind child.split in
       let pick = picked_at child.parent.left at.left at.item at.right at.split in
@@ -183,7 +185,8 @@ module _ (sys : System) where
   at_symbol : (order : Precedence) (h : Head) (left : List Head) (n : ℕ) → StandsWith sys left (order ++ h ∷ []) n → IsAtSymbol order h left n
   at_symbol order h left n w = of_child order h left n (subst (λ (k : ℕ). Walked k (length left) (node (order ++ h ∷ []) left) n) (one_longer order h) w)
 
-  module _ (order : Precedence) (h : Head) (f : ℕ) (is : slice_get (heads sys) f ≡ Some h) (left : List Head) (n : ℕ) (at : IsAtSymbol order h left n) (ps : List ℕ) (a : HasItsPlaces (heads sys) order ps) (u : ℕ)
+  module _ (order : Precedence) (h : Head) (f : ℕ) (is : slice_get (heads sys) f ≡ Some h) (left : List Head) (n : ℕ) (at : IsAtSymbol order h left n) (ps : List ℕ)
+      (a : HasItsPlaces (heads sys) order ps) (u : ℕ)
       (bare : Barren (length left) (node (order ++ h ∷ []) left) u) where
     above : IsTaken (node order (at.before ++ h ∷ at.after))
     above = subst IsTaken at.parent (taken (length order) (suc (length left)) at.at_child.parent at.at_child.paid_above at.at_child.came_to)
@@ -265,13 +268,17 @@ module _ (sys : System) where
                 let known = after_free place.0 x place.1 i in
                 let more = known.0 in none place.0 (omega (arith, more)) (number_inside order ps a place.0 x place.1) known.1)
 
-  pub go_across : (order : Precedence) (h x : Head) (f g n : ℕ) (ps : List ℕ) → slice_get (heads sys) f ≡ Some h → slice_get (heads sys) g ≡ Some x → HasItsPlaces (heads sys) order ps → FreeAnswers ps (f + 1) (Some g)
+  pub go_across : (order : Precedence) (h x : Head) (f g n : ℕ) (ps : List ℕ) → slice_get (heads sys) f ≡ Some h → slice_get (heads sys) g ≡ Some x → HasItsPlaces (heads sys) order ps
+      → FreeAnswers ps (f + 1) (Some g)
       → HasDoneWith sys (order ++ h ∷ []) n → HasComeTo sys (order ++ x ∷ []) n
   go_across order h x f g n ps is there a free done =
-      subst (HasComeTo sys (order ++ x ∷ [])) (sym done.sum) (across_to order h f is done.left done.paid (at_symbol order h done.left done.paid done.came_to) ps a done.units done.barren g x free there)
+      subst (HasComeTo sys (order ++ x ∷ [])) (sym done.sum)
+      (across_to order h f is done.left done.paid (at_symbol order h done.left done.paid done.came_to) ps a done.units done.barren g x free there)
 
-  pub go_up : (order : Precedence) (h : Head) (f n : ℕ) (ps : List ℕ) → slice_get (heads sys) f ≡ Some h → HasItsPlaces (heads sys) order ps → FreeAnswers ps (f + 1) None → HasDoneWith sys (order ++ h ∷ []) n → HasDoneWith sys order n
-  go_up order h f n ps is a none done = subst (HasDoneWith sys order) (sym done.sum) (up_to order h f is done.left done.paid (at_symbol order h done.left done.paid done.came_to) ps a done.units done.barren none)
+  pub go_up : (order : Precedence) (h : Head) (f n : ℕ) (ps : List ℕ) → slice_get (heads sys) f ≡ Some h → HasItsPlaces (heads sys) order ps → FreeAnswers ps (f + 1) None
+      → HasDoneWith sys (order ++ h ∷ []) n → HasDoneWith sys order n
+  go_up order h f n ps is a none done =
+      subst (HasDoneWith sys order) (sym done.sum) (up_to order h f is done.left done.paid (at_symbol order h done.left done.paid done.came_to) ps a done.units done.barren none)
 
   pub is_alive_before : (order : Precedence) (n : ℕ) → HasComeTo sys order n → IsAliveBefore sys order
   is_alive_before order n (left, w) before h e =

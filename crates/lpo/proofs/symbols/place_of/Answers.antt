@@ -24,6 +24,7 @@ halves-preserved c =
       within = omega arith;
       between = λ f is. (
         (c.halves.invariant.between f is).0,
-        up_to_middle (map head_view c.args.heads.now) c.requires (head_view c.args.head) _ middle (map_get head_view c.args.heads.now middle _ inside) (λ h. false≢true (c.if-is_head_before.ensures.1 h)) f is,
+        up_to_middle (map head_view c.args.heads.now) c.requires (head_view c.args.head) _ middle (map_get head_view c.args.heads.now middle _ inside)
+            (λ h. false≢true (c.if-is_head_before.ensures.1 h)) f is,
       );
     }

@@ -23,6 +23,7 @@ overflow_cast-len c =
 
 pub returns-clause-in_place : goal.returns-clause-in_place
 returns-clause-in_place c =
-    put_in_place (map head_view c.args.heads.now) (map head_view c.args.walk.now.prefix.items) (map head_view c.push.new.self.items) c.args.f c.len.result c.args.walk.now.places.items (distinct_heads (map head_view c.args.heads.now) c.requires.sorted)
+    put_in_place (map head_view c.args.heads.now) (map head_view c.args.walk.now.prefix.items) (map head_view c.push.new.self.items) c.args.f c.len.result c.args.walk.now.places.items
+    (distinct_heads (map head_view c.args.heads.now) c.requires.sorted)
     (last_put c.args.heads.now c.args.walk.now.prefix.items c.push.new.self.items c.args.f _ c.requires.within c.in_ok-push.ensures.items) c.requires.in_place c.requires.free
     (let e = c.len.ensures in let ok = c.push.new.self.ok.0 in let many = length-map c.push.new.self.items head_view in omega (arith, e, ok, many))

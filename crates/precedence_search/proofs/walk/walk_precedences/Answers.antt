@@ -41,7 +41,9 @@ go_on-requires-clause-few c =
 pub returns-in_err-go_on-in-Barren-clause-kept : goal.returns-in_err-go_on-in-Barren-clause-kept
 returns-in_err-go_on-in-Barren-clause-kept c =
     let heads_are = ap (map head_view) c.deref-heads.ensures.value ∙ c.requires.heads in
-    let sound = sound_of c.args.sys.now c.args.unraveled.now.system (map head_view c.deref-heads.result.now) (map rule_view c.rules-rules.result.now) c.requires.system heads_are c.rules-rules.ensures.rules c.rules-rules.ensures.sound in
+    let sound =
+    sound_of c.args.sys.now c.args.unraveled.now.system (map head_view c.deref-heads.result.now) (map rule_view c.rules-rules.result.now)
+    c.requires.system heads_are c.rules-rules.ensures.rules c.rules-rules.ensures.sound in
     let alive = alive_before c.args.sys.now c.args.budget.now c.visits.budget (map head_view c.visits.walk.prefix.items) c.visits.invariant.paid in
     let seen = c.in-Barren.ensures c.args.sys.now sound alive in
     still_kept c.args.sys.now c.args.budget.now c.visits.budget c.visit.new.budget (map head_view c.visits.walk.prefix.items) c.visits.invariant.paid seen.1
@@ -49,7 +51,9 @@ returns-in_err-go_on-in-Barren-clause-kept c =
 pub returns-then-not-branch-clause-answer : goal.returns-then-not-branch-clause-answer
 returns-then-not-branch-clause-answer c =
     let heads_are = ap (map head_view) c.deref-heads.ensures.value ∙ c.requires.heads in
-    let sound = sound_of c.args.sys.now c.args.unraveled.now.system (map head_view c.deref-heads.result.now) (map rule_view c.rules-rules.result.now) c.requires.system heads_are c.rules-rules.ensures.rules c.rules-rules.ensures.sound in
+    let sound =
+    sound_of c.args.sys.now c.args.unraveled.now.system (map head_view c.deref-heads.result.now) (map rule_view c.rules-rules.result.now)
+    c.requires.system heads_are c.rules-rules.ensures.rules c.rules-rules.ensures.sound in
     let alive = alive_before c.args.sys.now c.args.budget.now c.visits.budget (map head_view c.visits.walk.prefix.items) c.visits.invariant.paid in
     let seen = c.in-Barren.ensures c.args.sys.now sound alive in
     none_good c.args.sys.now c.args.budget.now c.visits.budget c.visit.new.budget (map head_view c.visits.walk.prefix.items) c.visits.invariant.paid seen.1 seen.0
@@ -58,7 +62,9 @@ returns-then-not-branch-clause-answer c =
 pub returns-then-not-branch-clause-kept : goal.returns-then-not-branch-clause-kept
 returns-then-not-branch-clause-kept c =
     let heads_are = ap (map head_view) c.deref-heads.ensures.value ∙ c.requires.heads in
-    let sound = sound_of c.args.sys.now c.args.unraveled.now.system (map head_view c.deref-heads.result.now) (map rule_view c.rules-rules.result.now) c.requires.system heads_are c.rules-rules.ensures.rules c.rules-rules.ensures.sound in
+    let sound =
+    sound_of c.args.sys.now c.args.unraveled.now.system (map head_view c.deref-heads.result.now) (map rule_view c.rules-rules.result.now)
+    c.requires.system heads_are c.rules-rules.ensures.rules c.rules-rules.ensures.sound in
     let alive = alive_before c.args.sys.now c.args.budget.now c.visits.budget (map head_view c.visits.walk.prefix.items) c.visits.invariant.paid in
     let seen = c.in-Barren.ensures c.args.sys.now sound alive in
     still_kept c.args.sys.now c.args.budget.now c.visits.budget c.visit.new.budget (map head_view c.visits.walk.prefix.items) c.visits.invariant.paid seen.1
@@ -66,19 +72,25 @@ returns-then-not-branch-clause-kept c =
 pub visits-preserved : goal.visits-preserved
 visits-preserved c =
     let heads_are = ap (map head_view) c.deref-heads.ensures.value ∙ c.requires.heads in
-    let sound = sound_of c.args.sys.now c.args.unraveled.now.system (map head_view c.deref-heads.result.now) (map rule_view c.rules-rules.result.now) c.requires.system heads_are c.rules-rules.ensures.rules c.rules-rules.ensures.sound in
+    let sound =
+    sound_of c.args.sys.now c.args.unraveled.now.system (map head_view c.deref-heads.result.now) (map rule_view c.rules-rules.result.now)
+    c.requires.system heads_are c.rules-rules.ensures.rules c.rules-rules.ensures.sound in
     let alive = alive_before c.args.sys.now c.args.budget.now c.visits.budget (map head_view c.visits.walk.prefix.items) c.visits.invariant.paid in
     let seen = c.in-Barren.ensures c.args.sys.now sound alive in
     record {
       in_place = c.in_ok-go_on-in-Barren.ensures.in_place;
-      paid = paid_on c.args.sys.now c.args.budget.now c.visits.budget c.visit.new.budget (map head_view c.visits.walk.prefix.items) c.visits.invariant.paid seen.1 seen.0 (map head_view c.go_on.new.walk.prefix.items)
+      paid =
+          paid_on c.args.sys.now c.args.budget.now c.visits.budget c.visit.new.budget (map head_view c.visits.walk.prefix.items) c.visits.invariant.paid seen.1 seen.0
+          (map head_view c.go_on.new.walk.prefix.items)
           (goes c.args.sys.now (map head_view c.visits.walk.prefix.items) (map head_view c.go_on.new.walk.prefix.items) c.in_ok-go_on-in-Barren.field-0 true c.if-not-branch.false (λ n done. c.in_ok-go_on-in-Barren.ensures.goes c.args.sys.now n heads_are done));
     }
 
 pub returns-in-Good-clause-answer : goal.returns-in-Good-clause-answer
 returns-in-Good-clause-answer c =
     let heads_are = ap (map head_view) c.deref-heads.ensures.value ∙ c.requires.heads in
-    let sound = sound_of c.args.sys.now c.args.unraveled.now.system (map head_view c.deref-heads.result.now) (map rule_view c.rules-rules.result.now) c.requires.system heads_are c.rules-rules.ensures.rules c.rules-rules.ensures.sound in
+    let sound =
+    sound_of c.args.sys.now c.args.unraveled.now.system (map head_view c.deref-heads.result.now) (map rule_view c.rules-rules.result.now)
+    c.requires.system heads_are c.rules-rules.ensures.rules c.rules-rules.ensures.sound in
     let alive = alive_before c.args.sys.now c.args.budget.now c.visits.budget (map head_view c.visits.walk.prefix.items) c.visits.invariant.paid in
     let seen = c.in-Good.ensures c.args.sys.now sound alive in
     first_good c.args.sys.now c.args.budget.now c.visits.budget c.visit.new.budget (map head_view c.visits.walk.prefix.items) c.visits.invariant.paid seen.2 c.requires.fits seen.0 seen.1
@@ -86,7 +98,9 @@ returns-in-Good-clause-answer c =
 pub returns-in-Good-clause-kept : goal.returns-in-Good-clause-kept
 returns-in-Good-clause-kept c =
     let heads_are = ap (map head_view) c.deref-heads.ensures.value ∙ c.requires.heads in
-    let sound = sound_of c.args.sys.now c.args.unraveled.now.system (map head_view c.deref-heads.result.now) (map rule_view c.rules-rules.result.now) c.requires.system heads_are c.rules-rules.ensures.rules c.rules-rules.ensures.sound in
+    let sound =
+    sound_of c.args.sys.now c.args.unraveled.now.system (map head_view c.deref-heads.result.now) (map rule_view c.rules-rules.result.now)
+    c.requires.system heads_are c.rules-rules.ensures.rules c.rules-rules.ensures.sound in
     let alive = alive_before c.args.sys.now c.args.budget.now c.visits.budget (map head_view c.visits.walk.prefix.items) c.visits.invariant.paid in
     let seen = c.in-Good.ensures c.args.sys.now sound alive in
     still_kept c.args.sys.now c.args.budget.now c.visits.budget c.visit.new.budget (map head_view c.visits.walk.prefix.items) c.visits.invariant.paid seen.2
@@ -94,7 +108,9 @@ returns-in-Good-clause-kept c =
 pub returns-in-Unpaid-clause-answer : goal.returns-in-Unpaid-clause-answer
 returns-in-Unpaid-clause-answer c =
     let heads_are = ap (map head_view) c.deref-heads.ensures.value ∙ c.requires.heads in
-    let sound = sound_of c.args.sys.now c.args.unraveled.now.system (map head_view c.deref-heads.result.now) (map rule_view c.rules-rules.result.now) c.requires.system heads_are c.rules-rules.ensures.rules c.rules-rules.ensures.sound in
+    let sound =
+    sound_of c.args.sys.now c.args.unraveled.now.system (map head_view c.deref-heads.result.now) (map rule_view c.rules-rules.result.now)
+    c.requires.system heads_are c.rules-rules.ensures.rules c.rules-rules.ensures.sound in
     let alive = alive_before c.args.sys.now c.args.budget.now c.visits.budget (map head_view c.visits.walk.prefix.items) c.visits.invariant.paid in
     let seen = c.in-Unpaid.ensures c.args.sys.now sound alive in
     stopped c.args.sys.now c.args.budget.now c.visits.budget c.visit.new.budget (map head_view c.visits.walk.prefix.items) c.visits.invariant.paid seen.0 seen.1 seen.2
@@ -112,7 +128,9 @@ visit-requires-clause-few c =
 pub go_down-requires-clause-some : goal.go_down-requires-clause-some
 go_down-requires-clause-some c =
     let heads_are = ap (map head_view) c.deref-heads.ensures.value ∙ c.requires.heads in
-    let sound = sound_of c.args.sys.now c.args.unraveled.now.system (map head_view c.deref-heads.result.now) (map rule_view c.rules-rules.result.now) c.requires.system heads_are c.rules-rules.ensures.rules c.rules-rules.ensures.sound in
+    let sound =
+    sound_of c.args.sys.now c.args.unraveled.now.system (map head_view c.deref-heads.result.now) (map rule_view c.rules-rules.result.now)
+    c.requires.system heads_are c.rules-rules.ensures.rules c.rules-rules.ensures.sound in
     let alive = alive_before c.args.sys.now c.args.budget.now c.visits.budget (map head_view c.visits.walk.prefix.items) c.visits.invariant.paid in
     let seen = c.in-Alive.ensures c.args.sys.now sound alive in
     let less = seen.1 in
@@ -124,19 +142,25 @@ go_down-requires-clause-some c =
 pub visits-preserved-in_ok-go_down-in-Alive : goal.visits-preserved-in_ok-go_down-in-Alive
 visits-preserved-in_ok-go_down-in-Alive c =
     let heads_are = ap (map head_view) c.deref-heads.ensures.value ∙ c.requires.heads in
-    let sound = sound_of c.args.sys.now c.args.unraveled.now.system (map head_view c.deref-heads.result.now) (map rule_view c.rules-rules.result.now) c.requires.system heads_are c.rules-rules.ensures.rules c.rules-rules.ensures.sound in
+    let sound =
+    sound_of c.args.sys.now c.args.unraveled.now.system (map head_view c.deref-heads.result.now) (map rule_view c.rules-rules.result.now)
+    c.requires.system heads_are c.rules-rules.ensures.rules c.rules-rules.ensures.sound in
     let alive = alive_before c.args.sys.now c.args.budget.now c.visits.budget (map head_view c.visits.walk.prefix.items) c.visits.invariant.paid in
     let seen = c.in-Alive.ensures c.args.sys.now sound alive in
     record {
       in_place = c.in_ok-go_down-in-Alive.ensures.in_place;
-      paid = paid_down c.args.sys.now c.args.budget.now c.visits.budget c.visit.new.budget (map head_view c.visits.walk.prefix.items) c.visits.invariant.paid seen.0 seen.2 (map head_view c.go_down.new.walk.prefix.items)
+      paid =
+          paid_down c.args.sys.now c.args.budget.now c.visits.budget c.visit.new.budget (map head_view c.visits.walk.prefix.items) c.visits.invariant.paid seen.0 seen.2
+          (map head_view c.go_down.new.walk.prefix.items)
           (c.in_ok-go_down-in-Alive.ensures.down c.args.sys.now heads_are);
     }
 
 pub visits-smaller-in_ok-go_down-in-Alive : goal.visits-smaller-in_ok-go_down-in-Alive
 visits-smaller-in_ok-go_down-in-Alive c =
     let heads_are = ap (map head_view) c.deref-heads.ensures.value ∙ c.requires.heads in
-    let sound = sound_of c.args.sys.now c.args.unraveled.now.system (map head_view c.deref-heads.result.now) (map rule_view c.rules-rules.result.now) c.requires.system heads_are c.rules-rules.ensures.rules c.rules-rules.ensures.sound in
+    let sound =
+    sound_of c.args.sys.now c.args.unraveled.now.system (map head_view c.deref-heads.result.now) (map rule_view c.rules-rules.result.now)
+    c.requires.system heads_are c.rules-rules.ensures.rules c.rules-rules.ensures.sound in
     let alive = alive_before c.args.sys.now c.args.budget.now c.visits.budget (map head_view c.visits.walk.prefix.items) c.visits.invariant.paid in
     let seen = c.in-Alive.ensures c.args.sys.now sound alive in
     let all = length c.deref-heads.result.now in
@@ -152,7 +176,9 @@ visits-smaller-in_ok-go_down-in-Alive c =
 pub visits-smaller : goal.visits-smaller
 visits-smaller c =
     let heads_are = ap (map head_view) c.deref-heads.ensures.value ∙ c.requires.heads in
-    let sound = sound_of c.args.sys.now c.args.unraveled.now.system (map head_view c.deref-heads.result.now) (map rule_view c.rules-rules.result.now) c.requires.system heads_are c.rules-rules.ensures.rules c.rules-rules.ensures.sound in
+    let sound =
+    sound_of c.args.sys.now c.args.unraveled.now.system (map head_view c.deref-heads.result.now) (map rule_view c.rules-rules.result.now)
+    c.requires.system heads_are c.rules-rules.ensures.rules c.rules-rules.ensures.sound in
     let alive = alive_before c.args.sys.now c.args.budget.now c.visits.budget (map head_view c.visits.walk.prefix.items) c.visits.invariant.paid in
     let seen = c.in-Barren.ensures c.args.sys.now sound alive in
     let all = length c.deref-heads.result.now in
@@ -162,7 +188,9 @@ visits-smaller c =
 pub returns-in_err-go_down-in-Alive-clause-kept : goal.returns-in_err-go_down-in-Alive-clause-kept
 returns-in_err-go_down-in-Alive-clause-kept c =
     let heads_are = ap (map head_view) c.deref-heads.ensures.value ∙ c.requires.heads in
-    let sound = sound_of c.args.sys.now c.args.unraveled.now.system (map head_view c.deref-heads.result.now) (map rule_view c.rules-rules.result.now) c.requires.system heads_are c.rules-rules.ensures.rules c.rules-rules.ensures.sound in
+    let sound =
+    sound_of c.args.sys.now c.args.unraveled.now.system (map head_view c.deref-heads.result.now) (map rule_view c.rules-rules.result.now)
+    c.requires.system heads_are c.rules-rules.ensures.rules c.rules-rules.ensures.sound in
     let alive = alive_before c.args.sys.now c.args.budget.now c.visits.budget (map head_view c.visits.walk.prefix.items) c.visits.invariant.paid in
     let seen = c.in-Alive.ensures c.args.sys.now sound alive in
     unspent c.args.sys.now c.args.budget.now c.visits.budget c.visit.new.budget (map head_view c.visits.walk.prefix.items) c.visits.invariant.paid seen.2
@@ -170,7 +198,9 @@ returns-in_err-go_down-in-Alive-clause-kept c =
 pub returns-in-Unpaid-clause-kept : goal.returns-in-Unpaid-clause-kept
 returns-in-Unpaid-clause-kept c =
     let heads_are = ap (map head_view) c.deref-heads.ensures.value ∙ c.requires.heads in
-    let sound = sound_of c.args.sys.now c.args.unraveled.now.system (map head_view c.deref-heads.result.now) (map rule_view c.rules-rules.result.now) c.requires.system heads_are c.rules-rules.ensures.rules c.rules-rules.ensures.sound in
+    let sound =
+    sound_of c.args.sys.now c.args.unraveled.now.system (map head_view c.deref-heads.result.now) (map rule_view c.rules-rules.result.now)
+    c.requires.system heads_are c.rules-rules.ensures.rules c.rules-rules.ensures.sound in
     let alive = alive_before c.args.sys.now c.args.budget.now c.visits.budget (map head_view c.visits.walk.prefix.items) c.visits.invariant.paid in
     let seen = c.in-Unpaid.ensures c.args.sys.now sound alive in
     unspent c.args.sys.now c.args.budget.now c.visits.budget c.visit.new.budget (map head_view c.visits.walk.prefix.items) c.visits.invariant.paid seen.2
