@@ -14,8 +14,8 @@ ghost use Rattle.validity.specs.Answers.{QuasiAnswers};
 ghost use Rattle.cert_check.specs.Kinds.{CanBeJudged, IsPeakApart};
 ghost use Rattle.cert_check.specs.Answers.{VerdictAnswers, OnYes, OnNo};
 
-pub use bytes::{BytesError, check_bytes};
 use crate::measures::NamedMeasure;
+pub use bytes::{BytesError, check_bytes};
 use cert_model::{Certificate, MeasureCert, PairEntry};
 use join_systems::join_systems_keep_their_rules;
 use noncon_check::check_peak;

@@ -42,7 +42,7 @@ returns-in-Ok-Spent c =
     let xs = tries_of c.args.number (map condition_view c.args.rule.now.conds.items) in
     let k = c.tries.place in
     let it = its_try c.args.rule.now c.args.number c.len.result c.len.ensures c.if-is_empty.ensures k c.tries-test.true in
-    part_stops c.args.sys.now xs (take k xs) (it.0 ∷ []) (drop (suc k) xs) c.args.budget.now c.tries.budget c.walk_one.new.budget (split_at xs k it.0 it.1) c.tries.invariant 
+    part_stops c.args.sys.now xs (take k xs) (it.0 ∷ []) (drop (suc k) xs) c.args.budget.now c.tries.budget c.walk_one.new.budget (split_at xs k it.0 it.1) c.tries.invariant
     (subst (λ z. WalkAnswers c.args.sys.now (it.0 ∷ []) c.tries.budget c.walk_one.new.budget (Ok z)) c.in-Ok-Spent.field-0-is (c.in-Ok-Spent.ensures it.0 it.1))
 
 pub returns-in-Err : goal.returns-in-Err

@@ -32,7 +32,7 @@ returns-in-Ok-Spent c =
     let at = view_at rule_view c.rules-rules.result.now k c.index-rules-i.result c.rules-test.true c.index-rules-i.is in
     let all = ap (tries_from 1) (sym c.rules-rules.ensures.rules) ∙ rule_tries rs k (rule_view c.index-rules-i.result) at in
     part_stops c.args.sys.now (tries c.args.sys.now) (tries_from 1 (take k rs)) (tries_of (k + 1) (rule_view c.index-rules-i.result).conditions) (tries_from (suc (k + 1)) (drop (suc k) rs))
-    c.args.budget.now c.rules.budget c.walk_rule.new.budget all c.rules.invariant 
+    c.args.budget.now c.rules.budget c.walk_rule.new.budget all c.rules.invariant
     (subst (λ z. WalkAnswers c.args.sys.now (tries_of (k + 1) (rule_view c.index-rules-i.result).conditions) c.rules.budget c.walk_rule.new.budget (Ok z)) c.in-Ok-Spent.field-0-is c.in-Ok-Spent.ensures)
 
 pub returns-in-Err : goal.returns-in-Err
