@@ -13,12 +13,12 @@ ghost use Rattle.cert_check.specs.Kinds.{CanPeakBeJudged};
 ghost use Rattle.cert_check.specs.Answers.{OnYes, OnNo};
 ghost use Rattle.cert_check.specs.Bytes.{BytesAnswers, EntriesAnswer, IsNoRefusal, PeakAnswers};
 
-use crate::{Verdict, linear_of};
+use crate::Verdict;
+use crate::measures::NamedMeasure;
 use cert_model::{MeasureCert, PairEntry, Peak, Rejected};
 use cert_text::{CertError, Opened, Pairs, one_answer, open_cert};
 use cops_names::Names;
 use join_systems::join_systems_keep_their_rules;
-use linear_interp::LinearMeasure;
 use measure::Measure;
 use noncon_check::check_peak;
 use ortho_check::OrthoRun;
@@ -136,8 +136,7 @@ fn judge_quasi(
     ensures answers { EntriesAnswer sys.now pairs.entry.names pairs.entry.bytes (quasi_opening (measure_view measure.now)) result }
     ensures confluent { OnOk result (IsConfluent sys.now) }
 {
-    let linear = linear_of(measure);
-    let judge = LinearMeasure { linear };
+    let judge = NamedMeasure { measure };
     let mut run = QuasiRun::start(alloc, sys, &judge)?;
     'entries: while let Some(entry) = pairs.next(alloc)? {
         take_quasi(alloc, &mut run, entry)?;

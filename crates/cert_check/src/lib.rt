@@ -2,22 +2,22 @@
 #![tactic(auto)]
 
 mod bytes;
+mod measures;
 
-ghost use Rattle.std.specs.Prelude.{◌≡◌, OnOk, map};
+ghost use Rattle.std.specs.Prelude.{OnOk, map};
 ghost use Rattle.rewriting.specs.Confluence.{IsConfluent};
 ghost use Rattle.join_systems.specs.FileRelation.{IsFromFile, IsFileConfluent};
-ghost use Rattle.certificates.specs.Certificates.{linear_measure};
-ghost use Rattle.cert_model.specs.CertificateView.{linear_entry_view, pair_entry_view, measure_view, certificate_view};
+ghost use Rattle.cert_model.specs.CertificateView.{pair_entry_view, measure_view, certificate_view};
 ghost use Rattle.valid_certificates.specs.Entries.{ArePairsShort};
 ghost use Rattle.valid_certificates.specs.Certificates.{IsMeasureJudged};
 ghost use Rattle.validity.specs.Answers.{QuasiAnswers};
 ghost use Rattle.cert_check.specs.Kinds.{CanBeJudged, IsPeakApart};
 ghost use Rattle.cert_check.specs.Answers.{VerdictAnswers, OnYes, OnNo};
 
+use crate::measures::NamedMeasure;
 pub use bytes::{BytesError, check_bytes};
-use cert_model::{Certificate, Linear, MeasureCert, PairEntry};
+use cert_model::{Certificate, MeasureCert, PairEntry};
 use join_systems::join_systems_keep_their_rules;
-use linear_interp::LinearMeasure;
 use noncon_check::check_peak;
 use ortho_check::check_ortho;
 use quasi_check::check_quasi;
@@ -34,15 +34,6 @@ pub enum Verdict {
     No,
 }
 
-// The linear interpretation that a measure is.
-fn linear_of(measure: &MeasureCert) -> &Linear
-    ensures { measure_view measure.now ≡ linear_measure (map linear_entry_view result.now.entries.items) }
-{
-    match measure {
-        MeasureCert::Linear(linear) => linear,
-    }
-}
-
 // A certificate with a measure.
 fn check_measured(
     alloc: Global,
@@ -54,8 +45,7 @@ fn check_measured(
     ensures judged { QuasiAnswers (IsMeasureJudged sys.now (measure_view measure.now)) sys.now (map pair_entry_view pairs.now) result }
     ensures confluent { OnOk result (IsConfluent sys.now) }
 {
-    let linear = linear_of(measure);
-    check_quasi(alloc, sys, &LinearMeasure { linear }, pairs)
+    check_quasi(alloc, sys, &NamedMeasure { measure }, pairs)
 }
 
 // What a valid certificate shows of the system itself.

@@ -2,7 +2,7 @@
 use Rattle.std.specs.Prelude.{ℕ, suc, Bool, true, false, List, [], ◌∷◌, ◌++◌, length, Option, Some, None, codes}
 use Rattle.rewriting.specs.Unraveling.{Head, file, auxiliary}
 use Rattle.certificates.specs.Evidence.{Transition, Automaton, InfeasibilityEvidence, by_caps, by_automaton, PairEvidence, trivial_pair, infeasible_pair, conflicting_pair, joined_pair, unfeasible_pair}
-use Rattle.certificates.specs.Certificates.{PairEntry, LinearEntry, MeasureCertificate, linear_measure, Redex, Apartness, by_normal_forms, by_rigid_caps, Peak, Certificate, ortho_certificate, quasi_certificate, peak_certificate}
+use Rattle.certificates.specs.Certificates.{PairEntry, LinearEntry, MeasureCertificate, linear_measure, precedence_measure, Redex, Apartness, by_normal_forms, by_rigid_caps, Peak, Certificate, ortho_certificate, quasi_certificate, peak_certificate}
 use Rattle.cert_grammar.specs.Words.{largest}
 use Rattle.cert_grammar.specs.Marks.{Naming, pairs, entries, numbers, redexes, states, transitions, has_arity, in_range, is_few, fits_answer, Mark, fixed, word, symbol, behind}
 use Rattle.cert_grammar.specs.WordMarks.{numeral, number, number_for, position, term_marks, derivation_marks}
@@ -71,6 +71,8 @@ entries_marks names n (e ∷ es) = (measured_marks names n e.head ++ (coefficien
 
 abbrev pub measure_marks : Naming → MeasureCertificate → List Mark
 measure_marks names (linear_measure es) = fixed (codes "linear\n") ∷ entries_marks names 1 es
+-- a precedence has no text: where it would stand, a name without bytes is asked for
+measure_marks names (precedence_measure order) = symbol [] [] ∷ fixed (codes "\n") ∷ []
 
 abbrev pub redexes_marks : Naming → ℕ → List Redex → List Mark
 redexes_marks names n [] = []

@@ -2,7 +2,7 @@
 use Rattle.std.specs.Prelude.{◌≡◌, ◌⊎◌, ◌≤◌, ℕ, List, [], ◌∷◌, ◌++◌, length, decimal, codes}
 use Rattle.rewriting.specs.Terms.{Fits}
 use Rattle.rewriting.specs.Unraveling.{Head, file, auxiliary}
-use Rattle.certificates.specs.Certificates.{LinearEntry, MeasureCertificate, linear_measure, Redex, Apartness, by_normal_forms, by_rigid_caps, Peak, Certificate, ortho_certificate, quasi_certificate, peak_certificate}
+use Rattle.certificates.specs.Certificates.{LinearEntry, MeasureCertificate, linear_measure, precedence_measure, Redex, Apartness, by_normal_forms, by_rigid_caps, Peak, Certificate, ortho_certificate, quasi_certificate, peak_certificate}
 use Rattle.cops_names.specs.NameTable.{NameTable}
 use Rattle.cert_grammar.specs.Words.{largest, position_text, ArePlaces, term_text, name_of, IsSpelt}
 use Rattle.cert_grammar.specs.Steps.{derivation_text}
@@ -20,6 +20,7 @@ entries_text names (e ∷ es) = (measured_text names e.head ++ (numbers_text e.c
 
 abbrev pub measure_text : NameTable → MeasureCertificate → List ℕ
 measure_text names (linear_measure entries) = codes "linear\n" ++ entries_text names entries
+measure_text names (precedence_measure order) = []
 
 abbrev pub redexes_text : NameTable → List Redex → List ℕ
 redexes_text names [] = []
@@ -60,6 +61,8 @@ AreEntries names (e ∷ es) = IsMeasured names e.head × (length e.coefficients 
 
 abbrev pub IsMeasure : NameTable → MeasureCertificate → Type 0
 IsMeasure names (linear_measure entries) = (length entries ≤ 25000) × AreEntries names entries
+-- a precedence cannot be spelt
+IsMeasure names (precedence_measure order) = ⊥
 
 abbrev pub AreRedexEntries : NameTable → List Redex → Type 0
 AreRedexEntries names [] = Unit {0}

@@ -2,7 +2,8 @@
 use Rattle.std.proofs.Common.{◌≡◌, ℕ, suc, Bool, true, false, List, [], ◌∷◌, ◌++◌, Option, Some, None, refl, sym, subst, codes, append_assoc}
 use Rattle.file_text.specs.Bytes.{is_id}
 use Rattle.rewriting.specs.Unraveling.{Head, file, auxiliary}
-use Rattle.certificates.specs.Certificates.{PairEntry, LinearEntry, MeasureCertificate, linear_measure, Redex, Apartness, by_normal_forms, by_rigid_caps, Peak, Certificate, ortho_certificate, quasi_certificate, peak_certificate}
+use Rattle.certificates.specs.Certificates.{PairEntry, LinearEntry, MeasureCertificate, linear_measure, precedence_measure, Redex, Apartness, by_normal_forms, by_rigid_caps, Peak, Certificate, ortho_certificate, quasi_certificate, peak_certificate}
+use Rattle.cert_grammar.proofs.Runs.{no_name}
 use Rattle.cert_grammar.specs.Words.{largest}
 use Rattle.cert_grammar.specs.Marks.{Naming, Demand, Counted, in_range, is_few, Mark, fixed}
 use Rattle.cert_grammar.specs.WordMarks.{term_marks, derivation_marks}
@@ -96,6 +97,8 @@ alike_measures (linear_measure ds) (linear_measure es) x y ps qs h i =
     let a = have_append (entries_marks x 1 ds) (pairs_marks x 1 ps) h in
     let b = have_append (entries_marks y 1 es) (pairs_marks y 1 qs) i in
     same (alike_assoc (entries_marks x 1 ds) (pairs_marks x 1 ps) (entries_marks y 1 es) (pairs_marks y 1 qs) closing closing (alike_entries ds es x y 1 ps qs a.0 b.0 a.1 b.1))
+alike_measures (precedence_measure order) e x y ps qs h i = absurd (no_name h.0)
+alike_measures (linear_measure ds) (precedence_measure order) x y ps qs h i = absurd (no_name i.0)
 
 alike_apart : (a b : Apartness) (x y : Naming) → HaveNames (apart_marks x a) → HaveNames (apart_marks y b) → Alike (apart_marks x a ++ closing) (apart_marks y b ++ closing)
 alike_apart (by_normal_forms rs) (by_normal_forms ss) x y h i = same (alike_redexes rs ss x y 1 h i)

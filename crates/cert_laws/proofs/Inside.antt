@@ -5,7 +5,7 @@ use Rattle.rewriting.specs.Positions.{Position}
 use Rattle.rewriting.specs.Unraveling.{Head, file, auxiliary}
 use Rattle.certificates.specs.Derivations.{Derivation, no_steps, first_step, Step, by_rule, by_hypothesis, Derivations, no_derivations, first_derivation}
 use Rattle.certificates.specs.Evidence.{Transition, InfeasibilityEvidence, by_caps, by_automaton, PairEvidence, trivial_pair, infeasible_pair, conflicting_pair, joined_pair, unfeasible_pair}
-use Rattle.certificates.specs.Certificates.{PairEntry, LinearEntry, linear_measure, Redex, Apartness, by_normal_forms, by_rigid_caps, Certificate, ortho_certificate, quasi_certificate, peak_certificate}
+use Rattle.certificates.specs.Certificates.{PairEntry, LinearEntry, linear_measure, precedence_measure, Redex, Apartness, by_normal_forms, by_rigid_caps, Certificate, ortho_certificate, quasi_certificate, peak_certificate}
 use Rattle.cops_names.specs.NameTable.{NameTable}
 use Rattle.cert_grammar.specs.Marks.{Naming, CertificateCause, Demand, is_symbol, has_arity, in_range, is_few, is_shallow, fits_answer, meets, refusal_of, refusal_place, verdict, Mark, mark_text, marks_text, demands_of}
 use Rattle.cert_grammar.specs.WordMarks.{numeral, dotted, are_places, places_text, term_marks, arguments_marks, further_marks, steps_marks, step_marks, derivations_marks, derivation_marks}
@@ -148,6 +148,7 @@ apart_in by_rigid_caps x = (tt, tt)
 body_in : (c : Certificate) (x : Naming) (given : Option Bool) → Inside (body_marks x given c)
 body_in (ortho_certificate ps) x given = (tt, (tt, pairs_in ps x 1))
 body_in (quasi_certificate (linear_measure es) ps) x given = (tt, (tt, (tt, both (entries_marks x 1 es) _ (entries_in es x 1) (pairs_in ps x 1))))
+body_in (quasi_certificate (precedence_measure order) ps) x given = (tt, (tt, (tt, (tt, pairs_in ps x 1))))
 body_in (peak_certificate p) x given =
     (tt, (tt, (tt, both (term_marks x 1 1 p.start) _ (term_in p.start x 1 1) (tt, both (derivation_marks p.first) _ (derivation_in p.first) (both (derivation_marks p.second) _ (derivation_in p.second) (apart_in p.apart x))))))
 

@@ -22,15 +22,7 @@ pub mod Shapes
 pub mod PassEvidence
 pub mod PassWhole
 pub mod Inside
-pub mod Among
-pub mod AmongWhole
-pub mod AmongWords
-pub mod AmongFirst
 pub mod EveryName
-pub mod EveryCertificate
-pub mod WordKinds
-pub mod TextSets
 pub mod FirstRefusals
 pub mod StuckReaders
 pub mod ExactReader
-pub mod EndRow

@@ -1,8 +1,9 @@
 -- Certificates whose marks pass: a certificate within limits has the same marks.
 use Rattle.std.proofs.Common.{◌≡◌, inl, inr, ℕ, suc, ◌+◌, ◌≤◌, Bool, true, false, List, [], ◌∷◌, ◌++◌, length, Option, Some, None, refl, sym, ap, ◌∙◌, codes, arith}
 use Rattle.rewriting.specs.Unraveling.{Head, file, auxiliary}
-use Rattle.certificates.specs.Certificates.{PairEntry, LinearEntry, linear_measure, Redex, Apartness, by_normal_forms, by_rigid_caps, Certificate, ortho_certificate, quasi_certificate, peak_certificate}
+use Rattle.certificates.specs.Certificates.{PairEntry, LinearEntry, linear_measure, precedence_measure, Redex, Apartness, by_normal_forms, by_rigid_caps, Certificate, ortho_certificate, quasi_certificate, peak_certificate}
 use Rattle.cops_names.specs.NameTable.{NameTable}
+use Rattle.cert_grammar.proofs.Runs.{no_name}
 use Rattle.cert_grammar.specs.Words.{largest, name_of}
 use Rattle.cert_grammar.specs.EvidenceText.{ArePairs, AreAtMost}
 use Rattle.cert_grammar.specs.CertificateText.{IsMeasured, AreEntries, AreRedexEntries, IsApart, CanBeSpelt, IsCertificateText}
@@ -134,6 +135,7 @@ meant_body (quasi_certificate (linear_measure es) ps) x names given i h =
       marks = ap (λ (l : List Mark). body_with (codes "quasi") true given (fixed (codes "linear\n") ∷ (l ++ pairs_marks x 1 ps))) m.marks ∙ ap (λ (l : List Mark). body_with (codes "quasi") true given (fixed (codes "linear\n") ∷ (entries_marks (name_of names) 1 m.items ++ l))) k.marks;
       answer = (first_met names (fits_answer true given) [] h.0).0;
     }
+meant_body (quasi_certificate (precedence_measure order) ps) x names given i h = absurd (no_name i.0)
 meant_body (peak_certificate p) x names given i h =
     let a = pass_append names (term_marks x 1 1 p.start) (fixed (codes "\n") ∷ (derivation_marks p.first ++ (derivation_marks p.second ++ apart_marks x p.apart))) h.1.1.1 in
     let b = have_append (term_marks x 1 1 p.start) (fixed (codes "\n") ∷ (derivation_marks p.first ++ (derivation_marks p.second ++ apart_marks x p.apart))) i in

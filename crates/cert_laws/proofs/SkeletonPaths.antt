@@ -5,7 +5,8 @@ use Rattle.rewriting.specs.Positions.{Position}
 use Rattle.rewriting.specs.Unraveling.{Head, file, auxiliary}
 use Rattle.certificates.specs.Derivations.{Derivation, no_steps, first_step, Step, by_rule, by_hypothesis, Derivations, no_derivations, first_derivation}
 use Rattle.certificates.specs.Evidence.{Transition, Automaton, InfeasibilityEvidence, by_caps, by_automaton, PairEvidence, trivial_pair, infeasible_pair, conflicting_pair, joined_pair, unfeasible_pair}
-use Rattle.certificates.specs.Certificates.{PairEntry, LinearEntry, linear_measure, Redex, Apartness, by_normal_forms, by_rigid_caps, Peak, Certificate, ortho_certificate, quasi_certificate, peak_certificate}
+use Rattle.certificates.specs.Certificates.{PairEntry, LinearEntry, linear_measure, precedence_measure, Redex, Apartness, by_normal_forms, by_rigid_caps, Peak, Certificate, ortho_certificate, quasi_certificate, peak_certificate}
+use Rattle.cert_grammar.proofs.Runs.{no_name}
 use Rattle.cert_grammar.specs.Words.{largest, IsIdentifier}
 use Rattle.certificates.specs.Judging.{derivation_count}
 use Rattle.certificates.specs.Sizes.{step_count}
@@ -349,6 +350,7 @@ body_path (quasi_certificate (linear_measure es) ps) names given h =
     (by_text measure (codes "linear\n") (entries_from 1 ∷ []) [] _ (inl refl)
     (regroup (entries_marks names 1 es) (pairs_marks names 1 ps) (fixed (codes "end\n") ∷ []) (entries_from 1 ∷ [])
     (entries_path es names 1 [] _ hs.0 (pairs_path ps names 1 [] [] hs.1 nothing_left)))))
+body_path (quasi_certificate (precedence_measure order) ps) names given h = absurd (no_name h.0)
 body_path (peak_certificate p) names given h =
     by_keyword (body given) (codes "peak") _ (between line ∷ start_line ∷ []) [] _ (inr (inr (inl refl))) (between_path line (start_line ∷ []) _ (peak_path p names h))
 

@@ -3,7 +3,7 @@ use Rattle.std.proofs.Common.{◌≡◌, ℕ, suc, ◌+◌, ◌<◌, ◌≤◌, 
 use Rattle.std.specs.Prelude.{unwrap_or}
 use Rattle.rewriting.specs.Unraveling.{Head, file, auxiliary}
 use Rattle.certificates.specs.Evidence.{Transition, Automaton, InfeasibilityEvidence, by_caps, by_automaton, PairEvidence, trivial_pair, infeasible_pair, conflicting_pair, joined_pair, unfeasible_pair}
-use Rattle.certificates.specs.Certificates.{PairEntry, LinearEntry, MeasureCertificate, linear_measure, Redex, Apartness, by_normal_forms, by_rigid_caps, Certificate, ortho_certificate, quasi_certificate, peak_certificate}
+use Rattle.certificates.specs.Certificates.{PairEntry, LinearEntry, MeasureCertificate, linear_measure, precedence_measure, Redex, Apartness, by_normal_forms, by_rigid_caps, Certificate, ortho_certificate, quasi_certificate, peak_certificate}
 use Rattle.cops_names.specs.NameTable.{NameTable}
 use Rattle.cert_grammar.specs.Words.{largest, position_text, term_text, name_of}
 use Rattle.cert_grammar.specs.Steps.{derivation_text}
@@ -120,6 +120,7 @@ spelt_entries (e ∷ es) names n few h =
 
 spelt_measure : (m : MeasureCertificate) (names : NameTable) → IsMeasure names m → Spells names (measure_marks (name_of names) m) (measure_text names m)
 spelt_measure (linear_measure es) names h = put_fixed names (codes "linear\n") _ _ (spelt_entries es names 1 (let q : length es ≤ 25000 = h.0 in omega arith) h.1)
+spelt_measure (precedence_measure order) names h = absurd h
 
 spelt_apart : (a : Apartness) (names : NameTable) → IsApart names a → Spells names (apart_marks (name_of names) a) (apart_text names a)
 spelt_apart (by_normal_forms rs) names h = put_fixed names (codes "normal\n") _ _ (spelt_redexes rs names 1 (let q : length rs ≤ 20000 = h.0 in omega arith) h.1)

@@ -48,6 +48,7 @@ fn is_measure(names: &Names, measure: &MeasureCert) -> bool
         MeasureCert::Linear(linear) => {
             linear.entries.len() <= MOST_ENTRIES as usize && are_entries(names, &linear.entries)
         }
+        MeasureCert::Lpo(_) => false,
     }
 }
 

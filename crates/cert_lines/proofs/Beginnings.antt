@@ -1,6 +1,6 @@
 -- What stands before the overlaps of a certificate, part by part.
 use Rattle.std.proofs.Common.{◌≡◌, inl, inr, Bool, true, false, if◌then◌else◌, List, ◌++◌, refl, sym, ap, ◌∙◌, subst, codes, ℕ}
-use Rattle.certificates.specs.Certificates.{LinearEntry, MeasureCertificate, linear_measure, Peak}
+use Rattle.certificates.specs.Certificates.{LinearEntry, MeasureCertificate, linear_measure, precedence_measure, Peak}
 use Rattle.cops_names.specs.NameTable.{NameTable}
 use Rattle.cert_grammar.specs.CertificateText.{entries_text}
 use Rattle.cert_lines.specs.ReadingCertificates.{EntriesAt, IsPeakText}
@@ -15,6 +15,7 @@ measure_there names bytes lines e x h = by x.0 x.1 h
   where
     by : (m : MeasureCertificate) (r : List ℕ) → MeasureAt names bytes (m, r) → (z : List LinearEntry × List ℕ) × EntriesAt names lines z × (linear_measure z.0 ≡ m) × (z.1 ≡ r)
     by (linear_measure es) r h = ((es, r), (word_off (codes "linear\n") bytes lines (entries_text names es ++ r) e h.0, h.1.0, h.1.1, h.2), refl, refl)
+    by (precedence_measure order) r h = absurd h.1
 
 pub measure_entries : (names : NameTable) (bytes lines : List ℕ) → bytes ≡ codes "linear\n" ++ lines → (x : MeasureCertificate × List ℕ) → MeasureAt names bytes x → (z : List LinearEntry × List ℕ) × EntriesAt names lines z
 measure_entries names bytes lines e x h = let there = measure_there names bytes lines e x h in (there.0, there.1)
@@ -29,6 +30,7 @@ measure_one names bytes x y h k = let same = by x.0 x.1 h in pairs_equal same.0 
         let there = measure_there names bytes lines e y k in
         let same = entries_one names lines (es, r) there.0 (refl, h.1.0, h.1.1, h.2) there.1 in
         (ap linear_measure (firsts same) ∙ there.2, seconds same ∙ there.3)
+    by (precedence_measure order) r h = absurd h.1
 
 -- the beginning behind the line of its kind
 pub ortho_there : (names : NameTable) (bytes rest : List ℕ) → bytes ≡ codes "ortho\n" ++ rest → (x : Beginning) → KindAt names bytes x → no_measure rest ≡ x

@@ -12,6 +12,10 @@ pub use conditions::condition;
 pub use copies::copy_numbers;
 pub use derivations::{Derivation, Step};
 pub use evidence::{Automaton, InfEvidence, PairEvidence, Transition};
-pub use model::{Certificate, Linear, LinearEntry, MeasureCert, NonJoin, PairEntry, Peak, Redex, Simp};
-pub use reasons::{BadStep, Blame, Class, EvidenceReason, MeasureReason, Rejected, SimpReason, StepReason};
+pub use model::{
+    Certificate, Linear, LinearEntry, MeasureCert, NonJoin, PairEntry, Peak, Redex, Simp,
+};
+pub use reasons::{
+    BadStep, Blame, Class, EvidenceReason, MeasureReason, Rejected, SimpReason, StepReason,
+};
 pub use term_core::Head;

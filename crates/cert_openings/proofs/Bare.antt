@@ -1,7 +1,8 @@
 -- What begins a text of the grammar and ends as an opening does is an opening: with the last line it is a text.
 use Rattle.std.proofs.Common.{◌≡◌, inl, inr, ℕ, Bool, true, false, List, [], ◌∷◌, ◌++◌, Option, Some, None, refl, sym, ap, ◌∙◌, subst, codes, append_assoc, append-nil}
 use Rattle.std.proofs.lemmas.List.{append_cancel_left}
-use Rattle.certificates.specs.Certificates.{PairEntry, LinearEntry, linear_measure, Certificate, ortho_certificate, quasi_certificate, peak_certificate}
+use Rattle.certificates.specs.Certificates.{PairEntry, LinearEntry, linear_measure, precedence_measure, Certificate, ortho_certificate, quasi_certificate, peak_certificate}
+use Rattle.cert_grammar.proofs.Runs.{no_name}
 use Rattle.cert_grammar.specs.Marks.{Naming, marks_text}
 use Rattle.cert_grammar.specs.CertificateMarks.{pairs_marks, entries_marks, body_marks, certificate_marks}
 use Rattle.cert_grammar.specs.Refusals.{HaveNames, Skeleton, skeleton_text}
@@ -71,6 +72,7 @@ bare_body (quasi_certificate m ps) x g plain lines rest h k e = absurd (bytes_ap
 bare_body (quasi_certificate (linear_measure es) ps) x g measured lines rest h k e =
     let names_in = (have_append (entries_marks x 1 es) (pairs_marks x 1 ps) (have_append (entries_marks x 1 es ++ pairs_marks x 1 ps) closing h).0).0 in
     bare_quasi x g es ps lines rest names_in k (append_cancel_left (codes "quasi\nlinear\n") (marks_text ((entries_marks x 1 es ++ pairs_marks x 1 ps) ++ closing)) (lines_text lines ++ rest) e)
+bare_body (quasi_certificate (precedence_measure order) ps) x g measured lines rest h k e = absurd (no_name h.0)
 bare_body (peak_certificate p) x g plain lines rest h k e = absurd (bytes_apart 112 111 _ _ refl e)
 bare_body (peak_certificate p) x g measured lines rest h k e = absurd (bytes_apart 112 113 _ _ refl e)
 

@@ -1,7 +1,7 @@
 -- An opening ends where the first entry may begin.
 use Rattle.std.proofs.Common.{◌≡◌, ◌⊎◌, inl, inr, ℕ, List, [], ◌++◌, refl, sym, ap, ◌∙◌, codes, append-nil}
 use Rattle.std.proofs.lemmas.List.{append_cancel_left, append_cancel_right}
-use Rattle.certificates.specs.Certificates.{LinearEntry, linear_measure}
+use Rattle.certificates.specs.Certificates.{LinearEntry, linear_measure, precedence_measure}
 use Rattle.cops_names.specs.NameTable.{NameTable}
 use Rattle.cert_grammar.specs.Words.{name_of}
 use Rattle.cert_grammar.specs.Marks.{marks_text}
@@ -67,3 +67,4 @@ openings_end names bytes o end h = by o h.read.text h.read.spelt
           text = e ∙ ap (λ (w : List ℕ). h.read.answer ++ (codes "concon 1\nquasi\nlinear\n" ++ (w ++ h.read.rest))) entries;
           place = h.read.place;
         }
+    by (quasi_opening (precedence_measure order)) e s = absurd s.0

@@ -5,7 +5,7 @@ use Rattle.rewriting.specs.Positions.{Position}
 use Rattle.rewriting.specs.Unraveling.{Head, file, auxiliary}
 use Rattle.certificates.specs.Derivations.{Derivation, no_steps, first_step, Step, by_rule, by_hypothesis, Derivations, no_derivations, first_derivation}
 use Rattle.certificates.specs.Evidence.{Transition, InfeasibilityEvidence, by_caps, by_automaton, PairEvidence, trivial_pair, infeasible_pair, conflicting_pair, joined_pair, unfeasible_pair}
-use Rattle.certificates.specs.Certificates.{PairEntry, LinearEntry, linear_measure, Redex, Apartness, by_normal_forms, by_rigid_caps, Certificate, ortho_certificate, quasi_certificate, peak_certificate}
+use Rattle.certificates.specs.Certificates.{PairEntry, LinearEntry, linear_measure, precedence_measure, Redex, Apartness, by_normal_forms, by_rigid_caps, Certificate, ortho_certificate, quasi_certificate, peak_certificate}
 use Rattle.cops_names.specs.NameTable.{NameTable}
 use Rattle.cert_grammar.specs.Marks.{Naming, CertificateCause, Demand, is_symbol, has_arity, in_range, is_few, is_shallow, fits_answer, meets, refusal_of, refusal_place, verdict, Mark, fixed, word, symbol, behind, demands_of}
 use Rattle.cert_grammar.specs.WordMarks.{numeral, are_places, term_marks, arguments_marks, further_marks, steps_marks, step_marks, derivations_marks, derivation_marks}
@@ -151,6 +151,7 @@ behind_kind (behind demand ∷ ms) = ms
 late_body : (c : Certificate) (x : Naming) (given : Option Bool) → Late (behind_kind (body_marks x given c ++ closing))
 late_body (ortho_certificate ps) x given = (tt, both (pairs_marks x 1 ps) closing (late_pairs ps x 1) (tt, tt))
 late_body (quasi_certificate (linear_measure es) ps) x given = (tt, (tt, both (entries_marks x 1 es ++ pairs_marks x 1 ps) closing (both (entries_marks x 1 es) _ (late_entries es x 1) (late_pairs ps x 1)) (tt, tt)))
+late_body (quasi_certificate (precedence_measure order) ps) x given = (tt, (tt, (tt, both (pairs_marks x 1 ps) closing (late_pairs ps x 1) (tt, tt))))
 late_body (peak_certificate p) x given =
     (tt, (tt, both (term_marks x 1 1 p.start ++ _) closing (both (term_marks x 1 1 p.start) _ (late_term p.start x 1 1) (tt, both (derivation_marks p.first) _ (late_derivation p.first) (both (derivation_marks p.second) _ (late_derivation p.second) (late_apart p.apart x)))) (tt, tt)))
 

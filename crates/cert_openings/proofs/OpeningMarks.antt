@@ -1,7 +1,7 @@
 -- The marks of an opening.
 use Rattle.std.proofs.Common.{◌≡◌, ℕ, suc, Bool, true, false, List, [], ◌∷◌, ◌++◌, Option, Some, None, refl, sym, ap, ◌∙◌, subst, codes, append_assoc, append-nil}
 use Rattle.rewriting.specs.Unraveling.{Head, file, auxiliary}
-use Rattle.certificates.specs.Certificates.{LinearEntry, linear_measure}
+use Rattle.certificates.specs.Certificates.{LinearEntry, linear_measure, precedence_measure}
 use Rattle.cert_grammar.specs.Marks.{Naming, fits_answer, Mark, fixed, word, symbol, behind}
 use Rattle.cert_grammar.specs.CertificateMarks.{coefficients_marks, measured_marks, entries_marks, body_marks, answer_marks, certificate_marks}
 use Rattle.cert_laws.proofs.AlikeWhole.{closing}
@@ -36,6 +36,7 @@ opening_ends x g ortho_opening = ends_behind (answer_marks g) _ (fixed (codes "c
 opening_ends x g (quasi_opening (linear_measure es)) =
     ends_behind (answer_marks g) _ (subst (λ (z : List Mark). EndsInBytes (measured_front g ++ (fixed (codes "linear\n") ∷ z))) (sym (append-nil (entries_marks x 1 es)))
     (entries_end es x 1 (measured_front g ++ (fixed (codes "linear\n") ∷ [])) (measured_front g, 108, codes "inear\n", refl)))
+opening_ends x g (quasi_opening (precedence_measure order)) = ends_behind (answer_marks g) _ (measured_front g ++ (symbol [] [] ∷ []), 10, [], refl)
 
 -- no mark stands between bytes
 abbrev pub IsAtBytes : Mark → Type 0
@@ -74,3 +75,4 @@ entries_at (e ∷ es) x n =
 pub opening_at : (x : Naming) (g : Option Bool) (o : Opening) → AreAtBytes (opening_marks x g o)
 opening_at x g ortho_opening = at_both (answer_marks g) _ (answer_at g) (tt, (tt, (tt, tt)))
 opening_at x g (quasi_opening (linear_measure es)) = at_both (answer_marks g) _ (answer_at g) (tt, (tt, (tt, (tt, at_both (entries_marks x 1 es) [] (entries_at es x 1) tt))))
+opening_at x g (quasi_opening (precedence_measure order)) = at_both (answer_marks g) _ (answer_at g) (tt, (tt, (tt, (tt, (tt, tt)))))

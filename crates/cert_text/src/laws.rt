@@ -1,5 +1,5 @@
 ghost use Rattle.cert_laws.specs.FirstRefusalLaws.{ReaderIsExact, AnswersAreRead, OneOrTheOther};
-ghost use Rattle.cert_laws.specs.RefusalRows.{AreRefused};
+ghost use Rattle.cert_laws.specs.RefusalRows.{AreAnswered};
 ghost use Rattle.cert_laws.specs.MarkLaws.{IsDeterministic, OneRefusal, NeverBoth, PlacesAreWithin, CertificatesPass, PassingAreCertificates};
 
 /// What bytes go along is determined by them: two texts of the grammar have the same marks, or no bytes go along both.
@@ -20,9 +20,9 @@ pub fn demands_are_met()
     ensures passing_are_certificates { PassingAreCertificates }
 {}
 
-/// Worked refusals: an unknown name, a wrong answer, a wrong number of arguments, a number that is too great.
-pub fn worked_refusals()
-    ensures { AreRefused }
+/// Worked texts: an unknown name, a wrong answer, a wrong number of arguments, a number that is too great, and one that is read.
+pub fn worked_texts()
+    ensures { AreAnswered }
 {}
 
 /// The reader that stops at the first refusal accepts the texts of certificates, and refuses all others where they are refused.

@@ -33,8 +33,7 @@ mod writer;
 pub use cert_refusals::{CertCount, CertError};
 pub use cert_writing::text_len;
 pub use laws::{
-    demands_are_met, grammar_is_deterministic, one_answer, reader_stops_at_refusals,
-    worked_refusals,
+    demands_are_met, grammar_is_deterministic, one_answer, reader_stops_at_refusals, worked_texts,
 };
 pub use opening::{Opened, open_cert};
 pub use pairs::Pairs;

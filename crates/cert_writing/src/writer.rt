@@ -54,6 +54,8 @@ fn put_measure<O: Output>(to: &mut O, names: &Names, measure: &MeasureCert)
             to.put(b"linear\n");
             put_entries(to, names, &linear.entries);
         }
+        // A precedence has no text.
+        MeasureCert::Lpo(_) => to.put(b""),
     }
 }
 

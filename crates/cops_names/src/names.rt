@@ -1,9 +1,10 @@
 ghost use Rattle.std.specs.Prelude.{◌≡◌, ◌<◌, ◌^◌, ◌++◌, ◌∷◌, [], ◌↔◌, None, IsTrue, IfOk, OnOk, OnErr, length, map, option_map, slice_get, string_bytes};
 ghost use Rattle.std.specs.Bool.{OnTrue, OnFalse};
-ghost use Rattle.cops_names.specs.NameTable.{number_of, name_at, arity_at, variable_at, all_of, all_names};
-ghost use Rattle.cops_names.specs.NameLists.{is_among};
+ghost use Rattle.cops_names.specs.NameTable.{number_of, name_at, arity_at, variable_at, all_of};
+ghost use Rattle.cops_names.specs.NameLists.{with_names};
 ghost use Rattle.cops_names.specs.NamesView.{texts_of};
 
+use crate::name_set::NameSet;
 use indexmap::IndexMap;
 use std::alloc::Global;
 use std::marker::Model;
@@ -109,11 +110,13 @@ impl Names {
         values_of(alloc, &self.symbols)
     }
 
-    /// Whether a symbol, or a variable of a rule, has this name.
-    pub fn is_used(&self, name: &str) -> bool
-        ensures { result ≡ is_among (all_names self.now) name.now }
+    /// The names of the variables of all rules, each once.
+    pub fn variables<'a>(&'a self, alloc: Global) -> Result<NameSet<'a>, NoMemory>
+        ensures { IfOk result (λ set. set ≡ with_names [] (all_of self.now.variables)) }
     {
-        self.symbol_number(name).is_some() || is_in_lists(&self.rules, name)
+        let mut set = NameSet::new(alloc);
+        add_lists(&mut set, &self.rules)?;
+        Ok(set)
     }
 
     /// The name of variable `k` of a rule.
@@ -133,26 +136,22 @@ fn values_of(alloc: Global, symbols: &IndexMap<String, u32>) -> Result<Vec<u32>,
     Ok(values)
 }
 
-fn is_in_list(names: &[String], name: &str) -> bool
-    ensures { result ≡ is_among (texts_of names.now) name.now }
+fn add_list<'a>(set: &mut NameSet<'a>, names: &'a [String]) -> Result<(), NoMemory>
+    ensures { OnOk result (set.new ≡ with_names set.old (texts_of names.now)) }
 {
-    for text in names {
-        if name == text.as_str() {
-            return true;
-        }
+    'texts: for text in names {
+        set.add(text.as_str())?;
     }
-    false
+    Ok(())
 }
 
-fn is_in_lists(lists: &[Vec<String>], name: &str) -> bool
-    ensures { result ≡ is_among (all_of (map (λ v. texts_of v.items) lists.now)) name.now }
+fn add_lists<'a>(set: &mut NameSet<'a>, lists: &'a [Vec<String>]) -> Result<(), NoMemory>
+    ensures { OnOk result (set.new ≡ with_names set.old (all_of (map (λ v. texts_of v.items) lists.now))) }
 {
-    for names in lists {
-        if is_in_list(names, name) {
-            return true;
-        }
+    'lists: for names in lists {
+        add_list(set, names)?;
     }
-    false
+    Ok(())
 }
 
 fn text_at(names: &[String], k: usize) -> Option<&str>

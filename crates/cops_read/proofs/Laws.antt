@@ -1,16 +1,20 @@
 -- The laws of files.
 use Rattle.cops_systems.specs.File.{no_tokens, no_tree, no_meaning}
-use Rattle.cops_read.specs.Answers.{SystemsAreSound, SystemsAreWithinLimits, SystemsTellTheirFile, RefusalsAreWithin}
+use Rattle.cops_read.specs.Answers.{SystemsAreSound, SystemsAreWithinLimits, SymbolsAreNamed, SystemsTellTheirFile, RefusalsAreWithin}
 use Rattle.file_text.proofs.Within.{no_tokens_within, no_text_within}
-use Rattle.cops_systems.proofs.Meant.{meant_is_system, meant_from_file, own_meant}
-use Rattle.cops_systems.proofs.Within.{is_within_limits}
+use Rattle.cops_systems.proofs.Meant.{meant_is_system, meant_from_file}
+use Rattle.cops_systems.proofs.Named.{meant_arities}
+use Rattle.cops_systems.proofs.Kept.{kept}
 use Rattle.cops_systems.proofs.Places.{means_nothing_within}
 
 pub sound : SystemsAreSound
 sound bytes sys names h = meant_is_system h.tree sys names h.meant
 
 pub within_limits : SystemsAreWithinLimits
-within_limits bytes sys names h own = is_within_limits h.tree sys names (own_meant h.tree sys names h.meant own)
+within_limits bytes sys names h = kept h.tree sys names h.meant
+
+pub named : SymbolsAreNamed
+named bytes sys names h = meant_arities h.tree sys names h.meant
 
 pub told : SystemsTellTheirFile
 told bytes sys names h = meant_from_file h.tree sys names h.meant

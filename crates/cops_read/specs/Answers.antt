@@ -1,12 +1,13 @@
 -- What a reader of a file answers, and laws of files.
-use Rattle.std.specs.Prelude.{◌≡◌, ◌≤◌, ◌⊎◌, ℕ, List, length, Result, Ok, Err}
+use Rattle.std.specs.Prelude.{◌≡◌, ◌≤◌, ◌⊎◌, ℕ, List, length, map, All, Result, Ok, Err}
 use Rattle.rewriting.specs.Rules.{System}
 use Rattle.rewriting.specs.Systems.{IsSystem}
 use Rattle.join_systems.specs.FileRelation.{IsFromFile}
+use Rattle.file_text.specs.Syntax.{has_type}
 use Rattle.file_text.specs.Tokens.{bad_byte, long_id, open_comment}
 use Rattle.file_text.specs.Refusals.{unknown_block, repeated_block, other_condition_type, wrong_syntax, missing_rules}
 use Rattle.cops_names.specs.NameTable.{NameTable}
-use Rattle.cops_systems.specs.Limits.{IsWithinLimits}
+use Rattle.cops_systems.specs.Limits.{KeepsLimits}
 use Rattle.cops_systems.specs.File.{IsFile, FileCause, no_tokens, no_tree, no_meaning, IsNoFile}
 use Rattle.cops_systems.specs.Refusals.{conditions_without_type, too_deep, variable_with_arguments, left_variable, arity_differs}
 pub use Rattle.cops_systems.specs.Counts.{cause_of_count, most_of}
@@ -44,10 +45,13 @@ OneSystem = (bytes : List ℕ) (sys other : System) (names others : NameTable) �
 abbrev pub SystemsAreSound : Type 0
 SystemsAreSound = (bytes : List ℕ) (sys : System) (names : NameTable) → IsFile bytes sys names → IsSystem sys
 
--- and keeps the limits, where it is that of the file's own rules
+-- and what the file has keeps the limits
 abbrev pub SystemsAreWithinLimits : Type 0
-SystemsAreWithinLimits =
-    (bytes : List ℕ) (sys : System) (names : NameTable) (file : IsFile bytes sys names) → sys.own ≡ length sys.arities → IsWithinLimits file.tree.oriented sys names
+SystemsAreWithinLimits = (bytes : List ℕ) (sys : System) (names : NameTable) (file : IsFile bytes sys names) → KeepsLimits (has_type file.tree) sys names
+
+-- the names are those of its symbols, with their arities
+abbrev pub SymbolsAreNamed : Type 0
+SymbolsAreNamed = (bytes : List ℕ) (sys : System) (names : NameTable) → IsFile bytes sys names → sys.arities ≡ map (λ s. s.1) names.symbols
 
 -- it is that of join rules, or all its symbols are the file's
 abbrev pub SystemsTellTheirFile : Type 0

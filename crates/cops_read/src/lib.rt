@@ -1,7 +1,7 @@
 //! Reads the text of a conditional rewrite system: its syntax tree, then the system with names that this means.
 #![tactic(auto)]
 
-ghost use Rattle.cops_read.specs.Answers.{ReadAnswers, OneSystem, SystemsAreSound, SystemsAreWithinLimits, SystemsTellTheirFile, OneRefusal, RefusalsAreWithin, NeverSystemAndRefusal, SystemOrRefusal};
+ghost use Rattle.cops_read.specs.Answers.{ReadAnswers, OneSystem, SystemsAreSound, SystemsAreWithinLimits, SymbolsAreNamed, SystemsTellTheirFile, OneRefusal, RefusalsAreWithin, NeverSystemAndRefusal, SystemOrRefusal};
 
 pub use cops_names::{NameSet, Names};
 use cops_syntax::parse;
@@ -19,11 +19,13 @@ pub fn read_system(alloc: Global, bytes: &[u8]) -> Result<(System, Names), ReadE
 }
 
 /// A text spells one system, with one table of names, or it has one refusal, and never both. What it
-/// spells is a system within the limits; the place of a refusal is within the text or at its end.
+/// spells is a system whose symbols are those of the names, and it is within the limits, or it is that of join rules
+/// that are; the place of a refusal is within the text or at its end.
 pub fn one_reading()
     ensures one { OneSystem }
     ensures sound { SystemsAreSound }
     ensures limits { SystemsAreWithinLimits }
+    ensures named { SymbolsAreNamed }
     ensures told { SystemsTellTheirFile }
     ensures refusal { OneRefusal }
     ensures within { RefusalsAreWithin }

@@ -4,7 +4,7 @@
 ghost use Rattle.cops_trees.specs.Answers.{TreeAnswers};
 
 use cops_trees::read_tree;
-pub use cops_trees::{CondText, FileText, Name, Node, RuleText, SyntaxError};
+pub use cops_trees::{CondText, ConditionType, FileText, Name, Node, RuleText, SyntaxError};
 use std::alloc::Global;
 
 /// The syntax tree that the bytes spell, or the first refusal.

@@ -1,7 +1,7 @@
 -- The first refusal among the events of a file is the one that is found part by part.
 use Rattle.std.proofs.Common.{◌≡◌, ℕ, suc, ◌+◌, ◌≤◌, Bool, true, false, List, [], ◌∷◌, ◌++◌, length, Option, Some, None, refl, sym, ap, ap₂, subst, ◌∙◌, arith, append_assoc, append-nil, length-append, eq-eqb, ne_eqb}
 use Rattle.std.specs.Prelude.{◌==◌, ◌&&◌, if◌then◌else◌, option_map}
-use Rattle.file_text.specs.Syntax.{Phrase, Phrases, word, call, none, more, count, ConditionTree, Guard, RuleTree, conditions_of, FileTree}
+use Rattle.file_text.specs.Syntax.{Phrase, Phrases, word, call, none, more, count, ConditionTree, Guard, RuleTree, conditions_of, FileTree, has_type}
 use Rattle.cops_names.specs.NameLists.{is_among, with_name}
 use Rattle.cops_systems.specs.Meaning.{with_symbol, with_symbols, with_all_symbols, with_variables, with_all_variables, sides, phrases_of_rule, variables_of}
 use Rattle.cops_systems.specs.Uses.{Spot, spots, spots_of_all, Side, side_of, Use, Event, use_of, bar_at, uses_from, term_events, condition_events, rule_events, rules_events}
@@ -51,23 +51,23 @@ module _ (block : Names) where
   variables_after rule names (use_of u ∷ xs) ys =
       variables_after rule (if (u.side.rule == rule) && is_among block u.spot.node.name.text then with_name names u.spot.node.name.text else names) xs ys
 
-  module _ (oriented : Bool) where
-    refusal_after : (front xs ys : List Event) → first_refusal block oriented front (xs ++ ys) ≡ or_refusal (first_refusal block oriented front xs) (first_refusal block oriented (front ++ xs) ys)
-    refusal_after front [] ys = ap (λ (f : List Event). first_refusal block oriented f ys) (sym (append-nil front))
+  module _ (typed : Bool) where
+    refusal_after : (front xs ys : List Event) → first_refusal block typed front (xs ++ ys) ≡ or_refusal (first_refusal block typed front xs) (first_refusal block typed (front ++ xs) ys)
+    refusal_after front [] ys = ap (λ (f : List Event). first_refusal block typed f ys) (sym (append-nil front))
     refusal_after front (use_of u ∷ xs) ys =
         ap (first_or (cause_at block (symbols_used block [] front) (variables_used block u.side.rule [] front) u) u.spot.node.name.at) (refusal_after (front ++ use_of u ∷ []) xs ys)
         ∙ first_or_or (cause_at block (symbols_used block [] front) (variables_used block u.side.rule [] front) u) u.spot.node.name.at _ _
         ∙ ap (λ (f : List Event). or_refusal (first_or (cause_at block (symbols_used block [] front) (variables_used block u.side.rule [] front) u) u.spot.node.name.at
-        (first_refusal block oriented (front ++ use_of u ∷ []) xs)) (first_refusal block oriented f ys)) (append_assoc front (use_of u ∷ []) xs)
+        (first_refusal block typed (front ++ use_of u ∷ []) xs)) (first_refusal block typed f ys)) (append_assoc front (use_of u ∷ []) xs)
     refusal_after front (bar_at at ∷ xs) ys =
-        ap (first_or (if oriented then None else Some conditions_without_type) at) (refusal_after (front ++ bar_at at ∷ []) xs ys)
-        ∙ first_or_or (if oriented then None else Some conditions_without_type) at _ _
-        ∙ ap (λ (f : List Event). or_refusal (first_or (if oriented then None else Some conditions_without_type) at
-        (first_refusal block oriented (front ++ bar_at at ∷ []) xs)) (first_refusal block oriented f ys)) (append_assoc front (bar_at at ∷ []) xs)
+        ap (first_or (if typed then None else Some conditions_without_type) at) (refusal_after (front ++ bar_at at ∷ []) xs ys)
+        ∙ first_or_or (if typed then None else Some conditions_without_type) at _ _
+        ∙ ap (λ (f : List Event). or_refusal (first_or (if typed then None else Some conditions_without_type) at
+        (first_refusal block typed (front ++ bar_at at ∷ []) xs)) (first_refusal block typed f ys)) (append_assoc front (bar_at at ∷ []) xs)
 
     -- these events of a rule are refused as told, and where they are not they add this to the symbols and to the rule's variables
     pub record IsPart (rule : ℕ) (es : List Event) (refused : Table → Names → Refused) (symbols_with : Table → Table) (names_with : Names → Names) : Type 0 where
-      pub refusal : (front : List Event) → first_refusal block oriented front es ≡ refused (symbols_used block [] front) (variables_used block rule [] front)
+      pub refusal : (front : List Event) → first_refusal block typed front es ≡ refused (symbols_used block [] front) (variables_used block rule [] front)
       pub symbols : (table : Table) (names : Names) → refused table names ≡ None → symbols_used block table es ≡ symbols_with table
       pub variables : (table : Table) (names : Names) → refused table names ≡ None → variables_used block rule names es ≡ names_with names
       pub others : (r : ℕ) (names : Names) → (rule == r) ≡ false → variables_used block r names es ≡ names
@@ -79,7 +79,7 @@ module _ (block : Names) where
           let table = symbols_used block [] front in
           let names = variables_used block rule [] front in
           refusal_after front xs ys
-          ∙ or_same (first_refusal block oriented front xs) (f table names) (first_refusal block oriented (front ++ xs) ys) (g (s table) (v names)) (p.refusal front)
+          ∙ or_same (first_refusal block typed front xs) (f table names) (first_refusal block typed (front ++ xs) ys) (g (s table) (v names)) (p.refusal front)
           (λ h. q.refusal (front ++ xs) ∙ ap₂ g (symbols_after [] front xs ∙ p.symbols table names h) (variables_after rule [] front xs ∙ p.variables table names h));
       symbols = λ table names h.
           symbols_after table xs ys ∙ ap (λ (x : Table). symbols_used block x ys) (p.symbols table names (none_first _ _ h)) ∙ q.symbols (s table) (v names) (none_then _ _ h);
@@ -223,13 +223,13 @@ module _ (block : Names) where
     bar_is true at = refl
     bar_is false at = refl
 
-    part_bar : (rule at : ℕ) → IsPart rule (bar_at at ∷ []) (λ table names. bar_refusal oriented (Some at)) (λ table. table) (λ names. names)
-    part_bar rule at = record { refusal = λ front. bar_is oriented at; symbols = λ table names h. refl; variables = λ table names h. refl; others = λ r names h. refl }
+    part_bar : (rule at : ℕ) → IsPart rule (bar_at at ∷ []) (λ table names. bar_refusal typed (Some at)) (λ table. table) (λ names. names)
+    part_bar rule at = record { refusal = λ front. bar_is typed at; symbols = λ table names h. refl; variables = λ table names h. refl; others = λ r names h. refl }
 
     part_rule : (number : ℕ) (r : RuleTree) → IsPart number (rule_events number r)
         (λ table names. or_refusal (side_refusal block table names (side_of number 0 true) r.left)
         (or_refusal (side_refusal block (with_symbols block table r.left) (with_variables block names r.left) (side_of number 0 false) r.right)
-        (or_refusal (bar_refusal oriented (option_map (λ g. g.at) r.guard))
+        (or_refusal (bar_refusal typed (option_map (λ g. g.at) r.guard))
         (conditions_refusal block (with_symbols block (with_symbols block table r.left) r.right) (with_variables block (with_variables block names r.left) r.right) number 1 (conditions_of r)))))
         (λ table. with_all_symbols block table (phrases_of_rule r)) (λ names. with_all_variables block names (phrases_of_rule r))
     part_rule number r = with_guard r.guard
@@ -237,7 +237,7 @@ module _ (block : Names) where
         with_guard : (guard : Option Guard) → IsPart number (rule_events number (record { left = r.left; right = r.right; guard = guard }))
             (λ table names. or_refusal (side_refusal block table names (side_of number 0 true) r.left)
             (or_refusal (side_refusal block (with_symbols block table r.left) (with_variables block names r.left) (side_of number 0 false) r.right)
-            (or_refusal (bar_refusal oriented (option_map (λ g. g.at) guard))
+            (or_refusal (bar_refusal typed (option_map (λ g. g.at) guard))
             (conditions_refusal block (with_symbols block (with_symbols block table r.left) r.right) (with_variables block (with_variables block names r.left) r.right) number 1
             (conditions_of (record { left = r.left; right = r.right; guard = guard }))))))
             (λ table. with_all_symbols block table (phrases_of_rule (record { left = r.left; right = r.right; guard = guard })))
@@ -252,21 +252,21 @@ module _ (block : Names) where
             (part_then number (bar_at g.at ∷ []) (condition_events number 1 (g.first ∷ g.others)) _ _ _ _ _ _ (part_bar number g.at) (part_conditions number 1 (g.first ∷ g.others))))
 
     rules_part : (number : ℕ) (rs : List RuleTree) (front : List Event) → ((r : ℕ) → number ≤ r → variables_used block r [] front ≡ [])
-        → first_refusal block oriented front (rules_events number rs) ≡ rules_refusal block oriented (symbols_used block [] front) number rs
+        → first_refusal block typed front (rules_events number rs) ≡ rules_refusal block typed (symbols_used block [] front) number rs
     rules_part number [] front new = refl
     rules_part number (r ∷ rs) front new =
         let table = symbols_used block [] front in
         let p = part_rule number r in
         let none_yet = new number (omega arith) in
-        let here : first_refusal block oriented front (rule_events number r) ≡ rule_refusal block oriented table number r = rw none_yet at (p.refusal front) in
+        let here : first_refusal block typed front (rule_events number r) ≡ rule_refusal block typed table number r = rw none_yet at (p.refusal front) in
         let later : List Event = front ++ rule_events number r in
         let still : (k : ℕ) → suc number ≤ k → variables_used block k [] later ≡ [] = λ k l.
         variables_after k [] front (rule_events number r) ∙ ap (λ (x : Names). variables_used block k x (rule_events number r)) (new k (omega arith)) ∙ p.others k [] (ne_eqb number k (λ e. omega arith)) in
         refusal_after front (rule_events number r) (rules_events (suc number) rs)
-        ∙ or_same (first_refusal block oriented front (rule_events number r)) (rule_refusal block oriented table number r) (first_refusal block oriented later (rules_events (suc number) rs))
-        (rules_refusal block oriented (with_all_symbols block table (phrases_of_rule r)) (number + 1) rs) here
+        ∙ or_same (first_refusal block typed front (rule_events number r)) (rule_refusal block typed table number r) (first_refusal block typed later (rules_events (suc number) rs))
+        (rules_refusal block typed (with_all_symbols block table (phrases_of_rule r)) (number + 1) rs) here
         (λ h. rules_part (suc number) rs later still
-        ∙ ap₂ (λ (x : Table) (k : ℕ). rules_refusal block oriented x k rs) (symbols_after [] front (rule_events number r) ∙ p.symbols table [] h) (let e : suc number ≡ number + 1 = omega arith in e))
+        ∙ ap₂ (λ (x : Table) (k : ℕ). rules_refusal block typed x k rs) (symbols_after [] front (rule_events number r) ∙ p.symbols table [] h) (let e : suc number ≡ number + 1 = omega arith in e))
 
-pub refusal_is : (file : FileTree) → refusal_of file ≡ rules_refusal (variables_of file) file.oriented [] 1 file.rules
-refusal_is file = rules_part (variables_of file) file.oriented 1 file.rules [] (λ r l. refl)
+pub refusal_is : (file : FileTree) → refusal_of file ≡ rules_refusal (variables_of file) (has_type file) [] 1 file.rules
+refusal_is file = rules_part (variables_of file) (has_type file) 1 file.rules [] (λ r l. refl)

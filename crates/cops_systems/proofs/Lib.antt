@@ -12,5 +12,7 @@ pub mod Sound
 pub mod Wholes
 pub mod Means
 pub mod Meant
+pub mod Kept
+pub mod Named
 pub mod Places
 pub mod Shaped

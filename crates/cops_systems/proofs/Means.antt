@@ -6,7 +6,7 @@ use Rattle.std.specs.Str.{bytes_eq}
 use Rattle.std.proofs.lemmas.Bool.Decides.{nat_tests}
 use Rattle.std.proofs.lemmas.Option.{slice_get-get_or}
 use Rattle.std.proofs.lemmas.List.Quantifiers.{position-Some}
-use Rattle.file_text.specs.Syntax.{Phrase, Phrases, word, call, none, more, count, ConditionTree, RuleTree, conditions_of, FileTree}
+use Rattle.file_text.specs.Syntax.{Phrase, Phrases, word, call, none, more, count, ConditionTree, RuleTree, conditions_of, FileTree, has_type}
 use Rattle.rewriting.specs.Terms.{Term, var, app, Terms, nil, cons}
 use Rattle.rewriting.specs.Rules.{Condition, Rule, System, system_of}
 use Rattle.cops_names.specs.NameTable.{NameTable, number_of}
@@ -123,30 +123,32 @@ module _ (block : List (List ℕ)) (symbols : List (List ℕ × ℕ)) where
     pub rule : Rule
     pub is : IsRuleOf block symbols t rule
 
-  rule_meant : (oriented : Bool) (table : List (List ℕ × ℕ)) (number : ℕ) (t : RuleTree) → rule_refusal block oriented table number t ≡ None
+  rule_meant : (typed : Bool) (table : List (List ℕ × ℕ)) (number : ℕ) (t : RuleTree) → rule_refusal block typed table number t ≡ None
       → Extends (with_all_symbols block table (phrases_of_rule t)) symbols → RuleMeant t
-  rule_meant oriented table number t h e =
+  rule_meant typed table number t h e =
       let names = rule_variables block t in
       let second = with_symbols block (with_symbols block table t.left) t.right in
       let second_names = with_variables block (with_variables block [] t.left) t.right in
       let late = extends_trans _ _ _ (all_symbols_extend block second (sides (conditions_of t))) e in
       let late_names : Extends second_names names = all_variables_extend block second_names (sides (conditions_of t)) in
-      let left = term_meant names table [] (side_of number 0 true) 1 0 0 t.left (left_accepted block oriented table number t h)
+      let left = term_meant names table [] (side_of number 0 true) 1 0 0 t.left (left_accepted block typed table number t h)
       (extends_trans _ _ _ (symbols_extend block (with_symbols block table t.left) t.right) late) (extends_trans _ _ _ (variables_extend block (with_variables block [] t.left) t.right) late_names) in
-      let right = term_meant names (with_symbols block table t.left) (with_variables block [] t.left) (side_of number 0 false) 1 0 0 t.right (right_accepted block oriented table number t h) late late_names in
-      let last = conditions_meant names second second_names number 1 (conditions_of t) (conditions_accepted block oriented table number t h) e (extends_refl names) in
+      let right = term_meant names (with_symbols block table t.left) (with_variables block [] t.left) (side_of number 0 false) 1 0 0 t.right
+      (right_accepted block typed table number t h) late late_names in
+      let last = conditions_meant names second second_names number 1 (conditions_of t) (conditions_accepted block typed table number t h) e (extends_refl names) in
       record { rule = record { left = left.term; right = right.term; conditions = last.conditions }; is = record { left = left.is; right = right.is; conditions = last.are } }
 
   record RulesMeant (ts : List RuleTree) : Type 0 where
     pub rules : List Rule
     pub are : AreRulesOf block symbols ts rules
 
-  rules_meant : (oriented : Bool) (table : List (List ℕ × ℕ)) (number : ℕ) (ts : List RuleTree) → rules_refusal block oriented table number ts ≡ None → Extends (with_rule_symbols block table ts) symbols → RulesMeant ts
-  rules_meant oriented table number [] h e = record { rules = []; are = tt }
-  rules_meant oriented table number (t ∷ ts) h e =
+  rules_meant : (typed : Bool) (table : List (List ℕ × ℕ)) (number : ℕ) (ts : List RuleTree) → rules_refusal block typed table number ts ≡ None
+      → Extends (with_rule_symbols block table ts) symbols → RulesMeant ts
+  rules_meant typed table number [] h e = record { rules = []; are = tt }
+  rules_meant typed table number (t ∷ ts) h e =
       let next = with_all_symbols block table (phrases_of_rule t) in
-      let first = rule_meant oriented table number t (none_first _ _ h) (extends_trans _ _ _ (rule_symbols_extend block next ts) e) in
-      let later = rules_meant oriented next (number + 1) ts (none_then (rule_refusal block oriented table number t) _ h) e in
+      let first = rule_meant typed table number t (none_first _ _ h) (extends_trans _ _ _ (rule_symbols_extend block next ts) e) in
+      let later = rules_meant typed next (number + 1) ts (none_then (rule_refusal block typed table number t) _ h) e in
       record { rules = first.rule ∷ later.rules; are = (first.is, later.are) }
 
 pub record IsMeaning (file : FileTree) : Type 0 where
@@ -158,7 +160,7 @@ pub meaning : (file : FileTree) → refusal_of file ≡ None → IsMeaning file
 meaning file accepted =
     let block = variables_of file in
     let table = with_rule_symbols block [] file.rules in
-    let m = rules_meant block table file.oriented [] 1 file.rules (sym (refusal_is file) ∙ accepted) (extends_refl table) in
+    let m = rules_meant block table (has_type file) [] 1 file.rules (sym (refusal_is file) ∙ accepted) (extends_refl table) in
     record {
       system = system_of (map (λ s. s.1) table) m.rules;
       names = record { symbols = table; variables = map (rule_variables block) file.rules };

@@ -1,10 +1,10 @@
 -- What a tree means is one system, is a system, and tells what its file's symbols are.
-use Rattle.std.proofs.Common.{◌≡◌, ◌≢◌, ◌⊎◌, inl, inr, ℕ, zero, suc, ◌+◌, ◌*◌, ◌-◌, ◌^◌, ◌<◌, ◌≤◌, max, Bool, true, false, ◌||◌, ◌&&◌, Result, Ok, Err, Option, Some, option_map, is_some, List, [], ◌∷◌, ◌++◌, map, length, length-append, None, refl, sym, ap, ap₂, ◌∙◌, subst, subst₂, arith, All}
+use Rattle.std.proofs.Common.{◌≡◌, inl, inr, ℕ, suc, ◌+◌, ◌*◌, ◌-◌, ◌^◌, ◌<◌, ◌≤◌, max, Bool, true, false, ◌||◌, ◌&&◌, Result, Ok, Err, Option, Some, option_map, is_some, List, [], ◌∷◌, ◌++◌, map, length, length-append, None, refl, sym, ap, ap₂, ◌∙◌, subst, arith, All}
 use Rattle.std.proofs.lemmas.List.Elements.{All-head, All-tail}
 use Rattle.std.proofs.Math.Nat.{max-le}
 use Rattle.std.proofs.lemmas.List.{length-map}
-use Rattle.file_text.specs.Syntax.{Guard, RuleTree, FileTree}
-use Rattle.rewriting.specs.Terms.{Fits, size, depth}
+use Rattle.file_text.specs.Syntax.{Guard, RuleTree, FileTree, has_type}
+use Rattle.rewriting.specs.Terms.{Fits, depth}
 use Rattle.rewriting.specs.Rules.{Condition, Rule, System, sides}
 use Rattle.rewriting.specs.Systems.{Each, IsSystem, condition_count}
 use Rattle.rewriting.proofs.Laws.{well_formed}
@@ -12,6 +12,7 @@ use Rattle.cops_names.specs.NameTable.{NameTable}
 use Rattle.join_systems.specs.Joined.{join_of, joined, IsJoined, DoJoinsFit, DoAllJoinsFit}
 use Rattle.join_systems.specs.FileRelation.{IsFromFile}
 use Rattle.join_systems.proofs.Sound.{joined_is_system}
+use Rattle.join_systems.proofs.Unique.{all_own}
 use Rattle.join_names.specs.Fresh.{all_of, all_names, IsFresh, with_join_names}
 use Rattle.join_names.proofs.Fresh.{fresh_numbers}
 use Rattle.cops_systems.specs.Meaning.{variables_of, rule_variables, AreRulesOf}
@@ -21,9 +22,9 @@ use Rattle.cops_systems.specs.RuleSteps.{have_bars, JoinedAnswers, FileAnswers}
 use Rattle.cops_systems.specs.Steps.{Tells}
 use Rattle.cops_systems.specs.declared.errors.ReadError.{ReadError}
 use Rattle.cops_trees.specs.declared.tree.FileText.{FileText}
-use Rattle.cops_systems.specs.Limits.{IsSmall, IsAllowed, IsWithinLimits}
+use Rattle.cops_systems.specs.Limits.{IsSmall, IsAllowed}
 use Rattle.cops_systems.specs.Refusals.{refusal_of}
-use Rattle.cops_systems.specs.File.{IsSystemOf, have_conditions, asks_joins, IsJoinedFile, IsMeant}
+use Rattle.cops_systems.specs.File.{IsSystemOf, is_join, have_conditions, asks_joins, IsJoinedFile, IsMeant}
 use Rattle.cops_systems.proofs.Within.{is_within_limits}
 use Rattle.cops_systems.proofs.Sound.{system_is, conditions_few}
 use Rattle.cops_systems.proofs.Means.{meaning}
@@ -60,17 +61,17 @@ conditions_fit : (cs : List Condition) → Each IsSmall (sides cs) → DoJoinsFi
 conditions_fit [] h = tt
 conditions_fit (c ∷ cs) h = (small_join c h.0 h.1.0, conditions_fit cs h.1.1)
 
-all_fit : (oriented : Bool) (rs : List Rule) → All (IsAllowed oriented) rs → DoAllJoinsFit rs
-all_fit oriented [] h = tt
-all_fit oriented (r ∷ rs) h = (conditions_fit r.conditions (All-head (IsAllowed oriented) r rs h).terms.1.1, all_fit oriented rs (All-tail (IsAllowed oriented) r rs h))
+all_fit : (typed : Bool) (rs : List Rule) → All (IsAllowed typed) rs → DoAllJoinsFit rs
+all_fit typed [] h = tt
+all_fit typed (r ∷ rs) h = (conditions_fit r.conditions (All-head (IsAllowed typed) r rs h).terms.1.1, all_fit typed rs (All-tail (IsAllowed typed) r rs h))
 
 pub listed_fit : (file : FileTree) (sys : System) (names : NameTable) → IsSystemOf file sys names → DoAllJoinsFit sys.rules
-listed_fit file sys names h = all_fit file.oriented sys.rules (is_within_limits file sys names h).rules
+listed_fit file sys names h = all_fit (has_type file) sys.rules (is_within_limits file sys names h).rules
 
 pub joined_listed : (file : FileTree) (sys : System) (names : NameTable) → IsSystemOf file sys names → IsSystem (joined sys)
 joined_listed file sys names h =
     let limits = is_within_limits file sys names h in
-    let few = conditions_few file.oriented sys.rules limits.rules in
+    let few = conditions_few (has_type file) sys.rules limits.rules in
     let rules = limits.few_rules in
     let symbols = limits.few_symbols in
     let arities = ap length h.arities in
@@ -82,20 +83,18 @@ pub meant_is_system : (file : FileTree) (sys : System) (names : NameTable) → I
 meant_is_system file sys names (inl (a, h)) = system_is file sys names h
 meant_is_system file sys names (inr (a, h)) = subst IsSystem (sym h.system) (joined_listed file h.rules h.table h.listed)
 
+pub file_is_joined : (file : FileTree) (sys : System) (names : NameTable) → (h : IsJoinedFile file sys names) → IsJoined h.rules sys
+file_is_joined file sys names h = record { well_formed = well_formed h.rules (system_is file h.rules h.table h.listed); all_own = h.listed.own; is = h.system }
+
 -- of join rules, or all its symbols are the file's
 pub meant_from_file : (file : FileTree) (sys : System) (names : NameTable) → IsMeant file sys names → IsFromFile sys
 meant_from_file file sys names (inl (a, h)) = inr h.own
-meant_from_file file sys names (inr (a, h)) =
-    inl (h.rules, record { well_formed = well_formed h.rules (system_is file h.rules h.table h.listed); all_own = h.listed.own; is = h.system })
+meant_from_file file sys names (inr (a, h)) = inl (h.rules, file_is_joined file sys names h)
 
 -- where all symbols are the file's, the rules are those of the tree
 pub own_meant : (file : FileTree) (sys : System) (names : NameTable) → IsMeant file sys names → sys.own ≡ length sys.arities → IsSystemOf file sys names
 own_meant file sys names (inl (a, h)) own = h
-own_meant file sys names (inr (a, h)) own =
-    let count : sys.own ≡ length h.rules.arities = ap (λ (s : System). s.own) h.system in
-    let all : length sys.arities ≡ length (h.rules.arities ++ 2 ∷ 0 ∷ []) = ap (λ (s : System). length s.arities) h.system in
-    let more = length-append h.rules.arities (2 ∷ 0 ∷ []) in
-    absurd (omega (arith, own, count, all, more))
+own_meant file sys names (inr (a, h)) own = absurd (all_own sys own h.rules (file_is_joined file sys names h))
 
 -- how many names there are
 few_of : (lists : List (List (List ℕ))) → All (λ list. length list ≤ 100) lists → length (all_of lists) ≤ 100 * length lists
@@ -137,7 +136,7 @@ listed_symbols file sys names h = (is_within_limits file sys names h).few_symbol
 pub few_listed : (file : FileTree) (sys : System) (names : NameTable) → IsSystemOf file sys names → length sys.arities + condition_count sys.rules < 2 ^ 31 - 2
 few_listed file sys names h =
     let limits = is_within_limits file sys names h in
-    let few = conditions_few file.oriented sys.rules limits.rules in
+    let few = conditions_few (has_type file) sys.rules limits.rules in
     let rules = limits.few_rules in
     let symbols = limits.few_symbols in
     let arities = ap length h.arities in
@@ -147,7 +146,7 @@ few_listed file sys names h =
 pub listed_rules : (file : FileTree) (sys : System) (names : NameTable) → IsSystemOf file sys names → length sys.rules + condition_count sys.rules < 2 ^ 31 - 2
 listed_rules file sys names h =
     let limits = is_within_limits file sys names h in
-    let few = conditions_few file.oriented sys.rules limits.rules in
+    let few = conditions_few (has_type file) sys.rules limits.rules in
     let rules = limits.few_rules in
     omega (arith, few, rules)
 
@@ -162,8 +161,8 @@ bars_are [] (t ∷ ts) h = absurd h
 bars_are (r ∷ rs) [] h = absurd h
 bars_are (r ∷ rs) (t ∷ ts) h = ap₂ (λ (a b : Bool). a || b) (ap (λ (o : Option ℕ). is_some o) h.0.bar ∙ bar_or_none (λ (g : Guard). g.at) t.guard) (bars_are rs ts h.1)
 
-pub asks_of : (f : FileText) (t : FileTree) → IsFileText f t → (f.joins && have_bars f.rules.items) ≡ asks_joins t
-asks_of f t h = ap₂ (λ (a b : Bool). a && b) h.joins (bars_are f.rules.items t.rules h.rules)
+pub asks_of : (f : FileText) (t : FileTree) → IsFileText f t → (is_join f.condition_type && have_bars f.rules.items) ≡ asks_joins t
+asks_of f t h = ap₂ (λ (a b : Bool). a && b) (ap is_join h.condition_type) (bars_are f.rules.items t.rules h.rules)
 
 -- what is answered of a tree that asks for common reducts
 pub meant_joined : (file : FileTree) (r : Result (System × NameTable) ReadError) → asks_joins file ≡ true → JoinedAnswers file r → FileAnswers file r

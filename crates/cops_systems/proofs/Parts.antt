@@ -46,7 +46,7 @@ module _ (block : List (List ℕ)) (table : List (List ℕ × ℕ)) (names : Lis
           right = g.means;
         }
 
-module _ (block : List (List ℕ)) (oriented : Bool) (table : List (List ℕ × ℕ)) (number : ℕ) (t : RuleTree) where
+module _ (block : List (List ℕ)) (typed : Bool) (table : List (List ℕ × ℕ)) (number : ℕ) (t : RuleTree) where
   abbrev at_left : Side
   at_left = side_of number 0 true
 
@@ -70,7 +70,7 @@ module _ (block : List (List ℕ)) (oriented : Bool) (table : List (List ℕ × 
   last_refusal = conditions_refusal block second_symbols second_names number 1 (conditions_of t)
 
   abbrev late_refusal : Option (MeaningCause × ℕ)
-  late_refusal = or_refusal (bar_refusal oriented (option_map (λ g. g.at) t.guard)) last_refusal
+  late_refusal = or_refusal (bar_refusal typed (option_map (λ g. g.at) t.guard)) last_refusal
 
   abbrev next_refusal : Option (MeaningCause × ℕ)
   next_refusal = or_refusal (side_refusal block first_symbols first_names at_right t.right) late_refusal
@@ -95,13 +95,13 @@ module _ (block : List (List ℕ)) (oriented : Bool) (table : List (List ℕ × 
       moved_last : conditions_refusal block third then number 1 (conditions_of t) ≡ last_refusal
       moved_last = ap₂ (λ (x : List (List ℕ × ℕ)) (v : List (List ℕ)). conditions_refusal block x v number 1 (conditions_of t)) third_is then_is
 
-      module _ (bar : Option ℕ) (is : bar ≡ option_map (λ g. g.at) t.guard) (clear : bar_refusal oriented bar ≡ None) where
-        bar_accepted : bar_refusal oriented (option_map (λ g. g.at) t.guard) ≡ None
-        bar_accepted = sym (ap (bar_refusal oriented) is) ∙ clear
+      module _ (bar : Option ℕ) (is : bar ≡ option_map (λ g. g.at) t.guard) (clear : bar_refusal typed bar ≡ None) where
+        bar_accepted : bar_refusal typed (option_map (λ g. g.at) t.guard) ≡ None
+        bar_accepted = sym (ap (bar_refusal typed) is) ∙ clear
 
         pub parts_read : (after : List (List ℕ × ℕ)) (later : List (List ℕ)) (lt ut : Term) (conds : Vec Cond Global) (n : ℕ) → view lt ≡ l → view ut ≡ u → n ≡ length later
             → AreConditionsRead block third then number (conditions_of t) after later (map condition_view conds.items)
-            → IsRuleRead block oriented table number t after later (record { left = lt; right = ut; conds = conds; vars = n })
+            → IsRuleRead block typed table number t after later (record { left = lt; right = ut; conds = conds; vars = n })
         parts_read after later lt ut conds n is_left is_right many last =
             let to_third : Extends middle third = subst (λ (x : List (List ℕ × ℕ)). Extends middle x) (sym second.symbols) (symbols_extend block middle t.right) in
             let to_then : Extends between then = subst (λ (x : List (List ℕ)). Extends between x) (sym second.variables) (variables_extend block between t.right) in
@@ -113,7 +113,7 @@ module _ (block : List (List ℕ)) (oriented : Bool) (table : List (List ℕ × 
             record {
               accepted = none_of_both (side_refusal block table [] at_left t.left) next_refusal first_read.accepted
                   (none_of_both (side_refusal block first_symbols first_names at_right t.right) late_refusal second_accepted
-                  (none_of_both (bar_refusal oriented (option_map (λ (g : Guard). g.at) t.guard)) last_refusal bar_accepted (sym moved_last ∙ last.accepted)));
+                  (none_of_both (bar_refusal typed (option_map (λ (g : Guard). g.at) t.guard)) last_refusal bar_accepted (sym moved_last ∙ last.accepted)));
               symbols = last.symbols ∙ ap (λ (x : List (List ℕ × ℕ)). with_all_symbols block x (sides (conditions_of t))) third_is;
               variables = all_variables;
               means = record {

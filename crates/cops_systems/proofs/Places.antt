@@ -1,6 +1,6 @@
 -- The place of a refusal that a file's meaning has is within the text.
 use Rattle.std.proofs.Common.{◌≡◌, ℕ, suc, ◌≤◌, Bool, true, false, List, [], ◌∷◌, ◌++◌, length, Option, Some, None, ap, subst}
-use Rattle.file_text.specs.Syntax.{Phrase, Phrases, word, call, none, more, ConditionTree, Guard, RuleTree}
+use Rattle.file_text.specs.Syntax.{Phrase, Phrases, word, call, none, more, ConditionTree, Guard, RuleTree, has_type}
 use Rattle.file_text.proofs.TreeWords.{OfPhrase, OfPhrases, OfConditions, OfGuard, OfRules}
 use Rattle.file_text.proofs.Within.{NameWithin, PlaceWithin, tree_within}
 use Rattle.cops_systems.specs.Uses.{Spot, spots, spots_of_all, Side, side_of, Event, place, uses_from, term_events, condition_events, guard_events, rule_events, rules_events, events}
@@ -68,11 +68,12 @@ module _ (bytes : List ℕ) where
       subst (λ (n : ℕ). n ≤ length bytes) (ap (λ (r : MeaningCause × ℕ). r.1) pair) h
 
   -- the first refusal is at an event
-  refusal_within : (block : List (List ℕ)) (oriented : Bool) (front es : List Event) (cause : MeaningCause) (at : ℕ) → EventsWithin es → first_refusal block oriented front es ≡ Some (cause, at) → at ≤ length bytes
-  refusal_within block oriented front [] cause at h e = absurd cc
-  refusal_within block oriented front (x ∷ es) cause at h e =
-      here_or_later (event_cause block oriented front x) (place x) (first_refusal block oriented (front ++ x ∷ []) es) cause at h.0 (refusal_within block oriented (front ++ x ∷ []) es cause at h.1) e
+  refusal_within : (block : List (List ℕ)) (typed : Bool) (front es : List Event) (cause : MeaningCause) (at : ℕ) → EventsWithin es → first_refusal block typed front es ≡ Some (cause, at)
+      → at ≤ length bytes
+  refusal_within block typed front [] cause at h e = absurd cc
+  refusal_within block typed front (x ∷ es) cause at h e =
+      here_or_later (event_cause block typed front x) (place x) (first_refusal block typed (front ++ x ∷ []) es) cause at h.0 (refusal_within block typed (front ++ x ∷ []) es cause at h.1) e
 
   pub means_nothing_within : (cause : MeaningCause) (at : ℕ) → MeansNothing bytes cause at → at ≤ length bytes
   means_nothing_within cause at h =
-      refusal_within (variables_of h.tree) h.tree.oriented [] (events h.tree) cause at (rules_within 1 h.tree.rules (tree_within bytes h.tree h.spelled)) h.refused
+      refusal_within (variables_of h.tree) (has_type h.tree) [] (events h.tree) cause at (rules_within 1 h.tree.rules (tree_within bytes h.tree h.spelled)) h.refused

@@ -132,33 +132,33 @@ module _ (block : List (List ℕ)) where
   names_end (u ∷ us) t = ap (λ (x : List (List (List ℕ))). rule_variables block u ∷ x) (names_end us t)
 
   -- what a loop over rules keeps
-  pub record Rules (oriented : Bool) (table : List (List ℕ × ℕ)) (ts : List RuleTree) (i : ℕ) (now : List (List ℕ × ℕ)) (listed : List (List (List ℕ))) (rs : List Rule) : Type 0 where
-    pub refusal : rules_refusal block oriented now (i + 1) (drop i ts) ≡ rules_refusal block oriented table 1 ts
+  pub record Rules (typed : Bool) (table : List (List ℕ × ℕ)) (ts : List RuleTree) (i : ℕ) (now : List (List ℕ × ℕ)) (listed : List (List (List ℕ))) (rs : List Rule) : Type 0 where
+    pub refusal : rules_refusal block typed now (i + 1) (drop i ts) ≡ rules_refusal block typed table 1 ts
     pub symbols : with_rule_symbols block now (drop i ts) ≡ with_rule_symbols block table ts
     pub variables : listed ≡ map (rule_variables block) (take i ts)
     pub mean : AreRulesOf block now (take i ts) (map rule_view rs)
     pub counted : AreNumbersOf block (take i ts) rs
 
-  module _ (oriented : Bool) (table : List (List ℕ × ℕ)) (ts : List RuleTree) where
-    module _ (i : ℕ) (now : List (List ℕ × ℕ)) (listed : List (List (List ℕ))) (rs : List Rule) (h : Rules oriented table ts i now listed rs) where
-      pub rules_fail : (P : RuleTree → Type 0) (n : IsNext P ts i) (e : ReadError) → Tells e (rule_refusal block oriented now (i + 1) n.item) → Tells e (rules_refusal block oriented table 1 ts)
+  module _ (typed : Bool) (table : List (List ℕ × ℕ)) (ts : List RuleTree) where
+    module _ (i : ℕ) (now : List (List ℕ × ℕ)) (listed : List (List (List ℕ))) (rs : List Rule) (h : Rules typed table ts i now listed rs) where
+      pub rules_fail : (P : RuleTree → Type 0) (n : IsNext P ts i) (e : ReadError) → Tells e (rule_refusal block typed now (i + 1) n.item) → Tells e (rules_refusal block typed table 1 ts)
       rules_fail P n e t =
-          let whole = ap (rules_refusal block oriented now (i + 1)) n.later in
-          subst (Tells e) (sym whole ∙ h.refusal) (tells_here (rule_refusal block oriented now (i + 1) n.item) _ e t)
+          let whole = ap (rules_refusal block typed now (i + 1)) n.later in
+          subst (Tells e) (sym whole ∙ h.refusal) (tells_here (rule_refusal block typed now (i + 1) n.item) _ e t)
 
       pub rules_step : (P : RuleTree → Type 0) (n : IsNext P ts i) (after : List (List ℕ × ℕ)) (longer : List (List (List ℕ))) (later : List (List ℕ)) (r : Rule)
-          → IsRuleRead block oriented now (i + 1) n.item after later r → longer ≡ listed ++ rule_variables block n.item ∷ [] → Rules oriented table ts (suc i) after longer (rs ++ r ∷ [])
+          → IsRuleRead block typed now (i + 1) n.item after later r → longer ≡ listed ++ rule_variables block n.item ∷ [] → Rules typed table ts (suc i) after longer (rs ++ r ∷ [])
       rules_step P n after longer later r g add =
           let left = drop (suc i) ts in
           let t = n.item in
           let grown : Extends now after = subst (λ (x : List (List ℕ × ℕ)). Extends now x) (sym g.symbols) (all_symbols_extend block now (phrases_of_rule t)) in
           let number : suc i + 1 ≡ (i + 1) + 1 = omega arith in
-          let further : Option (MeaningCause × ℕ) = rules_refusal block oriented (with_all_symbols block now (phrases_of_rule t)) ((i + 1) + 1) left in
-          let refusal : further ≡ rules_refusal block oriented table 1 ts =
-          ap (λ (o : Option (MeaningCause × ℕ)). or_refusal o further) (sym g.accepted) ∙ sym (ap (rules_refusal block oriented now (i + 1)) n.later) ∙ h.refusal in
+          let further : Option (MeaningCause × ℕ) = rules_refusal block typed (with_all_symbols block now (phrases_of_rule t)) ((i + 1) + 1) left in
+          let refusal : further ≡ rules_refusal block typed table 1 ts =
+          ap (λ (o : Option (MeaningCause × ℕ)). or_refusal o further) (sym g.accepted) ∙ sym (ap (rules_refusal block typed now (i + 1)) n.later) ∙ h.refusal in
           record {
-            refusal = ap (λ (x : List (List ℕ × ℕ)). rules_refusal block oriented x (suc i + 1) left) g.symbols
-                ∙ ap (λ (k : ℕ). rules_refusal block oriented (with_all_symbols block now (phrases_of_rule t)) k left) number ∙ refusal;
+            refusal = ap (λ (x : List (List ℕ × ℕ)). rules_refusal block typed x (suc i + 1) left) g.symbols
+                ∙ ap (λ (k : ℕ). rules_refusal block typed (with_all_symbols block now (phrases_of_rule t)) k left) number ∙ refusal;
             symbols = ap (λ (x : List (List ℕ × ℕ)). with_rule_symbols block x left) g.symbols ∙ sym (ap (with_rule_symbols block now) n.later) ∙ h.symbols;
             variables = add ∙ ap (λ (x : List (List (List ℕ))). x ++ rule_variables block t ∷ []) h.variables ∙ sym (names_end (take i ts) t)
                 ∙ ap (map (rule_variables block)) (sym n.front);
@@ -167,12 +167,12 @@ module _ (block : List (List ℕ)) where
             counted = subst (λ (x : List RuleTree). AreNumbersOf block x (rs ++ r ∷ [])) (sym n.front) (numbers_end (take i ts) rs t r h.counted g.counted);
           }
 
-      pub rules_end_here : length ts ≤ i → AreRulesRead block oriented table ts now listed rs
+      pub rules_end_here : length ts ≤ i → AreRulesRead block typed table ts now listed rs
       rules_end_here l =
           let over = drop_all i ts l in
           let all = take_all i ts l in
           record {
-            accepted = sym h.refusal ∙ ap (rules_refusal block oriented now (i + 1)) over;
+            accepted = sym h.refusal ∙ ap (rules_refusal block typed now (i + 1)) over;
             symbols = ap (with_rule_symbols block now) (sym over) ∙ h.symbols;
             variables = h.variables ∙ ap (map (rule_variables block)) all;
             mean = subst (λ (x : List RuleTree). AreRulesOf block now x (map rule_view rs)) all h.mean;
@@ -180,7 +180,8 @@ module _ (block : List (List ℕ)) where
           }
 
       pub rules_step_as : (P : RuleTree → Type 0) (n : IsNext P ts i) (other : List (List ℕ)) (after : List (List ℕ × ℕ)) (longer : List (List (List ℕ))) (r : Rule) → other ≡ block
-          → IsRuleRead other oriented now (i + 1) n.item after (rule_variables other n.item) r × (longer ≡ listed ++ rule_variables other n.item ∷ []) → Rules oriented table ts (suc i) after longer (rs ++ r ∷ [])
+          → IsRuleRead other typed now (i + 1) n.item after (rule_variables other n.item) r × (longer ≡ listed ++ rule_variables other n.item ∷ [])
+          → Rules typed table ts (suc i) after longer (rs ++ r ∷ [])
       rules_step_as P n other after longer r same g =
-          let here = subst (λ (b : List (List ℕ)). IsRuleRead b oriented now (i + 1) n.item after (rule_variables b n.item) r × (longer ≡ listed ++ rule_variables b n.item ∷ [])) same g in
+          let here = subst (λ (b : List (List ℕ)). IsRuleRead b typed now (i + 1) n.item after (rule_variables b n.item) r × (longer ≡ listed ++ rule_variables b n.item ∷ [])) same g in
           rules_step P n after longer (rule_variables block n.item) r here.0 here.1

@@ -9,7 +9,7 @@ use Rattle.std.proofs.lemmas.Bool.{cases_lt}
 use Rattle.std.proofs.lemmas.List.{length-map}
 use Rattle.std.proofs.lemmas.List.Elements.{All-head, All-tail}
 use Rattle.std.proofs.lemmas.Slice.Eq.{bytes_eq-Decides}
-use Rattle.file_text.specs.Syntax.{Phrase, Phrases, word, call, none, more, count, ConditionTree, RuleTree, conditions_of, FileTree}
+use Rattle.file_text.specs.Syntax.{Phrase, Phrases, word, call, none, more, count, ConditionTree, RuleTree, conditions_of, FileTree, has_type}
 use Rattle.rewriting.specs.Terms as terms
 use Rattle.rewriting.specs.Terms.{Term, var, app, Terms, nil, cons, Fits}
 use Rattle.rewriting.specs.Variables as math
@@ -174,8 +174,8 @@ module _ (block : List (List ℕ)) (table : List (List ℕ × ℕ)) where
   variables_are tree r h =
       numbers_in_all [] (rule_variables block tree) (phrases_of_rule tree) (terms_of_rule r) (extends_refl _) (terms_are tree r h)
 
-  rule_is : (oriented : Bool) (tree : RuleTree) (r : Rule) → IsRuleOf block table tree r → IsAllowed oriented r → length (rule_variables block tree) ≤ 100 → IsRule (map (λ s. s.1) table) r
-  rule_is oriented tree r h a few = record {
+  rule_is : (typed : Bool) (tree : RuleTree) (r : Rule) → IsRuleOf block table tree r → IsAllowed typed r → length (rule_variables block tree) ≤ 100 → IsRule (map (λ s. s.1) table) r
+  rule_is typed tree r h a few = record {
     is_over = record { over = each_over _ (terms_of_rule r) (terms_over block table (rule_variables block tree) (phrases_of_rule tree) (terms_of_rule r) (terms_are tree r h)); left = a.left };
     numbered = subst (CountsFrom 0) (sym (variables_are tree r h)) (counts (length (rule_variables block tree)));
     few_variables = subst (λ (xs : List ℕ). length xs < 2 ^ 31) (sym (variables_are tree r h)) (omega (arith, few, length_upto (length (rule_variables block tree))));
@@ -183,31 +183,31 @@ module _ (block : List (List ℕ)) (table : List (List ℕ × ℕ)) where
     fits = each_fits (terms_of_rule r) a.terms;
   }
 
-  rules_are : (oriented : Bool) (trees : List RuleTree) (rs : List Rule) → AreRulesOf block table trees rs → All (IsAllowed oriented) rs
+  rules_are : (typed : Bool) (trees : List RuleTree) (rs : List Rule) → AreRulesOf block table trees rs → All (IsAllowed typed) rs
       → All (λ list. length list ≤ 100) (map (rule_variables block) trees) → AreRules (map (λ s. s.1) table) rs
-  rules_are oriented [] [] h a few = tt
-  rules_are oriented [] (r ∷ rs) h a few = absurd h
-  rules_are oriented (t ∷ ts) [] h a few = absurd h
-  rules_are oriented (t ∷ ts) (r ∷ rs) h a few = (
-    rule_is oriented t r h.0 (All-head (IsAllowed oriented) r rs a) (All-head (λ list. length list ≤ 100) (rule_variables block t) (map (rule_variables block) ts) few),
-    rules_are oriented ts rs h.1 (All-tail (IsAllowed oriented) r rs a) (All-tail (λ list. length list ≤ 100) (rule_variables block t) (map (rule_variables block) ts) few),
+  rules_are typed [] [] h a few = tt
+  rules_are typed [] (r ∷ rs) h a few = absurd h
+  rules_are typed (t ∷ ts) [] h a few = absurd h
+  rules_are typed (t ∷ ts) (r ∷ rs) h a few = (
+    rule_is typed t r h.0 (All-head (IsAllowed typed) r rs a) (All-head (λ list. length list ≤ 100) (rule_variables block t) (map (rule_variables block) ts) few),
+    rules_are typed ts rs h.1 (All-tail (IsAllowed typed) r rs a) (All-tail (λ list. length list ≤ 100) (rule_variables block t) (map (rule_variables block) ts) few),
   )
 
-pub conditions_few : (oriented : Bool) (rs : List Rule) → All (IsAllowed oriented) rs → condition_count rs ≤ 20 * length rs
-conditions_few oriented [] h = omega arith
-conditions_few oriented (r ∷ rs) h = let here = (All-head (IsAllowed oriented) r rs h).few_conditions in let rest = conditions_few oriented rs (All-tail (IsAllowed oriented) r rs h) in omega arith
+pub conditions_few : (typed : Bool) (rs : List Rule) → All (IsAllowed typed) rs → condition_count rs ≤ 20 * length rs
+conditions_few typed [] h = omega arith
+conditions_few typed (r ∷ rs) h = let here = (All-head (IsAllowed typed) r rs h).few_conditions in let rest = conditions_few typed rs (All-tail (IsAllowed typed) r rs h) in omega arith
 
 pub system_is : (file : FileTree) (sys : System) (names : NameTable) → IsSystemOf file sys names → IsSystem sys
 system_is file sys names h =
     let limits = is_within_limits file sys names h in
-    let few = conditions_few file.oriented sys.rules limits.rules in
+    let few = conditions_few (has_type file) sys.rules limits.rules in
     let rules = limits.few_rules in
     let symbols = limits.few_symbols in
     let arities = ap length h.arities in
     let same = length-map names.symbols (λ (s : List ℕ × ℕ). s.1) in
     record {
       rules = subst (λ (a : List ℕ). AreRules a sys.rules) (sym h.arities)
-          (rules_are (variables_of file) names.symbols file.oriented file.rules sys.rules h.rules limits.rules
+          (rules_are (variables_of file) names.symbols (has_type file) file.rules sys.rules h.rules limits.rules
           (subst (All (λ (list : List (List ℕ)). length list ≤ 100)) h.variables limits.few_variables));
       few_symbols = omega (arith, few, rules, symbols, arities, same);
       few_rules = omega (arith, few, rules);

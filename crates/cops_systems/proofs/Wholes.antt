@@ -1,6 +1,6 @@
 -- From the rules that were read to the system that a file means.
 use Rattle.std.proofs.Common.{◌≡◌, ℕ, Bool, List, [], ◌∷◌, map, length, Err, sym, ap, subst, ◌∙◌, refl}
-use Rattle.file_text.specs.Syntax.{RuleTree, FileTree}
+use Rattle.file_text.specs.Syntax.{RuleTree, FileTree, has_type}
 use Rattle.cops_trees.specs.View as tree
 use Rattle.cops_trees.specs.View.{IsFileText}
 use Rattle.cops_trees.specs.declared.tree.RuleText.{RuleText}
@@ -27,8 +27,8 @@ counted block table (t ∷ ts) (r ∷ rs) h n =
     (n.0 ∙ sym (length_upto (length (rule_variables block t))) ∙ sym are, counted block table ts rs h.1 n.1)
 
 -- From the values that the program has.
-module _ (file : FileTree) (text : FileText) (is_text : IsFileText text file) (other : List (List ℕ)) (start : List (List ℕ × ℕ)) (texts : List RuleText)
-    (same : other ≡ variables_of file) (first : start ≡ []) (all : texts ≡ text.rules.items) where
+module _ (file : FileTree) (text : FileText) (is_text : IsFileText text file) (other : List (List ℕ)) (start : List (List ℕ × ℕ)) (typed : Bool) (texts : List RuleText)
+    (same : other ≡ variables_of file) (first : start ≡ []) (type_is : typed ≡ has_type file) (all : texts ≡ text.rules.items) where
   -- the system of rules that were read
   abbrev system_of : List ℕ → List Rule → rules.System
   system_of arities rs = rules.system_of arities (map rule_view rs)
@@ -37,22 +37,22 @@ module _ (file : FileTree) (text : FileText) (is_text : IsFileText text file) (o
   trees_are = subst (λ (rs : List RuleText). tree.AreRules rs file.rules) (sym all) is_text.rules
 
   pub rules_told : (after : List (List ℕ × ℕ)) (listed : List (List (List ℕ))) (e : ReadError)
-      → ((trees : List RuleTree) → tree.AreRules texts trees → RulesAnswers other text.oriented start trees after listed (Err e)) → Tells e (refusal_of file)
+      → ((trees : List RuleTree) → tree.AreRules texts trees → RulesAnswers other typed start trees after listed (Err e)) → Tells e (refusal_of file)
   rules_told after listed e told =
       let h0 = told file.rules trees_are in
-      let h1 = subst (λ (b : List (List ℕ)). RulesAnswers b text.oriented start file.rules after listed (Err e)) same h0 in
-      let h2 = subst (λ (t : List (List ℕ × ℕ)). RulesAnswers (variables_of file) text.oriented t file.rules after listed (Err e)) first h1 in
-      let h3 = subst (λ (b : Bool). RulesAnswers (variables_of file) b [] file.rules after listed (Err e)) is_text.oriented h2 in
+      let h1 = subst (λ (b : List (List ℕ)). RulesAnswers b typed start file.rules after listed (Err e)) same h0 in
+      let h2 = subst (λ (t : List (List ℕ × ℕ)). RulesAnswers (variables_of file) typed t file.rules after listed (Err e)) first h1 in
+      let h3 = subst (λ (b : Bool). RulesAnswers (variables_of file) b [] file.rules after listed (Err e)) type_is h2 in
       subst (Tells e) (sym (refusal_is file)) h3
 
-  module _ (names : NameTable) (arities : List ℕ) (rs : List Rule) (read : (trees : List RuleTree) → tree.AreRules texts trees → AreRulesRead other text.oriented start trees names.symbols names.variables rs)
+  module _ (names : NameTable) (arities : List ℕ) (rs : List Rule) (read : (trees : List RuleTree) → tree.AreRules texts trees → AreRulesRead other typed start trees names.symbols names.variables rs)
       (is : arities ≡ map (λ s. s.1) names.symbols) where
-    read_of : AreRulesRead (variables_of file) file.oriented [] file.rules names.symbols names.variables rs
+    read_of : AreRulesRead (variables_of file) (has_type file) [] file.rules names.symbols names.variables rs
     read_of =
         let h0 = read file.rules trees_are in
-        let h1 = subst (λ (b : List (List ℕ)). AreRulesRead b text.oriented start file.rules names.symbols names.variables rs) same h0 in
-        let h2 = subst (λ (t : List (List ℕ × ℕ)). AreRulesRead (variables_of file) text.oriented t file.rules names.symbols names.variables rs) first h1 in
-        subst (λ (b : Bool). AreRulesRead (variables_of file) b [] file.rules names.symbols names.variables rs) is_text.oriented h2
+        let h1 = subst (λ (b : List (List ℕ)). AreRulesRead b typed start file.rules names.symbols names.variables rs) same h0 in
+        let h2 = subst (λ (t : List (List ℕ × ℕ)). AreRulesRead (variables_of file) typed t file.rules names.symbols names.variables rs) first h1 in
+        subst (λ (b : Bool). AreRulesRead (variables_of file) b [] file.rules names.symbols names.variables rs) type_is h2
 
     meant : IsSystemOf file (system_of arities rs) names
     meant = record { accepted = refusal_is file ∙ read_of.accepted; symbols = read_of.symbols; arities = is; own = refl; variables = read_of.variables; rules = read_of.mean }

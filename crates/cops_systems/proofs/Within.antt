@@ -3,7 +3,7 @@ use Rattle.std.proofs.Common.{◌≡◌, ℕ, suc, ◌+◌, ◌<◌, ◌≤◌, 
 use Rattle.std.specs.Prelude.{if◌then◌else◌, is_some, option_map}
 use Rattle.std.proofs.lemmas.Bool.Decides.{nat_tests}
 use Rattle.std.proofs.lemmas.List.Elements.{All-nil, All-cons, All-push}
-use Rattle.file_text.specs.Syntax.{Phrase, Phrases, word, call, none, more, count, ConditionTree, Guard, RuleTree, conditions_of, guarded, FileTree}
+use Rattle.file_text.specs.Syntax.{Phrase, Phrases, word, call, none, more, count, ConditionTree, Guard, RuleTree, conditions_of, guarded, FileTree, has_type}
 use Rattle.rewriting.specs.Terms.{Term, var, app, Terms, nil, cons, size, size_all, depth, depth_all, IsVariable}
 use Rattle.rewriting.specs.Rules.{Condition, Rule, System}
 use Rattle.rewriting.specs.Rules as rules
@@ -257,9 +257,10 @@ module _ (block : List (List ℕ)) where
         let rest = few_conditions (with_symbols block (with_symbols block table c.left) c.right) (with_variables block (with_variables block names c.left) c.right) rule (number + 1) cs ds (none_then (condition_refusal block table names rule number c) _ h) m.2 (omega arith) in
         omega arith
 
-    no_conditions : (oriented : Bool) (guard : Option Guard) (ds : List Condition) → bar_refusal oriented (option_map (λ g. g.at) guard) ≡ None → AreConditionsOf block symbols variables (guarded guard) ds → oriented ≡ false → ds ≡ []
-    no_conditions oriented None [] h m e = refl
-    no_conditions oriented None (d ∷ ds) h m e = absurd m
+    no_conditions : (typed : Bool) (guard : Option Guard) (ds : List Condition) → bar_refusal typed (option_map (λ g. g.at) guard) ≡ None
+        → AreConditionsOf block symbols variables (guarded guard) ds → typed ≡ false → ds ≡ []
+    no_conditions typed None [] h m e = refl
+    no_conditions typed None (d ∷ ds) h m e = absurd m
     no_conditions true (Some g) ds h m e = absurd cc
     no_conditions false (Some g) ds h m e = absurd cc
 
@@ -283,19 +284,19 @@ module _ (block : List (List ℕ)) where
       let right = variables_kept (with_symbols block table c.left) (with_variables block names c.left) side 1 0 0 c.right (none_then _ _ here) left in
       conditions_variables (with_symbols block (with_symbols block table c.left) c.right) (with_variables block (with_variables block names c.left) c.right) rule (number + 1) cs (none_then _ _ h) right
 
-  module _ (oriented : Bool) (table : List (List ℕ × ℕ)) (number : ℕ) (t : RuleTree) (h : rule_refusal block oriented table number t ≡ None) where
+  module _ (typed : Bool) (table : List (List ℕ × ℕ)) (number : ℕ) (t : RuleTree) (h : rule_refusal block typed table number t ≡ None) where
     pub left_accepted : side_refusal block table [] (side_of number 0 true) t.left ≡ None
     left_accepted = none_first _ _ h
 
     pub right_accepted : side_refusal block (with_symbols block table t.left) (with_variables block [] t.left) (side_of number 0 false) t.right ≡ None
     right_accepted = none_first _ _ (none_then (side_refusal block table [] (side_of number 0 true) t.left) _ h)
 
-    late : or_refusal (bar_refusal oriented (option_map (λ g. g.at) t.guard))
+    late : or_refusal (bar_refusal typed (option_map (λ g. g.at) t.guard))
         (conditions_refusal block (with_symbols block (with_symbols block table t.left) t.right) (with_variables block (with_variables block [] t.left) t.right) number 1 (conditions_of t)) ≡ None
     late = none_then (side_refusal block (with_symbols block table t.left) (with_variables block [] t.left) (side_of number 0 false) t.right) _ (none_then (side_refusal block table [] (side_of number 0 true) t.left) _ h)
 
     pub conditions_accepted : conditions_refusal block (with_symbols block (with_symbols block table t.left) t.right) (with_variables block (with_variables block [] t.left) t.right) number 1 (conditions_of t) ≡ None
-    conditions_accepted = none_then (bar_refusal oriented (option_map (λ (g : Guard). g.at) t.guard)) _ late
+    conditions_accepted = none_then (bar_refusal typed (option_map (λ (g : Guard). g.at) t.guard)) _ late
 
     rule_table : IsTable table → IsTable (with_all_symbols block table (phrases_of_rule t))
     rule_table is =
@@ -309,7 +310,7 @@ module _ (block : List (List ℕ)) where
         (variables_kept (with_symbols block table t.left) (with_variables block [] t.left) (side_of number 0 false) 1 0 0 t.right right_accepted
         (variables_kept table [] (side_of number 0 true) 1 0 0 t.left left_accepted (omega arith)))
 
-    rule_allowed : (symbols : List (List ℕ × ℕ)) (r : Rule) → IsRuleOf block symbols t r → IsAllowed oriented r
+    rule_allowed : (symbols : List (List ℕ × ℕ)) (r : Rule) → IsRuleOf block symbols t r → IsAllowed typed r
     rule_allowed symbols r m =
         let few = few_conditions symbols (rule_variables block t) _ _ number 1 (conditions_of t) r.conditions conditions_accepted m.conditions (omega arith) in
         record {
@@ -322,39 +323,40 @@ module _ (block : List (List ℕ)) where
             ),
           );
           few_conditions = omega arith;
-          conditions = no_conditions symbols (rule_variables block t) oriented t.guard r.conditions (none_first _ _ late) m.conditions;
+          conditions = no_conditions symbols (rule_variables block t) typed t.guard r.conditions (none_first _ _ late) m.conditions;
         }
 
-  rules_table : (oriented : Bool) (table : List (List ℕ × ℕ)) (number : ℕ) (ts : List RuleTree) → rules_refusal block oriented table number ts ≡ None → IsTable table → IsTable (with_rule_symbols block table ts)
-  rules_table oriented table number [] h is = is
-  rules_table oriented table number (t ∷ ts) h is =
-      rules_table oriented (with_all_symbols block table (phrases_of_rule t)) (number + 1) ts (none_then (rule_refusal block oriented table number t) _ h)
-      (rule_table oriented table number t (none_first _ _ h) is)
+  rules_table : (typed : Bool) (table : List (List ℕ × ℕ)) (number : ℕ) (ts : List RuleTree) → rules_refusal block typed table number ts ≡ None → IsTable table
+      → IsTable (with_rule_symbols block table ts)
+  rules_table typed table number [] h is = is
+  rules_table typed table number (t ∷ ts) h is =
+      rules_table typed (with_all_symbols block table (phrases_of_rule t)) (number + 1) ts (none_then (rule_refusal block typed table number t) _ h)
+      (rule_table typed table number t (none_first _ _ h) is)
 
-  rules_variables : (oriented : Bool) (table : List (List ℕ × ℕ)) (number : ℕ) (ts : List RuleTree) → rules_refusal block oriented table number ts ≡ None
+  rules_variables : (typed : Bool) (table : List (List ℕ × ℕ)) (number : ℕ) (ts : List RuleTree) → rules_refusal block typed table number ts ≡ None
       → All (λ list. length list ≤ 100) (map (rule_variables block) ts)
-  rules_variables oriented table number [] h = All-nil (λ (list : List (List ℕ)). length list ≤ 100)
-  rules_variables oriented table number (t ∷ ts) h =
-      All-cons (λ list. length list ≤ 100) (rule_variables block t) (map (rule_variables block) ts) (rule_few oriented table number t (none_first _ _ h))
-      (rules_variables oriented (with_all_symbols block table (phrases_of_rule t)) (number + 1) ts (none_then (rule_refusal block oriented table number t) _ h))
+  rules_variables typed table number [] h = All-nil (λ (list : List (List ℕ)). length list ≤ 100)
+  rules_variables typed table number (t ∷ ts) h =
+      All-cons (λ list. length list ≤ 100) (rule_variables block t) (map (rule_variables block) ts) (rule_few typed table number t (none_first _ _ h))
+      (rules_variables typed (with_all_symbols block table (phrases_of_rule t)) (number + 1) ts (none_then (rule_refusal block typed table number t) _ h))
 
-  rules_allowed : (oriented : Bool) (symbols table : List (List ℕ × ℕ)) (number : ℕ) (ts : List RuleTree) (rs : List Rule) → rules_refusal block oriented table number ts ≡ None
-      → AreRulesOf block symbols ts rs → All (IsAllowed oriented) rs
-  rules_allowed oriented symbols table number ts [] h m = All-nil (IsAllowed oriented)
-  rules_allowed oriented symbols table number [] (r ∷ rs) h m = absurd m
-  rules_allowed oriented symbols table number (t ∷ ts) (r ∷ rs) h m =
-      All-cons (IsAllowed oriented) r rs (rule_allowed oriented table number t (none_first _ _ h) symbols r m.0)
-      (rules_allowed oriented symbols (with_all_symbols block table (phrases_of_rule t)) (number + 1) ts rs (none_then (rule_refusal block oriented table number t) _ h) m.1)
+  rules_allowed : (typed : Bool) (symbols table : List (List ℕ × ℕ)) (number : ℕ) (ts : List RuleTree) (rs : List Rule) → rules_refusal block typed table number ts ≡ None
+      → AreRulesOf block symbols ts rs → All (IsAllowed typed) rs
+  rules_allowed typed symbols table number ts [] h m = All-nil (IsAllowed typed)
+  rules_allowed typed symbols table number [] (r ∷ rs) h m = absurd m
+  rules_allowed typed symbols table number (t ∷ ts) (r ∷ rs) h m =
+      All-cons (IsAllowed typed) r rs (rule_allowed typed table number t (none_first _ _ h) symbols r m.0)
+      (rules_allowed typed symbols (with_all_symbols block table (phrases_of_rule t)) (number + 1) ts rs (none_then (rule_refusal block typed table number t) _ h) m.1)
 
-  few_rules : (oriented : Bool) (symbols table : List (List ℕ × ℕ)) (number : ℕ) (ts : List RuleTree) (rs : List Rule) → rules_refusal block oriented table number ts ≡ None
+  few_rules : (typed : Bool) (symbols table : List (List ℕ × ℕ)) (number : ℕ) (ts : List RuleTree) (rs : List Rule) → rules_refusal block typed table number ts ≡ None
       → AreRulesOf block symbols ts rs → number ≤ 1001 → number + length rs ≤ 1001
-  few_rules oriented symbols table number [] [] h m l = omega arith
-  few_rules oriented symbols table number [] (r ∷ rs) h m l = absurd m
-  few_rules oriented symbols table number (t ∷ ts) [] h m l = absurd m
-  few_rules oriented symbols table number (t ∷ ts) (r ∷ rs) h m l =
-      let w = head_within table [] (side_of number 0 true) 1 0 0 t.left (left_accepted oriented table number t (none_first _ _ h)) in
+  few_rules typed symbols table number [] [] h m l = omega arith
+  few_rules typed symbols table number [] (r ∷ rs) h m l = absurd m
+  few_rules typed symbols table number (t ∷ ts) [] h m l = absurd m
+  few_rules typed symbols table number (t ∷ ts) (r ∷ rs) h m l =
+      let w = head_within table [] (side_of number 0 true) 1 0 0 t.left (left_accepted typed table number t (none_first _ _ h)) in
       let few = w.rules in
-      let rest = few_rules oriented symbols (with_all_symbols block table (phrases_of_rule t)) (number + 1) ts rs (none_then (rule_refusal block oriented table number t) _ h) m.1 (omega arith) in
+      let rest = few_rules typed symbols (with_all_symbols block table (phrases_of_rule t)) (number + 1) ts rs (none_then (rule_refusal block typed table number t) _ h) m.1 (omega arith) in
       omega arith
 
 abbrev empty : List (List ℕ × ℕ)
@@ -363,15 +365,15 @@ empty = []
 none_yet : IsTable empty
 none_yet = record { few = omega arith; arguments = All-nil (λ (s : List ℕ × ℕ). s.1 ≤ 20) }
 
-pub is_within_limits : (file : FileTree) (sys : System) (names : NameTable) → IsSystemOf file sys names → IsWithinLimits file.oriented sys names
+pub is_within_limits : (file : FileTree) (sys : System) (names : NameTable) → IsSystemOf file sys names → IsWithinLimits (has_type file) sys names
 is_within_limits file sys names h =
     let accepted = sym (refusal_is file) ∙ h.accepted in
-    let table = rules_table (variables_of file) file.oriented [] 1 file.rules accepted none_yet in
-    let few = few_rules (variables_of file) file.oriented names.symbols [] 1 file.rules sys.rules accepted h.rules (omega arith) in
+    let table = rules_table (variables_of file) (has_type file) [] 1 file.rules accepted none_yet in
+    let few = few_rules (variables_of file) (has_type file) names.symbols [] 1 file.rules sys.rules accepted h.rules (omega arith) in
     record {
       few_rules = omega arith;
       few_symbols = subst (λ (t : List (List ℕ × ℕ)). length t ≤ 1000) (sym h.symbols) table.few;
       few_arguments = subst (All (λ (s : List ℕ × ℕ). s.1 ≤ 20)) (sym h.symbols) table.arguments;
-      few_variables = subst (All (λ (list : List (List ℕ)). length list ≤ 100)) (sym h.variables) (rules_variables (variables_of file) file.oriented [] 1 file.rules accepted);
-      rules = rules_allowed (variables_of file) file.oriented names.symbols [] 1 file.rules sys.rules accepted h.rules;
+      few_variables = subst (All (λ (list : List (List ℕ)). length list ≤ 100)) (sym h.variables) (rules_variables (variables_of file) (has_type file) [] 1 file.rules accepted);
+      rules = rules_allowed (variables_of file) (has_type file) names.symbols [] 1 file.rules sys.rules accepted h.rules;
     }

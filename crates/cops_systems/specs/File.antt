@@ -1,6 +1,8 @@
 -- Which system, with which names, a text spells, or why it spells none.
-use Rattle.std.specs.Prelude.{◌≡◌, ◌⊎◌, ℕ, Bool, true, false, ◌&&◌, ◌||◌, List, [], ◌∷◌, map, length, None, Some}
+use Rattle.std.specs.Prelude.{◌≡◌, ◌⊎◌, ℕ, Bool, true, false, ◌&&◌, ◌||◌, List, [], ◌∷◌, map, length, Option, None, Some}
 use Rattle.std.specs.Option.{is_some}
+use Rattle.file_text.specs.declared.ConditionType.{ConditionType}
+use Rattle.file_text.specs.declared.ConditionType.TheVariants.{Oriented, Join}
 use Rattle.file_text.specs.Syntax.{RuleTree, FileTree}
 use Rattle.file_text.specs.Tokens.{TokenCause, HasNoTokens}
 use Rattle.file_text.specs.Refusals.{SyntaxCause}
@@ -26,9 +28,15 @@ abbrev pub have_conditions : List RuleTree → Bool
 have_conditions [] = false
 have_conditions (r ∷ rs) = is_some r.guard || have_conditions rs
 
+-- the condition type is that of common reducts
+abbrev pub is_join : Option ConditionType → Bool
+is_join None = false
+is_join (Some Oriented) = false
+is_join (Some Join) = true
+
 -- there are conditions, and they ask for common reducts
 abbrev pub asks_joins : FileTree → Bool
-asks_joins file = file.joins && have_conditions file.rules
+asks_joins file = is_join file.condition_type && have_conditions file.rules
 
 -- The system is the oriented one of the tree's rules; behind their names stand those of the two symbols more and of the one rule more.
 pub record IsJoinedFile (file : FileTree) (sys : System) (names : NameTable) : Type 0 where

@@ -1,6 +1,6 @@
 -- Why, and at which place, the syntax tree of a file means no system.
 use Rattle.std.specs.Prelude.{◌==◌, ◌&&◌, ℕ, Bool, not, nat_lt, nat_le, if◌then◌else◌, List, [], ◌∷◌, ◌++◌, length, Option, Some, None, option_map, slice_get}
-use Rattle.file_text.specs.Syntax.{FileTree}
+use Rattle.file_text.specs.Syntax.{FileTree, has_type}
 use Rattle.cops_names.specs.NameTable.{number_of}
 use Rattle.cops_systems.specs.Bounds.{most_rules, most_symbols, most_conditions, most_variables, most_arguments, most_nodes, most_levels}
 use Rattle.cops_names.specs.NameLists.{is_among, with_name}
@@ -82,14 +82,14 @@ module _ (block : List (List ℕ)) where
 
   -- conditions need a condition type
   abbrev pub event_cause : Bool → List Event → Event → Option MeaningCause
-  event_cause oriented front (use_of u) = use_cause front u
-  event_cause oriented front (bar_at at) = if oriented then None else Some conditions_without_type
+  event_cause typed front (use_of u) = use_cause front u
+  event_cause typed front (bar_at at) = if typed then None else Some conditions_without_type
 
   -- the first event that has a cause, and its place
   abbrev pub first_refusal : Bool → List Event → List Event → Option (MeaningCause × ℕ)
-  first_refusal oriented front [] = None
-  first_refusal oriented front (e ∷ es) = first_or (event_cause oriented front e) (place e) (first_refusal oriented (front ++ e ∷ []) es)
+  first_refusal typed front [] = None
+  first_refusal typed front (e ∷ es) = first_or (event_cause typed front e) (place e) (first_refusal typed (front ++ e ∷ []) es)
 
 -- the one refusal of a file, if there is one
 abbrev pub refusal_of : FileTree → Option (MeaningCause × ℕ)
-refusal_of file = first_refusal (variables_of file) file.oriented [] (events file)
+refusal_of file = first_refusal (variables_of file) (has_type file) [] (events file)

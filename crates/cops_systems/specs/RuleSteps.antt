@@ -22,12 +22,12 @@ use Rattle.cops_systems.specs.declared.errors.ReadError.TheVariants.{NoMemory}
 
 -- at a bar
 abbrev pub bar_refusal : Bool → Option ℕ → Option (MeaningCause × ℕ)
-bar_refusal oriented None = None
-bar_refusal oriented (Some at) = if oriented then None else Some (conditions_without_type, at)
+bar_refusal typed None = None
+bar_refusal typed (Some at) = if typed then None else Some (conditions_without_type, at)
 
 abbrev pub BarAnswers : Bool → Option ℕ → Result (Unit {0}) ReadError → Type 0
-BarAnswers oriented bar (Ok _) = bar_refusal oriented bar ≡ None
-BarAnswers oriented bar (Err e) = Tells e (bar_refusal oriented bar)
+BarAnswers typed bar (Ok _) = bar_refusal typed bar ≡ None
+BarAnswers typed bar (Err e) = Tells e (bar_refusal typed bar)
 
 -- Of the identifiers, those of the block are variables. Refusals come with the symbols and the rule's variables so far.
 module _ (block : List (List ℕ)) where
@@ -50,17 +50,17 @@ module _ (block : List (List ℕ)) where
 
   -- in the rule with a number
   abbrev pub rule_refusal : Bool → List (List ℕ × ℕ) → ℕ → RuleTree → Option (MeaningCause × ℕ)
-  rule_refusal oriented table number r =
+  rule_refusal typed table number r =
       or_refusal (side_refusal table [] (side_of number 0 true) r.left)
       (or_refusal (side_refusal (with_symbols block table r.left) (with_variables block [] r.left) (side_of number 0 false) r.right)
-      (or_refusal (bar_refusal oriented (option_map (λ g. g.at) r.guard))
+      (or_refusal (bar_refusal typed (option_map (λ g. g.at) r.guard))
       (conditions_refusal (with_symbols block (with_symbols block table r.left) r.right) (with_variables block (with_variables block [] r.left) r.right) number 1 (conditions_of r))))
 
   -- in rules from a number on
   abbrev pub rules_refusal : Bool → List (List ℕ × ℕ) → ℕ → List RuleTree → Option (MeaningCause × ℕ)
-  rules_refusal oriented table number [] = None
-  rules_refusal oriented table number (r ∷ rs) =
-      or_refusal (rule_refusal oriented table number r) (rules_refusal oriented (with_all_symbols block table (phrases_of_rule r)) (number + 1) rs)
+  rules_refusal typed table number [] = None
+  rules_refusal typed table number (r ∷ rs) =
+      or_refusal (rule_refusal typed table number r) (rules_refusal typed (with_all_symbols block table (phrases_of_rule r)) (number + 1) rs)
 
   -- a side of a rule or a condition was read: what it adds to the symbols and the variables, and what it means
   pub record IsSideRead (table : List (List ℕ × ℕ)) (names : List (List ℕ)) (side : Side) (p : Phrase) (after : List (List ℕ × ℕ)) (later : List (List ℕ)) (t : math.Term) : Type 0 where
@@ -97,22 +97,22 @@ module _ (block : List (List ℕ)) where
   ConditionsAnswers table names rule cs after later (Err e) = Tells e (conditions_refusal table names rule 1 cs)
 
   -- a rule was read: its symbols, the names of its variables, and what it means
-  pub record IsRuleRead (oriented : Bool) (table : List (List ℕ × ℕ)) (number : ℕ) (tree : RuleTree) (after : List (List ℕ × ℕ)) (later : List (List ℕ)) (r : Rule) : Type 0 where
-    pub accepted : rule_refusal oriented table number tree ≡ None
+  pub record IsRuleRead (typed : Bool) (table : List (List ℕ × ℕ)) (number : ℕ) (tree : RuleTree) (after : List (List ℕ × ℕ)) (later : List (List ℕ)) (r : Rule) : Type 0 where
+    pub accepted : rule_refusal typed table number tree ≡ None
     pub symbols : after ≡ with_all_symbols block table (phrases_of_rule tree)
     pub variables : later ≡ rule_variables block tree
     pub means : IsRuleOf block after tree (rule_view r)
     pub counted : r.vars ≡ length (rule_variables block tree)
 
   abbrev pub PartsAnswers : Bool → List (List ℕ × ℕ) → ℕ → RuleTree → List (List ℕ × ℕ) → List (List ℕ) → Result Rule ReadError → Type 0
-  PartsAnswers oriented table number tree after later (Ok r) = IsRuleRead oriented table number tree after later r
-  PartsAnswers oriented table number tree after later (Err e) = Tells e (rule_refusal oriented table number tree)
+  PartsAnswers typed table number tree after later (Ok r) = IsRuleRead typed table number tree after later r
+  PartsAnswers typed table number tree after later (Err e) = Tells e (rule_refusal typed table number tree)
 
   -- the names of its variables were put last
   abbrev pub RuleAnswers : Bool → List (List ℕ × ℕ) → ℕ → RuleTree → List (List (List ℕ)) → List (List ℕ × ℕ) → List (List (List ℕ)) → Result Rule ReadError → Type 0
-  RuleAnswers oriented table number tree before after listed (Ok r) =
-      IsRuleRead oriented table number tree after (rule_variables block tree) r × (listed ≡ before ++ rule_variables block tree ∷ [])
-  RuleAnswers oriented table number tree before after listed (Err e) = Tells e (rule_refusal oriented table number tree)
+  RuleAnswers typed table number tree before after listed (Ok r) =
+      IsRuleRead typed table number tree after (rule_variables block tree) r × (listed ≡ before ++ rule_variables block tree ∷ [])
+  RuleAnswers typed table number tree before after listed (Err e) = Tells e (rule_refusal typed table number tree)
 
   -- each rule tells the number of its variables
   abbrev pub AreNumbersOf : List RuleTree → List Rule → Type 0
@@ -122,16 +122,16 @@ module _ (block : List (List ℕ)) where
   AreNumbersOf (t ∷ ts) (r ∷ rs) = (r.vars ≡ length (rule_variables block t)) × AreNumbersOf ts rs
 
   -- the same of rules, from the first on
-  pub record AreRulesRead (oriented : Bool) (table : List (List ℕ × ℕ)) (trees : List RuleTree) (after : List (List ℕ × ℕ)) (listed : List (List (List ℕ))) (rs : List Rule) : Type 0 where
-    pub accepted : rules_refusal oriented table 1 trees ≡ None
+  pub record AreRulesRead (typed : Bool) (table : List (List ℕ × ℕ)) (trees : List RuleTree) (after : List (List ℕ × ℕ)) (listed : List (List (List ℕ))) (rs : List Rule) : Type 0 where
+    pub accepted : rules_refusal typed table 1 trees ≡ None
     pub symbols : after ≡ with_rule_symbols block table trees
     pub variables : listed ≡ map (rule_variables block) trees
     pub mean : AreRulesOf block after trees (map rule_view rs)
     pub counted : AreNumbersOf trees rs
 
   abbrev pub RulesAnswers : Bool → List (List ℕ × ℕ) → List RuleTree → List (List ℕ × ℕ) → List (List (List ℕ)) → Result (Vec Rule) ReadError → Type 0
-  RulesAnswers oriented table trees after listed (Ok v) = AreRulesRead oriented table trees after listed v.items
-  RulesAnswers oriented table trees after listed (Err e) = Tells e (rules_refusal oriented table 1 trees)
+  RulesAnswers typed table trees after listed (Ok v) = AreRulesRead typed table trees after listed v.items
+  RulesAnswers typed table trees after listed (Err e) = Tells e (rules_refusal typed table 1 trees)
 
 -- some rule has a bar
 abbrev pub have_bars : List RuleText → Bool

@@ -2,7 +2,7 @@ ghost use Rattle.std.specs.Prelude.{◌≡◌, ◌&&◌, [], IfOk, OnOk, map};
 ghost use Rattle.file_text.specs.Syntax as syntax;
 ghost use Rattle.cops_trees.specs.View.{IsFileText, names_view};
 ghost use Rattle.cops_names.specs.NameLists.{with_names};
-ghost use Rattle.cops_systems.specs.File.{IsSystemOf};
+ghost use Rattle.cops_systems.specs.File.{is_join, IsSystemOf};
 ghost use Rattle.cops_systems.specs.RuleSteps.{have_bars, ListAnswers, FileAnswers, JoinedAnswers};
 
 use crate::block::Block;
@@ -10,10 +10,10 @@ use crate::errors::ReadError;
 use crate::heads::{Scope, text_of};
 use crate::rules::read_rules;
 use cops_names::{NameSet, Names};
-use cops_trees::{FileText, Name, RuleText};
+use cops_trees::{ConditionType, FileText, Name, RuleText};
 use join_names::add_join_names;
 use std::alloc::Global;
-use term_core::{NoMemory, System, join_system};
+use term_core::{NoMemory, System, join_sound};
 
 fn add_names<'a>(block: &mut NameSet<'a>, names: &[Name<'a>]) -> Result<(), NoMemory>
     ensures { OnOk result (block.new ≡ with_names block.old (map (λ n. n.text) (names_view names.now))) }
@@ -39,17 +39,17 @@ fn read_list<'a>(alloc: Global, file: FileText<'a>) -> Result<(System, Names), R
     ensures { (tree : syntax.FileTree) → IsFileText file.entry tree → ListAnswers tree result }
 {
     let FileText {
-        oriented,
-        joins: _,
+        condition_type,
         variables,
         rules,
     } = file;
+    let has_type = condition_type.is_some();
     let mut scope = Scope {
         block: read_block(alloc, &variables)?,
         names: Names::new(alloc),
         variables: NameSet::new(alloc),
     };
-    let rules = read_rules(alloc, &mut scope, oriented, rules)?;
+    let rules = read_rules(alloc, &mut scope, has_type, rules)?;
     let arities = scope.names.arities(alloc)?;
     let system = System::of_sound(arities, rules);
     Ok((system, scope.names))
@@ -68,24 +68,23 @@ fn have_conditions(rules: &[RuleText]) -> bool
 
 // Whether there are conditions that ask for common reducts.
 fn asks_joins(file: &FileText) -> bool
-    ensures { result ≡ (file.now.joins && have_bars file.now.rules.items) }
+    ensures { result ≡ (is_join file.now.condition_type && have_bars file.now.rules.items) }
 {
-    file.joins && have_conditions(&file.rules)
+    match file.condition_type {
+        Some(ConditionType::Join) => have_conditions(&file.rules),
+        Some(ConditionType::Oriented) | None => false,
+    }
 }
 
-// The oriented system of join rules, with two symbols more.
+// The oriented system of join rules, with two symbols more. The rules are sound, and the limits leave room for `join`.
 fn join_list(alloc: Global, list: System, names: Names) -> Result<(System, Names), ReadError>
     requires { (tree : syntax.FileTree) × IsSystemOf tree list names }
     ensures { (tree : syntax.FileTree) → IsSystemOf tree list names → JoinedAnswers tree result }
 {
     let mut names = names;
     add_join_names(alloc, &mut names)?;
-    let (arities, rules, _own) = list.into_parts();
-    // The rules are sound, and the limits leave room for `join`, so no fault is found.
-    match join_system(alloc, arities, rules) {
-        Ok(system) => Ok((system, names)),
-        Err(_) => Err(ReadError::NoMemory),
-    }
+    let system = join_sound(alloc, list)?;
+    Ok((system, names))
 }
 
 /// The system that the tree means, with its names, or the first refusal.

@@ -82,11 +82,11 @@ fn read_conditions<'a>(
 }
 
 // Refuses a bar in a file without a condition type.
-fn check_bar(oriented: bool, bar: Option<usize>) -> Result<(), ReadError>
-    ensures { BarAnswers oriented bar result }
+fn check_bar(has_type: bool, bar: Option<usize>) -> Result<(), ReadError>
+    ensures { BarAnswers has_type bar result }
 {
     match bar {
-        Some(at) if !oriented => Err(ReadError::ConditionsWithoutType { at }),
+        Some(at) if !has_type => Err(ReadError::ConditionsWithoutType { at }),
         _ => Ok(()),
     }
 }
@@ -95,20 +95,20 @@ fn check_bar(oriented: bool, bar: Option<usize>) -> Result<(), ReadError>
 fn read_parts<'a>(
     alloc: Global,
     scope: &mut Scope<'a>,
-    oriented: bool,
+    has_type: bool,
     text: &RuleText<'a>,
     number: usize,
 ) -> Result<Rule, ReadError>
     requires none { scope.old.variables ≡ [] }
     requires text { (t : syntax.RuleTree) × IsRule text.now t }
-    ensures parts { (t : syntax.RuleTree) → IsRule text.now t → PartsAnswers scope.old.block oriented scope.old.names.symbols number t scope.new.names.symbols scope.new.variables result }
+    ensures parts { (t : syntax.RuleTree) → IsRule text.now t → PartsAnswers scope.old.block has_type scope.old.names.symbols number t scope.new.names.symbols scope.new.variables result }
     ensures few { OnOk result (number ≤ 1000) }
     ensures block { scope.new.block ≡ scope.old.block }
     ensures rules { scope.new.names.variables ≡ scope.old.names.variables }
 {
     let left = read_side(alloc, scope, &text.left, number, 0, true)?;
     let right = read_side(alloc, scope, &text.right, number, 0, false)?;
-    check_bar(oriented, text.bar)?;
+    check_bar(has_type, text.bar)?;
     let conds = read_conditions(alloc, scope, &text.conditions, number)?;
     let vars = scope.variables.len() as u32;
     Ok(Rule {
@@ -123,18 +123,18 @@ fn read_parts<'a>(
 fn read_rule<'a>(
     alloc: Global,
     scope: &mut Scope<'a>,
-    oriented: bool,
+    has_type: bool,
     text: &RuleText<'a>,
     number: usize,
 ) -> Result<Rule, ReadError>
     requires number { length scope.old.names.variables < number }
     requires text { (t : syntax.RuleTree) × IsRule text.now t }
-    ensures rule { (t : syntax.RuleTree) → IsRule text.now t → RuleAnswers scope.old.block oriented scope.old.names.symbols number t scope.old.names.variables scope.new.names.symbols scope.new.names.variables result }
+    ensures rule { (t : syntax.RuleTree) → IsRule text.now t → RuleAnswers scope.old.block has_type scope.old.names.symbols number t scope.old.names.variables scope.new.names.symbols scope.new.names.variables result }
     ensures one { OnOk result (length scope.new.names.variables ≡ length scope.old.names.variables + 1) }
     ensures block { scope.new.block ≡ scope.old.block }
 {
     scope.variables.clear();
-    let rule = read_parts(alloc, scope, oriented, text, number)?;
+    let rule = read_parts(alloc, scope, has_type, text, number)?;
     let names = scope.variables.strings(alloc)?;
     scope.names.add_rule(names)?;
     Ok(rule)
@@ -145,17 +145,17 @@ fn read_rule<'a>(
 pub(crate) fn read_rules<'a>(
     alloc: Global,
     scope: &mut Scope<'a>,
-    oriented: bool,
+    has_type: bool,
     texts: Vec<RuleText<'a>>,
 ) -> Result<Vec<Rule>, ReadError>
     requires none { scope.old.names.variables ≡ [] }
     requires texts { (trees : List syntax.RuleTree) × AreRules texts.items trees }
-    ensures rules { (trees : List syntax.RuleTree) → AreRules texts.entry.items trees → RulesAnswers scope.old.block oriented scope.old.names.symbols trees scope.new.names.symbols scope.new.names.variables result }
+    ensures rules { (trees : List syntax.RuleTree) → AreRules texts.entry.items trees → RulesAnswers scope.old.block has_type scope.old.names.symbols trees scope.new.names.symbols scope.new.names.variables result }
     ensures block { scope.new.block ≡ scope.old.block }
 {
     let mut rules = Vec::with_capacity(alloc, texts.len())?;
     'rules: for text in texts {
-        let rule = read_rule(alloc, scope, oriented, &text, rules.len() + 1)?;
+        let rule = read_rule(alloc, scope, has_type, &text, rules.len() + 1)?;
         rules.push(rule)?;
     }
     Ok(rules)

@@ -2,8 +2,10 @@
 use Rattle.std.proofs.Common.{◌≡◌, ℕ, Bool, true, false, cond, ◌&&◌, ◌||◌, List, [], ◌∷◌, ◌++◌, Option, Some, None, Result, Ok, Err, option_map, is_some, refl, sym, ap, subst, ◌∙◌, codes}
 use Rattle.std.proofs.lemmas.Slice.Eq.{bytes_eq-Decides}
 use Rattle.std.specs.Str.{bytes_eq}
+use Rattle.file_text.specs.declared.ConditionType.{ConditionType}
+use Rattle.file_text.specs.declared.ConditionType.TheVariants.{Oriented, Join}
 use Rattle.file_text.specs.Syntax.{Name, RuleTree, FileTree}
-use Rattle.file_text.specs.Grammar.{Word, id, left_paren, right_paren, comma, bar, arrow, equal, Block, condition_type, variables, rules, has_block, oriented_in, joins_in, variables_in, rules_in}
+use Rattle.file_text.specs.Grammar.{Word, id, left_paren, right_paren, comma, bar, arrow, equal, Block, condition_type, variables, rules, has_block, type_in, variables_in, rules_in}
 use Rattle.file_text.specs.Refusals.{SyntaxCause, repeated_block, unknown_block, other_condition_type}
 use Rattle.file_text.proofs.Machine as machine
 use Rattle.cops_trees.specs.Flat as lists
@@ -12,18 +14,18 @@ use Rattle.cops_trees.proofs.FlatTrees.{rules_of, reading_of, shown, step_of, cl
 -- the identifiers of the first block of variables
 abbrev pub held : List Block → Option (List Name)
 held [] = None
-held (condition_type p q j ∷ bs) = held bs
+held (condition_type p q kind ∷ bs) = held bs
 held (variables p names ∷ bs) = Some names
 held (rules p rs ∷ bs) = held bs
 
 abbrev pub holding : List Block → lists.Stage → lists.Blocks
-holding bs s = record { oriented = oriented_in bs; joins = joins_in bs; variables = held bs; rules = option_map rules_of (rules_in bs); stage = s }
+holding bs s = record { condition_type = type_in bs; variables = held bs; rules = option_map rules_of (rules_in bs); stage = s }
 
 abbrev pub stage_of : machine.State → lists.Stage
 stage_of (machine.outside bs) = lists.outside
 stage_of (machine.behind_bracket bs) = lists.at_title
 stage_of (machine.behind_type bs at) = lists.at_type
-stage_of (machine.behind_oriented bs at q joins) = lists.at_type_end joins
+stage_of (machine.behind_type_word bs at q kind) = lists.at_type_end kind
 stage_of (machine.in_variables bs at names) = lists.variables names
 stage_of (machine.in_rules bs at r) = lists.rules (reading_of r)
 
@@ -31,7 +33,7 @@ abbrev pub before : machine.State → List Block
 before (machine.outside bs) = bs
 before (machine.behind_bracket bs) = bs
 before (machine.behind_type bs at) = bs
-before (machine.behind_oriented bs at q joins) = bs
+before (machine.behind_type_word bs at q kind) = bs
 before (machine.in_variables bs at names) = bs
 before (machine.in_rules bs at r) = bs
 
@@ -46,46 +48,28 @@ mapped (Err c) = Err c
 abbrev pub IsFresh : machine.State → Type 0
 IsFresh (machine.outside bs) = Unit {0}
 IsFresh (machine.behind_bracket bs) = Unit {0}
-IsFresh (machine.behind_type bs at) = oriented_in bs ≡ false
-IsFresh (machine.behind_oriented bs at q joins) = oriented_in bs ≡ false
+IsFresh (machine.behind_type bs at) = type_in bs ≡ None
+IsFresh (machine.behind_type_word bs at q kind) = type_in bs ≡ None
 IsFresh (machine.in_variables bs at names) = held bs ≡ None
 IsFresh (machine.in_rules bs at r) = rules_in bs ≡ None
 
 -- ---- one more block
 
-same_blocks : (o o2 j j2 : Bool) (v v2 : Option (List Name)) (r r2 : Option (List lists.Rule)) (s : lists.Stage) → o ≡ o2 → j ≡ j2 → v ≡ v2 → r ≡ r2
-    → (let b : lists.Blocks = record { oriented = o; joins = j; variables = v; rules = r; stage = s } in b) ≡ record { oriented = o2; joins = j2; variables = v2; rules = r2; stage = s }
-same_blocks o o2 j j2 v v2 r r2 s e h f g = rw (e, h, f, g) refl
+same_blocks : (k k2 : Option ConditionType) (v v2 : Option (List Name)) (r r2 : Option (List lists.Rule)) (s : lists.Stage) → k ≡ k2 → v ≡ v2 → r ≡ r2
+    → (let b : lists.Blocks = record { condition_type = k; variables = v; rules = r; stage = s } in b) ≡ record { condition_type = k2; variables = v2; rules = r2; stage = s }
+same_blocks k k2 v v2 r r2 s e f g = rw (e, f, g) refl
 
-type_push : (bs : List Block) (p q : ℕ) (j : Bool) → oriented_in (bs ++ condition_type p q j ∷ []) ≡ true
-type_push [] p q j = refl
-type_push (condition_type a b c ∷ bs) p q j = refl
-type_push (variables a names ∷ bs) p q j = type_push bs p q j
-type_push (rules a rs ∷ bs) p q j = type_push bs p q j
+type_push : (bs : List Block) (p q : ℕ) (kind : ConditionType) → type_in bs ≡ None → type_in (bs ++ condition_type p q kind ∷ []) ≡ Some kind
+type_push [] p q kind e = refl
+type_push (condition_type a b c ∷ bs) p q kind e = absurd cc
+type_push (variables a names ∷ bs) p q kind e = type_push bs p q kind e
+type_push (rules a rs ∷ bs) p q kind e = type_push bs p q kind e
 
-joins_push : (bs : List Block) (p q : ℕ) (j : Bool) → oriented_in bs ≡ false → joins_in (bs ++ condition_type p q j ∷ []) ≡ j
-joins_push [] p q j e = refl
-joins_push (condition_type a b c ∷ bs) p q j e = absurd cc
-joins_push (variables a names ∷ bs) p q j e = joins_push bs p q j e
-joins_push (rules a rs ∷ bs) p q j e = joins_push bs p q j e
-
-variables_keep_joins : (bs : List Block) (p : ℕ) (names : List Name) → joins_in (bs ++ variables p names ∷ []) ≡ joins_in bs
-variables_keep_joins [] p names = refl
-variables_keep_joins (condition_type a b c ∷ bs) p names = refl
-variables_keep_joins (variables a vs ∷ bs) p names = variables_keep_joins bs p names
-variables_keep_joins (rules a rs ∷ bs) p names = variables_keep_joins bs p names
-
-rules_keep_joins : (bs : List Block) (p : ℕ) (rs : List RuleTree) → joins_in (bs ++ rules p rs ∷ []) ≡ joins_in bs
-rules_keep_joins [] p rs = refl
-rules_keep_joins (condition_type a b c ∷ bs) p rs = refl
-rules_keep_joins (variables a vs ∷ bs) p rs = rules_keep_joins bs p rs
-rules_keep_joins (rules a qs ∷ bs) p rs = rules_keep_joins bs p rs
-
-type_keeps : (bs : List Block) (p q : ℕ) (j : Bool) → (held (bs ++ condition_type p q j ∷ []) ≡ held bs) × (rules_in (bs ++ condition_type p q j ∷ []) ≡ rules_in bs)
-type_keeps [] p q j = (refl, refl)
-type_keeps (condition_type a b c ∷ bs) p q j = type_keeps bs p q j
-type_keeps (variables a names ∷ bs) p q j = (refl, (type_keeps bs p q j).1)
-type_keeps (rules a rs ∷ bs) p q j = ((type_keeps bs p q j).0, refl)
+type_keeps : (bs : List Block) (p q : ℕ) (kind : ConditionType) → (held (bs ++ condition_type p q kind ∷ []) ≡ held bs) × (rules_in (bs ++ condition_type p q kind ∷ []) ≡ rules_in bs)
+type_keeps [] p q kind = (refl, refl)
+type_keeps (condition_type a b c ∷ bs) p q kind = type_keeps bs p q kind
+type_keeps (variables a names ∷ bs) p q kind = (refl, (type_keeps bs p q kind).1)
+type_keeps (rules a rs ∷ bs) p q kind = ((type_keeps bs p q kind).0, refl)
 
 variables_push : (bs : List Block) (p : ℕ) (names : List Name) → held bs ≡ None → held (bs ++ variables p names ∷ []) ≡ Some names
 variables_push [] p names e = refl
@@ -93,7 +77,7 @@ variables_push (condition_type a b c ∷ bs) p names e = variables_push bs p nam
 variables_push (variables a vs ∷ bs) p names e = absurd cc
 variables_push (rules a rs ∷ bs) p names e = variables_push bs p names e
 
-variables_keeps : (bs : List Block) (p : ℕ) (names : List Name) → (oriented_in (bs ++ variables p names ∷ []) ≡ oriented_in bs) × (rules_in (bs ++ variables p names ∷ []) ≡ rules_in bs)
+variables_keeps : (bs : List Block) (p : ℕ) (names : List Name) → (type_in (bs ++ variables p names ∷ []) ≡ type_in bs) × (rules_in (bs ++ variables p names ∷ []) ≡ rules_in bs)
 variables_keeps [] p names = (refl, refl)
 variables_keeps (condition_type a b c ∷ bs) p names = (refl, (variables_keeps bs p names).1)
 variables_keeps (variables a vs ∷ bs) p names = variables_keeps bs p names
@@ -105,50 +89,51 @@ rules_push (condition_type a b c ∷ bs) p rs e = rules_push bs p rs e
 rules_push (variables a vs ∷ bs) p rs e = rules_push bs p rs e
 rules_push (rules a qs ∷ bs) p rs e = absurd cc
 
-rules_keeps : (bs : List Block) (p : ℕ) (rs : List RuleTree) → (oriented_in (bs ++ rules p rs ∷ []) ≡ oriented_in bs) × (held (bs ++ rules p rs ∷ []) ≡ held bs)
+rules_keeps : (bs : List Block) (p : ℕ) (rs : List RuleTree) → (type_in (bs ++ rules p rs ∷ []) ≡ type_in bs) × (held (bs ++ rules p rs ∷ []) ≡ held bs)
 rules_keeps [] p rs = (refl, refl)
 rules_keeps (condition_type a b c ∷ bs) p rs = (refl, (rules_keeps bs p rs).1)
 rules_keeps (variables a vs ∷ bs) p rs = ((rules_keeps bs p rs).0, refl)
 rules_keeps (rules a qs ∷ bs) p rs = rules_keeps bs p rs
 
-with_type_of : (bs : List Block) (p q : ℕ) (j : Bool) (s : lists.Stage) → oriented_in bs ≡ false → lists.with_type (holding bs s) j ≡ holding (bs ++ condition_type p q j ∷ []) lists.outside
-with_type_of bs p q j s e =
-    let k = type_keeps bs p q j in
-    same_blocks _ _ _ _ _ _ _ _ _ (sym (type_push bs p q j)) (sym (joins_push bs p q j e)) (sym k.0) (ap (option_map rules_of) (sym k.1))
+with_type_of : (bs : List Block) (p q : ℕ) (kind : ConditionType) (s : lists.Stage) → type_in bs ≡ None
+    → lists.with_type (holding bs s) kind ≡ holding (bs ++ condition_type p q kind ∷ []) lists.outside
+with_type_of bs p q kind s e =
+    let k = type_keeps bs p q kind in
+    same_blocks _ _ _ _ _ _ _ (sym (type_push bs p q kind e)) (sym k.0) (ap (option_map rules_of) (sym k.1))
 
 with_variables_of : (bs : List Block) (p : ℕ) (names : List Name) (s : lists.Stage) → held bs ≡ None → lists.with_variables (holding bs s) names ≡ holding (bs ++ variables p names ∷ []) lists.outside
 with_variables_of bs p names s e =
     let k = variables_keeps bs p names in
-    same_blocks _ _ _ _ _ _ _ _ _ (sym k.0) (sym (variables_keep_joins bs p names)) (sym (variables_push bs p names e)) (ap (option_map rules_of) (sym k.1))
+    same_blocks _ _ _ _ _ _ _ (sym k.0) (sym (variables_push bs p names e)) (ap (option_map rules_of) (sym k.1))
 
 with_rules_of : (bs : List Block) (p : ℕ) (rs : List RuleTree) (s : lists.Stage) → rules_in bs ≡ None → lists.with_rules (holding bs s) (rules_of rs) ≡ holding (bs ++ rules p rs ∷ []) lists.outside
 with_rules_of bs p rs s e =
     let k = rules_keeps bs p rs in
-    same_blocks _ _ _ _ _ _ _ _ _ (sym k.0) (sym (rules_keep_joins bs p rs)) (sym k.1) (sym (ap (option_map rules_of) (rules_push bs p rs e)))
+    same_blocks _ _ _ _ _ _ _ (sym k.0) (sym k.1) (sym (ap (option_map rules_of) (rules_push bs p rs e)))
 
 -- ---- titles
 
-has_type : (bs : List Block) → has_block bs (codes "CONDITIONTYPE") ≡ oriented_in bs
+has_type : (bs : List Block) → has_block bs (codes "CONDITIONTYPE") ≡ is_some (type_in bs)
 has_type [] = refl
-has_type (condition_type p q j ∷ bs) = refl
+has_type (condition_type p q kind ∷ bs) = refl
 has_type (variables p names ∷ bs) = has_type bs
 has_type (rules p rs ∷ bs) = has_type bs
 
 has_variables : (bs : List Block) → has_block bs (codes "VAR") ≡ is_some (held bs)
 has_variables [] = refl
-has_variables (condition_type p q j ∷ bs) = has_variables bs
+has_variables (condition_type p q kind ∷ bs) = has_variables bs
 has_variables (variables p names ∷ bs) = refl
 has_variables (rules p rs ∷ bs) = has_variables bs
 
 has_rules : (bs : List Block) → has_block bs (codes "RULES") ≡ is_some (option_map rules_of (rules_in bs))
 has_rules [] = refl
-has_rules (condition_type p q j ∷ bs) = has_rules bs
+has_rules (condition_type p q kind ∷ bs) = has_rules bs
 has_rules (variables p names ∷ bs) = has_rules bs
 has_rules (rules p rs ∷ bs) = refl
 
 has_none : (bs : List Block) (text : List ℕ) → bytes_eq text (codes "CONDITIONTYPE") ≡ false → bytes_eq text (codes "VAR") ≡ false → bytes_eq text (codes "RULES") ≡ false → has_block bs text ≡ false
 has_none [] text a b c = refl
-has_none (condition_type p q j ∷ bs) text a b c = ap (λ (t : Bool). t || has_block bs text) a ∙ has_none bs text a b c
+has_none (condition_type p q kind ∷ bs) text a b c = ap (λ (t : Bool). t || has_block bs text) a ∙ has_none bs text a b c
 has_none (variables p names ∷ bs) text a b c = ap (λ (t : Bool). t || has_block bs text) b ∙ has_none bs text a b c
 has_none (rules p rs ∷ bs) text a b c = ap (λ (t : Bool). t || has_block bs text) c ∙ has_none bs text a b c
 
@@ -157,7 +142,7 @@ has_same bs text other e = ap (has_block bs) ((bytes_eq-Decides text other).0 e)
 
 -- what is known of three tests of a title and of whether there is a block of it
 record Tests (bs : List Block) (a b c h : Bool) : Type 0 where
-  typed : a ≡ true → h ≡ oriented_in bs
+  typed : a ≡ true → h ≡ is_some (type_in bs)
   named : b ≡ true → h ≡ is_some (held bs)
   ruled : c ≡ true → h ≡ is_some (option_map rules_of (rules_in bs))
   other : a ≡ false → b ≡ false → c ≡ false → h ≡ false
@@ -177,14 +162,15 @@ begun bs at a b c = cond a (Ok (machine.behind_type bs at)) (cond b (Ok (machine
 abbrev entered : List Block → Bool → Bool → Bool → Result lists.Blocks SyntaxCause
 entered bs a b c =
     let h = holding bs lists.at_title in
-    cond a (lists.enter h h.oriented lists.at_type) (cond b (lists.enter h (is_some h.variables) (lists.variables [])) (cond c (lists.enter h (is_some h.rules) (lists.rules lists.no_rules)) (Err unknown_block)))
+    cond a (lists.enter h (is_some h.condition_type) lists.at_type)
+    (cond b (lists.enter h (is_some h.variables) (lists.variables [])) (cond c (lists.enter h (is_some h.rules) (lists.rules lists.no_rules)) (Err unknown_block)))
 
 either : (h k : Bool) (s : machine.State) → h ≡ k → cond k (Err repeated_block) (Ok (blocks_of s)) ≡ mapped (cond h (Err repeated_block) (Ok s))
 either true k s e = rw (sym e) refl
 either false k s e = rw (sym e) refl
 
 title_by : (bs : List Block) (at : ℕ) (a b c h : Bool) → Tests bs a b c h → entered bs a b c ≡ mapped (cond h (Err repeated_block) (begun bs at a b c))
-title_by bs at true b c h t = either h (oriented_in bs) (machine.behind_type bs at) (t.typed refl)
+title_by bs at true b c h t = either h (is_some (type_in bs)) (machine.behind_type bs at) (t.typed refl)
 title_by bs at false true c h t = either h (is_some (held bs)) (machine.in_variables bs at []) (t.named refl)
 title_by bs at false false true h t = either h (is_some (option_map rules_of (rules_in bs))) (machine.in_rules bs at machine.no_rule) (t.ruled refl)
 title_by bs at false false false h t = rw (t.other refl refl refl) refl
@@ -205,7 +191,7 @@ not_mapped (Some x) e = absurd cc
 
 title_fresh : (bs : List Block) (at : ℕ) (a b c h : Bool) (t : machine.State) → Tests bs a b c h → cond h (Err repeated_block) (begun bs at a b c) ≡ Ok t → IsFresh t
 title_fresh bs at a b c true t k e = absurd cc
-title_fresh bs at true b c false t k e = subst IsFresh (ok_is (machine.behind_type bs at) t e) (sym (k.typed refl))
+title_fresh bs at true b c false t k e = subst IsFresh (ok_is (machine.behind_type bs at) t e) (not_some (type_in bs) (k.typed refl))
 title_fresh bs at false true c false t k e = subst IsFresh (ok_is (machine.in_variables bs at []) t e) (not_some (held bs) (k.named refl))
 title_fresh bs at false false true false t k e = subst IsFresh (ok_is (machine.in_rules bs at machine.no_rule) t e) (not_mapped (rules_in bs) (k.ruled refl))
 title_fresh bs at false false false false t k e = absurd cc
@@ -284,8 +270,9 @@ type_step_of : (bs : List Block) (at : ℕ) (name : Name) → lists.type_step (h
 type_step_of bs at name = by_tests (bytes_eq name.text (codes "ORIENTED")) (bytes_eq name.text (codes "JOIN"))
   where
     by_tests : (a b : Bool)
-        → cond a (Ok (lists.at_stage (holding bs lists.at_type) (lists.at_type_end false))) (cond b (Ok (lists.at_stage (holding bs lists.at_type) (lists.at_type_end true))) (Err other_condition_type))
-        ≡ mapped (cond a (Ok (machine.behind_oriented bs at name.at false)) (cond b (Ok (machine.behind_oriented bs at name.at true)) (Err other_condition_type)))
+        → cond a (Ok (lists.at_stage (holding bs lists.at_type) (lists.at_type_end Oriented)))
+        (cond b (Ok (lists.at_stage (holding bs lists.at_type) (lists.at_type_end Join))) (Err other_condition_type))
+        ≡ mapped (cond a (Ok (machine.behind_type_word bs at name.at Oriented)) (cond b (Ok (machine.behind_type_word bs at name.at Join)) (Err other_condition_type)))
     by_tests true b = refl
     by_tests false true = refl
     by_tests false false = refl
@@ -298,8 +285,8 @@ block_step_of (machine.behind_bracket bs) (id name) fresh = title_of bs name
 block_step_of (machine.behind_bracket bs) _ fresh = refl
 block_step_of (machine.behind_type bs at) (id name) fresh = type_step_of bs at name
 block_step_of (machine.behind_type bs at) _ fresh = refl
-block_step_of (machine.behind_oriented bs at q joins) right_paren fresh = ap (λ (b : lists.Blocks). Ok b) (with_type_of bs at q joins (lists.at_type_end joins) fresh)
-block_step_of (machine.behind_oriented bs at q joins) _ fresh = refl
+block_step_of (machine.behind_type_word bs at q kind) right_paren fresh = ap (λ (b : lists.Blocks). Ok b) (with_type_of bs at q kind (lists.at_type_end kind) fresh)
+block_step_of (machine.behind_type_word bs at q kind) _ fresh = refl
 block_step_of (machine.in_variables bs at names) (id name) fresh = refl
 block_step_of (machine.in_variables bs at names) right_paren fresh = ap (λ (b : lists.Blocks). Ok b) (with_variables_of bs at names (lists.variables names) fresh)
 block_step_of (machine.in_variables bs at names) _ fresh = refl
@@ -310,10 +297,10 @@ rules_fresh bs at (Some rs) q t fresh e = subst IsFresh (ok_is (machine.outside 
 rules_fresh bs at None None t fresh e = absurd cc
 rules_fresh bs at None (Some r) t fresh e = subst IsFresh (ok_is (machine.in_rules bs at r) t e) fresh
 
-type_fresh : (bs : List Block) (at q : ℕ) (a b : Bool) (t : machine.State) → oriented_in bs ≡ false
-    → cond a (Ok (machine.behind_oriented bs at q false)) (cond b (Ok (machine.behind_oriented bs at q true)) (Err other_condition_type)) ≡ Ok t → IsFresh t
-type_fresh bs at q true b t fresh e = subst IsFresh (ok_is (machine.behind_oriented bs at q false) t e) fresh
-type_fresh bs at q false true t fresh e = subst IsFresh (ok_is (machine.behind_oriented bs at q true) t e) fresh
+type_fresh : (bs : List Block) (at q : ℕ) (a b : Bool) (t : machine.State) → type_in bs ≡ None
+    → cond a (Ok (machine.behind_type_word bs at q Oriented)) (cond b (Ok (machine.behind_type_word bs at q Join)) (Err other_condition_type)) ≡ Ok t → IsFresh t
+type_fresh bs at q true b t fresh e = subst IsFresh (ok_is (machine.behind_type_word bs at q Oriented) t e) fresh
+type_fresh bs at q false true t fresh e = subst IsFresh (ok_is (machine.behind_type_word bs at q Join) t e) fresh
 type_fresh bs at q false false t fresh e = absurd cc
 
 pub fresh_next : (s t : machine.State) (w : Word) → IsFresh s → machine.step s w ≡ Ok t → IsFresh t
@@ -323,8 +310,8 @@ fresh_next (machine.behind_bracket bs) t (id name) fresh e = title_fresh bs name
 fresh_next (machine.behind_bracket bs) t _ fresh e = absurd cc
 fresh_next (machine.behind_type bs at) t (id name) fresh e = type_fresh bs at name.at _ _ t fresh e
 fresh_next (machine.behind_type bs at) t _ fresh e = absurd cc
-fresh_next (machine.behind_oriented bs at q joins) t right_paren fresh e = subst IsFresh (ok_is (machine.outside (bs ++ condition_type at q joins ∷ [])) t e) tt
-fresh_next (machine.behind_oriented bs at q joins) t _ fresh e = absurd cc
+fresh_next (machine.behind_type_word bs at q kind) t right_paren fresh e = subst IsFresh (ok_is (machine.outside (bs ++ condition_type at q kind ∷ [])) t e) tt
+fresh_next (machine.behind_type_word bs at q kind) t _ fresh e = absurd cc
 fresh_next (machine.in_variables bs at names) t (id name) fresh e = subst IsFresh (ok_is (machine.in_variables bs at (names ++ name ∷ [])) t e) fresh
 fresh_next (machine.in_variables bs at names) t right_paren fresh e = subst IsFresh (ok_is (machine.outside (bs ++ variables at names ∷ [])) t e) tt
 fresh_next (machine.in_variables bs at names) t _ fresh e = absurd cc
@@ -334,14 +321,14 @@ pub can_step_of : (s : machine.State) → lists.CanStep (stage_of s)
 can_step_of (machine.outside bs) = tt
 can_step_of (machine.behind_bracket bs) = tt
 can_step_of (machine.behind_type bs at) = tt
-can_step_of (machine.behind_oriented bs at q joins) = tt
+can_step_of (machine.behind_type_word bs at q kind) = tt
 can_step_of (machine.in_variables bs at names) = tt
 can_step_of (machine.in_rules bs at r) = can_step r.opens r.last
 
 -- ---- the end
 
 abbrev pub file_of : FileTree → lists.File
-file_of f = record { oriented = f.oriented; joins = f.joins; variables = f.variables; rules = rules_of f.rules }
+file_of f = record { condition_type = f.condition_type; variables = f.variables; rules = rules_of f.rules }
 
 abbrev pub mapped_file : Result FileTree SyntaxCause → Result lists.File SyntaxCause
 mapped_file (Ok f) = Ok (file_of f)
@@ -349,18 +336,18 @@ mapped_file (Err c) = Err c
 
 names_held : (bs : List Block) → lists.names_or_none (held bs) ≡ variables_in bs
 names_held [] = refl
-names_held (condition_type p q j ∷ bs) = names_held bs
+names_held (condition_type p q kind ∷ bs) = names_held bs
 names_held (variables p names ∷ bs) = refl
 names_held (rules p rs ∷ bs) = names_held bs
 
-whole_of : (bs : List Block) (o : Option (List RuleTree)) → lists.whole_file (oriented_in bs) (joins_in bs) (held bs) (option_map rules_of o) ≡ mapped_file (machine.file_or_missing bs o)
+whole_of : (bs : List Block) (o : Option (List RuleTree)) → lists.whole_file (type_in bs) (held bs) (option_map rules_of o) ≡ mapped_file (machine.file_or_missing bs o)
 whole_of bs None = refl
-whole_of bs (Some rs) = ap (λ (vs : List Name). Ok record { oriented = oriented_in bs; joins = joins_in bs; variables = vs; rules = rules_of rs }) (names_held bs)
+whole_of bs (Some rs) = ap (λ (vs : List Name). Ok record { condition_type = type_in bs; variables = vs; rules = rules_of rs }) (names_held bs)
 
 pub finish_of : (s : machine.State) → lists.finish (blocks_of s) ≡ mapped_file (machine.finish s)
 finish_of (machine.outside bs) = whole_of bs (rules_in bs)
 finish_of (machine.behind_bracket bs) = refl
 finish_of (machine.behind_type bs at) = refl
-finish_of (machine.behind_oriented bs at q joins) = refl
+finish_of (machine.behind_type_word bs at q kind) = refl
 finish_of (machine.in_variables bs at names) = refl
 finish_of (machine.in_rules bs at r) = refl

@@ -55,8 +55,7 @@ are_rules (r ∷ rs) (t ∷ ts) e =
 
 is_file : (f : FileText) (t : syntax.FileTree) → file_view f ≡ file_of t → IsFileText f t
 is_file f t e = record {
-  oriented = ap (λ (g : lists.File). g.oriented) e;
-  joins = ap (λ (g : lists.File). g.joins) e;
+  condition_type = ap (λ (g : lists.File). g.condition_type) e;
   variables = ap (λ (g : lists.File). g.variables) e;
   rules = are_rules f.rules.items t.rules (ap (λ (g : lists.File). g.rules) e);
 }

@@ -2,6 +2,8 @@
 use Rattle.std.specs.Prelude.{ℕ, zero, suc, ◌+◌, ◌<◌, Bool, true, false, List, [], ◌∷◌, ◌++◌, length, Option, Some, None, is_some, Result, Ok, Err, codes, if◌then◌else◌, ◌&&◌}
 use Rattle.std.specs.Option.{option_map}
 use Rattle.std.specs.Str.{bytes_eq}
+use Rattle.file_text.specs.declared.ConditionType.{ConditionType}
+use Rattle.file_text.specs.declared.ConditionType.TheVariants.{Oriented, Join}
 use Rattle.file_text.specs.Syntax.{Name, Node}
 use Rattle.file_text.specs.Grammar.{Word, id, left_paren, right_paren, comma, bar, arrow, equal}
 use Rattle.file_text.specs.Refusals.{SyntaxCause, unknown_block, repeated_block, other_condition_type, wrong_syntax, missing_rules}
@@ -161,23 +163,22 @@ pub data Stage : Type 0 where
   outside : Stage
   at_title : Stage
   at_type : Stage
-  at_type_end : Bool → Stage
+  at_type_end : ConditionType → Stage
   variables : List Name → Stage
   rules : Reading → Stage
 
 -- what the whole blocks hold, and how far the next one is
 pub record Blocks : Type 0 where
-  pub oriented : Bool
-  pub joins : Bool
+  pub condition_type : Option ConditionType
   pub variables : Option (List Name)
   pub rules : Option (List Rule)
   pub stage : Stage
 
 abbrev pub begin : Blocks
-begin = record { oriented = false; joins = false; variables = None; rules = None; stage = outside }
+begin = record { condition_type = None; variables = None; rules = None; stage = outside }
 
 abbrev pub at_stage : Blocks → Stage → Blocks
-at_stage b s = record { oriented = b.oriented; joins = b.joins; variables = b.variables; rules = b.rules; stage = s }
+at_stage b s = record { condition_type = b.condition_type; variables = b.variables; rules = b.rules; stage = s }
 
 -- a block begins, unless there was one of its title
 abbrev pub enter : Blocks → Bool → Stage → Result Blocks SyntaxCause
@@ -189,7 +190,7 @@ no_rules = reading [] left_side [] [] want
 -- an identifier behind a block's bracket
 abbrev pub title_step : Blocks → Name → Result Blocks SyntaxCause
 title_step b name =
-    if bytes_eq name.text (codes "CONDITIONTYPE") then enter b b.oriented at_type else
+    if bytes_eq name.text (codes "CONDITIONTYPE") then enter b (is_some b.condition_type) at_type else
     if bytes_eq name.text (codes "VAR") then enter b (is_some b.variables) (variables []) else
     if bytes_eq name.text (codes "RULES") then enter b (is_some b.rules) (rules no_rules) else
     Err unknown_block
@@ -197,18 +198,18 @@ title_step b name =
 -- an identifier behind the title of a condition type
 abbrev pub type_step : Blocks → Name → Result Blocks SyntaxCause
 type_step b name =
-    if bytes_eq name.text (codes "ORIENTED") then Ok (at_stage b (at_type_end false)) else
-    if bytes_eq name.text (codes "JOIN") then Ok (at_stage b (at_type_end true)) else
+    if bytes_eq name.text (codes "ORIENTED") then Ok (at_stage b (at_type_end Oriented)) else
+    if bytes_eq name.text (codes "JOIN") then Ok (at_stage b (at_type_end Join)) else
     Err other_condition_type
 
-abbrev pub with_type : Blocks → Bool → Blocks
-with_type b joins = record { oriented = true; joins = joins; variables = b.variables; rules = b.rules; stage = outside }
+abbrev pub with_type : Blocks → ConditionType → Blocks
+with_type b kind = record { condition_type = Some kind; variables = b.variables; rules = b.rules; stage = outside }
 
 abbrev pub with_variables : Blocks → List Name → Blocks
-with_variables b names = record { oriented = b.oriented; joins = b.joins; variables = Some names; rules = b.rules; stage = outside }
+with_variables b names = record { condition_type = b.condition_type; variables = Some names; rules = b.rules; stage = outside }
 
 abbrev pub with_rules : Blocks → List Rule → Blocks
-with_rules b rs = record { oriented = b.oriented; joins = b.joins; variables = b.variables; rules = Some rs; stage = outside }
+with_rules b rs = record { condition_type = b.condition_type; variables = b.variables; rules = Some rs; stage = outside }
 
 abbrev pub variable_step : Blocks → List Name → Word → Result Blocks SyntaxCause
 variable_step b names (id name) = Ok (at_stage b (variables (names ++ name ∷ [])))
@@ -245,8 +246,8 @@ stage_step b at_title (id name) = title_step b name
 stage_step b at_title _ = Err wrong_syntax
 stage_step b at_type (id name) = type_step b name
 stage_step b at_type _ = Err wrong_syntax
-stage_step b (at_type_end joins) right_paren = Ok (with_type b joins)
-stage_step b (at_type_end joins) _ = Err wrong_syntax
+stage_step b (at_type_end kind) right_paren = Ok (with_type b kind)
+stage_step b (at_type_end kind) _ = Err wrong_syntax
 stage_step b (variables names) w = variable_step b names w
 stage_step b (rules r) w = rule_step b r w
 
@@ -254,8 +255,7 @@ abbrev pub step_blocks : Blocks → Word → Result Blocks SyntaxCause
 step_blocks b w = stage_step b b.stage w
 
 pub record File : Type 0 where
-  pub oriented : Bool
-  pub joins : Bool
+  pub condition_type : Option ConditionType
   pub variables : List Name
   pub rules : List Rule
 
@@ -263,12 +263,12 @@ abbrev pub names_or_none : Option (List Name) → List Name
 names_or_none None = []
 names_or_none (Some names) = names
 
-abbrev pub whole_file : Bool → Bool → Option (List Name) → Option (List Rule) → Result File SyntaxCause
-whole_file o j vs None = Err missing_rules
-whole_file o j vs (Some rs) = Ok record { oriented = o; joins = j; variables = names_or_none vs; rules = rs }
+abbrev pub whole_file : Option ConditionType → Option (List Name) → Option (List Rule) → Result File SyntaxCause
+whole_file kind vs None = Err missing_rules
+whole_file kind vs (Some rs) = Ok record { condition_type = kind; variables = names_or_none vs; rules = rs }
 
 abbrev pub finish_at : Blocks → Stage → Result File SyntaxCause
-finish_at b outside = whole_file b.oriented b.joins b.variables b.rules
+finish_at b outside = whole_file b.condition_type b.variables b.rules
 finish_at b _ = Err wrong_syntax
 
 -- the file that ends here
@@ -298,6 +298,6 @@ abbrev pub CanStep : Stage → Type 0
 CanStep outside = Unit {0}
 CanStep at_title = Unit {0}
 CanStep at_type = Unit {0}
-CanStep (at_type_end joins) = Unit {0}
+CanStep (at_type_end kind) = Unit {0}
 CanStep (variables names) = Unit {0}
 CanStep (rules r) = CanRead r

@@ -16,7 +16,7 @@ use Rattle.cops_trees.specs.declared.rules.Reading.{Reading}
 use Rattle.cops_trees.specs.declared.blocks.SyntaxRefusal.{SyntaxRefusal}
 use Rattle.cops_trees.specs.declared.blocks.SyntaxRefusal.TheVariants.{Syntax, UnknownBlock, RepeatedBlock, ConditionTypeOther, MissingRules}
 use Rattle.cops_trees.specs.declared.blocks.Stage.{Stage}
-use Rattle.cops_trees.specs.declared.blocks.Stage.TheVariants.{Outside, Title, ConditionType, TypeEnd, Variables, Rules}
+use Rattle.cops_trees.specs.declared.blocks.Stage.TheVariants.{Outside, Title, TypeWord, TypeEnd, Variables, Rules}
 use Rattle.cops_trees.specs.declared.blocks.Blocks.{Blocks}
 use Rattle.cops_trees.specs.declared.reader.SyntaxError.{SyntaxError}
 use Rattle.cops_trees.specs.declared.reader.SyntaxError.TheVariants as error
@@ -71,15 +71,14 @@ rules_if false r = None
 abbrev pub stage_view : Stage → flat.Stage
 stage_view Outside = flat.outside
 stage_view Title = flat.at_title
-stage_view ConditionType = flat.at_type
-stage_view (TypeEnd joins) = flat.at_type_end joins
+stage_view TypeWord = flat.at_type
+stage_view (TypeEnd kind) = flat.at_type_end kind
 stage_view (Variables names) = flat.variables (names_view names.items)
 stage_view (Rules r) = flat.rules (reading_view r)
 
 abbrev pub blocks_view : Blocks → flat.Blocks
 blocks_view b = record {
-  oriented = b.oriented;
-  joins = b.joins;
+  condition_type = b.condition_type;
   variables = option_map (λ v. names_view v.items) b.variables;
   rules = option_map (λ v. rules_view v.items) b.rules;
   stage = stage_view b.stage;
@@ -98,7 +97,7 @@ passed None b = Ok (blocks_view b)
 passed (Some refusal) b = Err (cause_of refusal)
 
 abbrev pub file_view : FileText → flat.File
-file_view f = record { oriented = f.oriented; joins = f.joins; variables = names_view f.variables.items; rules = rules_view f.rules.items }
+file_view f = record { condition_type = f.condition_type; variables = names_view f.variables.items; rules = rules_view f.rules.items }
 
 abbrev pub ended_file : Result FileText SyntaxRefusal → Result flat.File SyntaxCause
 ended_file (Ok f) = Ok (file_view f)

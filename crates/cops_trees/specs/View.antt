@@ -47,7 +47,6 @@ abbrev pub names_view : List Name → List syntax.Name
 names_view ns = map name_view ns
 
 pub record IsFileText (file : FileText) (tree : syntax.FileTree) : Type 0 where
-  pub oriented : file.oriented ≡ tree.oriented
-  pub joins : file.joins ≡ tree.joins
+  pub condition_type : file.condition_type ≡ tree.condition_type
   pub variables : names_view file.variables.items ≡ tree.variables
   pub rules : AreRules file.rules.items tree.rules

@@ -7,6 +7,7 @@ ghost use Rattle.cops_trees.specs.States.{word_view, rules_view, stage_view, blo
 use crate::rules::Reading;
 use crate::tree::{FileText, Name, RuleText};
 use crate::word::Word;
+use file_text::ConditionType;
 use std::alloc::{AllocError, Global};
 use std::mem;
 
@@ -25,8 +26,8 @@ pub enum SyntaxRefusal {
 enum Stage<'a> {
     Outside,
     Title,
-    ConditionType,
-    TypeEnd(bool),
+    TypeWord,
+    TypeEnd(ConditionType),
     Variables(Vec<Name<'a>>),
     Rules(Reading<'a>),
 }
@@ -35,8 +36,7 @@ enum Stage<'a> {
 /// one is.
 #[derive(Drop)]
 pub struct Blocks<'a> {
-    oriented: bool,
-    joins: bool,
+    condition_type: Option<ConditionType>,
     variables: Option<Vec<Name<'a>>>,
     rules: Option<Vec<RuleText<'a>>>,
     stage: Stage<'a>,
@@ -48,8 +48,7 @@ impl<'a> Blocks<'a> {
         ensures { blocks_view result ≡ flat.begin }
     {
         Blocks {
-            oriented: false,
-            joins: false,
+            condition_type: None,
             variables: None,
             rules: None,
             stage: Stage::Outside,
@@ -88,7 +87,8 @@ impl<'a> Blocks<'a> {
             return Some(SyntaxRefusal::Syntax);
         };
         if name.is(b"CONDITIONTYPE") {
-            self.enter(self.oriented, Stage::ConditionType)
+            let again = self.condition_type.is_some();
+            self.enter(again, Stage::TypeWord)
         } else if name.is(b"VAR") {
             let again = self.variables.is_some();
             self.enter(again, Stage::Variables(Vec::new(alloc)))
@@ -108,10 +108,10 @@ impl<'a> Blocks<'a> {
             return Some(SyntaxRefusal::Syntax);
         };
         if name.is(b"ORIENTED") {
-            self.stage = Stage::TypeEnd(false);
+            self.stage = Stage::TypeEnd(ConditionType::Oriented);
             None
         } else if name.is(b"JOIN") {
-            self.stage = Stage::TypeEnd(true);
+            self.stage = Stage::TypeEnd(ConditionType::Join);
             None
         } else {
             Some(SyntaxRefusal::ConditionTypeOther)
@@ -119,13 +119,12 @@ impl<'a> Blocks<'a> {
     }
 
     // A word behind a condition type.
-    fn close_type(&mut self, joins: bool, word: Word<'a>) -> Option<SyntaxRefusal>
-        ensures { passed result self.new ≡ flat.stage_step (blocks_view self.old) (flat.at_type_end joins) (word_view word.entry) }
+    fn close_type(&mut self, condition_type: ConditionType, word: Word<'a>) -> Option<SyntaxRefusal>
+        ensures { passed result self.new ≡ flat.stage_step (blocks_view self.old) (flat.at_type_end condition_type) (word_view word.entry) }
     {
         match word {
             Word::RightParen => {
-                self.oriented = true;
-                self.joins = joins;
+                self.condition_type = Some(condition_type);
                 self.stage = Stage::Outside;
                 None
             }
@@ -166,10 +165,10 @@ impl<'a> Blocks<'a> {
         match &mut self.stage {
             Stage::Outside => Ok(self.begin(word)),
             Stage::Title => Ok(self.titled(alloc, word)),
-            Stage::ConditionType => Ok(self.typed(word)),
-            Stage::TypeEnd(joins) => {
-                let joins = *joins;
-                Ok(self.close_type(joins, word))
+            Stage::TypeWord => Ok(self.typed(word)),
+            Stage::TypeEnd(condition_type) => {
+                let condition_type = *condition_type;
+                Ok(self.close_type(condition_type, word))
             }
             Stage::Variables(names) => match word {
                 Word::Id(name) => {
@@ -202,8 +201,7 @@ impl<'a> Blocks<'a> {
         ensures { ended_file result ≡ flat.finish (blocks_view self.entry) }
     {
         let Blocks {
-            oriented,
-            joins,
+            condition_type,
             variables,
             rules,
             stage,
@@ -219,8 +217,7 @@ impl<'a> Blocks<'a> {
             None => Vec::new(alloc),
         };
         Ok(FileText {
-            oriented,
-            joins,
+            condition_type,
             variables,
             rules,
         })

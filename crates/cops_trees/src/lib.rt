@@ -8,5 +8,6 @@ mod rules;
 mod tree;
 mod word;
 
+pub use file_text::ConditionType;
 pub use reader::{SyntaxError, read_tree};
 pub use tree::{CondText, FileText, Name, Node, RuleText};

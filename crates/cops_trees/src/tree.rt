@@ -1,6 +1,8 @@
 ghost use Rattle.std.specs.Prelude.{◌≡◌};
 ghost use Rattle.std.specs.Str.{bytes_eq};
 
+use file_text::ConditionType;
+
 /// An identifier, and the place of its first byte.
 #[derive(Clone, Copy, Debug)]
 pub struct Name<'a> {
@@ -42,11 +44,10 @@ pub struct RuleText<'a> {
     pub conditions: Vec<CondText<'a>>,
 }
 
-/// A file: whether it has a condition type, and whether that is `JOIN`, the identifiers of its variables' block, and its rules.
+/// A file: its condition type if it has one, the identifiers of its variables' block, and its rules.
 #[derive(Debug, Drop)]
 pub struct FileText<'a> {
-    pub oriented: bool,
-    pub joins: bool,
+    pub condition_type: Option<ConditionType>,
     pub variables: Vec<Name<'a>>,
     pub rules: Vec<RuleText<'a>>,
 }

@@ -1,8 +1,10 @@
 -- The text that is written of a file's tree, its tokens, and the tree that they spell.
-use Rattle.std.proofs.Common.{◌≡◌, ℕ, Bool, true, false, List, [], ◌∷◌, ◌++◌, map, Some, refl, sym, ap, ap₂, ◌∙◌, subst, append_assoc, append-nil, codes}
+use Rattle.std.proofs.Common.{◌≡◌, ℕ, Bool, true, false, List, [], ◌∷◌, ◌++◌, map, Option, Some, None, if◌then◌else◌, refl, sym, ap, ap₂, ◌∙◌, subst, append_assoc, append-nil, codes}
 use Rattle.file_text.specs.declared.Kind.TheVariants.{Id, LeftParen, RightParen}
+use Rattle.file_text.specs.declared.ConditionType.{ConditionType}
+use Rattle.file_text.specs.declared.ConditionType.TheVariants.{Oriented}
 use Rattle.file_text.specs.Syntax.{Name, RuleTree, FileTree}
-use Rattle.file_text.specs.Grammar.{Word, id, left_paren, right_paren, spelled_rules, Block, condition_type, variables, rules, spelled_block, spelled_blocks, oriented_in, joins_in, variables_in, rules_in, are_distinct, SpellTree}
+use Rattle.file_text.specs.Grammar.{Word, id, left_paren, right_paren, spelled_rules, Block, condition_type, variables, rules, spelled_block, spelled_blocks, type_in, variables_in, rules_in, are_distinct, SpellTree}
 use Rattle.file_text.specs.Texts.{words_of, IsText}
 use Rattle.file_text.proofs.Names.{IsName, ends_id, condition_type_name, oriented_name, variables_name, rules_name}
 use Rattle.file_text.proofs.Lexemes.{Lexeme, lexeme, Reads, reads_end, reads_white, reads_id, reads_block, reads_closing_bracket, spelled}
@@ -143,10 +145,9 @@ record Blocks (names : List (List ℕ)) (rs : List RuleTree) (ws : List Word) : 
   alike : RulesAlike rs trees
   variables : map (λ n. n.text) (variables_in blocks) ≡ names
   whole : rules_in blocks ≡ Some trees
-  plain : oriented_in blocks ≡ false
-  no_joins : joins_in blocks ≡ false
+  untyped : type_in blocks ≡ None
   distinct : are_distinct blocks ≡ true
-  also : (p q : ℕ) → are_distinct (condition_type p q false ∷ blocks) ≡ true
+  also : (p q : ℕ) → are_distinct (condition_type p q Oriented ∷ blocks) ≡ true
 
 blocks_behind : (names : List (List ℕ)) (rs : List RuleTree) (ws : List Word) → Have ws (block_tokens names (last_tokens rs)) → Blocks names rs ws
 blocks_behind [] rs ws e =
@@ -158,8 +159,7 @@ blocks_behind [] rs ws e =
       alike = b.alike;
       variables = refl;
       whole = refl;
-      plain = refl;
-      no_joins = refl;
+      untyped = refl;
       distinct = refl;
       also = λ p q. refl;
     }
@@ -180,18 +180,20 @@ blocks_behind (x ∷ xs) rs ws e =
       alike = b.alike;
       variables = p.same;
       whole = refl;
-      plain = refl;
-      no_joins = refl;
+      untyped = refl;
       distinct = refl;
       also = λ p q. refl;
     }
+
+-- the condition type that is written
+abbrev pub written_type : Bool → Option ConditionType
+written_type conditional = if conditional then Some Oriented else None
 
 -- a tree that the written text spells
 pub record Written (conditional : Bool) (names : List (List ℕ)) (rs : List RuleTree) : Type 0 where
   pub tree : FileTree
   pub spelled : IsText (file_text conditional names rs) tree
-  pub oriented : tree.oriented ≡ conditional
-  pub joins : tree.joins ≡ false
+  pub condition_type : tree.condition_type ≡ written_type conditional
   pub variables : map (λ n. n.text) tree.variables ≡ names
   pub alike : RulesAlike rs tree.rules
 
@@ -199,8 +201,7 @@ pub record Written (conditional : Bool) (names : List (List ℕ)) (rs : List Rul
 record WholeFile (conditional : Bool) (names : List (List ℕ)) (rs : List RuleTree) (ws : List Word) : Type 0 where
   tree : FileTree
   whole : SpellTree ws tree
-  oriented : tree.oriented ≡ conditional
-  joins : tree.joins ≡ false
+  condition_type : tree.condition_type ≡ written_type conditional
   variables : map (λ n. n.text) tree.variables ≡ names
   alike : RulesAlike rs tree.rules
 
@@ -208,10 +209,9 @@ whole_file : (conditional : Bool) (names : List (List ℕ)) (rs : List RuleTree)
 whole_file false names rs ws e =
     let b = blocks_behind names rs ws e in
     record {
-      tree = record { oriented = false; joins = false; variables = variables_in b.blocks; rules = b.trees };
-      whole = record { blocks = b.blocks; spelled = b.split; distinct = b.distinct; oriented = sym b.plain; joins = sym b.no_joins; variables = refl; rules = b.whole };
-      oriented = refl;
-      joins = refl;
+      tree = record { condition_type = None; variables = variables_in b.blocks; rules = b.trees };
+      whole = record { blocks = b.blocks; spelled = b.split; distinct = b.distinct; condition_type = sym b.untyped; variables = refl; rules = b.whole };
+      condition_type = refl;
       variables = b.variables;
       alike = b.alike;
     }
@@ -222,15 +222,21 @@ whole_file true names rs ws e =
     let m = next_name n.rest (codes "ORIENTED") (right ∷ rest) n.left in
     let c = next_fixed m.rest right rest tt m.left in
     let b = blocks_behind names rs c.rest c.left in
-    let split : ws ≡ spelled_blocks (condition_type n.name.at m.name.at false ∷ b.blocks) =
+    let split : ws ≡ spelled_blocks (condition_type n.name.at m.name.at Oriented ∷ b.blocks) =
     o.split ∙ ap (λ (w : List Word). left_paren ∷ w) (n.split ∙ titled n.name (codes "CONDITIONTYPE") n.rest n.same
     ∙ ap (λ (w : List Word). id (record { at = n.name.at; text = codes "CONDITIONTYPE" }) ∷ w) (m.split ∙ titled m.name (codes "ORIENTED") m.rest m.same
     ∙ ap (λ (w : List Word). id (record { at = m.name.at; text = codes "ORIENTED" }) ∷ w) (c.split ∙ ap (λ (w : List Word). right_paren ∷ w) b.split))) in
     record {
-      tree = record { oriented = true; joins = false; variables = variables_in b.blocks; rules = b.trees };
-      whole = record { blocks = condition_type n.name.at m.name.at false ∷ b.blocks; spelled = split; distinct = b.also n.name.at m.name.at; oriented = refl; joins = refl; variables = refl; rules = b.whole };
-      oriented = refl;
-      joins = refl;
+      tree = record { condition_type = Some Oriented; variables = variables_in b.blocks; rules = b.trees };
+      whole = record {
+        blocks = condition_type n.name.at m.name.at Oriented ∷ b.blocks;
+        spelled = split;
+        distinct = b.also n.name.at m.name.at;
+        condition_type = refl;
+        variables = refl;
+        rules = b.whole;
+      };
+      condition_type = refl;
       variables = b.variables;
       alike = b.alike;
     }
@@ -244,8 +250,7 @@ written conditional names rs h k =
     record {
       tree = w.tree;
       spelled = record { tokens = s.0; spelled = s.1; whole = w.whole };
-      oriented = w.oriented;
-      joins = w.joins;
+      condition_type = w.condition_type;
       variables = w.variables;
       alike = w.alike;
     }

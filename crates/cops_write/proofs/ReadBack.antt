@@ -1,7 +1,8 @@
 -- What is written of a file's system is a file of it.
-use Rattle.std.proofs.Common.{◌≡◌, ◌⊎◌, inl, inr, ℕ, Bool, true, List, [], ◌∷◌, ◌++◌, map, sym, ap, ap₂, ◌∙◌, subst, codes, ◌&&◌}
+use Rattle.std.proofs.Common.{◌≡◌, ◌⊎◌, inl, inr, ℕ, Bool, true, false, Option, is_some, refl, List, [], ◌∷◌, ◌++◌, map, sym, ap, ap₂, ◌∙◌, subst, codes, ◌&&◌}
 use Rattle.std.specs.Str.{bytes_eq}
-use Rattle.file_text.specs.Syntax.{FileTree}
+use Rattle.file_text.specs.declared.ConditionType.{ConditionType}
+use Rattle.file_text.specs.Syntax.{RuleTree, FileTree, has_type}
 use Rattle.file_text.specs.Texts.{IsText}
 use Rattle.file_text.proofs.Names.{IsName}
 use Rattle.rewriting.specs.Rules.{System}
@@ -9,7 +10,7 @@ use Rattle.cops_names.specs.NameTable.{NameTable}
 use Rattle.cops_names.specs.NameLists.{is_among, with_names}
 use Rattle.cops_systems.specs.Meaning.{variables_of, rule_variables}
 use Rattle.cops_systems.specs.Uses.{events}
-use Rattle.cops_systems.specs.File.{IsSystemOf, have_conditions, IsFile}
+use Rattle.cops_systems.specs.File.{IsSystemOf, is_join, have_conditions, asks_joins, IsFile}
 use Rattle.cops_systems.proofs.Meant.{own_meant}
 use Rattle.cops_write.specs.Text.{block_text, type_text, system_text}
 use Rattle.cops_write.specs.Laws.{WrittenIsRead}
@@ -19,7 +20,7 @@ use Rattle.cops_write.proofs.Agree.{Names, itself, known_all, added_all, all_kno
 use Rattle.cops_write.proofs.Mean.{same_lists, same_table, rules_mean}
 use Rattle.cops_write.proofs.Refuse.{events_alike, not_refused}
 use Rattle.cops_write.proofs.FileNames.{text_has}
-use Rattle.cops_write.proofs.FileText.{AllNames, file_text, Written, written}
+use Rattle.cops_write.proofs.FileText.{AllNames, file_text, written_type, Written, written}
 
 all_names : (xs : Names) → ((n : List ℕ) → is_among xs n ≡ true → IsName n) → AllNames xs
 all_names [] h = tt
@@ -31,6 +32,21 @@ among_none xs n e = by (known_all [] xs n e)
     by : (is_among [] n ≡ true) ⊎ (is_among xs n ≡ true) → is_among xs n ≡ true
     by (inl a) = absurd cc
     by (inr b) = b
+
+tells_type : (conditional : Bool) → is_some (written_type conditional) ≡ conditional
+tells_type true = refl
+tells_type false = refl
+
+tells_no_join : (conditional : Bool) → is_join (written_type conditional) ≡ false
+tells_no_join true = refl
+tells_no_join false = refl
+
+-- a written tree has a condition type where there are conditions, and asks for no common reducts
+has_written : {conditional : Bool} {names : List (List ℕ)} {rs : List RuleTree} (w : Written conditional names rs) → has_type w.tree ≡ conditional
+has_written {conditional = b} w = ap (λ (k : Option ConditionType). is_some k) w.condition_type ∙ tells_type b
+
+asks_none : {conditional : Bool} {names : List (List ℕ)} {rs : List RuleTree} (w : Written conditional names rs) → asks_joins w.tree ≡ false
+asks_none {conditional = b} w = ap (λ (j : Bool). j && have_conditions w.tree.rules) (ap is_join w.condition_type ∙ tells_no_join b)
 
 module _ (tree : FileTree) (sys : System) (names : NameTable) (m : IsSystemOf tree sys names) (have : RulesHaveNames tree.rules) where
   abbrev pub block : Names
@@ -75,8 +91,8 @@ module _ (tree : FileTree) (sys : System) (names : NameTable) (m : IsSystemOf tr
 
     means_it : IsSystemOf w.tree sys names
     means_it = record {
-      accepted = not_refused block other w.tree.oriented tree.oriented [] [] (events tree) (events w.tree) tt
-          (events_alike block other w.tree.oriented 1 tree.rules w.tree.rules w.alike agree (λ e. w.oriented ∙ e)) m.accepted;
+      accepted = not_refused block other (has_type w.tree) (has_type tree) [] [] (events tree) (events w.tree) tt
+          (events_alike block other (has_type w.tree) 1 tree.rules w.tree.rules w.alike agree (λ e. has_written w ∙ e)) m.accepted;
       symbols = m.symbols ∙ same_table block other names.symbols [] tree.rules w.tree.rules sys.rules w.alike agree m.rules;
       arities = m.arities;
       own = m.own;
@@ -85,7 +101,11 @@ module _ (tree : FileTree) (sys : System) (names : NameTable) (m : IsSystemOf tr
     }
 
     file_again : IsFile (system_text names sys) sys names
-    file_again = record { tree = w.tree; spelled = subst (λ (bytes : List ℕ). IsText bytes w.tree) (sym same_text) w.spelled; meant = inl (ap (λ (b : Bool). b && have_conditions w.tree.rules) w.joins, means_it) }
+    file_again = record {
+      tree = w.tree;
+      spelled = subst (λ (bytes : List ℕ). IsText bytes w.tree) (sym same_text) w.spelled;
+      meant = inl (asks_none w, means_it);
+    }
 
 -- what is written of the system that a tree means is a file of it, where each identifier of the tree is one of a text
 pub tree_is_written : (tree : FileTree) (sys : System) (names : NameTable) → IsSystemOf tree sys names → RulesHaveNames tree.rules → IsFile (system_text names sys) sys names

@@ -2,6 +2,7 @@
 use Rattle.std.proofs.Common.{◌≡◌, ℕ, Bool, true, false, ◌&&◌, if◌then◌else◌, List, [], ◌∷◌, ◌++◌, map, Option, Some, None, refl, sym, ap, ◌∙◌, append_assoc, codes}
 use Rattle.std.proofs.lemmas.List.{append-nil}
 use Rattle.std.specs.Option.{option_and_then, option_map}
+use Rattle.file_text.specs.declared.ConditionType.TheVariants.{Oriented, Join}
 use Rattle.file_text.specs.Syntax.{Name, Phrase, word, RuleTree}
 use Rattle.file_text.specs.Grammar.{Word, id, left_paren, right_paren, comma, bar, arrow, equal, id_at, Block, condition_type, variables, rules, title, spelled_block, spelled_blocks, spelled_rules, has_block}
 use Rattle.file_text.proofs.Machine.{Last, want, first, bare, done, Opens, Part, left, right, condition_left, condition_right, Reading, reading, no_rule, next_part, behind_side, step_term, whole, closing, State, outside, behind_bracket, behind_type, in_variables, in_rules, titled, rules_or}
@@ -72,8 +73,8 @@ title_goes k bs at text s ws free e =
     ∙ goes_step k (behind_bracket bs) s (id_at at text) ws (ap (λ (b : Bool). if b then None else taken (titled bs record { at = at; text = text })) free ∙ e)
 
 pub block_goes : (k : Bool) (bs : List Block) (b : Block) → (has_block bs (title b) && k) ≡ false → goes k (outside bs) (spelled_block b) ≡ Some (outside (bs ++ b ∷ []))
-block_goes k bs (condition_type p q false) free = title_goes k bs p (codes "CONDITIONTYPE") (behind_type bs p) (id_at q (codes "ORIENTED") ∷ right_paren ∷ []) free refl
-block_goes k bs (condition_type p q true) free = title_goes k bs p (codes "CONDITIONTYPE") (behind_type bs p) (id_at q (codes "JOIN") ∷ right_paren ∷ []) free refl
+block_goes k bs (condition_type p q Oriented) free = title_goes k bs p (codes "CONDITIONTYPE") (behind_type bs p) (id_at q (codes "ORIENTED") ∷ right_paren ∷ []) free refl
+block_goes k bs (condition_type p q Join) free = title_goes k bs p (codes "CONDITIONTYPE") (behind_type bs p) (id_at q (codes "JOIN") ∷ right_paren ∷ []) free refl
 block_goes k bs (variables p names) free = title_goes k bs p (codes "VAR") (in_variables bs p []) (map (λ n. id n) names ++ right_paren ∷ []) free refl ∙ names_go k bs p [] names
 block_goes k bs (rules p rs) free =
     let all = rules_accepted rs in

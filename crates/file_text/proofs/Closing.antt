@@ -1,9 +1,10 @@
 -- Each state can be closed: some words lead from it to whole blocks.
-use Rattle.std.proofs.Common.{◌≡◌, ℕ, List, [], ◌∷◌, ◌++◌, map, Some, None, refl, sym, ap, ◌∙◌, append_assoc, codes, false}
+use Rattle.std.proofs.Common.{◌≡◌, ℕ, List, [], ◌∷◌, ◌++◌, map, Some, None, refl, sym, ap, ◌∙◌, append_assoc, codes}
 use Rattle.std.proofs.lemmas.List.{append-nil}
+use Rattle.file_text.specs.declared.ConditionType.TheVariants.{Oriented}
 use Rattle.file_text.specs.Syntax.{Name, Phrase, word, call, none, with_last, ConditionTree, RuleTree}
 use Rattle.file_text.specs.Grammar.{Word, id, left_paren, right_paren, arrow, equal, spelled, spelled_rule, spelled_rules, id_at, type_text, Block, condition_type, variables, rules, spelled_block, spelled_blocks}
-use Rattle.file_text.proofs.Machine.{Last, want, first, bare, done, Opens, Part, left, right, condition_left, condition_right, Reading, guard_with, ended, State, outside, behind_bracket, behind_type, behind_oriented, in_variables, in_rules}
+use Rattle.file_text.proofs.Machine.{Last, want, first, bare, done, Opens, Part, left, right, condition_left, condition_right, Reading, guard_with, ended, State, outside, behind_bracket, behind_type, behind_type_word, in_variables, in_rules}
 use Rattle.file_text.proofs.ReadingWords.{commaed, begun, open_words, last_words, part_words, reading_words, arguments-last, rules-last, ended_reads}
 
 -- the words of the blocks so far
@@ -11,7 +12,7 @@ abbrev pub state_words : State → List Word
 state_words (outside bs) = spelled_blocks bs
 state_words (behind_bracket bs) = spelled_blocks bs ++ left_paren ∷ []
 state_words (behind_type bs at) = spelled_blocks bs ++ left_paren ∷ id_at at (codes "CONDITIONTYPE") ∷ []
-state_words (behind_oriented bs at oriented joins) = spelled_blocks bs ++ left_paren ∷ id_at at (codes "CONDITIONTYPE") ∷ id_at oriented (type_text joins) ∷ []
+state_words (behind_type_word bs at place kind) = spelled_blocks bs ++ left_paren ∷ id_at at (codes "CONDITIONTYPE") ∷ id_at place (type_text kind) ∷ []
 state_words (in_variables bs at names) = spelled_blocks bs ++ left_paren ∷ id_at at (codes "VAR") ∷ map (λ n. id n) names
 state_words (in_rules bs at r) = spelled_blocks bs ++ left_paren ∷ id_at at (codes "RULES") ∷ reading_words r
 
@@ -103,9 +104,12 @@ pub state_closes : (s : State) → (rest : List Word) × (bs : List Block) × (s
 state_closes (outside bs) = ([], bs, append-nil (spelled_blocks bs))
 state_closes (behind_bracket bs) = (id_at 0 (codes "VAR") ∷ right_paren ∷ [], bs ++ variables 0 [] ∷ [], block_closes bs (left_paren ∷ []) _ (variables 0 []) refl)
 state_closes (behind_type bs at) =
-    (id_at 0 (codes "ORIENTED") ∷ right_paren ∷ [], bs ++ condition_type at 0 false ∷ [], block_closes bs (left_paren ∷ id_at at (codes "CONDITIONTYPE") ∷ []) _ (condition_type at 0 false) refl)
-state_closes (behind_oriented bs at oriented joins) =
-    (right_paren ∷ [], bs ++ condition_type at oriented joins ∷ [], block_closes bs (left_paren ∷ id_at at (codes "CONDITIONTYPE") ∷ id_at oriented (type_text joins) ∷ []) _ (condition_type at oriented joins) refl)
+    (id_at 0 (codes "ORIENTED") ∷ right_paren ∷ [], bs ++ condition_type at 0 Oriented ∷ [], block_closes bs (left_paren ∷ id_at at (codes "CONDITIONTYPE") ∷ []) _ (condition_type at 0 Oriented) refl)
+state_closes (behind_type_word bs at place kind) = (
+  right_paren ∷ [],
+  bs ++ condition_type at place kind ∷ [],
+  block_closes bs (left_paren ∷ id_at at (codes "CONDITIONTYPE") ∷ id_at place (type_text kind) ∷ []) _ (condition_type at place kind) refl,
+)
 state_closes (in_variables bs at names) =
     (right_paren ∷ [], bs ++ variables at names ∷ [], block_closes bs (left_paren ∷ id_at at (codes "VAR") ∷ map (λ n. id n) names) _ (variables at names) refl)
 state_closes (in_rules bs at r) =

@@ -2,10 +2,12 @@
 use Rattle.std.proofs.Common.{◌≡◌, ℕ, Bool, true, false, ◌&&◌, ◌||◌, not, if◌then◌else◌, List, [], ◌∷◌, ◌++◌, Option, Some, None, Result, Ok, Err, refl, sym, subst, ◌∙◌, append_assoc, codes, bytes_eq}
 use Rattle.std.proofs.lemmas.List.Folds.{list_any-append}
 use Rattle.std.proofs.lemmas.Slice.Eq.{bytes_eq-Decides}
+use Rattle.file_text.specs.declared.ConditionType.{ConditionType}
+use Rattle.file_text.specs.declared.ConditionType.TheVariants.{Oriented, Join}
 use Rattle.file_text.specs.Syntax.{Name, RuleTree}
 use Rattle.file_text.specs.Grammar.{Word, id, left_paren, right_paren, Block, condition_type, variables, rules, title, has_block, are_distinct}
 use Rattle.file_text.specs.Refusals.{SyntaxCause, unknown_block, other_condition_type}
-use Rattle.file_text.proofs.Machine.{Reading, no_rule, closing, step_term, State, outside, behind_bracket, behind_type, behind_oriented, in_variables, in_rules, step_outside, titled, step_bracket, step_type, step_oriented, step_variables, rules_or, step_any, repeats}
+use Rattle.file_text.proofs.Machine.{Reading, no_rule, closing, step_term, State, outside, behind_bracket, behind_type, behind_type_word, in_variables, in_rules, step_outside, titled, step_bracket, step_type, step_type_word, step_variables, rules_or, step_any, repeats}
 use Rattle.file_text.proofs.Goes.{taken, goes, goes_word}
 use Rattle.file_text.proofs.StateReads.{made, made_is, one_or, one_of}
 use Rattle.file_text.proofs.BlockRuns.{AreFree}
@@ -78,7 +80,7 @@ abbrev pub IsNew : State → Type 0
 IsNew (outside bs) = are_distinct bs ≡ true
 IsNew (behind_bracket bs) = are_distinct bs ≡ true
 IsNew (behind_type bs at) = HasNew bs (codes "CONDITIONTYPE")
-IsNew (behind_oriented bs at oriented joins) = HasNew bs (codes "CONDITIONTYPE")
+IsNew (behind_type_word bs at place kind) = HasNew bs (codes "CONDITIONTYPE")
 IsNew (in_variables bs at names) = HasNew bs (codes "VAR")
 IsNew (in_rules bs at r) = HasNew bs (codes "RULES")
 
@@ -111,14 +113,16 @@ bracket_new bs _ t e d free = absurd cc
 
 type_new : (bs : List Block) (at : ℕ) (w : Word) (t : State) → step_type bs at w ≡ Ok t → HasNew bs (codes "CONDITIONTYPE") → IsNew t
 type_new bs at (id name) t e h =
-    one_of (bytes_eq name.text (codes "ORIENTED")) (behind_oriented bs at name.at false) (one_or (bytes_eq name.text (codes "JOIN")) (behind_oriented bs at name.at true) (Err other_condition_type)) t e
-    (λ is same. made_new (behind_oriented bs at name.at false) t same h)
-    (λ e. one_of (bytes_eq name.text (codes "JOIN")) (behind_oriented bs at name.at true) (Err other_condition_type) t e (λ is same. made_new (behind_oriented bs at name.at true) t same h) (λ e. absurd cc))
+    one_of (bytes_eq name.text (codes "ORIENTED")) (behind_type_word bs at name.at Oriented)
+    (one_or (bytes_eq name.text (codes "JOIN")) (behind_type_word bs at name.at Join) (Err other_condition_type)) t e
+    (λ is same. made_new (behind_type_word bs at name.at Oriented) t same h)
+    (λ e. one_of (bytes_eq name.text (codes "JOIN")) (behind_type_word bs at name.at Join) (Err other_condition_type) t e
+    (λ is same. made_new (behind_type_word bs at name.at Join) t same h) (λ e. absurd cc))
 type_new bs at _ t e h = absurd cc
 
-oriented_new : (bs : List Block) (at oriented : ℕ) (joins : Bool) (w : Word) (t : State) → step_oriented bs at oriented joins w ≡ Ok t → HasNew bs (codes "CONDITIONTYPE") → IsNew t
-oriented_new bs at oriented joins right_paren t e h = ended_new bs (condition_type at oriented joins) t e h
-oriented_new bs at oriented joins _ t e h = absurd cc
+type_word_new : (bs : List Block) (at place : ℕ) (kind : ConditionType) (w : Word) (t : State) → step_type_word bs at place kind w ≡ Ok t → HasNew bs (codes "CONDITIONTYPE") → IsNew t
+type_word_new bs at place kind right_paren t e h = ended_new bs (condition_type at place kind) t e h
+type_word_new bs at place kind _ t e h = absurd cc
 
 variables_new : (bs : List Block) (at : ℕ) (names : List Name) (w : Word) (t : State) → step_variables bs at names w ≡ Ok t → HasNew bs (codes "VAR") → IsNew t
 variables_new bs at names (id name) t e h = made_new (in_variables bs at (names ++ name ∷ [])) t e h
@@ -134,7 +138,7 @@ any_new : (s t : State) (w : Word) → step_any s w ≡ Ok t → repeats s w ≡
 any_new (outside bs) t w e free h = outside_new bs w t e h
 any_new (behind_bracket bs) t w e free h = bracket_new bs w t e h free
 any_new (behind_type bs at) t w e free h = type_new bs at w t e h
-any_new (behind_oriented bs at oriented joins) t w e free h = oriented_new bs at oriented joins w t e h
+any_new (behind_type_word bs at place kind) t w e free h = type_word_new bs at place kind w t e h
 any_new (in_variables bs at names) t w e free h = variables_new bs at names w t e h
 any_new (in_rules bs at r) t w e free h = rules_new bs at (closing r w) (step_term r.rules r.part r.opens r.last w) t e h
 

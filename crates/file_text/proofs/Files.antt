@@ -1,10 +1,11 @@
 -- The reader of files accepts the words exactly where they spell a file.
 use Rattle.std.proofs.Common.{◌≡◌, ℕ, Bool, true, false, ◌&&◌, if◌then◌else◌, List, [], ◌∷◌, ◌++◌, length, Option, Some, None, Result, Ok, Err, refl, sym, ap, subst, ◌∙◌, append_assoc}
 use Rattle.std.proofs.lemmas.List.{append-nil}
+use Rattle.file_text.specs.declared.ConditionType.{ConditionType}
 use Rattle.file_text.specs.Syntax.{Name, RuleTree, FileTree}
-use Rattle.file_text.specs.Grammar.{Word, Block, spelled_blocks, are_distinct, oriented_in, joins_in, variables_in, rules_in, SpellTree}
+use Rattle.file_text.specs.Grammar.{Word, Block, spelled_blocks, are_distinct, type_in, variables_in, rules_in, SpellTree}
 use Rattle.file_text.specs.Refusals.{SyntaxCause}
-use Rattle.file_text.proofs.Machine.{State, outside, behind_bracket, behind_type, behind_oriented, in_variables, in_rules, step_any, repeats, file_or_missing, finish, numbered, run, finished, read_file}
+use Rattle.file_text.proofs.Machine.{State, outside, behind_bracket, behind_type, behind_type_word, in_variables, in_rules, step_any, repeats, file_or_missing, finish, numbered, run, finished, read_file}
 use Rattle.file_text.proofs.ReadingWords.{some_is}
 use Rattle.file_text.proofs.Closing.{state_words}
 use Rattle.file_text.proofs.Goes.{taken, goes, goes_word, goes_any, run_goes, goes_run}
@@ -29,7 +30,7 @@ pub goes_words : (ws : List Word) (t : State) → goes true (outside []) ws ≡ 
 goes_words ws t e = any_words ws (outside []) t (goes_any ws (outside []) t e)
 
 abbrev tree : List Block → List RuleTree → FileTree
-tree bs rs = record { oriented = oriented_in bs; joins = joins_in bs; variables = variables_in bs; rules = rs }
+tree bs rs = record { condition_type = type_in bs; variables = variables_in bs; rules = rs }
 
 abbrev told : Result FileTree SyntaxCause → Result FileTree (SyntaxCause × ℕ)
 told r = numbered 0 (λ file. Ok file) r
@@ -49,13 +50,13 @@ finish_sound ws bs file spelled new e = go (rules_in bs) refl e
     go None is e = absurd cc
     go (Some rs) is e =
         let same : tree bs rs ≡ file = file_is (tree bs rs) file (ap told e) in
-        subst (SpellTree ws) same record { blocks = bs; spelled = spelled; distinct = new; oriented = refl; joins = refl; variables = refl; rules = is }
+        subst (SpellTree ws) same record { blocks = bs; spelled = spelled; distinct = new; condition_type = refl; variables = refl; rules = is }
 
 state_sound : (ws : List Word) (s : State) (file : FileTree) → goes true (outside []) ws ≡ Some s → finish s ≡ Ok file → SpellTree ws file
 state_sound ws (outside bs) file e is = finish_sound ws bs file (sym (goes_words ws (outside bs) e)) (goes_new ws (outside []) (outside bs) e refl) is
 state_sound ws (behind_bracket bs) file e is = absurd cc
 state_sound ws (behind_type bs at) file e is = absurd cc
-state_sound ws (behind_oriented bs at oriented joins) file e is = absurd cc
+state_sound ws (behind_type_word bs at place kind) file e is = absurd cc
 state_sound ws (in_variables bs at names) file e is = absurd cc
 state_sound ws (in_rules bs at r) file e is = absurd cc
 
@@ -77,9 +78,8 @@ file_complete ws file h =
     let gone = ap (goes true (outside [])) h.spelled ∙ distinct_go h.blocks h.distinct in
     ap (finished (length ws)) (goes_run 0 ws (outside []) (outside h.blocks) gone)
     ∙ ap (λ (m : Option (List RuleTree)). numbered (length ws) (λ file. Ok file) (file_or_missing h.blocks m)) h.rules
-    ∙ ap (λ (o : Bool). Ok record { oriented = o; joins = joins_in h.blocks; variables = variables_in h.blocks; rules = file.rules }) (sym h.oriented)
-    ∙ ap (λ (j : Bool). Ok record { oriented = file.oriented; joins = j; variables = variables_in h.blocks; rules = file.rules }) (sym h.joins)
-    ∙ ap (λ (v : List Name). Ok record { oriented = file.oriented; joins = file.joins; variables = v; rules = file.rules }) (sym h.variables)
+    ∙ ap (λ (c : Option ConditionType). Ok record { condition_type = c; variables = variables_in h.blocks; rules = file.rules }) (sym h.condition_type)
+    ∙ ap (λ (v : List Name). Ok record { condition_type = file.condition_type; variables = v; rules = file.rules }) (sym h.variables)
 
 ok_file : (file other : FileTree) (r : Result FileTree (SyntaxCause × ℕ)) → r ≡ Ok file → r ≡ Ok other → file ≡ other
 ok_file file other r p q = file_is file other (sym p ∙ q)

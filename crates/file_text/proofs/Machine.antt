@@ -1,9 +1,11 @@
 -- A reader of files, one word after the other, with the terms that are open.
-use Rattle.std.specs.Prelude.{ℕ, suc, Bool, false, List, [], ◌∷◌, ◌++◌, length, Option, Some, None, Result, Ok, Err, codes, if◌then◌else◌, true}
+use Rattle.std.specs.Prelude.{ℕ, suc, Bool, false, List, [], ◌∷◌, ◌++◌, length, Option, Some, None, Result, Ok, Err, codes, if◌then◌else◌}
 use Rattle.std.specs.Option.{option_map}
 use Rattle.std.specs.Str.{bytes_eq}
+use Rattle.file_text.specs.declared.ConditionType.{ConditionType}
+use Rattle.file_text.specs.declared.ConditionType.TheVariants.{Oriented, Join}
 use Rattle.file_text.specs.Syntax.{Name, Phrase, Phrases, word, call, none, with_last, ConditionTree, Guard, RuleTree, FileTree}
-use Rattle.file_text.specs.Grammar.{Word, id, left_paren, right_paren, comma, bar, arrow, equal, Block, condition_type, variables, rules, has_block, oriented_in, joins_in, variables_in, rules_in}
+use Rattle.file_text.specs.Grammar.{Word, id, left_paren, right_paren, comma, bar, arrow, equal, Block, condition_type, variables, rules, has_block, type_in, variables_in, rules_in}
 use Rattle.file_text.specs.Refusals.{SyntaxCause, unknown_block, repeated_block, other_condition_type, wrong_syntax, missing_rules}
 
 -- what was read last of a term
@@ -122,7 +124,7 @@ pub data State : Type 0 where
   outside : List Block → State
   behind_bracket : List Block → State
   behind_type : List Block → ℕ → State
-  behind_oriented : List Block → ℕ → ℕ → Bool → State
+  behind_type_word : List Block → ℕ → ℕ → ConditionType → State
   in_variables : List Block → ℕ → List Name → State
   in_rules : List Block → ℕ → Reading → State
 
@@ -147,13 +149,13 @@ step_bracket bs _ = Err wrong_syntax
 
 abbrev pub step_type : List Block → ℕ → Word → Result State SyntaxCause
 step_type bs at (id name) =
-    if bytes_eq name.text (codes "ORIENTED") then Ok (behind_oriented bs at name.at false) else
-    if bytes_eq name.text (codes "JOIN") then Ok (behind_oriented bs at name.at true) else Err other_condition_type
+    if bytes_eq name.text (codes "ORIENTED") then Ok (behind_type_word bs at name.at Oriented) else
+    if bytes_eq name.text (codes "JOIN") then Ok (behind_type_word bs at name.at Join) else Err other_condition_type
 step_type bs at _ = Err wrong_syntax
 
-abbrev pub step_oriented : List Block → ℕ → ℕ → Bool → Word → Result State SyntaxCause
-step_oriented bs at oriented joins right_paren = with_block bs (condition_type at oriented joins)
-step_oriented bs at oriented joins _ = Err wrong_syntax
+abbrev pub step_type_word : List Block → ℕ → ℕ → ConditionType → Word → Result State SyntaxCause
+step_type_word bs at place kind right_paren = with_block bs (condition_type at place kind)
+step_type_word bs at place kind _ = Err wrong_syntax
 
 abbrev pub step_variables : List Block → ℕ → List Name → Word → Result State SyntaxCause
 step_variables bs at names (id name) = Ok (in_variables bs at (names ++ name ∷ []))
@@ -177,7 +179,7 @@ abbrev pub step_any : State → Word → Result State SyntaxCause
 step_any (outside bs) w = step_outside bs w
 step_any (behind_bracket bs) w = step_bracket bs w
 step_any (behind_type bs at) w = step_type bs at w
-step_any (behind_oriented bs at oriented joins) w = step_oriented bs at oriented joins w
+step_any (behind_type_word bs at place kind) w = step_type_word bs at place kind w
 step_any (in_variables bs at names) w = step_variables bs at names w
 step_any (in_rules bs at r) w = step_rules bs at r w
 
@@ -190,7 +192,7 @@ abbrev pub repeats : State → Word → Bool
 repeats (outside bs) w = false
 repeats (behind_bracket bs) w = repeats_block bs w
 repeats (behind_type bs at) w = false
-repeats (behind_oriented bs at oriented joins) w = false
+repeats (behind_type_word bs at place kind) w = false
 repeats (in_variables bs at names) w = false
 repeats (in_rules bs at r) w = false
 
@@ -201,14 +203,14 @@ step s w = if repeats s w then Err repeated_block else step_any s w
 
 abbrev pub file_or_missing : List Block → Option (List RuleTree) → Result FileTree SyntaxCause
 file_or_missing bs None = Err missing_rules
-file_or_missing bs (Some rs) = Ok record { oriented = oriented_in bs; joins = joins_in bs; variables = variables_in bs; rules = rs }
+file_or_missing bs (Some rs) = Ok record { condition_type = type_in bs; variables = variables_in bs; rules = rs }
 
 -- the end of the words
 abbrev pub finish : State → Result FileTree SyntaxCause
 finish (outside bs) = file_or_missing bs (rules_in bs)
 finish (behind_bracket bs) = Err wrong_syntax
 finish (behind_type bs at) = Err wrong_syntax
-finish (behind_oriented bs at oriented joins) = Err wrong_syntax
+finish (behind_type_word bs at place kind) = Err wrong_syntax
 finish (in_variables bs at names) = Err wrong_syntax
 finish (in_rules bs at r) = Err wrong_syntax
 

@@ -1,9 +1,11 @@
 -- Where the reader of files refuses a word, this word calls for the refusal, and the other way round.
 use Rattle.std.proofs.Common.{◌≡◌, ℕ, Bool, true, false, ◌&&◌, ◌||◌, if◌then◌else◌, List, [], ◌∷◌, ◌++◌, Option, Some, None, Result, Ok, Err, refl, sym, ap, subst, ◌∙◌, codes, bytes_eq}
+use Rattle.file_text.specs.declared.ConditionType.{ConditionType}
+use Rattle.file_text.specs.declared.ConditionType.TheVariants.{Oriented, Join}
 use Rattle.file_text.specs.Syntax.{Name, RuleTree}
 use Rattle.file_text.specs.Grammar.{Word, id, left_paren, right_paren, comma, bar, arrow, equal, id_at, Block, condition_type, variables, rules, title, has_block, spelled_blocks}
 use Rattle.file_text.specs.Refusals.{SyntaxCause, unknown_block, repeated_block, other_condition_type, wrong_syntax, missing_rules, Begins, is_title, IsUnknownBlock, IsRepeatedBlock, IsOtherConditionType, IsWrongSyntax, Calls}
-use Rattle.file_text.proofs.Machine.{Reading, no_rule, closing, step_term, State, outside, behind_bracket, behind_type, behind_oriented, in_variables, in_rules, step_outside, titled, step_bracket, step_type, step_oriented, step_variables, rules_or, step_any, repeats_block, repeats, step}
+use Rattle.file_text.proofs.Machine.{Reading, no_rule, closing, step_term, State, outside, behind_bracket, behind_type, behind_type_word, in_variables, in_rules, step_outside, titled, step_bracket, step_type, step_type_word, step_variables, rules_or, step_any, repeats_block, repeats, step}
 use Rattle.file_text.proofs.ReadingWords.{some_is}
 use Rattle.file_text.proofs.Closing.{state_words, state_closes}
 use Rattle.file_text.proofs.Goes.{goes_one, goes, goes_then, goes_front, goes_word, goes_one_end, goes_any, step_goes}
@@ -20,7 +22,7 @@ cause_is c d e = cc
 -- ---- a word that calls for one of the three causes is refused
 
 has_title_one : (text : List ℕ) (b : Block) → bytes_eq text (title b) ≡ true → is_title text ≡ true
-has_title_one text (condition_type p q joins) e = first_of (bytes_eq text (codes "CONDITIONTYPE")) (bytes_eq text (codes "VAR")) (bytes_eq text (codes "RULES")) e
+has_title_one text (condition_type p q kind) e = first_of (bytes_eq text (codes "CONDITIONTYPE")) (bytes_eq text (codes "VAR")) (bytes_eq text (codes "RULES")) e
   where
     first_of : (a b c : Bool) → a ≡ true → (a || b || c) ≡ true
     first_of true b c e = refl
@@ -89,7 +91,8 @@ no_type false false x y z e = refl
 pub refuses_other : (front : List Word) (w : Word) (s : State) → goes true (outside []) front ≡ Some s → IsOtherConditionType front w → step s w ≡ Err other_condition_type
 refuses_other front w s e (bs, p, name, split, is, other) =
     ap (λ (s : State). step s w) (same_state front _ s (behind_type bs p) e split (type_go bs p)) ∙ ap (step (behind_type bs p)) is
-    ∙ no_type (bytes_eq name.text (codes "ORIENTED")) (bytes_eq name.text (codes "JOIN")) (made (behind_oriented bs p name.at false)) (made (behind_oriented bs p name.at true)) (refuse other_condition_type) other
+    ∙ no_type (bytes_eq name.text (codes "ORIENTED")) (bytes_eq name.text (codes "JOIN"))
+    (made (behind_type_word bs p name.at Oriented)) (made (behind_type_word bs p name.at Join)) (refuse other_condition_type) other
 
 -- ---- the cause of a step that is refused
 
@@ -140,7 +143,7 @@ other_of false false x y d e = (cause_is other_condition_type d e, refl)
 
 type_blames : (bs : List Block) (at : ℕ) (w : Word) (c : SyntaxCause) → step_type bs at w ≡ Err c → Blames (spelled_blocks bs ++ left_paren ∷ id_at at (codes "CONDITIONTYPE") ∷ []) w c
 type_blames bs at (id name) c e =
-    let h = other_of (bytes_eq name.text (codes "ORIENTED")) (bytes_eq name.text (codes "JOIN")) (behind_oriented bs at name.at false) (behind_oriented bs at name.at true) c e in
+    let h = other_of (bytes_eq name.text (codes "ORIENTED")) (bytes_eq name.text (codes "JOIN")) (behind_type_word bs at name.at Oriented) (behind_type_word bs at name.at Join) c e in
     subst (Blames (spelled_blocks bs ++ left_paren ∷ id_at at (codes "CONDITIONTYPE") ∷ []) (id name)) h.0 (bs, at, name, refl, refl, h.1)
 type_blames bs at left_paren c e = wrong_blames _ _ c e
 type_blames bs at right_paren c e = wrong_blames _ _ c e
@@ -149,14 +152,14 @@ type_blames bs at (bar p) c e = wrong_blames _ _ c e
 type_blames bs at arrow c e = wrong_blames _ _ c e
 type_blames bs at equal c e = wrong_blames _ _ c e
 
-oriented_blames : (front : List Word) (bs : List Block) (at oriented : ℕ) (joins : Bool) (w : Word) (c : SyntaxCause) → step_oriented bs at oriented joins w ≡ Err c → Blames front w c
-oriented_blames front bs at oriented joins right_paren c e = absurd cc
-oriented_blames front bs at oriented joins (id f) c e = wrong_blames _ _ c e
-oriented_blames front bs at oriented joins left_paren c e = wrong_blames _ _ c e
-oriented_blames front bs at oriented joins comma c e = wrong_blames _ _ c e
-oriented_blames front bs at oriented joins (bar p) c e = wrong_blames _ _ c e
-oriented_blames front bs at oriented joins arrow c e = wrong_blames _ _ c e
-oriented_blames front bs at oriented joins equal c e = wrong_blames _ _ c e
+type_word_blames : (front : List Word) (bs : List Block) (at place : ℕ) (kind : ConditionType) (w : Word) (c : SyntaxCause) → step_type_word bs at place kind w ≡ Err c → Blames front w c
+type_word_blames front bs at place kind right_paren c e = absurd cc
+type_word_blames front bs at place kind (id f) c e = wrong_blames _ _ c e
+type_word_blames front bs at place kind left_paren c e = wrong_blames _ _ c e
+type_word_blames front bs at place kind comma c e = wrong_blames _ _ c e
+type_word_blames front bs at place kind (bar p) c e = wrong_blames _ _ c e
+type_word_blames front bs at place kind arrow c e = wrong_blames _ _ c e
+type_word_blames front bs at place kind equal c e = wrong_blames _ _ c e
 
 variables_blame : (front : List Word) (bs : List Block) (at : ℕ) (names : List Name) (w : Word) (c : SyntaxCause) → step_variables bs at names w ≡ Err c → Blames front w c
 variables_blame front bs at names right_paren c e = absurd cc
@@ -176,7 +179,7 @@ any_blames : (s : State) (w : Word) (c : SyntaxCause) → step_any s w ≡ Err c
 any_blames (outside bs) w c e = outside_blames bs w c e
 any_blames (behind_bracket bs) w c e = bracket_blames bs w c e
 any_blames (behind_type bs at) w c e = type_blames bs at w c e
-any_blames (behind_oriented bs at oriented joins) w c e = oriented_blames _ bs at oriented joins w c e
+any_blames (behind_type_word bs at place kind) w c e = type_word_blames _ bs at place kind w c e
 any_blames (in_variables bs at names) w c e = variables_blame _ bs at names w c e
 any_blames (in_rules bs at r) w c e = rules_blame _ w bs at (closing r w) (step_term r.rules r.part r.opens r.last w) c e
 
@@ -188,7 +191,7 @@ repeats_words (behind_bracket bs) w e = go w e
     go (id name) e = (bs, name, refl, refl, e)
     go _ e = absurd cc
 repeats_words (behind_type bs at) w e = absurd cc
-repeats_words (behind_oriented bs at oriented joins) w e = absurd cc
+repeats_words (behind_type_word bs at place kind) w e = absurd cc
 repeats_words (in_variables bs at names) w e = absurd cc
 repeats_words (in_rules bs at r) w e = absurd cc
 
@@ -213,7 +216,7 @@ wrong_calls front w s e is =
       stuck = λ b. let h = begins_go front w s e b in not_taken (repeats s w) (step_any s w) h.0 h.1 is;
       known = λ h. let other = refuses_unknown front w s e h in cc;
       new = λ h. let other = refuses_repeated front w s e h in cc;
-      oriented = λ h. let other = refuses_other front w s e h in cc;
+      typed = λ h. let other = refuses_other front w s e h in cc;
     }
 
 -- ---- both ways
@@ -246,7 +249,7 @@ calls_refused front w s wrong_syntax e h = go (step s w) refl
     other : (c : SyntaxCause) → step s w ≡ Err c → Calls c front w → step s w ≡ Err wrong_syntax
     other unknown_block is calls = absurd (h.known calls)
     other repeated_block is calls = absurd (h.new calls)
-    other other_condition_type is calls = absurd (h.oriented calls)
+    other other_condition_type is calls = absurd (h.typed calls)
     other wrong_syntax is calls = is
     other missing_rules is calls = absurd calls
 

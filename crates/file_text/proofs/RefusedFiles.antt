@@ -4,7 +4,7 @@ use Rattle.std.proofs.Math.Seq.{take-length, take-append_seam}
 use Rattle.file_text.specs.Syntax.{RuleTree, FileTree}
 use Rattle.file_text.specs.Grammar.{Word, Block, spelled_blocks, rules_in, SpellTree}
 use Rattle.file_text.specs.Refusals.{SyntaxCause, unknown_block, repeated_block, other_condition_type, wrong_syntax, missing_rules, Calls, EndCalls, AreClear, AreRefused}
-use Rattle.file_text.proofs.Machine.{State, outside, behind_bracket, behind_type, behind_oriented, in_variables, in_rules, file_or_missing, finish, numbered, run, finished, read_file}
+use Rattle.file_text.proofs.Machine.{State, outside, behind_bracket, behind_type, behind_type_word, in_variables, in_rules, file_or_missing, finish, numbered, run, finished, read_file}
 use Rattle.file_text.proofs.ReadingWords.{some_is}
 use Rattle.file_text.proofs.Goes.{goes, goes_front, goes_word, goes_any, goes_step_ok, run_goes, goes_run, Stops, run_stops, stop_run}
 use Rattle.file_text.proofs.BlockRuns.{any_go}
@@ -53,7 +53,7 @@ refused_end ws (outside bs) c e is = go (rules_in bs) refl is
     go (Some rs) some is = absurd cc
 refused_end ws (behind_bracket bs) c e is = wrong_end ws (behind_bracket bs) c e is (λ cs h. cc)
 refused_end ws (behind_type bs at) c e is = wrong_end ws (behind_type bs at) c e is (λ cs h. cc)
-refused_end ws (behind_oriented bs at oriented joins) c e is = wrong_end ws (behind_oriented bs at oriented joins) c e is (λ cs h. cc)
+refused_end ws (behind_type_word bs at place kind) c e is = wrong_end ws (behind_type_word bs at place kind) c e is (λ cs h. cc)
 refused_end ws (in_variables bs at names) c e is = wrong_end ws (in_variables bs at names) c e is (λ cs h. cc)
 refused_end ws (in_rules bs at r) c e is = wrong_end ws (in_rules bs at r) c e is (λ cs h. cc)
 
@@ -67,7 +67,7 @@ end_refused ws s wrong_syntax e h = go s e
     go (outside bs) e = absurd (h bs (sym (goes_words ws (outside bs) e)))
     go (behind_bracket bs) e = refl
     go (behind_type bs at) e = refl
-    go (behind_oriented bs at oriented joins) e = refl
+    go (behind_type_word bs at place kind) e = refl
     go (in_variables bs at names) e = refl
     go (in_rules bs at r) e = refl
 end_refused ws s missing_rules e (bs, spelled, none) = ap finish (is_outside ws s bs e spelled) ∙ ap (file_or_missing bs) none

@@ -2,10 +2,12 @@
 use Rattle.std.proofs.Common.{◌≡◌, ℕ, Bool, true, false, if◌then◌else◌, List, [], ◌∷◌, ◌++◌, map, Option, Some, None, Result, Ok, Err, refl, sym, ap, subst, ◌∙◌, append_assoc, codes, bytes_eq}
 use Rattle.std.proofs.lemmas.List.{map-append}
 use Rattle.std.proofs.lemmas.Slice.Eq.{bytes_eq-Decides}
+use Rattle.file_text.specs.declared.ConditionType.{ConditionType}
+use Rattle.file_text.specs.declared.ConditionType.TheVariants.{Oriented, Join}
 use Rattle.file_text.specs.Syntax.{Name, RuleTree}
 use Rattle.file_text.specs.Grammar.{Word, id, left_paren, right_paren, id_at, type_text, Block, condition_type, variables, rules, spelled_blocks}
 use Rattle.file_text.specs.Refusals.{SyntaxCause, unknown_block, other_condition_type}
-use Rattle.file_text.proofs.Machine.{Reading, no_rule, closing, step_term, State, outside, behind_bracket, behind_type, behind_oriented, in_variables, in_rules, step_outside, titled, step_bracket, step_type, step_oriented, step_variables, rules_go_on, rules_or, step_rules, step_any}
+use Rattle.file_text.proofs.Machine.{Reading, no_rule, closing, step_term, State, outside, behind_bracket, behind_type, behind_type_word, in_variables, in_rules, step_outside, titled, step_bracket, step_type, step_type_word, step_variables, rules_go_on, rules_or, step_rules, step_any}
 use Rattle.file_text.proofs.ReadingWords.{reading_words, term_reads, closing_reads}
 use Rattle.file_text.proofs.Closing.{state_words, blocks-last}
 
@@ -53,10 +55,11 @@ bracket_reads bs _ t e = absurd cc
 
 type_reads : (bs : List Block) (at : ℕ) (w : Word) (t : State) → step_type bs at w ≡ Ok t → state_words t ≡ spelled_blocks bs ++ left_paren ∷ id_at at (codes "CONDITIONTYPE") ∷ w ∷ []
 type_reads bs at (id name) t e =
-    one_of (bytes_eq name.text (codes "ORIENTED")) (behind_oriented bs at name.at false) (one_or (bytes_eq name.text (codes "JOIN")) (behind_oriented bs at name.at true) (Err other_condition_type)) t e
-    (λ is h. made_reads (behind_oriented bs at name.at false) t _ h (word (codes "ORIENTED") is))
-    (λ e. one_of (bytes_eq name.text (codes "JOIN")) (behind_oriented bs at name.at true) (Err other_condition_type) t e
-    (λ is h. made_reads (behind_oriented bs at name.at true) t _ h (word (codes "JOIN") is))
+    one_of (bytes_eq name.text (codes "ORIENTED")) (behind_type_word bs at name.at Oriented)
+    (one_or (bytes_eq name.text (codes "JOIN")) (behind_type_word bs at name.at Join) (Err other_condition_type)) t e
+    (λ is h. made_reads (behind_type_word bs at name.at Oriented) t _ h (word (codes "ORIENTED") is))
+    (λ e. one_of (bytes_eq name.text (codes "JOIN")) (behind_type_word bs at name.at Join) (Err other_condition_type) t e
+    (λ is h. made_reads (behind_type_word bs at name.at Join) t _ h (word (codes "JOIN") is))
     (λ e. absurd cc))
   where
     word : (text : List ℕ) → bytes_eq name.text text ≡ true
@@ -64,10 +67,10 @@ type_reads bs at (id name) t e =
     word text is = ap (λ (w : Word). spelled_blocks bs ++ left_paren ∷ id_at at (codes "CONDITIONTYPE") ∷ w ∷ []) (sym (same_text name text is))
 type_reads bs at _ t e = absurd cc
 
-oriented_reads : (bs : List Block) (at oriented : ℕ) (joins : Bool) (w : Word) (t : State) → step_oriented bs at oriented joins w ≡ Ok t
-    → state_words t ≡ spelled_blocks bs ++ left_paren ∷ id_at at (codes "CONDITIONTYPE") ∷ id_at oriented (type_text joins) ∷ w ∷ []
-oriented_reads bs at oriented joins right_paren t e = made_reads (outside (bs ++ condition_type at oriented joins ∷ [])) t _ e (blocks-last bs (condition_type at oriented joins))
-oriented_reads bs at oriented joins _ t e = absurd cc
+type_word_reads : (bs : List Block) (at place : ℕ) (kind : ConditionType) (w : Word) (t : State) → step_type_word bs at place kind w ≡ Ok t
+    → state_words t ≡ spelled_blocks bs ++ left_paren ∷ id_at at (codes "CONDITIONTYPE") ∷ id_at place (type_text kind) ∷ w ∷ []
+type_word_reads bs at place kind right_paren t e = made_reads (outside (bs ++ condition_type at place kind ∷ [])) t _ e (blocks-last bs (condition_type at place kind))
+type_word_reads bs at place kind _ t e = absurd cc
 
 variables_read : (bs : List Block) (at : ℕ) (names : List Name) (w : Word) (t : State) → step_variables bs at names w ≡ Ok t
     → state_words t ≡ spelled_blocks bs ++ left_paren ∷ id_at at (codes "VAR") ∷ (map (λ n. id n) names ++ w ∷ [])
@@ -95,7 +98,7 @@ pub any_reads : (s t : State) (w : Word) → step_any s w ≡ Ok t → state_wor
 any_reads (outside bs) t w e = outside_reads bs w t e
 any_reads (behind_bracket bs) t w e = bracket_reads bs w t e ∙ sym (append_assoc (spelled_blocks bs) (left_paren ∷ []) (w ∷ []))
 any_reads (behind_type bs at) t w e = type_reads bs at w t e ∙ sym (append_assoc (spelled_blocks bs) (left_paren ∷ id_at at (codes "CONDITIONTYPE") ∷ []) (w ∷ []))
-any_reads (behind_oriented bs at oriented joins) t w e =
-    oriented_reads bs at oriented joins w t e ∙ sym (append_assoc (spelled_blocks bs) (left_paren ∷ id_at at (codes "CONDITIONTYPE") ∷ id_at oriented (type_text joins) ∷ []) (w ∷ []))
+any_reads (behind_type_word bs at place kind) t w e =
+    type_word_reads bs at place kind w t e ∙ sym (append_assoc (spelled_blocks bs) (left_paren ∷ id_at at (codes "CONDITIONTYPE") ∷ id_at place (type_text kind) ∷ []) (w ∷ []))
 any_reads (in_variables bs at names) t w e = variables_read bs at names w t e ∙ sym (append_assoc (spelled_blocks bs) (left_paren ∷ id_at at (codes "VAR") ∷ map (λ n. id n) names) (w ∷ []))
 any_reads (in_rules bs at r) t w e = rules_read bs at r w t e ∙ sym (append_assoc (spelled_blocks bs) (left_paren ∷ id_at at (codes "RULES") ∷ reading_words r) (w ∷ []))

@@ -82,7 +82,7 @@ module _ (P : Name → Type 0) (Q : ℕ → Type 0) where
 
   of_blocks : (bs : List Block) (rs : List RuleTree) → OfWords (spelled_blocks bs) → rules_in bs ≡ Some rs → OfRules rs
   of_blocks [] rs h e = absurd cc
-  of_blocks (condition_type p q joins ∷ bs) rs h e = of_blocks bs rs (parted (spelled_block (condition_type p q joins)) (spelled_blocks bs) h).1 e
+  of_blocks (condition_type p q kind ∷ bs) rs h e = of_blocks bs rs (parted (spelled_block (condition_type p q kind)) (spelled_blocks bs) h).1 e
   of_blocks (variables p ns ∷ bs) rs h e = of_blocks bs rs (parted (spelled_block (variables p ns)) (spelled_blocks bs) h).1 e
   of_blocks (rules p ts ∷ bs) rs h e =
       let here = (parted (spelled_block (rules p ts)) (spelled_blocks bs) h).0 in

@@ -1,7 +1,9 @@
 -- How a syntax tree is spelled in words, and which tree a list of words spells.
-use Rattle.std.specs.Prelude.{◌≡◌, ℕ, Bool, true, false, List, [], ◌∷◌, ◌++◌, map, Option, Some, None, codes, not, ◌&&◌, if◌then◌else◌}
+use Rattle.std.specs.Prelude.{◌≡◌, ℕ, Bool, true, List, [], ◌∷◌, ◌++◌, map, Option, Some, None, codes, not, ◌&&◌}
 use Rattle.std.specs.List.{list_any}
 use Rattle.std.specs.Str.{bytes_eq}
+use Rattle.file_text.specs.declared.ConditionType.{ConditionType}
+use Rattle.file_text.specs.declared.ConditionType.TheVariants.{Oriented, Join}
 use Rattle.file_text.specs.Syntax.{Name, Phrase, Phrases, word, call, none, more, ConditionTree, Guard, RuleTree, FileTree}
 
 -- a token without its place, but that an identifier and a bar keep theirs
@@ -58,23 +60,24 @@ id_at at text = id record { at = at; text = text }
 
 -- a block of a file, with the places of its own words
 pub data Block : Type 0 where
-  condition_type : ℕ → ℕ → Bool → Block
+  condition_type : ℕ → ℕ → ConditionType → Block
   variables : ℕ → List Name → Block
   rules : ℕ → List RuleTree → Block
 
 -- the identifier that tells what a block is
 abbrev pub title : Block → List ℕ
-title (condition_type p q joins) = codes "CONDITIONTYPE"
+title (condition_type p q kind) = codes "CONDITIONTYPE"
 title (variables p names) = codes "VAR"
 title (rules p rs) = codes "RULES"
 
--- the condition type: the conditions ask for common reducts, or not
-abbrev pub type_text : Bool → List ℕ
-type_text joins = if joins then codes "JOIN" else codes "ORIENTED"
+-- the identifier that tells a condition type
+abbrev pub type_text : ConditionType → List ℕ
+type_text Oriented = codes "ORIENTED"
+type_text Join = codes "JOIN"
 
 -- block = "(" "CONDITIONTYPE" ( "ORIENTED" | "JOIN" ) ")" | "(" "VAR" { id } ")" | "(" "RULES" { rule } ")"
 abbrev pub spelled_block : Block → List Word
-spelled_block (condition_type p q joins) = left_paren ∷ id_at p (codes "CONDITIONTYPE") ∷ id_at q (type_text joins) ∷ right_paren ∷ []
+spelled_block (condition_type p q kind) = left_paren ∷ id_at p (codes "CONDITIONTYPE") ∷ id_at q (type_text kind) ∷ right_paren ∷ []
 spelled_block (variables p names) = left_paren ∷ id_at p (codes "VAR") ∷ (map (λ n. id n) names ++ right_paren ∷ [])
 spelled_block (rules p rs) = left_paren ∷ id_at p (codes "RULES") ∷ (spelled_rules rs ++ right_paren ∷ [])
 
@@ -92,28 +95,22 @@ abbrev pub are_distinct : List Block → Bool
 are_distinct [] = true
 are_distinct (b ∷ bs) = not (has_block bs (title b)) && are_distinct bs
 
--- what the blocks hold: whether a condition type, and whether it asks for common reducts, the identifiers of the first block of variables, the rules of the first block of rules
-abbrev pub oriented_in : List Block → Bool
-oriented_in [] = false
-oriented_in (condition_type p q joins ∷ bs) = true
-oriented_in (variables p names ∷ bs) = oriented_in bs
-oriented_in (rules p rs ∷ bs) = oriented_in bs
-
-abbrev pub joins_in : List Block → Bool
-joins_in [] = false
-joins_in (condition_type p q joins ∷ bs) = joins
-joins_in (variables p names ∷ bs) = joins_in bs
-joins_in (rules p rs ∷ bs) = joins_in bs
+-- what the blocks hold: the first condition type, the identifiers of the first block of variables, the rules of the first block of rules
+abbrev pub type_in : List Block → Option ConditionType
+type_in [] = None
+type_in (condition_type p q kind ∷ bs) = Some kind
+type_in (variables p names ∷ bs) = type_in bs
+type_in (rules p rs ∷ bs) = type_in bs
 
 abbrev pub variables_in : List Block → List Name
 variables_in [] = []
-variables_in (condition_type p q joins ∷ bs) = variables_in bs
+variables_in (condition_type p q kind ∷ bs) = variables_in bs
 variables_in (variables p names ∷ bs) = names
 variables_in (rules p rs ∷ bs) = variables_in bs
 
 abbrev pub rules_in : List Block → Option (List RuleTree)
 rules_in [] = None
-rules_in (condition_type p q joins ∷ bs) = rules_in bs
+rules_in (condition_type p q kind ∷ bs) = rules_in bs
 rules_in (variables p names ∷ bs) = rules_in bs
 rules_in (rules p rs ∷ bs) = Some rs
 
@@ -122,7 +119,6 @@ pub record SpellTree (ws : List Word) (file : FileTree) : Type 0 where
   pub blocks : List Block
   pub spelled : ws ≡ spelled_blocks blocks
   pub distinct : are_distinct blocks ≡ true
-  pub oriented : file.oriented ≡ oriented_in blocks
-  pub joins : file.joins ≡ joins_in blocks
+  pub condition_type : file.condition_type ≡ type_in blocks
   pub variables : file.variables ≡ variables_in blocks
   pub rules : rules_in blocks ≡ Some file.rules

@@ -2,7 +2,8 @@
 use Rattle.std.specs.Prelude.{◌≡◌, ◌⊎◌, ℕ, Bool, true, false, List, [], ◌∷◌, ◌++◌, length, take, slice_get, Some, None, codes, ◌||◌}
 use Rattle.std.specs.Str.{bytes_eq}
 use Rattle.file_text.specs.Syntax.{Name}
-use Rattle.file_text.specs.Grammar.{Word, id, left_paren, id_at, Block, has_block, spelled_blocks, rules_in}
+use Rattle.file_text.specs.declared.ConditionType.TheVariants.{Oriented, Join}
+use Rattle.file_text.specs.Grammar.{Word, id, left_paren, id_at, Block, type_text, has_block, spelled_blocks, rules_in}
 
 pub data SyntaxCause : Type 0 where
   unknown_block : SyntaxCause
@@ -29,9 +30,9 @@ IsRepeatedBlock front w = (bs : List Block) × (name : Name) × (front ≡ spell
 
 -- the two condition types
 abbrev pub is_type : List ℕ → Bool
-is_type text = bytes_eq text (codes "ORIENTED") || bytes_eq text (codes "JOIN")
+is_type text = bytes_eq text (type_text Oriented) || bytes_eq text (type_text Join)
 
--- behind the title of a condition type stands an identifier that is none
+-- behind the title of a condition type stands an identifier that tells none
 abbrev pub IsOtherConditionType : List Word → Word → Type 0
 IsOtherConditionType front w =
     (bs : List Block) × (p : ℕ) × (name : Name) × (front ≡ spelled_blocks bs ++ left_paren ∷ id_at p (codes "CONDITIONTYPE") ∷ []) × (w ≡ id name)
@@ -42,7 +43,7 @@ pub record IsWrongSyntax (front : List Word) (w : Word) : Type 0 where
   pub stuck : Begins (front ++ w ∷ []) → ⊥
   pub known : IsUnknownBlock front w → ⊥
   pub new : IsRepeatedBlock front w → ⊥
-  pub oriented : IsOtherConditionType front w → ⊥
+  pub typed : IsOtherConditionType front w → ⊥
 
 -- the word behind the front calls for a refusal
 abbrev pub Calls : SyntaxCause → List Word → Word → Type 0

@@ -1,5 +1,7 @@
 -- Syntax trees of a file, before names have a meaning.
 use Rattle.std.specs.Prelude.{ℕ, suc, Bool, true, false, List, [], ◌∷◌, ◌++◌, Option, None, Some}
+use Rattle.std.specs.Option.{is_some}
+use Rattle.file_text.specs.declared.ConditionType.{ConditionType}
 
 -- an identifier, and the place of its first byte
 pub record Name : Type 0 where
@@ -48,12 +50,14 @@ guarded (Some g) = g.first ∷ g.others
 abbrev pub conditions_of : RuleTree → List ConditionTree
 conditions_of r = guarded r.guard
 
--- whether there is a condition type, whether it asks for common reducts, the identifiers of the variables' block, and the rules
+-- the condition type if there is one, the identifiers of the variables' block, and the rules
 pub record FileTree : Type 0 where
-  pub oriented : Bool
-  pub joins : Bool
+  pub condition_type : Option ConditionType
   pub variables : List Name
   pub rules : List RuleTree
+
+abbrev pub has_type : FileTree → Bool
+has_type file = is_some file.condition_type
 
 -- an identifier of a term: whether brackets stand behind it, and how many arguments are in them
 pub record Node : Type 0 where

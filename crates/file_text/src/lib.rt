@@ -23,6 +23,15 @@ pub struct Token {
     pub to: usize,
 }
 
+/// What the conditions of a file ask of their two sides.
+#[derive(Clone, Copy, Debug, PartialEq, Eq)]
+pub enum ConditionType {
+    /// The left side reaches the right one.
+    Oriented,
+    /// Both sides have a common reduct.
+    Join,
+}
+
 /// A text has one list of tokens, or one place that is bad, for one cause; and never both. The place is
 /// within the text or at its end.
 pub fn one_reading()

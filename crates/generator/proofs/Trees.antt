@@ -3,6 +3,7 @@ use Rattle.std.proofs.Common.{false, ◌≡◌, ℕ, zero, suc, ◌+◌, ◌-◌
 use Rattle.std.specs.Prelude.{flat_map, map, option_map, slice_get, is_some, if◌then◌else◌}
 use Rattle.std.specs.Fmt.{digits}
 use Rattle.std.specs.List.{range_with_len}
+use Rattle.file_text.specs.declared.ConditionType.TheVariants.{Oriented}
 use Rattle.file_text.specs.Syntax.{Name, Phrase, Phrases, word, call, none, more, count, RuleTree, FileTree}
 use Rattle.rewriting.specs.Terms.{Term, var, app, Terms, nil, cons}
 use Rattle.rewriting.specs.Rules.{Rule}
@@ -58,7 +59,7 @@ abbrev pub trees_for : ℕ → List RuleTree
 trees_for k = tree_at_z k ∷ tree_at_s k ∷ guarded_tree k x_tree (codes "true") ∷ guarded_tree k (next_tree k) (codes "false") ∷ []
 
 abbrev pub tree_of : ℕ → FileTree
-tree_of n = record { oriented = true; joins = false; variables = named (codes "x") ∷ []; rules = flat_map trees_for (range_with_len 0 n) }
+tree_of n = record { condition_type = Some Oriented; variables = named (codes "x") ∷ []; rules = flat_map trees_for (range_with_len 0 n) }
 
 -- what the symbols are in a table
 record Constants (table : Table) : Type 0 where

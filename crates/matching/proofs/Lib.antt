@@ -5,3 +5,4 @@ pub mod Parts
 pub mod Unmatched
 pub mod Least
 pub mod Shapes
+pub mod Noted

@@ -1,6 +1,8 @@
 -- The symbols of a pattern stand in each of its instances.
 use Rattle.std.proofs.Common.{◌≡◌, List, [], ◌∷◌, length, get_or, drop, take, ◌-◌, ◌↔◌, Vec, Global, ℕ, refl, sym, ap, ◌∙◌, subst, subst₂, ◌≤◌, ◌<◌, arith}
-use Rattle.rewriting.specs.Substitutions.{Substitution, Matches, apply, apply_all}
+use Rattle.rewriting.specs.Substitutions.{Substitution, Bindings, Matches, apply, apply_all}
+use Rattle.rewriting.specs.Matching.{HasNoMatch}
+use Rattle.matching.proofs.Unmatched.{no_instance}
 use Rattle.rewriting.specs.Terms.{Term, Terms, var, app, nil, cons}
 use Rattle.term_core.specs.declared.terms.Term as program
 use Rattle.term_core.specs.declared.terms.Term.{Fun}
@@ -19,6 +21,9 @@ mutual
 
 pub shape_of : (p u : Term) → Matches p u → HasShape p u
 shape_of p u (s, e) = subst (HasShape p) e (shape_of_instance s p)
+
+pub no_shape : (b : Bindings) (p u : Term) → (HasShape p u → ⊥) → HasNoMatch b p u
+no_shape b p u h = no_instance b p u (λ k. h (shape_of p u k))
 
 -- the same of the program's terms
 pub shape_args : (p s : program.Term) (f g : ℕ) (v w : Vec program.Term Global) (ps ss : List program.Term) → p ≡ Fun f v → s ≡ Fun g w → ps ≡ v.items → ss ≡ w.items → f ≡ g → HaveShape (views ps) (views ss) ↔ HasShape (view p) (view s)

@@ -1,3 +1,4 @@
 pub mod Answers
 pub mod Values
 pub mod Lists
+pub mod Trails

@@ -77,7 +77,7 @@ fn agree_all(whole: &Term, onto: &Term, patterns: &[Term], subjects: &[Term]) ->
 // Whether the symbols of the pattern stand in the subject, whatever stands at its variables.
 #[cycle(shape)]
 #[tactic(auto, using(crate::proofs::Sizes::size_pos))]
-fn has_shape(pattern: &Term, subject: &Term) -> bool
+pub(crate) fn has_shape(pattern: &Term, subject: &Term) -> bool
     ensures { IsTrue result ↔ HasShape (view pattern.now) (view subject.now) }
 {
     match (pattern, subject) {

@@ -12,6 +12,7 @@ mod finding;
 mod instances;
 mod normal;
 mod owned;
+mod trail;
 
 use finding::match_into;
 pub use instances::matches;
@@ -19,6 +20,7 @@ pub use normal::matches_nowhere;
 pub use owned::match_owned;
 use std::alloc::Global;
 use term_core::{NoMemory, Subst, Term};
+pub use trail::{match_further, take_back};
 
 /// What matching finds.
 #[derive(Debug, Drop)]

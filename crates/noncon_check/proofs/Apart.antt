@@ -158,7 +158,8 @@ pub second_foreign : (sys : System) (u v : Term) (a : Apartness) (e : CheckError
 second_foreign sys u v a (Rejected reason) own h = inr (inl (own, h.0, h.1))
 second_foreign sys u v a NoMemory own h = tt
 
-pub apart_judged : (sys : System) (u v : Term) (a : Apartness) (r : Result (Unit {0}) CheckError) → HasFileSymbols sys u → HasFileSymbols sys v → ApartAnswers sys u v a r → EndsAnswers sys u v a r
+pub apart_judged : (sys : System) (u v : Term) (a : Apartness) (r : Result (Unit {0}) CheckError) → HasFileSymbols sys u → HasFileSymbols sys v → ApartAnswers sys u v a r
+    → EndsAnswers sys u v a r
 apart_judged sys u v a (Ok _) own own' h = record { first = own; second = own'; apart = h }
 apart_judged sys u v a (Err (Rejected reason)) own own' h = inr (inr (own, own', h))
 apart_judged sys u v a (Err NoMemory) own own' h = tt
@@ -167,11 +168,13 @@ pub first_rejected : (sys : System) (peak : Peak) (e : CheckError) → HasFileSy
 first_rejected sys peak (Rejected reason) own (bad, is, h) = subst (IsPeakRejected sys peak) (sym is) (first_fails own bad h)
 first_rejected sys peak NoMemory own h = tt
 
-pub second_rejected : (sys : System) (peak : Peak) (u : Term) (e : CheckError) → HasFileSymbols sys peak.start → Derives sys [] peak.start peak.first u → SecondAnswers sys peak (Err e) → PeakAnswers sys peak (Err e)
+pub second_rejected : (sys : System) (peak : Peak) (u : Term) (e : CheckError) → HasFileSymbols sys peak.start → Derives sys [] peak.start peak.first u → SecondAnswers sys peak (Err e)
+    → PeakAnswers sys peak (Err e)
 second_rejected sys peak u (Rejected reason) own first (bad, is, h) = subst (IsPeakRejected sys peak) (sym is) (second_fails own u bad first h)
 second_rejected sys peak u NoMemory own first h = tt
 
-pub ends_judged : (sys : System) (peak : Peak) (u v : Term) (a : Result (Unit {0}) CheckError) → HasFileSymbols sys peak.start → LeadsTo sys peak u v → EndsAnswers sys u v peak.apart a → PeakAnswers sys peak a
+pub ends_judged : (sys : System) (peak : Peak) (u v : Term) (a : Result (Unit {0}) CheckError) → HasFileSymbols sys peak.start → LeadsTo sys peak u v → EndsAnswers sys u v peak.apart a
+    → PeakAnswers sys peak a
 ends_judged sys peak u v (Ok _) own ends h = record { start = own; u = u; v = v; ends = ends; apart = h }
 ends_judged sys peak u v (Err (Rejected reason)) own ends h = not_apart own u v (rejected_view reason) ends h
 ends_judged sys peak u v (Err NoMemory) own ends h = tt

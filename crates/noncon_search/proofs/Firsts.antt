@@ -14,8 +14,8 @@ use Rattle.term_core.specs.declared.systems.Cond.{Cond}
 use Rattle.term_core.specs.declared.terms.NoMemory.{NoMemory}
 use Rattle.cert_model.specs.EvidenceView.{inf_evidence_view}
 use Rattle.cert_model.specs.declared.evidence.InfEvidence.{InfEvidence}
-use Rattle.valid_certificates.specs.Evidence.{IsInfeasibilityJudged}
-use Rattle.valid_certificates.proofs.OneAnswer.{evidence_once}
+use Rattle.judged_evidence.specs.Evidence.{IsInfeasibilityJudged}
+use Rattle.judged_evidence.proofs.Judged.{evidence_once}
 use Rattle.redex_conditions.specs.Judged.{AreJudged}
 use Rattle.first_found.specs.Items.{GivesNothing, NoneGives, one}
 use Rattle.first_found.proofs.Items.{first_here, first_right}

@@ -6,6 +6,7 @@
 //! there for its variables. Other lines are printed as they are.
 #![tactic(auto)]
 
+mod of_joins;
 mod of_numbers;
 mod of_systems;
 mod of_terms;
@@ -34,6 +35,8 @@ fn print_call(rt: &HostRuntime, call: &str, sys: &System) -> io::Result<()> {
         "pass" => of_systems::print_passes(rt, sys),
         "unravel" => of_systems::print_unraveled(rt, sys),
         "classes" => of_systems::print_classes(rt, sys),
+        "same_rules" => of_joins::print_with_rules(rt, sys, true),
+        "other_rules" => of_joins::print_with_rules(rt, sys, false),
         "irreducible" => of_systems::print_irreducible(rt, sys, terms),
         "number" => of_terms::print_numbered(rt, terms),
         "term" => of_terms::print_terms(rt, terms),
@@ -47,7 +50,12 @@ fn print_case(rt: &HostRuntime, line: &str) -> io::Result<()> {
         return of_numbers::print_call(rt, line);
     };
     match read_system(rt.alloc(), text.as_bytes()) {
-        Ok((sys, _)) => print_call(rt, call, &sys),
+        Ok((sys, _)) => {
+            if call == "parts" {
+                return of_joins::print_parts(rt, sys);
+            }
+            print_call(rt, call, &sys)
+        }
         Err(e) => println!(rt; "{e}"),
     }
 }

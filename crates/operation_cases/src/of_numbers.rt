@@ -3,6 +3,7 @@ ghost use Rattle.std.specs.Prelude.{◌≡◌, ℕ, true, IfOk};
 ghost use Rattle.rewriting.specs.Variables.{occurs};
 ghost use Rattle.term_core.specs.View.{view};
 
+use crate::of_joins::{print_join_rules, print_large};
 use cert_model::{Automaton, Derivation, InfEvidence, PairEvidence, Step, Transition};
 use std::alloc::Global;
 use std::io;
@@ -31,6 +32,8 @@ pub fn print_call(rt: &HostRuntime, call: &str) -> io::Result<()> {
     match name {
         "copy" => print_copies(rt, numbers),
         "make" => print_fault(rt, numbers),
+        "join_rules" => print_join_rules(rt),
+        "large" => print_large(rt, numbers),
         "rename" => print_renamed(rt, numbers),
         _ => Ok(()),
     }

@@ -22,7 +22,7 @@ use Rattle.level_theorem.specs.AlmostOrthogonal.{IsAlmostOrthogonal}
 use Rattle.valid_certificates.specs.Kinds.{ortho}
 use Rattle.valid_certificates.specs.PairEvidence.{IsPairJudged, IsConflictJudged, inner_conditions_of, outer_conditions_of}
 use Rattle.valid_certificates.specs.Confluence.{IsValidOrtho}
-use Rattle.valid_certificates.proofs.Valid.{judged_infeasible}
+use Rattle.judged_evidence.proofs.Judged.{judged_infeasible}
 use Rattle.valid_certificates.proofs.Settled.{settled}
 
 reached : (sys : System) (n : ℕ) (a b : Term) → Steps sys n a b → Reaches sys a b

@@ -8,7 +8,8 @@ use Rattle.rewriting.proofs.Laws.{well_formed}
 use Rattle.unifier_run.specs.Run.{value}
 use Rattle.interpretations.specs.Judgement.{Judgement, good}
 use Rattle.interpretations.proofs.Bound.{good_bounds}
-use Rattle.certificates.specs.Certificates.{MeasureCertificate, PairEntry, linear_measure}
+use Rattle.path_orders.proofs.Bound.{good_bounds as precedence_bounds}
+use Rattle.certificates.specs.Certificates.{MeasureCertificate, PairEntry, linear_measure, precedence_measure}
 use Rattle.descent_theorem.specs.Bounded.{IsBoundedAndSettled, BoundedAndSettledSystemsAreConfluent}
 use Rattle.descent_theorem.specs.Evidence.{AreOverlapsSettled}
 use Rattle.std.specs.Prelude.{OnOk}
@@ -45,8 +46,9 @@ quasi_confluent law Is sys es bounds kept (Ok _) valid = law sys (valid_is_bound
 quasi_confluent law Is sys es bounds kept (Err e) h = tt
 
 -- the same as a law of valid certificates
-measure_bounds : (sys : System) (m : MeasureCertificate) → IsWellFormed sys → IsMeasureJudged sys m good → AreDescentsBounded sys
+pub measure_bounds : (sys : System) (m : MeasureCertificate) → IsWellFormed sys → IsMeasureJudged sys m good → AreDescentsBounded sys
 measure_bounds sys (linear_measure es) well judged = good_bounds sys es well judged.1
+measure_bounds sys (precedence_measure order) well judged = precedence_bounds sys order well judged.1
 
 pub measured_confluent : BoundedAndSettledSystemsAreConfluent → ValidMeasuredSystemsAreConfluent
 measured_confluent law sys m es well valid = law sys (valid_is_bounded (IsMeasureJudged sys m) sys es (measure_bounds sys m well) well valid)

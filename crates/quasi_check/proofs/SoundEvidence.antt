@@ -15,7 +15,7 @@ use Rattle.certificates.proofs.Sound.{derivation_reaches}
 use Rattle.descent_theorem.specs.Evidence.{IsSettled, infeasible, joining, unfeasible}
 use Rattle.valid_certificates.specs.Kinds.{quasi}
 use Rattle.valid_certificates.specs.PairEvidence.{IsPairJudged, IsEvidenceJudged, IsAllowed, IsJoinJudged, IsOutcomeOfTwo}
-use Rattle.valid_certificates.proofs.Valid.{judged_infeasible}
+use Rattle.judged_evidence.proofs.Judged.{judged_infeasible}
 use Rattle.quasi_check.proofs.SoundPairs.{IsPairOver}
 
 -- a term all of whose runs clash is absolutely irreducible

@@ -24,7 +24,7 @@ use Rattle.rewriting.proofs.Finite.{key_is, same_key}
 use Rattle.refuter.specs.Answers.{RefutesAnswers}
 use Rattle.refuter.specs.declared.Refusal.{Refusal}
 use Rattle.refuter.specs.declared.Refusal.TheVariants.{Reason, NoMemory}
-use Rattle.valid_certificates.specs.Evidence.{IsInfeasibilityJudged}
+use Rattle.judged_evidence.specs.Evidence.{IsInfeasibilityJudged}
 use Rattle.redex_conditions.specs.Judged.{value_or_new, match_or_new, AreJudged}
 
 other_key : (x y : ℕ) → (x ≡ y → ⊥) → eq_by_cmp nat_cmp x y ≡ false

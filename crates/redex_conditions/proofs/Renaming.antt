@@ -10,15 +10,12 @@ use Rattle.unifier_run.proofs.Renamed.{names, stays, renamed_outcome, runs_with_
 use Rattle.unifier_run.proofs.Woven.{woven, all_woven_evens, all_woven_odds, woven_one_to_one}
 use Rattle.caps.specs.Caps.{Cap, Caps, any, all_filled, IsCapOf, AreCapsOf, IsCapLarge, AreCapsLarge}
 use Rattle.caps.specs.Evidence.{IsCapOutcome, JudgedByCaps}
-use Rattle.caps.proofs.Total.{caps_total, pair_total}
 use Rattle.automata.proofs.Renamed.{by_automaton_to}
-use Rattle.automata.proofs.Total.{automaton_total}
 use Rattle.certificates.specs.Evidence.{InfeasibilityEvidence, by_caps, by_automaton}
 use Rattle.certificates.specs.Reasons.{EvidenceReason, tcap_unifies, tcap_large, not_allowed, not_root, sides_differ, conflict_number, conflict_left, conflict_unifies, conflict_large, auto_number, auto_any, auto_misses, auto_wide, auto_not_closed, auto_wide_right, auto_reaches, join_left, join_right, join_differs, unfeasible_number, unfeasible_first, unfeasible_second, first_reducible, second_reducible, unfeasible_unifies, unfeasible_large}
 use Rattle.certificates.specs.Sizes.{DoConditionsFit}
-use Rattle.valid_certificates.specs.Evidence.{IsInfeasibilityJudged}
-use Rattle.valid_certificates.proofs.EvidenceTotal.{infeasibility_total}
-use Rattle.valid_certificates.proofs.OneAnswer.{evidence_once}
+use Rattle.judged_evidence.specs.Evidence.{IsInfeasibilityJudged}
+use Rattle.judged_evidence.proofs.Judged.{infeasibility_total, evidence_once}
 use Rattle.redex_conditions.specs.Judged.{AreJudged}
 
 module _ (rho : ℕ → ℕ) where
@@ -122,7 +119,7 @@ module _ (rho : ℕ → ℕ) where
     -- and for renamed conditions as for these, which have some judgement, the renamed ones one at most
     judged_from : (sys : System) (cs : List Condition) (e : InfeasibilityEvidence) (o : Option EvidenceReason) → IsInfeasibilityJudged sys (conditions_renamed cs) e o → IsInfeasibilityJudged sys cs e o
     judged_from sys cs e o h =
-        let some = infeasibility_total sys (caps_total sys) (automaton_total sys) (pair_total sys) cs e in
+        let some = infeasibility_total sys cs e in
         subst (IsInfeasibilityJudged sys cs e) (evidence_once sys (conditions_renamed cs) e some.0 o (judged_to sys cs e some.0 some.1) h) some.1
 
     pub are_judged_from : (sys : System) (cs : List Condition) (e : InfeasibilityEvidence) (o : Option EvidenceReason) → AreJudged sys (conditions_renamed cs) e o → AreJudged sys cs e o

@@ -20,7 +20,7 @@ use Rattle.term_core.specs.declared.systems.Cond.{Cond}
 use Rattle.term_core.specs.declared.terms.NoMemory as memory
 use Rattle.term_core.specs.declared.terms.TermError.{TermError}
 use Rattle.term_core.specs.declared.terms.TermError.TheVariants.{NoPosition, TooLarge, NoMemory}
-use Rattle.valid_certificates.specs.Evidence.{IsInfeasibilityJudged}
+use Rattle.judged_evidence.specs.Evidence.{IsInfeasibilityJudged}
 use Rattle.valid_certificates.specs.Peaks.{RedexPlace}
 
 abbrev pub value_or_new : ℕ → ℕ → Option Term → Term

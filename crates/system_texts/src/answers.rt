@@ -1,7 +1,7 @@
 //! What the readers and the writer tell of bytes, each on one line.
 use cops_lex::{Kind, tokens};
 use cops_read::{ReadError, read_system};
-use cops_syntax::{CondText, FileText, Name, Node, RuleText, parse};
+use cops_syntax::{CondText, ConditionType, FileText, Name, Node, RuleText, parse};
 use cops_write::{write_system, write_term};
 use std::alloc::{AllocError, Global};
 use term_core::fits;
@@ -47,7 +47,7 @@ pub fn of_tree(alloc: Global, bytes: &[u8]) -> Result<String, AllocError> {
         Ok(file) => file,
         Err(error) => return format!(in alloc; "{error}"),
     };
-    let mut out = String::from_str(alloc, if file.oriented { "oriented" } else { "no type" })?;
+    let mut out = String::from_str(alloc, type_name(file.condition_type))?;
     out.push_str("; variables")?;
     for name in &file.variables {
         out.push_str(" ")?;
@@ -59,6 +59,14 @@ pub fn of_tree(alloc: Global, bytes: &[u8]) -> Result<String, AllocError> {
         put_rule(alloc, &mut out, rule)?;
     }
     Ok(out)
+}
+
+fn type_name(condition_type: Option<ConditionType>) -> &'static str {
+    match condition_type {
+        Some(ConditionType::Oriented) => "oriented",
+        Some(ConditionType::Join) => "join",
+        None => "no type",
+    }
 }
 
 fn text_of<'a>(name: &Name<'a>) -> &'a str {
@@ -108,15 +116,17 @@ fn refusal(alloc: Global, error: &ReadError) -> Result<String, AllocError> {
     }
 }
 
-/// The size of the system.
+/// The size of the system, and how many symbols are its file's, where not all are.
 pub fn of_system(alloc: Global, bytes: &[u8]) -> Result<String, AllocError> {
-    match read_system(alloc, bytes) {
-        Ok((system, _)) => {
-            let rules = system.rules().len();
-            format!(in alloc; "rules {rules}, symbols {}", system.arities().len())
-        }
-        Err(error) => refusal(alloc, &error),
+    let system = match read_system(alloc, bytes) {
+        Ok((system, _)) => system,
+        Err(error) => return refusal(alloc, &error),
+    };
+    let (rules, symbols, own) = (system.rules().len(), system.arities().len(), system.own());
+    if own as usize == symbols {
+        return format!(in alloc; "rules {rules}, symbols {symbols}");
     }
+    format!(in alloc; "rules {rules}, symbols {symbols}, of the file {own}")
 }
 
 /// What is written of the system, behind other bytes.

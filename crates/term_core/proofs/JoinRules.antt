@@ -1,16 +1,14 @@
 -- Join rules: what fits below one symbol, and that their oriented system is one.
-use Rattle.std.proofs.Common.{◌≡◌, ◌<◌, ◌≤◌, ◌+◌, ◌-◌, ◌^◌, ◌⊎◌, inl, inr, Option, None, IfSome, IfNone, is_some, IsTrue, ℕ, zero, suc, max, List, [], ◌∷◌, ◌++◌, append_assoc, map, length, take, drop, get_or, refl, sym, ap, ap₂, ◌∙◌, subst, arith, add-one, zero-add, length-append, Some}
+use Rattle.std.proofs.Common.{◌≡◌, ◌<◌, ◌≤◌, ◌+◌, ◌-◌, ◌^◌, ◌⊎◌, inl, inr, Option, None, IfSome, IfNone, is_some, IsTrue, ℕ, zero, suc, max, List, [], ◌∷◌, ◌++◌, append_assoc, map, length, take, drop, get_or, refl, sym, ap, ap₂, ◌∙◌, subst, arith, add-one, zero-add, Some}
 use Rattle.std.proofs.lemmas.List.{length-map}
 use Rattle.std.proofs.Math.Nat.{le-max_left, le-max_right, max-le}
-use Rattle.rewriting.specs.Terms.{size, depth, Fits}
-use Rattle.rewriting.specs.Variables.{with_variables_of, with_variables}
+use Rattle.rewriting.specs.Terms.{size, depth}
 use Rattle.rewriting.specs.Rules as math
-use Rattle.rewriting.specs.Rules.{sides, system_of}
-use Rattle.rewriting.specs.Signatures.{Signature, IsOver}
-use Rattle.rewriting.specs.Systems.{Each, CountsFrom, IsRule, AreRules, IsSystem, condition_count, rule_variables}
-use Rattle.join_systems.specs.Joined.{true_of, joined, joined_condition, joined_rule, last_rule}
-use Rattle.join_systems.specs.Joined as joins
-use Rattle.join_systems.proofs.Sound.{rule_variables_stay, joined_is_system as of_rules}
+use Rattle.rewriting.specs.Rules.{System, system_of}
+use Rattle.rewriting.specs.Signatures.{Signature}
+use Rattle.rewriting.specs.Systems.{IsSystem, condition_count, rule_variables}
+use Rattle.join_systems.specs.Joined.{joined, joined_rule, last_rule}
+use Rattle.join_systems.proofs.Sound.{rule_variables_stay, joined_is_system}
 use Rattle.term_core.proofs.Rules.{sound_rules}
 use Rattle.term_core.specs.RuleView.{condition_view, rule_view, vars_of, AreCounted}
 use Rattle.term_core.specs.SystemView.{AreSound}
@@ -43,41 +41,44 @@ right_large c room a (inl lt) h = large_size c (omega (arith, a, lt)) h
 right_large c room a (inr lt) h = large_depth c (inr lt) h
 
 -- rules whose conditions were found to fit, one after another
-fit_step : (rs : List Rule) (i : ℕ) (r : Rule) → i < length rs → r ≡ get_or rs i r → DoJoinsFit (rule_view r).conditions → DoAllJoinsFit (take i rs) → DoAllJoinsFit (take (suc i) rs)
+fit_step : (rs : List Rule) (i : ℕ) (r : Rule) → i < length rs → r ≡ get_or rs i r → DoJoinsFit (rule_view r).conditions → DoAllJoinsFit (map rule_view (take i rs))
+    → DoAllJoinsFit (map rule_view (take (suc i) rs))
 fit_step [] i r h e good before = absurd (omega arith)
 fit_step (s ∷ rs) zero r h e good before = (subst (λ q. DoJoinsFit (rule_view q).conditions) e good, tt)
 fit_step (s ∷ rs) (suc i) r h e good before = (before.0, fit_step rs i r (omega arith) e good before.1)
 
-pub fit_more : (rs : List Rule) (i : ℕ) (r : Rule) → i < length rs → r ≡ get_or rs i r → DoJoinsFit (rule_view r).conditions → DoAllJoinsFit (take i rs) → DoAllJoinsFit (take (i + 1) rs)
+pub fit_more : (rs : List Rule) (i : ℕ) (r : Rule) → i < length rs → r ≡ get_or rs i r → DoJoinsFit (rule_view r).conditions → DoAllJoinsFit (map rule_view (take i rs))
+    → DoAllJoinsFit (map rule_view (take (i + 1) rs))
 fit_more rs i r h e good before = rw add-one (fit_step rs i r h e good before)
 
-pub all_fit : (rs : List Rule) (i : ℕ) → length rs ≤ i → DoAllJoinsFit (take i rs) → DoAllJoinsFit rs
+pub all_fit : (rs : List Rule) (i : ℕ) → length rs ≤ i → DoAllJoinsFit (map rule_view (take i rs)) → DoAllJoinsFit (map rule_view rs)
 all_fit [] i h all = tt
 all_fit (r ∷ rs) zero h all = absurd (omega arith)
 all_fit (r ∷ rs) (suc i) h all = (all.0, all_fit rs i (omega arith) all.1)
 
-first : (rs : List Rule) (i : ℕ) (r : Rule) → i < length rs → r ≡ get_or rs i r → DoAllJoinsFit (take i rs) → (DoJoinsFit (rule_view r).conditions → ⊥) → IsFirstLarge rs (suc i)
+first : (rs : List Rule) (i : ℕ) (r : Rule) → i < length rs → r ≡ get_or rs i r → DoAllJoinsFit (map rule_view (take i rs)) → (DoJoinsFit (rule_view r).conditions → ⊥)
+    → IsFirstLarge (map rule_view rs) (suc i)
 first [] i r h e before large = absurd (omega arith)
-first (s ∷ rs) zero r h e before large = record { before = []; rule = r; after = rs; split = ap (λ q. q ∷ rs) (sym e); numbered = sym (zero-add 1); fit_before = tt; large = large }
+first (s ∷ rs) zero r h e before large =
+    let split = ap (λ q. rule_view q ∷ map rule_view rs) (sym e) in
+    record { before = []; rule = rule_view r; after = map rule_view rs; split = split; numbered = sym (zero-add 1); fit_before = tt; large = large }
 first (s ∷ rs) (suc i) r h e before large =
     let f = first rs i r (omega arith) e before.1 large in
-    record { before = s ∷ f.before; rule = f.rule; after = f.after; split = ap (λ q. s ∷ q) f.split; numbered = omega (arith, f.numbered); fit_before = (before.0, f.fit_before); large = f.large }
+    let split = ap (λ q. rule_view s ∷ q) f.split in
+    record { before = rule_view s ∷ f.before; rule = f.rule; after = f.after; split = split; numbered = omega (arith, f.numbered); fit_before = (before.0, f.fit_before); large = f.large }
 
-pub first_at : (rs : List Rule) (i : ℕ) (r : Rule) → i < length rs → r ≡ get_or rs i r → DoAllJoinsFit (take i rs) → (DoJoinsFit (rule_view r).conditions → ⊥) → IsFirstLarge rs (i + 1)
+pub first_at : (rs : List Rule) (i : ℕ) (r : Rule) → i < length rs → r ≡ get_or rs i r → DoAllJoinsFit (map rule_view (take i rs)) → (DoJoinsFit (rule_view r).conditions → ⊥)
+    → IsFirstLarge (map rule_view rs) (i + 1)
 first_at rs i r h e before large = rw add-one (first rs i r h e before large)
 
--- the oriented system of sound join rules whose conditions fit is a system
-views_fit : (rs : List Rule) → DoAllJoinsFit rs → joins.DoAllJoinsFit (map rule_view rs)
-views_fit [] h = tt
-views_fit (r ∷ rs) h = (h.0, views_fit rs h.1)
-
-joined_is_system : (ar : Signature) (rs : List Rule) → AreSound ar rs → DoAllJoinsFit rs → length ar + condition_count (map rule_view rs) < 2 ^ 31 - 2
-    → length rs + condition_count (map rule_view rs) < 2 ^ 31 - 2 → IsSystem (joined (system_of ar (map rule_view rs)))
-joined_is_system ar rs sound fit symbols number =
+-- sound rules make a system
+pub sound_is_system : (ar : Signature) (rs : List Rule) → AreSound ar rs → length ar + condition_count (map rule_view rs) < 2 ^ 31 - 2
+    → length rs + condition_count (map rule_view rs) < 2 ^ 31 - 2 → IsSystem (system_of ar (map rule_view rs))
+sound_is_system ar rs sound symbols number =
     let views = length-map rs rule_view in
-    of_rules (system_of ar (map rule_view rs)) (sound_rules ar rs sound) (views_fit rs fit) symbols (omega (arith, views, number))
+    record { rules = sound_rules ar rs sound; few_symbols = omega (arith, symbols); few_rules = omega (arith, views, number) }
 
--- and each of its rules tells the number of its variables
+-- each rule of the oriented system tells the number of its variables
 pub joined_counted : (f : ℕ) (rs new : List Rule) (last : Rule) → AreCounted rs → map rule_view new ≡ map (joined_rule f) (map rule_view rs) → map vars_of new ≡ map vars_of rs
     → rule_view last ≡ last_rule f → last.vars ≡ 1 → AreCounted (new ++ last ∷ [])
 joined_counted f [] [] last h views vars e one = (one ∙ ap (λ r. length (rule_variables r)) (sym e), tt)
@@ -109,18 +110,25 @@ views_of_more : (rs : List Rule) (r : Rule) → map rule_view (rs ++ r ∷ []) �
 views_of_more [] r = refl
 views_of_more (q ∷ rs) r = ap (λ z. rule_view q ∷ z) (views_of_more rs r)
 
-module _ (ar : Signature) (rs : List Rule) (one two : List ℕ) (new all : List Rule) (last : Rule) (own : ℕ)
-    (first_more : one ≡ ar ++ 2 ∷ []) (second_more : two ≡ one ++ 0 ∷ []) (count_is : own ≡ length ar)
+module _ (list : System) (ar one two : List ℕ) (rs new all : List Rule) (last : Rule) (own : ℕ)
+    (arities_are : ar ≡ list.arities) (rules_are : map rule_view rs ≡ list.rules) (first_more : one ≡ ar ++ 2 ∷ []) (second_more : two ≡ one ++ 0 ∷ []) (count_is : own ≡ length ar)
     (views : map rule_view new ≡ map (joined_rule own) (map rule_view rs)) (last_is : rule_view last ≡ last_rule own) (all_are : all ≡ new ++ last ∷ []) where
-  made_is : record { arities = two; rules = map rule_view all; own = own } ≡ joined (system_of ar (map rule_view rs))
-  made_is =
-      let symbols : two ≡ ar ++ 2 ∷ 0 ∷ [] = second_more ∙ ap (λ (z : List ℕ). z ++ 0 ∷ []) first_more ∙ append_assoc ar (2 ∷ []) (0 ∷ []) in
-      let with_last : map rule_view all ≡ map (joined_rule own) (map rule_view rs) ++ last_rule own ∷ [] =
-      ap (map rule_view) all_are ∙ views_of_more new last ∙ ap₂ (λ (z : List math.Rule) (q : math.Rule). z ++ q ∷ []) views last_is in
-      let rules_are : map rule_view all ≡ map (joined_rule (length ar)) (map rule_view rs) ++ last_rule (length ar) ∷ [] =
-      with_last ∙ ap (λ n. map (joined_rule n) (map rule_view rs) ++ last_rule n ∷ []) count_is in
-      ap₂ (λ (a : List ℕ) (w : List math.Rule × ℕ). record { arities = a; rules = w.0; own = w.1 }) symbols (ap₂ (λ (r : List math.Rule) (n : ℕ). (r, n)) rules_are count_is)
+  symbols_are : two ≡ list.arities ++ 2 ∷ 0 ∷ []
+  symbols_are =
+      second_more ∙ ap (λ (z : List ℕ). z ++ 0 ∷ []) first_more ∙ append_assoc ar (2 ∷ []) (0 ∷ []) ∙ ap (λ (z : List ℕ). z ++ 2 ∷ 0 ∷ []) arities_are
 
-  pub made_is_system : AreSound ar rs → DoAllJoinsFit rs → length ar + condition_count (map rule_view rs) < 2 ^ 31 - 2 → length rs + condition_count (map rule_view rs) < 2 ^ 31 - 2
+  own_is : own ≡ length list.arities
+  own_is = count_is ∙ ap (λ (z : List ℕ). length z) arities_are
+
+  with_last : map rule_view all ≡ map (joined_rule (length list.arities)) list.rules ++ last_rule (length list.arities) ∷ []
+  with_last =
+      ap (map rule_view) all_are ∙ views_of_more new last ∙ ap₂ (λ (z : List math.Rule) (q : math.Rule). z ++ q ∷ []) views last_is
+      ∙ ap₂ (λ (n : ℕ) (z : List math.Rule). map (joined_rule n) z ++ last_rule n ∷ []) own_is rules_are
+
+  pub made_is : record { arities = two; rules = map rule_view all; own = own } ≡ joined list
+  made_is =
+      ap₂ (λ (a : List ℕ) (w : List math.Rule × ℕ). record { arities = a; rules = w.0; own = w.1 }) symbols_are (ap₂ (λ (r : List math.Rule) (n : ℕ). (r, n)) with_last own_is)
+
+  pub made_is_system : IsSystem list → DoAllJoinsFit list.rules → length list.arities + condition_count list.rules < 2 ^ 31 - 2 → length list.rules + condition_count list.rules < 2 ^ 31 - 2
       → IsSystem (record { arities = two; rules = map rule_view all; own = own })
-  made_is_system sound fit symbols number = subst IsSystem (sym made_is) (joined_is_system ar rs sound fit symbols number)
+  made_is_system sound fit symbols number = subst IsSystem (sym made_is) (joined_is_system list sound.rules fit symbols number)

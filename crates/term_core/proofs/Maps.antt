@@ -6,7 +6,7 @@ use Rattle.std.specs.Option.{option_copied}
 use Rattle.std.specs.Map.{lookup}
 use Rattle.std.specs.BTreeMap.{is_at, get}
 use Rattle.std.specs.FinMap as fin
-use Rattle.std.specs.FinMap.{get-from_entries, get-insert, same_map, nat_cmp-IsAntisymmetric}
+use Rattle.std.specs.FinMap.{get-from_entries, get-insert, get-remove, same_map, nat_cmp-IsAntisymmetric}
 use Rattle.rewriting.specs.Terms as math
 use Rattle.term_core.specs.View.{view}
 use Rattle.term_core.specs.SubstView.{bindings_of}
@@ -31,6 +31,19 @@ bound m n k v is =
     same_map nat_cmp_total nat_cmp-IsAntisymmetric _ _
     (λ q. sym (get-bindings_of n.entries q) ∙ ap (option_map view) (is q)
     ∙ viewed (is_at (nat_cmp k) q) (eq_by_cmp nat_cmp q k) v _ _ ((eq_by_cmp_equiv nat_cmp_total).symm k q) (get-bindings_of m.entries q) ∙ sym (get-insert nat_cmp_total (bindings_of m.entries) k (view v) q))
+
+gone : (a b : Bool) (o : Option Term) (p : Option math.Term) → a ≡ b → option_map view o ≡ p → option_map view (cond a None o) ≡ cond b None p
+gone true true o p e h = refl
+gone true false o p e h = cc
+gone false true o p e h = cc
+gone false false o p e h = h
+
+pub unbound : (m n : BTreeMap ℕ Term) (k : ℕ) → ((q : ℕ) → get nat_cmp n q ≡ cond (is_at (nat_cmp k) q) None (get nat_cmp m q))
+    → bindings_of n.entries ≡ fin.remove (bindings_of m.entries) k
+unbound m n k is =
+    same_map nat_cmp_total nat_cmp-IsAntisymmetric _ _
+    (λ q. sym (get-bindings_of n.entries q) ∙ ap (option_map view) (is q)
+    ∙ gone (is_at (nat_cmp k) q) (eq_by_cmp nat_cmp q k) _ _ ((eq_by_cmp_equiv nat_cmp_total).symm k q) (get-bindings_of m.entries q) ∙ sym (get-remove nat_cmp_total (bindings_of m.entries) k q))
 
 pub view_of_ref : (r : Option (Bor Term)) → option_map (λ x. view x.now) r ≡ option_map view (option_copied r)
 view_of_ref None = refl

@@ -1,6 +1,5 @@
 -- The system that a `System` stands for, and what `make` answers.
-use Rattle.std.specs.Prelude.{◌≡◌, ◌+◌, ◌<◌, ◌≤◌, ℕ, map, List, [], ◌∷◌, ◌++◌, length, Result, Ok, Err}
-use Rattle.rewriting.specs.Terms as terms
+use Rattle.std.specs.Prelude.{◌≡◌, ◌+◌, ◌≤◌, ℕ, map, List, [], ◌∷◌, ◌++◌, length, Result, Ok, Err}
 use Rattle.rewriting.specs.Terms.{IsVariable, Fits}
 use Rattle.rewriting.specs.Signatures.{Signature, IsOver}
 pub use Rattle.rewriting.specs.Signatures.{HasSymbolsBelow, HaveSymbolsBelow}
@@ -67,15 +66,19 @@ abbrev pub FaultAnswers : Signature → Rule → ℕ → Result (Unit {0}) Syste
 FaultAnswers arities r number (Ok _) = IsSound arities r
 FaultAnswers arities r number (Err fault) = (fault_rule fault ≡ number) × HasFault arities r fault
 
+-- the first rule with a fault, and its first fault
+abbrev pub IsFaultOf : Signature → List Rule → SystemFault → Type 0
+IsFaultOf arities rules fault = (r : Rule) × FirstAt arities rules (fault_rule fault) r × HasFault arities r fault
+
 -- for all rules
 abbrev pub FirstFaultAnswers : Signature → List Rule → Result (Unit {0}) SystemFault → Type 0
 FirstFaultAnswers arities rules (Ok _) = AreSound arities rules
-FirstFaultAnswers arities rules (Err fault) = (r : Rule) × FirstAt arities rules (fault_rule fault) r × HasFault arities r fault
+FirstFaultAnswers arities rules (Err fault) = IsFaultOf arities rules fault
 
--- the system of what was handed in, or the first rule with a fault, and its first fault
+-- the system of what was handed in, or its fault
 abbrev pub MakeAnswers : Signature → List Rule → Result math.System SystemFault → Type 0
 MakeAnswers arities rules (Ok s) = s ≡ math.system_of arities (map rule_view rules)
-MakeAnswers arities rules (Err fault) = (r : Rule) × FirstAt arities rules (fault_rule fault) r × HasFault arities r fault
+MakeAnswers arities rules (Err fault) = IsFaultOf arities rules fault
 
 -- what a system keeps
 pub record IsHeld (s : Inside) : Type 0 where

@@ -1,15 +1,15 @@
-// Systems of join rules, and systems with other rules.
-ghost use Rattle.std.specs.Prelude.{◌≡◌, ◌<◌, ◌+◌, ◌-◌, ◌^◌, ◌↔◌, ◌++◌, List, [], ◌∷◌, IfOk, OnOk, IsTrue, map, length};
+//! Systems of join rules: the oriented system that stands for them.
+ghost use Rattle.std.specs.Prelude.{◌≡◌, ◌<◌, ◌+◌, ◌-◌, ◌^◌, ◌↔◌, IfOk, OnOk, IsTrue, map, length};
 ghost use Rattle.rewriting.specs.Systems.{condition_count};
-ghost use Rattle.join_systems.specs.Joined.{joined_condition, joined_rule, last_rule};
+ghost use Rattle.join_systems.specs.Joined.{DoAllJoinsFit, joined, joined_condition, joined_rule, last_rule};
 ghost use Rattle.term_core.specs.RuleView.{condition_view, rule_view, vars_of};
-ghost use Rattle.term_core.specs.JoinAnswers.{DoesJoinFit, DoJoinsFit, FirstLargeAnswers, JoinAnswers, DoAllJoinsFit, WithRulesAnswers};
+ghost use Rattle.term_core.specs.JoinAnswers.{DoesJoinFit, DoJoinsFit, FirstLargeAnswers, JoinAnswers};
 ghost use Rattle.term_core.specs.SystemView.{AreSound};
 
 use crate::soundness::first_fault;
 use crate::systems::{Cond, Rule, System, SystemFault};
 use crate::terms::{MAX_DEPTH, MAX_NODES, NoMemory, Term, room_after};
-use std::alloc::{AllocError, AllocFailed, Global};
+use std::alloc::{AllocError, Global};
 
 /// Why rules make no system, or memory was refused.
 #[derive(Clone, Copy, Debug, PartialEq, Eq)]
@@ -34,16 +34,6 @@ impl From<AllocError> for JoinError {
     ghost from_gives = { λ _ e. e ≡ no_memory };
 
     fn from(_e: AllocError) -> JoinError {
-        JoinError::NoMemory
-    }
-}
-
-impl<T: Drop> From<AllocFailed<T>> for JoinError {
-    ghost use Rattle.term_core.specs.declared.joins.JoinError.TheVariants.{NoMemory as no_memory};
-
-    ghost from_gives = { λ _ e. e ≡ no_memory };
-
-    fn from(_e: AllocFailed<T>) -> JoinError {
         JoinError::NoMemory
     }
 }
@@ -84,7 +74,7 @@ fn do_joins_fit(conds: &[Cond]) -> bool
 #[tactic(auto, using(crate::proofs::JoinRules::fit_more, crate::proofs::JoinRules::all_fit, crate::proofs::JoinRules::first_at))]
 fn first_large(rules: &[Rule]) -> Result<(), SystemFault>
     requires { length rules.now < 2 ^ 31 }
-    ensures { FirstLargeAnswers rules.now result }
+    ensures { FirstLargeAnswers (map rule_view rules.now) result }
 {
     for (i, rule) in rules.iter().enumerate() {
         if !do_joins_fit(&rule.conds) {
@@ -159,6 +149,24 @@ fn last_rule_of(alloc: Global, own: u32) -> Result<Rule, NoMemory>
     })
 }
 
+/// The oriented system of the rules of `list` as join rules, which are known to be sound and to have conditions that fit
+/// below `join`, so that nothing is tested.
+pub fn join_sound(alloc: Global, list: System) -> Result<System, NoMemory>
+    requires fit { DoAllJoinsFit list.rules }
+    requires few_symbols { length list.arities + condition_count list.rules < 2 ^ 31 - 2 }
+    requires few_rules { length list.rules + condition_count list.rules < 2 ^ 31 - 2 }
+    ensures { IfOk result (λ s. s ≡ joined list) }
+{
+    let (arities, rules, _own) = list.into_parts();
+    let own = arities.len() as u32;
+    let mut arities = arities;
+    arities.push(2)?;
+    arities.push(0)?;
+    let mut rules = joined_rules(alloc, own, rules)?;
+    rules.push(last_rule_of(alloc, own)?)?;
+    Ok(System::of_parts(arities, rules, own))
+}
+
 /// The oriented system of join rules, whose conditions ask for common reducts: with two symbols more, `join(s, t) == true`
 /// for each condition `s == t`, and last the rule `join(x, x) -> true`. The fault is that of `System::make`, or behind it
 /// that a new condition does not fit.
@@ -167,15 +175,9 @@ pub fn join_system(alloc: Global, arities: Vec<u32>, rules: Vec<Rule>) -> Result
     requires few_rules { length rules.items + condition_count (map rule_view rules.items) < 2 ^ 31 - 2 }
     ensures answer { JoinAnswers arities.items rules.items result }
     ensures sound { OnOk result (AreSound arities.items rules.items) }
-    ensures fit { OnOk result (DoAllJoinsFit rules.items) }
+    ensures fit { OnOk result (DoAllJoinsFit (map rule_view rules.items)) }
 {
     first_fault(&arities, &rules)?;
     first_large(&rules)?;
-    let own = arities.len() as u32;
-    let mut arities = arities;
-    arities.push(2)?;
-    arities.push(0)?;
-    let mut joined = joined_rules(alloc, own, rules)?;
-    joined.push(last_rule_of(alloc, own)?)?;
-    Ok(System::of_parts(arities, joined, own))
+    Ok(join_sound(alloc, System::of_sound(arities, rules))?)
 }

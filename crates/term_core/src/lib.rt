@@ -9,7 +9,7 @@ mod systems;
 mod terms;
 mod variables;
 
-pub use joins::{JoinError, join_system};
+pub use joins::{JoinError, join_sound, join_system};
 pub use positions::{replace, subterm};
 pub use soundness::{has_symbols_below, is_over};
 pub use subst::Subst;

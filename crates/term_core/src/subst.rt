@@ -61,6 +61,13 @@ impl Subst {
         Ok(())
     }
 
+    /// Takes the value of a variable away, where it is bound.
+    pub fn unbind(&mut self, x: u32)
+        ensures { self.new ≡ map.remove self.old x }
+    {
+        let _value = self.bound.remove(&x);
+    }
+
     /// A copy of the substitution.
     pub fn try_clone(&self, alloc: Global) -> Result<Subst, NoMemory>
         ensures { IfOk result (λ copy. copy ≡ self.now) }

@@ -142,6 +142,7 @@ impl System {
         ensures rules { map rule_view result.1.items ≡ self.rules }
         ensures own { result.2 ≡ self.own }
         ensures counted { AreCounted result.1.items }
+        ensures sound { IsSystem self }
     {
         (self.arities, self.rules, self.own)
     }

@@ -22,7 +22,7 @@ use Rattle.certificates.specs.Sizes.{DoConditionsFit}
 use Rattle.certificates.specs.Judging.{Derives, IsFirstBad}
 use Rattle.certificates.proofs.DerivationTotal.{derivation_total}
 use Rattle.valid_certificates.specs.Kinds.{Kind}
-use Rattle.valid_certificates.specs.Evidence.{IsInfeasibilityJudged}
+use Rattle.judged_evidence.specs.Evidence.{IsInfeasibilityJudged}
 use Rattle.valid_certificates.specs.PairEvidence.{IsPairJudged}
 use Rattle.valid_certificates.specs.Entries.{triple_of, AreSettled, AreNotSettled, DoSettle, DoNotSettle, pair_is_large, pairs_are_many, entry_fails}
 use Rattle.valid_certificates.specs.Peaks.{MatchesAt, RedexPlace, IsRedex, AreRedexes, chosen, at_redex, AreConditionsAt, IsRedexJudged, entry_place, AreRefuted, AreNotRefuted, AreShownApart, AreNotShownApart, LeadsTo, HasFileSymbols, IsValidPeak, IsPeakRejected, foreign_start, first_fails, second_fails, not_apart}

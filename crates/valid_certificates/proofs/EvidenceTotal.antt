@@ -1,5 +1,5 @@
 -- Evidence for an overlap is valid, or there is a first reason why it is not.
-use Rattle.std.proofs.Common.{◌≡◌, ◌⊎◌, inl, inr, ℕ, List, [], ◌∷◌, Option, Some, None, refl, subst}
+use Rattle.std.proofs.Common.{◌≡◌, ◌⊎◌, inl, inr, ℕ, [], ◌∷◌, Option, Some, None, refl, subst}
 use Rattle.rewriting.proofs.Common.{Term, cons, nil, Position, Condition, System}
 use Rattle.rewriting.proofs.Equality.{same}
 use Rattle.unifier_run.specs.Run.{Outcome, unifier, clash, too_large, IsOutcome}
@@ -7,15 +7,14 @@ use Rattle.unifier_run.specs.Overlaps.{Overlap}
 use Rattle.unifier_run.specs.Irreducible.{DoAllClash}
 use Rattle.unifier_run.proofs.Total.{outcome_of, all_clash_decided}
 use Rattle.caps.specs.Caps.{Cap, any, IsCapLarge}
-use Rattle.caps.specs.Evidence.{JudgedByCaps, IsPairOutcome}
-use Rattle.automata.specs.Evidence.{JudgedByAutomaton}
+use Rattle.caps.specs.Evidence.{IsPairOutcome}
 use Rattle.certificates.specs.Derivations.{Derivation}
-use Rattle.certificates.specs.Evidence.{Automaton, InfeasibilityEvidence, by_caps, by_automaton, PairEvidence, trivial_pair, infeasible_pair, conflicting_pair, joined_pair, unfeasible_pair}
+use Rattle.certificates.specs.Evidence.{PairEvidence, trivial_pair, infeasible_pair, conflicting_pair, joined_pair, unfeasible_pair}
 use Rattle.certificates.specs.Judging.{Derives, IsFirstBad, hypothesis_at}
 use Rattle.certificates.specs.Reasons.{EvidenceReason, not_allowed, not_root, sides_differ, conflict_number, conflict_left, conflict_unifies, conflict_large, join_left, join_right, join_differs, unfeasible_number, unfeasible_first, unfeasible_second, first_reducible, second_reducible, unfeasible_unifies, unfeasible_large, BadStep}
 use Rattle.certificates.proofs.DerivationTotal.{derivation_total}
 use Rattle.valid_certificates.specs.Kinds.{Kind, ortho, quasi}
-use Rattle.valid_certificates.specs.Evidence.{IsInfeasibilityJudged}
+use Rattle.judged_evidence.proofs.Judged.{infeasibility_total}
 use Rattle.valid_certificates.specs.PairEvidence.{IsAllowed, IsTrivialJudged, inner_conditions_of, outer_conditions_of, AreConditionsOf, IsConflictJudged, IsJoinJudged, DerivesTwo, IsUnfeasibleJudged, IsEvidenceJudged, IsPairJudged}
 
 -- there is a judgement: no reason, or one
@@ -98,14 +97,9 @@ allowed_decided quasi (conflicting_pair a b) = no (λ h. h)
 allowed_decided quasi (joined_pair d e) = yes tt
 allowed_decided quasi (unfeasible_pair k d e) = yes tt
 
--- where conditions and two terms are judged by caps, and conditions by automata
-module _ (sys : System) (by_caps_total : (cs : List Condition) → HasJudgement (JudgedByCaps sys cs))
-    (by_automaton_total : (cs : List Condition) (k : ℕ) (a : Automaton) → HasJudgement (JudgedByAutomaton sys cs k a))
+-- where two terms are judged by caps
+module _ (sys : System)
     (two_caps : (leaf : ℕ → Cap) (u v : Term) → ((o : Outcome) × IsPairOutcome sys leaf u v o) ⊎ (IsCapLarge sys leaf u ⊎ IsCapLarge sys leaf v)) where
-  pub infeasibility_total : (cs : List Condition) (e : InfeasibilityEvidence) → HasJudgement (IsInfeasibilityJudged sys cs e)
-  infeasibility_total cs by_caps = by_caps_total cs
-  infeasibility_total cs (by_automaton k a) = by_automaton_total cs k a
-
   module _ (o : Overlap) (a b : ℕ) where
     abbrev Conflict : Type 0
     Conflict = HasJudgement (IsConflictJudged sys o a b)
@@ -131,7 +125,7 @@ module _ (sys : System) (by_caps_total : (cs : List Condition) → HasJudgement 
 
   evidence_total : (o : Overlap) (e : PairEvidence) → HasJudgement (IsEvidenceJudged sys o e)
   evidence_total o trivial_pair = trivial_total o
-  evidence_total o (infeasible_pair e) = infeasibility_total o.pair.conditions e
+  evidence_total o (infeasible_pair e) = infeasibility_total sys o.pair.conditions e
   evidence_total o (conflicting_pair a b) = conflict_total o a b
   evidence_total o (joined_pair d e) = join_total sys o d e
   evidence_total o (unfeasible_pair k d e) = unfeasible_total sys o k d e

@@ -1,6 +1,7 @@
 pub mod Ends
 pub mod Normal
 pub mod Valid
+pub mod CarriedBack
 pub mod OneList
 pub mod OneAnswer
 pub mod Settled

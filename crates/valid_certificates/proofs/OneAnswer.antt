@@ -4,18 +4,18 @@ use Rattle.rewriting.proofs.Common.{Term, Condition, Rule, System, Bindings}
 use Rattle.rewriting.specs.Overlaps.{conditions_under}
 use Rattle.unifier_run.specs.Run.{Binding, Outcome, unifier, clash, too_large}
 use Rattle.caps.specs.Caps.{kept}
-use Rattle.caps.proofs.Unique.{one_judgement, one_outcome}
-use Rattle.automata.proofs.Unique.{judgement_same}
+use Rattle.caps.proofs.Unique.{one_outcome}
 use Rattle.caps.specs.Evidence.{IsRigidOutcome, AreRigidCapsLarge}
 use Rattle.certificates.specs.Certificates.{Apartness, Peak, Redex, by_normal_forms, by_rigid_caps}
-use Rattle.certificates.specs.Evidence.{InfeasibilityEvidence, by_caps, by_automaton}
+use Rattle.certificates.specs.Evidence.{InfeasibilityEvidence}
 use Rattle.certificates.specs.Judging.{Derives, IsFirstBad}
 use Rattle.certificates.specs.Sizes.{DoConditionsFit}
 use Rattle.certificates.specs.Reasons.{EvidenceReason, BadStep, StepReason, Rejection, first_bad, second_bad, redex_fails}
 use Rattle.certificates.proofs.Unique.{matches_unique, derives_unique}
 use Rattle.certificates.proofs.Outcomes.{never_both as ends_or_fails, fails_unique}
-use Rattle.valid_certificates.specs.Evidence.{IsInfeasibilityJudged}
-use Rattle.valid_certificates.specs.Peaks.{RedexPlace, chosen, at_redex, AreConditionsAt, IsRedexJudged, AreRefuted, AreNotRefuted, AreShownApart, AreNotShownApart, LeadsTo, HasFileSymbols, AreValidEnds, AreNoValidEnds, IsValidPeak, IsPeakRejected, foreign_start, first_fails, second_fails, not_apart}
+use Rattle.judged_evidence.specs.Evidence.{IsInfeasibilityJudged}
+use Rattle.judged_evidence.proofs.Judged.{evidence_once}
+use Rattle.valid_certificates.specs.Peaks.{RedexPlace, chosen, at_redex, AreConditionsAt, IsRedexJudged, AreRefuted, AreNotRefuted, AreShownApart, AreNotShownApart, LeadsTo, AreValidEnds, AreNoValidEnds, IsValidPeak, IsPeakRejected, foreign_start, first_fails, second_fails, not_apart}
 use Rattle.valid_certificates.specs.Laws.{IsOneAnswer}
 use Rattle.valid_certificates.proofs.OneList.{redexes_once}
 
@@ -24,10 +24,6 @@ pub conditions_once : (sys : System) (t : Term) (r : RedexPlace) (cs ds : List C
 conditions_once sys t r cs ds a b =
     let same = matches_unique sys t r.rule r.position a.rule b.rule a.match b.match a.matches b.matches in
     a.are ∙ ap₂ (λ (q : Rule) (m : Bindings). conditions_under (at_redex m) q.conditions) same.same_rule same.same_match ∙ sym b.are
-
-pub evidence_once : (sys : System) (cs : List Condition) (e : InfeasibilityEvidence) (o p : Option EvidenceReason) → IsInfeasibilityJudged sys cs e o → IsInfeasibilityJudged sys cs e p → o ≡ p
-evidence_once sys cs by_caps o p a b = one_judgement sys cs o p a b
-evidence_once sys cs (by_automaton k x) o p a b = judgement_same sys cs k x o p a b
 
 redex_once : (sys : System) (t : Term) (r : RedexPlace) (e : InfeasibilityEvidence) (o p : Option EvidenceReason) → IsRedexJudged sys t r e o → IsRedexJudged sys t r e p → o ≡ p
 redex_once sys t r e o p (cs, at, inl (fit, h)) (ds, there, inl (_, k)) =

@@ -203,7 +203,7 @@ module _ (sys : System) where
           answer_within (IsValidQuasi Is sys es) QuasiValid (IsQuasiRejected Is sys es) QuasiCases quasi_valid quasi_cases
           (class_answer deterministic _ _ (test_answer (AreRightSidesIrreducible sys) _ SideFails _ side_or_not side_once (test_answer (Is good) _ MeasureFails _ measure_or_not measure_fails_once (entries_answer quasi sys es))))
 
-measure_judged_once : (sys : System) (m : MeasureCertificate) → IsOnce Judgement (IsMeasureJudged sys m)
+pub measure_judged_once : (sys : System) (m : MeasureCertificate) → IsOnce Judgement (IsMeasureJudged sys m)
 measure_judged_once sys (linear_measure es) = judgement_once sys es
 measure_judged_once sys (precedence_measure order) = precedence_once sys order
 

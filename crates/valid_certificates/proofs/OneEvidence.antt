@@ -18,7 +18,7 @@ use Rattle.certificates.proofs.Outcomes.{never_both, fails_unique}
 use Rattle.valid_certificates.specs.Kinds.{Kind}
 use Rattle.valid_certificates.specs.PairEvidence.{IsAllowed, IsTrivialJudged, inner_conditions_of, outer_conditions_of, AreConditionsOf, IsConflictJudged, IsJoinJudged, DerivesTwo, IsUnfeasibleJudged, IsEvidenceJudged, IsPairJudged}
 use Rattle.rewriting.proofs.Once.{same_some, some_or_none, IsOnce, or_once, test_once, with_once, fact_once, facts_once, once_within}
-use Rattle.valid_certificates.proofs.OneAnswer.{evidence_once}
+use Rattle.judged_evidence.proofs.Judged.{evidence_once}
 
 -- a judgement: no reason, or one
 abbrev pub Verdict : Type 0

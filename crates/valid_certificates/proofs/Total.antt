@@ -10,16 +10,16 @@ use Rattle.certificates.specs.Blames.{IsInClass, IsBlamed}
 use Rattle.certificates.specs.Certificates.{PairEntry, MeasureCertificate, linear_measure, precedence_measure, Certificate, ortho_certificate, quasi_certificate, peak_certificate}
 use Rattle.certificates.specs.Reasons.{Class, left_linear, type3, extended_oriented, right_stable, deterministic, Blame, class_fails, not_irreducible, measure_fails, unraveling_large as large_unraveling}
 use Rattle.certificates.proofs.ClassTotal.{FirstSide, class_total, sides_total}
-use Rattle.caps.proofs.Total.{caps_total, pair_total as caps_of_two}
-use Rattle.automata.proofs.Total.{automaton_total}
+use Rattle.caps.proofs.Total.{pair_total as caps_of_two}
 use Rattle.path_orders.proofs.Decided.{precedence_total}
+use Rattle.judged_evidence.proofs.Judged.{infeasibility_total}
 use Rattle.valid_certificates.specs.Kinds.{Kind, ortho, quasi}
 use Rattle.valid_certificates.specs.Confluence.{IsInOrthoClasses, IsValidOrtho, IsOrthoRejected, not_left_linear, not_type3, not_oriented, not_right_stable, ortho_pairs_fail, AreRightSidesIrreducible, IsFirstReducible, IsValidQuasi, IsQuasiRejected, not_deterministic, side_is_reducible, measure_is_bad, unraveling_is_large, quasi_pairs_fail}
 use Rattle.valid_certificates.specs.Certificates.{IsMeasureJudged, IsValid, IsRejected}
 use Rattle.valid_certificates.specs.Entries.{DoSettle, DoNotSettle}
 use Rattle.valid_certificates.specs.Laws.{CertificatesHaveAnAnswer}
 use Rattle.valid_certificates.proofs.EntriesTotal.{HasAnswer, entries_total, peak_total}
-use Rattle.valid_certificates.proofs.EvidenceTotal.{infeasibility_total, pair_total}
+use Rattle.valid_certificates.proofs.EvidenceTotal.{pair_total}
 
 module _ (sys : System) (classes : (class : Class) → EachRule sys (IsInClass sys class) ⊎ ((blame : Blame) × (blame.class ≡ class) × IsBlamed sys blame)) where
   module _ (es : List PairEntry) (pairs : HasAnswer (DoSettle ortho sys es) (DoNotSettle ortho sys es)) where
@@ -75,7 +75,7 @@ module _ (sys : System) (classes : (class : Class) → EachRule sys (IsInClass s
     quasi_total = with_class (classes deterministic)
 
 -- the measure of a certificate is judged
-measure_total : (sys : System) (m : MeasureCertificate) → (j : Judgement) × IsMeasureJudged sys m j
+pub measure_total : (sys : System) (m : MeasureCertificate) → (j : Judgement) × IsMeasureJudged sys m j
 measure_total sys (linear_measure es) = interpretation_total sys es
 measure_total sys (precedence_measure order) = precedence_total sys order
 
@@ -103,12 +103,12 @@ right_sides_total sys = go (sides_total (DoAllClash sys) (all_clash_decided sys)
 
 module _ (sys : System) where
   pairs_total : (kind : Kind) (es : List PairEntry) → HasAnswer (DoSettle kind sys es) (DoNotSettle kind sys es)
-  pairs_total kind es = entries_total kind sys (pair_total sys (caps_total sys) (automaton_total sys) (caps_of_two sys) kind) es
+  pairs_total kind es = entries_total kind sys (pair_total sys (caps_of_two sys) kind) es
 
   certificate_total : (c : Certificate) → HasAnswer (IsValid sys c) (IsRejected sys c)
   certificate_total (ortho_certificate es) = ortho_total sys (class_total sys) es (pairs_total ortho es)
   certificate_total (quasi_certificate m es) = quasi_total sys (class_total sys) (IsMeasureJudged sys m) (measure_total sys m) (right_sides_total sys) es (pairs_total quasi es)
-  certificate_total (peak_certificate p) = peak_total sys (infeasibility_total sys (caps_total sys) (automaton_total sys) (caps_of_two sys)) (caps_of_two sys) p
+  certificate_total (peak_certificate p) = peak_total sys (infeasibility_total sys) (caps_of_two sys) p
 
 pub every_certificate : CertificatesHaveAnAnswer
 every_certificate sys c = certificate_total sys c

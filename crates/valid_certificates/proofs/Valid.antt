@@ -1,23 +1,21 @@
 -- What a valid peak shows.
 use Rattle.std.proofs.Common.{◌≡◌, inl, inr, List, [], ◌∷◌, Some, None, refl, sym, subst, subst₂}
 use Rattle.rewriting.specs.Lists.{IsAmong}
-use Rattle.rewriting.specs.Confluence.{AreApart}
-use Rattle.rewriting.specs.Infeasibility.{IsInfeasible}
+use Rattle.rewriting.specs.Confluence.{IsConfluent, AreApart}
 use Rattle.rewriting.specs.Systems.{IsWellFormed}
-use Rattle.rewriting.proofs.Common.{Term, Condition, System, IsOver}
+use Rattle.rewriting.proofs.Common.{Term, System, IsOver}
 use Rattle.rewriting.specs.Reduction.{Reaches}
 use Rattle.rewriting.proofs.Laws.{keeps_over}
+use Rattle.join_systems.specs.FileRelation.{IsFileTerm, IsFileConfluent}
 use Rattle.join_systems.proofs.Files.{files_are_apart}
-use Rattle.caps.proofs.Reducts.{never_met as caps_refute}
 use Rattle.caps.proofs.Rigid.{rigid_apart}
-use Rattle.automata.proofs.Kept.{refutes as automaton_refutes}
 use Rattle.certificates.specs.Certificates.{Apartness, Peak, Redex, by_normal_forms, by_rigid_caps}
-use Rattle.certificates.specs.Evidence.{InfeasibilityEvidence, by_caps, by_automaton}
+use Rattle.certificates.specs.Evidence.{InfeasibilityEvidence}
 use Rattle.certificates.specs.Reasons.{tcap_large}
 use Rattle.certificates.proofs.Unique.{derives_unique}
-use Rattle.valid_certificates.specs.Evidence.{IsInfeasibilityJudged}
+use Rattle.judged_evidence.proofs.Judged.{judged_infeasible}
 use Rattle.valid_certificates.specs.Peaks.{RedexPlace, AreRedexes, chosen, IsRedexJudged, AreRefuted, AreShownApart, LeadsTo, HasFileSymbols, IsValidPeak}
-use Rattle.valid_certificates.specs.Laws.{IsUnjoinable, ValidPeaksReachApart}
+use Rattle.valid_certificates.specs.Laws.{IsUnjoinable, ValidPeaksReachApart, UnjoinableTermsRefuteConfluence}
 use Rattle.valid_certificates.proofs.Ends.{end_reached}
 use Rattle.valid_certificates.proofs.Normal.{IsNeverMet, HasNoRedex, normal_apart}
 
@@ -28,10 +26,6 @@ judged_at sys u v [] es h r l = absurd l
 judged_at sys u v (q ∷ rs) [] h r l = absurd h
 judged_at sys u v (q ∷ rs) (e ∷ es) h r (inl is) = subst (λ x. (i : InfeasibilityEvidence) × IsRedexJudged sys (chosen u v x.which) x i None) (sym is) (e.evidence, h.1)
 judged_at sys u v (q ∷ rs) (e ∷ es) h r (inr l) = judged_at sys u v rs es h.2 r l
-
-pub judged_infeasible : (sys : System) (cs : List Condition) (e : InfeasibilityEvidence) → IsInfeasibilityJudged sys cs e None → IsInfeasible sys cs
-judged_infeasible sys cs by_caps h = caps_refute sys cs h
-judged_infeasible sys cs (by_automaton k a) h = automaton_refutes sys cs k a h
 
 -- a rule does not apply where its evidence is valid
 never_met : (sys : System) (t : Term) (r : RedexPlace) (e : InfeasibilityEvidence) → IsRedexJudged sys t r e None → IsNeverMet sys t r.position r.rule
@@ -66,17 +60,32 @@ ends_unjoinable sys peak good over valid u v ends =
     let same_u : valid.u ≡ u = derives_unique sys [] peak.start peak.first valid.u u valid.ends.first ends.first in
     let same_v : valid.v ≡ v = derives_unique sys [] peak.start peak.second valid.v v valid.ends.second ends.second in
     let apart : AreApart sys u v = subst₂ (AreApart sys) same_u same_v (shown_apart sys valid.u valid.v peak.apart good valid.apart.apart) in
-    let u_file : HasFileSymbols sys u = subst (HasFileSymbols sys) same_u valid.apart.first in
-    let v_file : HasFileSymbols sys v = subst (HasFileSymbols sys) same_v valid.apart.second in
+    let start_is : IsFileTerm sys peak.start = (over, valid.start) in
+    let u_is : IsFileTerm sys u = (keeps_over sys peak.start u good over one, subst (HasFileSymbols sys) same_u valid.apart.first) in
+    let v_is : IsFileTerm sys v = (keeps_over sys peak.start v good over other, subst (HasFileSymbols sys) same_v valid.apart.second) in
     record {
+      terms = (start_is, u_is, v_is);
       one = one;
       other = other;
       apart = apart;
-      file_one = files_are_apart.reaches sys peak.start u (over, valid.start) (keeps_over sys peak.start u good over one, u_file) one;
-      file_other = files_are_apart.reaches sys peak.start v (over, valid.start) (keeps_over sys peak.start v good over other, v_file) other;
+      file_one = files_are_apart.reaches sys peak.start u start_is u_is one;
+      file_other = files_are_apart.reaches sys peak.start v start_is v_is other;
       file_apart = files_are_apart.apart sys u v apart;
     }
 
 pub valid_peaks : ValidPeaksReachApart
 valid_peaks sys peak good over valid =
     record { leads = (valid.u, valid.v, valid.ends); apart = ends_unjoinable sys peak good over valid }
+
+not_file_confluent : (sys : System) (t u v : Term) → IsUnjoinable sys t u v → IsFileConfluent sys → ⊥
+not_file_confluent sys t u v h confluent =
+    let w = confluent t u v h.terms.0 h.terms.1 h.terms.2 h.file_one h.file_other in
+    h.file_apart w.0 w.2 w.3
+
+not_confluent : (sys : System) (t u v : Term) → IsUnjoinable sys t u v → IsConfluent sys → ⊥
+not_confluent sys t u v h confluent =
+    let w = confluent t u v h.terms.0.0 h.terms.1.0 h.terms.2.0 h.one h.other in
+    h.apart w.0 w.2 w.3
+
+pub refute_confluence : UnjoinableTermsRefuteConfluence
+refute_confluence sys t u v h = (not_file_confluent sys t u v h, not_confluent sys t u v h)

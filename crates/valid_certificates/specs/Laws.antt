@@ -5,15 +5,16 @@ use Rattle.rewriting.specs.Signatures.{IsOver}
 use Rattle.rewriting.specs.Rules.{System}
 use Rattle.rewriting.specs.Systems.{IsWellFormed}
 use Rattle.rewriting.specs.Reduction.{Reaches}
-use Rattle.rewriting.specs.Confluence.{AreApart}
-use Rattle.join_systems.specs.FileRelation.{FileReaches, AreFileApart}
+use Rattle.rewriting.specs.Confluence.{IsConfluent, AreApart}
+use Rattle.join_systems.specs.FileRelation.{IsFileTerm, FileReaches, IsFileConfluent, AreFileApart}
 use Rattle.certificates.specs.Certificates.{Peak, Certificate}
 use Rattle.certificates.specs.Reasons.{Rejection}
 use Rattle.valid_certificates.specs.Peaks.{LeadsTo, IsValidPeak}
 use Rattle.valid_certificates.specs.Certificates.{IsValid, IsRejected}
 
--- the term reaches both, and they have no common reduct; all the same by the file's relation
+-- the file term reaches two file terms, and they have no common reduct; all the same by the file's relation
 pub record IsUnjoinable (sys : System) (t u v : Term) : Type 0 where
+  pub terms : IsFileTerm sys t × IsFileTerm sys u × IsFileTerm sys v
   pub one : Reaches sys t u
   pub other : Reaches sys t v
   pub apart : AreApart sys u v
@@ -29,6 +30,10 @@ pub record ReachesApart (sys : System) (peak : Peak) : Type 0 where
 -- so it is of a valid peak whose start is a term over the symbols
 abbrev pub ValidPeaksReachApart : Type 0
 ValidPeaksReachApart = (sys : System) (peak : Peak) → IsWellFormed sys → IsOver sys.arities peak.start → IsValidPeak sys peak → ReachesApart sys peak
+
+-- such terms show that neither relation is confluent
+abbrev pub UnjoinableTermsRefuteConfluence : Type 0
+UnjoinableTermsRefuteConfluence = (sys : System) (t u v : Term) → IsUnjoinable sys t u v → (IsFileConfluent sys → ⊥) × (IsConfluent sys → ⊥)
 
 -- a certificate is rejected for one reason, and then it is not valid
 pub record IsOneAnswer (Valid : Type 0) (IsRejected : Rejection → Type 0) : Type 0 where

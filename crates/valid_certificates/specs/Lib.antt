@@ -1,8 +1,8 @@
 pub mod Kinds
-pub mod Evidence
 pub mod PairEvidence
 pub mod Entries
 pub mod Confluence
 pub mod Peaks
 pub mod Certificates
 pub mod Laws
+pub mod CarriedBack

@@ -12,7 +12,7 @@ use Rattle.certificates.specs.Evidence.{PairEvidence, trivial_pair, infeasible_p
 use Rattle.certificates.specs.Judging.{Derives, IsFirstBad, hypothesis_at}
 use Rattle.certificates.specs.Reasons.{EvidenceReason, not_allowed, not_root, sides_differ, conflict_number, conflict_left, conflict_unifies, conflict_large, join_left, join_right, join_differs, unfeasible_number, unfeasible_first, unfeasible_second, first_reducible, second_reducible, unfeasible_unifies, unfeasible_large}
 use Rattle.valid_certificates.specs.Kinds.{Kind, ortho, quasi}
-use Rattle.valid_certificates.specs.Evidence.{IsInfeasibilityJudged}
+use Rattle.judged_evidence.specs.Evidence.{IsInfeasibilityJudged}
 
 -- the evidence that certificates of a kind may give for an overlap
 abbrev pub IsAllowed : Kind → PairEvidence → Type 0

@@ -16,7 +16,7 @@ use Rattle.certificates.specs.Certificates.{Apartness, Peak, Redex, by_normal_fo
 use Rattle.certificates.specs.Judging.{Derives, IsFirstBad, RuleMatches}
 use Rattle.certificates.specs.Sizes.{DoConditionsFit}
 use Rattle.certificates.specs.Reasons.{EvidenceReason, tcap_large, BadStep, Rejection, foreign, first_bad, second_bad, same_term, not_normal, redex_extra, redex_fails, caps_unify, caps_large}
-use Rattle.valid_certificates.specs.Evidence.{IsInfeasibilityJudged}
+use Rattle.judged_evidence.specs.Evidence.{IsInfeasibilityJudged}
 
 -- the left side of the rule with a number matches at the position
 pub record MatchesAt (sys : System) (t : Term) (p : Position) (i : ℕ) : Type 0 where

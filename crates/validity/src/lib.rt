@@ -6,7 +6,7 @@ ghost use Rattle.certificates.specs.Sizes.{DoConditionsFit};
 ghost use Rattle.term_core.specs.RuleView.{condition_view};
 ghost use Rattle.cert_model.specs.EvidenceView.{inf_evidence_view, pair_evidence_view};
 ghost use Rattle.refuter.specs.Answers.{RefutesAnswers};
-ghost use Rattle.valid_certificates.specs.Evidence.{IsInfeasibilityJudged};
+ghost use Rattle.judged_evidence.specs.Evidence.{IsInfeasibilityJudged};
 ghost use Rattle.valid_certificates.specs.PairEvidence.{IsAllowed};
 ghost use Rattle.validity.specs.KindView.{kind_view};
 ghost use Rattle.validity.specs.declared.CheckError.TheVariants.{NoMemory as no_memory};

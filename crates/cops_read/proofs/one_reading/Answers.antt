@@ -11,6 +11,9 @@ returns-clause-sound c = laws.sound
 pub returns-clause-limits : goal.returns-clause-limits
 returns-clause-limits c = laws.within_limits
 
+pub returns-clause-named : goal.returns-clause-named
+returns-clause-named c = laws.named
+
 pub returns-clause-refusal : goal.returns-clause-refusal
 returns-clause-refusal c = refused.one_refusal
 

@@ -1,16 +1,16 @@
-use Rattle.std.proofs.Common.{[], ◌∷◌, ◌++◌, map, refl, sym, ap, ◌∙◌}
+use Rattle.std.proofs.Common.{[], ◌∷◌, ◌++◌, refl, sym, ap, ◌∙◌}
 use Rattle.term_core.proofs.Rules.{handed_on}
-use Rattle.certificates.specs.Certificates.{MeasureCertificate, linear_measure, quasi_certificate}
-use Rattle.cert_model.specs.CertificateView.{linear_entry_view, measure_view, pair_entry_view}
-use Rattle.linear_interp.specs.declared.LinearMeasure.{LinearMeasure}
+use Rattle.certificates.specs.Certificates.{MeasureCertificate, quasi_certificate}
+use Rattle.cert_model.specs.CertificateView.{measure_view, pair_entry_view}
+use Rattle.cert_check.specs.declared.measures.NamedMeasure.{NamedMeasure}
 use Rattle.cert_openings.specs.Openings.{quasi_opening}
 use Rattle.cert_check.proofs.Reading.{one_more, next_short, less_left, all_read}
 use Rattle.cert_check.proofs.Texts.{tally_there, valid_there, rejected_there, rejected_answer}
 use Rattle.cert_check.proofs.bytes.judge_quasi.Goals as goal
 
 -- the measure's certificate
-abbrev certificate_of : LinearMeasure → MeasureCertificate
-certificate_of m = linear_measure (map linear_entry_view m.linear.now.entries.items)
+abbrev certificate_of : NamedMeasure → MeasureCertificate
+certificate_of m = measure_view m.measure.now
 
 pub entries-init : goal.entries-init
 entries-init c =
@@ -19,7 +19,7 @@ entries-init c =
       names = refl;
       bytes = refl;
       system = c.in_ok-run.ensures.system;
-      measure = c.linear_of-linear.ensures ∙ same;
+      measure = same;
       taken = record {
         entries = [];
         read = c.requires;

@@ -1,6 +1,5 @@
-use Rattle.std.proofs.Common.{◌≡◌, ◌-◌, length, map}
-use Rattle.certificates.specs.Certificates.{linear_measure}
-use Rattle.cert_model.specs.CertificateView.{linear_entry_view, measure_view}
+use Rattle.std.proofs.Common.{◌≡◌, ◌-◌, length}
+use Rattle.cert_model.specs.CertificateView.{measure_view}
 use Rattle.valid_certificates.specs.Certificates.{IsMeasureJudged}
 use Rattle.tallies.specs.Tally.{IsQuasiTally}
 use Rattle.cert_openings.specs.Openings.{quasi_opening}
@@ -12,9 +11,9 @@ invariant-entries l = record {
   names : l.pairs.names ≡ l.fn.pairs.names;
   bytes : l.pairs.bytes ≡ l.fn.pairs.bytes;
   system : l.run.system ≡ l.sys;
-  measure : measure_view l.measure ≡ linear_measure (map linear_entry_view l.run.measure.linear.now.entries.items);
+  measure : measure_view l.measure ≡ measure_view l.run.measure.measure.now;
   taken : AreTaken l.pairs.names l.pairs.bytes (quasi_opening (measure_view l.measure)) l.pairs.place
-      (λ es. IsQuasiTally (IsMeasureJudged l.run.system (linear_measure (map linear_entry_view l.run.measure.linear.now.entries.items))) l.run.system es l.run.tally);
+      (λ es. IsQuasiTally (IsMeasureJudged l.run.system (measure_view l.run.measure.measure.now)) l.run.system es l.run.tally);
 }
 
 abbrev pub decreases-entries : goal.decreases-entries

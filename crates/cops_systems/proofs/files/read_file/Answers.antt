@@ -1,4 +1,4 @@
-use Rattle.std.proofs.Common.{◌≡◌, ◌∙◌, sym, inl}
+use Rattle.std.proofs.Common.{◌∙◌, sym, inl}
 use Rattle.cops_systems.proofs.Meant.{asks_of, meant_joined}
 use Rattle.cops_systems.proofs.files.read_file.Goals as goal
 

@@ -27,7 +27,7 @@ returns-clause-parts c t h =
     let first = rw c.deref.ensures.value at (c.in_ok-left.ensures.side t.left) in
     let second = rw (c.deref-2.ensures.value, c.in_ok-left.ensures.block) at (c.in_ok-right.ensures.side t.right) in
     let last = rw (c.deref-3.ensures.value, c.in_ok-right.ensures.block, c.in_ok-left.ensures.block) at (c.in_ok-conds.ensures.conditions (conditions_of t)) in
-    parts_read c.args.scope.now.block c.args.oriented c.args.scope.now.names.symbols c.args.number t c.args.scope.now.variables
+    parts_read c.args.scope.now.block c.args.has_type c.args.scope.now.names.symbols c.args.number t c.args.scope.now.variables
     c.read_side.new.scope.names.symbols c.read_side.new.scope.variables (view c.in_ok-left.left) c.requires.none (first h.left)
     c.read_side-2.new.scope.names.symbols c.read_side-2.new.scope.variables (view c.in_ok-right.right) (second h.right)
     c.args.text.now.bar h.bar c.in_ok-check_bar.ensures

@@ -18,9 +18,9 @@ returns-in_err-rule-clause-rules c trees h =
     let n = rule_taken c.args.texts.items c.rules.yielded (into_iter_items c.rules.text-iterator) c.in-Some.text (into_iter_items c.next.new.self) c.rules.invariant.left c.in-Some.ensures.steps.0 trees h in
     let number : c.len-in-rules.result ≡ length c.rules.yielded = c.len-in-rules.ensures ∙ c.rules.rules.ok.0 ∙ c.rules.invariant.number in
     let told = rw (c.rules.invariant.block, number) at (c.in_err-rule.ensures.rule n.item n.is) in
-    handed (RulesAnswers c.args.scope.now.block c.args.oriented c.args.scope.now.names.symbols trees c.read_rule.new.scope.names.symbols c.read_rule.new.scope.names.variables)
+    handed (RulesAnswers c.args.scope.now.block c.args.has_type c.args.scope.now.names.symbols trees c.read_rule.new.scope.names.symbols c.read_rule.new.scope.names.variables)
     c.in_err-rule.field-0.0 c.from_residual-in_err-rule.result c.from_residual-in_err-rule.ensures.1
-    (rules_fail c.args.scope.now.block c.args.oriented c.args.scope.now.names.symbols trees (length c.rules.yielded) c.rules.scope.names.symbols c.rules.scope.names.variables
+    (rules_fail c.args.scope.now.block c.args.has_type c.args.scope.now.names.symbols trees (length c.rules.yielded) c.rules.scope.names.symbols c.rules.scope.names.variables
     c.rules.rules.items (c.rules.invariant.read trees h) (IsRule c.in-Some.text) n c.in_err-rule.field-0.0 told)
 
 pub rules-preserved : goal.rules-preserved
@@ -28,7 +28,7 @@ rules-preserved c = record {
   read = λ trees h.
       let n = rule_taken c.args.texts.items c.rules.yielded (into_iter_items c.rules.text-iterator) c.in-Some.text (into_iter_items c.next.new.self) c.rules.invariant.left c.in-Some.ensures.steps.0 trees h in
       let number : c.len-in-rules.result ≡ length c.rules.yielded = c.len-in-rules.ensures ∙ c.rules.rules.ok.0 ∙ c.rules.invariant.number in
-      let next = rules_step_as c.args.scope.now.block c.args.oriented c.args.scope.now.names.symbols trees (length c.rules.yielded) c.rules.scope.names.symbols c.rules.scope.names.variables
+      let next = rules_step_as c.args.scope.now.block c.args.has_type c.args.scope.now.names.symbols trees (length c.rules.yielded) c.rules.scope.names.symbols c.rules.scope.names.variables
       c.rules.rules.items (c.rules.invariant.read trees h) (IsRule c.in-Some.text) n c.rules.scope.block c.read_rule.new.scope.names.symbols c.read_rule.new.scope.names.variables
       c.in_ok-rule.rule c.rules.invariant.block (rw number at (c.in_ok-rule.ensures.rule n.item n.is)) in
       rw (length_push c.rules.yielded c.in-Some.text, add-one, c.in_ok-push.ensures.items) next;
@@ -45,5 +45,5 @@ returns-clause-rules c trees h =
     let split = ap length c.rules.invariant.left in
     let many = c.rules.invariant.many in
     let none = c.in-None.ensures.steps.0 in
-    rules_end_here c.args.scope.now.block c.args.oriented c.args.scope.now.names.symbols trees (length c.rules.yielded) c.rules.scope.names.symbols c.rules.scope.names.variables
+    rules_end_here c.args.scope.now.block c.args.has_type c.args.scope.now.names.symbols trees (length c.rules.yielded) c.rules.scope.names.symbols c.rules.scope.names.variables
     c.rules.rules.items (c.rules.invariant.read trees h) (omega (arith, length-append c.rules.yielded (into_iter_items c.rules.text-iterator)))

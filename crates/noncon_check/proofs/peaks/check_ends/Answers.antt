@@ -14,8 +14,10 @@ returns-in_err-check_symbols c =
 pub returns-in_err-check_symbols-2 : goal.returns-in_err-check_symbols-2
 returns-in_err-check_symbols-2 c =
     subst (EndsAnswers c.args.sys.now (view c.args.first.now) (view c.args.second.now) (apart_view c.args.apart.now)) (sym (handed_on _ _ c.from_residual-in_err-check_symbols-2.ensures.1))
-    (second_foreign c.args.sys.now (view c.args.first.now) (view c.args.second.now) (apart_view c.args.apart.now) c.in_err-check_symbols-2.field-0.0 c.in_ok-check_symbols.ensures c.in_err-check_symbols-2.ensures)
+    (second_foreign c.args.sys.now (view c.args.first.now) (view c.args.second.now) (apart_view c.args.apart.now) c.in_err-check_symbols-2.field-0.0
+    c.in_ok-check_symbols.ensures c.in_err-check_symbols-2.ensures)
 
 pub returns : goal.returns
 returns c =
-    apart_judged c.args.sys.now (view c.args.first.now) (view c.args.second.now) (apart_view c.args.apart.now) c.check_apart.result c.in_ok-check_symbols.ensures c.in_ok-check_symbols-2.ensures c.check_apart.ensures
+    apart_judged c.args.sys.now (view c.args.first.now) (view c.args.second.now) (apart_view c.args.apart.now) c.check_apart.result
+    c.in_ok-check_symbols.ensures c.in_ok-check_symbols-2.ensures c.check_apart.ensures

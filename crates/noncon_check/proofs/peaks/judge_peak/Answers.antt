@@ -19,7 +19,8 @@ returns-in_err-first c =
 pub returns-in_err-second : goal.returns-in_err-second
 returns-in_err-second c =
     subst (PeakAnswers c.args.sys.now (peak_view c.args.peak.now)) (sym (handed_on _ _ c.from_residual-in_err-second.ensures.1))
-    (second_rejected c.args.sys.now (peak_view c.args.peak.now) (view c.in_ok-first.first) c.in_err-second.field-0.0 c.in_ok-check_symbols.ensures c.in_ok-first.ensures.derived c.in_err-second.ensures)
+    (second_rejected c.args.sys.now (peak_view c.args.peak.now) (view c.in_ok-first.first) c.in_err-second.field-0.0
+    c.in_ok-check_symbols.ensures c.in_ok-first.ensures.derived c.in_err-second.ensures)
 
 pub returns : goal.returns
 returns c =

@@ -7,5 +7,6 @@ returns-in_default c = ((λ e. absurd (cc)), (λ h. absurd (left_large (conditio
 
 pub returns : goal.returns
 returns c =
-    let t = told_by (condition_view c.args.cond.now) c.in-Some.room c.in-Some.ensures.nodes c.in-Some.ensures.levels c.room_after-2.result c.room_after-2.ensures.nodes c.room_after-2.ensures.levels c.room_after-2.ensures.none in
+    let t = told_by (condition_view c.args.cond.now) c.in-Some.room c.in-Some.ensures.nodes c.in-Some.ensures.levels
+    c.room_after-2.result c.room_after-2.ensures.nodes c.room_after-2.ensures.levels c.room_after-2.ensures.none in
     rw c.is_some.ensures t

@@ -24,7 +24,8 @@ invariant_of-result c =
     let shown : c.args.self.now.arities ≡ a = sym (ap (λ z. z.arities) c.self.view_is) in
     let copied : c.extend_from_slice.new.self.items ≡ a = c.in_ok-extend_from_slice.ensures.items ∙ ap₂ (λ (x y : List ℕ). x ++ y) c.in_ok-arities.ensures.items c.deref-3.ensures.value in
     let all : AreSound a rs = rw (c.deref.ensures.value, c.deref-2.ensures.value) at c.in_ok-first_fault.ensures in
-    let few : length (map rule_view rs) + condition_count (map rule_view rs) < 2 ^ 31 = subst (λ n. n + condition_count (map rule_view rs) < 2 ^ 31) (sym (length-map rs rule_view)) c.requires.few_rules in
+    let few : length (map rule_view rs) + condition_count (map rule_view rs) < 2 ^ 31 =
+    subst (λ n. n + condition_count (map rule_view rs) < 2 ^ 31) (sym (length-map rs rule_view)) c.requires.few_rules in
     let symbols : length a + condition_count (map rule_view rs) < 2 ^ 31 = subst (λ (xs : List ℕ). length xs + condition_count (map rule_view rs) < 2 ^ 31) shown c.requires.few_symbols in
     let system : IsSystem (record { arities = a; rules = map rule_view rs; own = c.self.inside.own }) = record { rules = sound_rules a rs all; few_symbols = symbols; few_rules = few } in record {
       system = subst (λ (xs : List ℕ). IsSystem (record { arities = xs; rules = map rule_view rs; own = c.self.inside.own })) (sym copied) system;

@@ -1,0 +1,34 @@
+use Rattle.std.proofs.Common.{sym, ap, subst, ◌∙◌, arith}
+use Rattle.term_core.proofs.Views.{view-Var, views-drop}
+use Rattle.rewriting.specs.Terms.{var}
+use Rattle.rewriting.specs.Matching.{IsLeastMatch}
+use Rattle.term_core.specs.View.{view}
+use Rattle.rewriting.proofs.LeastMatches.{bound_least}
+use Rattle.matching.proofs.Noted.{noted_both}
+use Rattle.matching.proofs.Progress.{advance, lengths_differ}
+use Rattle.matching.proofs.trail.+noting.Goals as goal
+
+pub match_all_noted-returns-then-ps-ss-clause-matched : goal.match_all_noted-returns-then-ps-ss-clause-matched
+match_all_noted-returns-then-ps-ss-clause-matched t c = λ d e h. c.if-ps-ss.true (lengths_differ d c.args.ps.now c.args.ss.now h)
+
+pub match_all_noted-loop-i-preserved : goal.match_all_noted-loop-i-preserved
+match_all_noted-loop-i-preserved t c =
+    let i = c.loop-i.i in
+    let first = views-drop c.args.ps.now i _ c.loop-i-test.true c.index-ps-i.is in
+    let second = views-drop c.args.ss.now i _ (omega arith) c.index-ss-i.is in
+    let m = rw c.if-not-branch.false at c.in_ok-match_noted.ensures.matched in
+    record {
+      progress = advance c.args.values.now c.loop-i.values c.match_noted.new.values _ _ _ _ (view c.index-ps-i.result) (view c.index-ss-i.result) (rw (first, second) at c.loop-i.invariant.progress) m;
+      noted = noted_both _ _ _ _ _ _ c.loop-i.invariant.noted c.in_ok-match_noted.ensures.noted;
+    }
+
+pub match_noted-returns-in_ok-bind_noted-in-None-clause-matched : goal.match_noted-returns-in_ok-bind_noted-in-None-clause-matched
+match_noted-returns-in_ok-bind_noted-in-None-clause-matched t c =
+    let b = c.args.values.now in
+    let s = view c.args.subject.now in
+    let x = c.in-Var.x in
+    subst (λ p. IsLeastMatch b c.bind_noted.new.values p s) (sym (ap view c.in-Var.is ∙ view-Var x))
+    (subst (λ n. IsLeastMatch b n (var x) s) (sym c.in_ok-bind_noted-in-None.ensures.bound) (bound_least b x s (sym c.in-None.ensures)))
+
+pub match_all_noted-returns-then-not-branch-clause-noted : goal.match_all_noted-returns-then-not-branch-clause-noted
+match_all_noted-returns-then-not-branch-clause-noted t c = noted_both _ _ _ _ _ _ c.loop-i.invariant.noted c.in_ok-match_noted.ensures.noted

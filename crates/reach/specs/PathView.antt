@@ -1,0 +1,42 @@
+-- The solutions that a `Path` stands for.
+use Rattle.std.specs.Prelude.{◌≡◌, Option, None, Some, length, map, slice_get, take, drop}
+use Rattle.certificates.specs.Derivations.{Derivation, no_steps}
+use Rattle.rewriting.specs.Rules.{Condition}
+use Rattle.matching.specs.Trails.{without}
+use Rattle.reach_lists.specs.Solutions as math
+use Rattle.reach.specs.ReachedView.{list_view}
+use Rattle.reach.specs.declared.solutions.Met.{Met}
+use Rattle.reach.specs.declared.solutions.Path.{Path}
+
+abbrev pub by_of : Option math.Reached → Derivation
+by_of None = no_steps
+by_of (Some r) = r.by
+
+-- the derivation of the term with an index on a list
+abbrev pub met_view : Met → Derivation
+met_view m = by_of (slice_get (list_view m.list.value.terms.items) m.at)
+
+abbrev pub path_view : Path → math.Solution
+path_view p = record { values = p.values; by = map met_view p.by.items }
+
+-- a path that came back to where it was
+pub record IsSamePath (p q : Path) : Type 0 where
+  pub values : q.values ≡ p.values
+  pub trail : q.trail.items ≡ p.trail.items
+  pub by : q.by.items ≡ p.by.items
+
+-- a path that went on, and what it comes back to
+pub record IsAhead (p q : Path) : Type 0 where
+  pub values : without q.values (drop (length p.trail.items) q.trail.items) ≡ p.values
+  pub trail : take (length p.trail.items) q.trail.items ≡ p.trail.items
+  pub by : take (length p.by.items) q.by.items ≡ p.by.items
+
+-- a condition is met by a listed term
+pub record IsEntered (c : Condition) (w : math.Reached) (p q : Path) : Type 0 where
+  pub found : math.extended c (path_view p) w ≡ Some (path_view q)
+  pub ahead : IsAhead p q
+
+-- it is not
+pub record IsMissed (c : Condition) (w : math.Reached) (p q : Path) : Type 0 where
+  pub none : math.extended c (path_view p) w ≡ None
+  pub same : IsSamePath p q

@@ -1,0 +1,14 @@
+pub mod Anew
+pub mod Transport
+pub mod Rules
+pub mod ByRule
+pub mod Renumbered
+pub mod Inlined
+pub mod Parts
+pub mod Systems
+pub mod Levels
+pub mod Alike
+pub mod JoinRules
+pub mod OneFile
+pub mod OneAnswer
+pub mod Examples

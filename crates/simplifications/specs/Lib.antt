@@ -1,0 +1,4 @@
+pub mod Inlining
+pub mod Simplifying
+pub mod Laws
+pub mod Examples

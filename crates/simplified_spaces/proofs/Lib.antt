@@ -1,0 +1,3 @@
+pub mod Tries
+pub mod Standard
+pub mod Walks

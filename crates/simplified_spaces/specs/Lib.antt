@@ -1,0 +1,4 @@
+pub mod Tries
+pub mod Standard
+pub mod Walks
+pub mod Laws

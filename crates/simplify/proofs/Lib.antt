@@ -1,0 +1,7 @@
+pub mod Slices
+pub mod Naming
+pub mod Placing
+pub mod Altered
+pub mod Replaced
+pub mod Loop
+pub mod Instances

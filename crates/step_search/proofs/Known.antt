@@ -1,0 +1,83 @@
+-- What is known of a rule of a system, and what one try of it gives.
+use Rattle.std.proofs.Common.{ℕ, zero, suc, ◌≡◌, ◌+◌, ◌*◌, ◌<◌, ◌≤◌, false, map, take, length, slice_get, vec_len, List, [], ◌∷◌, Option, None, Some, Result, Ok, Err, sym, ap, ◌∙◌, subst, arith}
+use Rattle.std.specs.Bool.{◌==◌}
+use Rattle.rewriting.specs.Rules as math
+use Rattle.rewriting.specs.Rules.{rule_at, sides}
+use Rattle.rewriting.specs.Systems.{Each, IsRule, IsSystem}
+use Rattle.rewriting.specs.Terms.{Fits}
+use Rattle.rewriting.proofs.Once.{same_some}
+use Rattle.rewriting.proofs.Systems.{is_rule_at}
+use Rattle.certificates.specs.Certificates.{dropped, inlined}
+use Rattle.certificates.specs.Evidence.{InfeasibilityEvidence}
+use Rattle.certificates.specs.Sizes.{DoConditionsFit}
+use Rattle.cert_model.specs.CertificateView.{simp_view}
+use Rattle.first_found.specs.Items.{GivesNothing}
+use Rattle.search_spaces.specs.Refuting.{Refuting, Tries}
+use Rattle.search_spaces.proofs.Entries.{tries_once}
+use Rattle.term_core.specs.RuleView.{condition_view, rule_view}
+use Rattle.term_core.specs.declared.systems.Rule.{Rule}
+use Rattle.term_core.specs.declared.terms.NoMemory.{NoMemory}
+use Rattle.simplifications.specs.Simplifying.{Simplifies}
+use Rattle.simplifications.proofs.Parts.{length_map}
+use Rattle.simplified_spaces.specs.Tries.{Try, try_drop, try_inline, tries_of, GivesStep}
+use Rattle.simplify.specs.Changes.{after}
+use Rattle.step_search.specs.Answers.{GoodAnswers, TryAnswers}
+use Rattle.step_search.proofs.Places.{many_tries, some_at, taken_all}
+use Rattle.step_search.specs.declared.tries.Made.{Made}
+
+sound_at : (sys : math.System) (number : ℕ) (r : math.Rule) → IsSystem sys → rule_at sys number ≡ Some r → IsRule sys.arities r
+sound_at sys zero r sound is = absurd (cc)
+sound_at sys (suc i) r sound is = is_rule_at sys.arities sys.rules i r sound.rules is
+
+conditions_fit : (cs : List math.Condition) → Each Fits (sides cs) → DoConditionsFit cs
+conditions_fit [] h = tt
+conditions_fit (c ∷ cs) (h, (g, hs)) = (h, g, conditions_fit cs hs)
+
+pub conds_fit : (sys : math.System) (number : ℕ) (r : Rule) → IsSystem sys → rule_at sys number ≡ Some (rule_view r) → DoConditionsFit (map condition_view r.conds.items)
+conds_fit sys number r sound is = conditions_fit (map condition_view r.conds.items) (sound_at sys number (rule_view r) sound is).fits.1.1
+
+pub few_conds : (sys : math.System) (number : ℕ) (r : Rule) → IsSystem sys → rule_at sys number ≡ Some (rule_view r) → length r.conds.items ≤ 100
+few_conds sys number r sound is =
+    let few = (sound_at sys number (rule_view r) sound is).few_conditions in let same = length_map condition_view r.conds.items in omega (arith, few, same)
+
+module _ (sys : math.System) (i : ℕ) (item : Refuting) (r : math.Rule) (is : rule_at sys i ≡ Some r) where
+  pub drop_none : ((e : InfeasibilityEvidence) → Tries sys r.conditions item e → ⊥) → GivesNothing (GivesStep sys) (try_drop i item)
+  drop_none none p ((q, f, at, h, x), g) = none f (subst (λ z. Tries sys z.conditions item f) (same_some (rule_at sys i) q r at is) h)
+
+  pub drop_tried : (e : InfeasibilityEvidence) → Tries sys r.conditions item e → (answer : Result (Option Made) NoMemory) → GoodAnswers sys (dropped i e) answer
+      → TryAnswers sys (try_drop i item) answer
+  drop_tried e tried (Ok (Some m)) (same, change, h) = (change, ((r, e, is, tried, same), subst (λ z. Simplifies sys z (after sys m.change)) (sym same) h))
+  drop_tried e tried (Ok None) none = gives_nothing
+    where
+      gives_nothing : GivesNothing (GivesStep sys) (try_drop i item)
+      gives_nothing p ((q, f, at, h, x), g) =
+          let one = tries_once sys r.conditions item f e (subst (λ z. Tries sys z.conditions item f) (same_some (rule_at sys i) q r at is) h) tried in
+          none p.1 (subst (λ z. Simplifies sys z p.1) (x ∙ ap (dropped i) one) g)
+  drop_tried e tried (Err m) h = tt
+
+pub inline_tried : (sys : math.System) (i k : ℕ) (answer : Result (Option Made) NoMemory) → GoodAnswers sys (inlined i k) answer → TryAnswers sys (try_inline i k) answer
+inline_tried sys i k (Ok (Some m)) (same, change, h) = (change, (same, subst (λ z. Simplifies sys z (after sys m.change)) (sym same) h))
+inline_tried sys i k (Ok None) none = λ p h. none p.1 (subst (λ z. Simplifies sys z p.1) h.0 h.1)
+inline_tried sys i k (Err m) h = tt
+
+-- a rule that has conditions has a try at each place, and no others
+module _ (r : Rule) (number len : ℕ) (long : len ≡ vec_len r.conds) (some : false ≡ (vec_len r.conds == 0)) where
+  abbrev its_tries : List Try
+  its_tries = tries_of number (map condition_view r.conds.items)
+
+  nonzero : (n : ℕ) → false ≡ (n == 0) → n ≡ 0 → ⊥
+  nonzero zero e h = absurd (cc)
+  nonzero (suc n) e h = omega (arith, h)
+
+  pub as_many : length its_tries ≡ 2 * len + 1
+  as_many =
+      let items : vec_len r.conds ≡ length r.conds.items = r.conds.ok.0 in
+      let same : length (map condition_view r.conds.items) ≡ length r.conds.items = length_map condition_view r.conds.items in
+      let all = many_tries number (map condition_view r.conds.items) (λ z. nonzero (vec_len r.conds) some (omega (arith, z, items, same))) in
+      omega (arith, all, items, same, long)
+
+  pub its_try : (k : ℕ) → k < 2 * len + 1 → (t : Try) × (slice_get its_tries k ≡ Some t)
+  its_try k h = some_at its_tries k (let all = as_many in omega (arith, all, h))
+
+  pub all_taken : (k : ℕ) → 2 * len + 1 ≤ k → take k its_tries ≡ its_tries
+  all_taken k h = taken_all its_tries k (let all = as_many in omega (arith, all, h))

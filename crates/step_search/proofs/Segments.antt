@@ -1,0 +1,104 @@
+-- Walks over parts of a list of tries, one after the other.
+use Rattle.std.proofs.Common.{◌≡◌, ℕ, ◌+◌, ◌<◌, ◌≤◌, refl, sym, ap, ◌∙◌, subst, List, [], ◌∷◌, ◌++◌, Option, Some, None, Ok, Err, arith, append_assoc}
+use Rattle.rewriting.specs.Rules.{System}
+use Rattle.cc_count.specs.Counts.{Counts, Spends}
+use Rattle.cc_count.proofs.Spending.{spends_none, spends_both}
+use Rattle.first_found.specs.Items.{NoneGives, IsFirst, IsStopped, cost_of, one}
+use Rattle.first_found.proofs.Items.{cost_append, none_append}
+use Rattle.certificates.specs.Certificates.{Simplification}
+use Rattle.term_core.specs.declared.terms.NoMemory.{NoMemory}
+use Rattle.simplified_spaces.specs.Tries.{Try, GivesStep}
+use Rattle.step_search.specs.Answers.{TryAnswers, WalkAnswers}
+use Rattle.step_search.specs.declared.tries.Made.{Made}
+use Rattle.step_search.specs.declared.walks.Walk.{Walk}
+use Rattle.step_search.specs.declared.walks.Walk.TheVariants as walk
+
+-- these tries gave nothing, and were paid
+pub record SoFar (sys : System) (done : List Try) (start now : Counts) : Type 0 where
+  pub none : NoneGives (GivesStep sys) done
+  pub paid : Spends start (cost_of one done) now
+
+pub nothing_yet : (sys : System) (start : Counts) → SoFar sys [] start start
+nothing_yet sys start = record { none = tt; paid = spends_none start }
+
+-- a walk over one try
+module _ (sys : System) (t : Try) (start end : Counts) where
+  pub one_stops : start.left ≡ 0 → end ≡ start → WalkAnswers sys (t ∷ []) start end (Ok walk.Spent)
+  one_stops none same = (
+    0,
+    subst (Spends start 0) (sym same) (spends_none start),
+    ap (λ z. z.left) same ∙ none,
+    record { before = []; item = t; behind = []; split = refl; none = tt; short = omega arith },
+  )
+
+  module _ (paid : Spends start 1 end) where
+    pub one_given : (m : Made) → TryAnswers sys t (Ok (Some m)) → WalkAnswers sys (t ∷ []) start end (Ok (walk.Given m))
+    one_given m h = (h.0, (1, paid, record { before = []; item = t; behind = []; split = refl; none = tt; gives = h.1; up_to = refl }))
+
+    pub one_nothing : TryAnswers sys t (Ok None) → WalkAnswers sys (t ∷ []) start end (Ok walk.Nothing)
+    one_nothing h = (paid, (h, tt))
+
+    pub one_fails : (e : NoMemory) → WalkAnswers sys (t ∷ []) start end (Err e)
+    one_fails e = (1, paid, omega arith)
+
+-- a walk over some tries behind those that gave nothing
+module _ (sys : System) (all done mid rest : List Try) (start here end : Counts) (split : all ≡ done ++ (mid ++ rest)) (so_far : SoFar sys done start here) where
+  -- so many units for a part of the middle
+  whole_cost : (before : List Try) → cost_of one (done ++ before) ≡ cost_of one done + cost_of one before
+  whole_cost before = cost_append one done before
+
+  split_in : (before behind : List Try) (t : Try) → mid ≡ before ++ t ∷ behind → all ≡ (done ++ before) ++ t ∷ (behind ++ rest)
+  split_in before behind t e =
+      split ∙ ap (λ z. done ++ (z ++ rest)) e ∙ ap (λ z. done ++ z) (append_assoc before (t ∷ behind) rest) ∙ sym (append_assoc done before (t ∷ (behind ++ rest)))
+
+  pub part_given : (m : Made) → WalkAnswers sys mid here end (Ok (walk.Given m)) → WalkAnswers sys all start end (Ok (walk.Given m))
+  part_given m (change, (n, paid, f)) = (
+    change,
+    (
+      cost_of one done + n,
+      spends_both start here end (cost_of one done) n so_far.paid paid,
+      record {
+        before = done ++ f.before;
+        item = f.item;
+        behind = f.behind ++ rest;
+        split = split_in f.before f.behind f.item f.split;
+        none = none_append (GivesStep sys) done f.before so_far.none f.none;
+        gives = f.gives;
+        up_to = let sum = whole_cost f.before in let e = f.up_to in omega (arith, sum, e);
+      },
+    ),
+  )
+
+  pub part_stops : WalkAnswers sys mid here end (Ok walk.Spent) → WalkAnswers sys all start end (Ok walk.Spent)
+  part_stops (n, paid, none, f) = (
+    cost_of one done + n,
+    spends_both start here end (cost_of one done) n so_far.paid paid,
+    none,
+    record {
+      before = done ++ f.before;
+      item = f.item;
+      behind = f.behind ++ rest;
+      split = split_in f.before f.behind f.item f.split;
+      none = none_append (GivesStep sys) done f.before so_far.none f.none;
+      short = let sum = whole_cost f.before in let e = f.short in omega (arith, sum, e);
+    },
+  )
+
+  pub part_fails : (e : NoMemory) → WalkAnswers sys mid here end (Err e) → WalkAnswers sys all start end (Err e)
+  part_fails e (n, paid, less) = (
+    cost_of one done + n,
+    spends_both start here end (cost_of one done) n so_far.paid paid,
+    let sum : cost_of one all ≡ cost_of one done + (cost_of one mid + cost_of one rest) =
+        ap (cost_of one) split ∙ cost_append one done (mid ++ rest) ∙ ap (λ z. cost_of one done + z) (cost_append one mid rest) in omega (arith, sum, less),
+  )
+
+  pub part_done : WalkAnswers sys mid here end (Ok walk.Nothing) → SoFar sys (done ++ mid) start end
+  part_done (paid, none) =
+      record {
+        none = none_append (GivesStep sys) done mid so_far.none none;
+        paid = subst (λ z. Spends start z end) (sym (whole_cost mid)) (spends_both start here end (cost_of one done) (cost_of one mid) so_far.paid paid);
+      }
+
+-- all of them gave nothing
+pub all_done : (sys : System) (all done : List Try) (start now : Counts) → done ≡ all → SoFar sys done start now → WalkAnswers sys all start now (Ok walk.Nothing)
+all_done sys all done start now e h = let s = subst (λ z. SoFar sys z start now) e h in (s.paid, s.none)
