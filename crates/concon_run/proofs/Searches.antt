@@ -35,7 +35,7 @@ use Rattle.concon_run.proofs.Unread.{no_system_caused, no_system_right}
 
 module _ (names : NameTable) (sys : System) where
   module _ (good : IsWellFormed sys) (named : sys.arities ≡ map (λ s. s.1) names.symbols) (from : IsFromFile sys) (files : FilesAreConfluent)
-    (confluent : ValidSystemsAreConfluent) (measured : ValidMeasuredSystemsAreConfluent) (apart : ValidPeaksReachApart) where
+      (confluent : ValidSystemsAreConfluent) (measured : ValidMeasuredSystemsAreConfluent) (apart : ValidPeaksReachApart) where
     wholly : IsConfluent sys → IsWhollyConfluent sys
     wholly h = record { file = files sys from h; system = h }
 

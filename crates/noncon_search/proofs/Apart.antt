@@ -141,7 +141,7 @@ module _ (names : NameTable) (sys : System) (t : Term) (x y : Reached) (first : 
     gives file shown c is text = (
       ((a, tries, is), text),
       subst (IsValid sys) (sym is)
-      (record { start = file.0; u = x.term; v = y.term; ends = record { first = first; second = second }; apart = record { first = file.1; second = file.2; apart = shown } }),
+          (record { start = file.0; u = x.term; v = y.term; ends = record { first = first; second = second }; apart = record { first = file.1; second = file.2; apart = shown } }),
     )
 
     pub without_text : (c : Certificate) → c ≡ peak_of t x y a → (HasText names c → ⊥) → (d : Certificate) → GivesPeak names sys (try_ends t x y) d → ⊥
