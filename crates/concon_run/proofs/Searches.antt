@@ -1,7 +1,10 @@
 -- What was read and searched is what the search comes to.
-use Rattle.std.proofs.Common.{◌≡◌, ℕ, List, Result, Ok, Err, inl, inr, sym, subst}
+use Rattle.std.proofs.Common.{◌≡◌, ℕ, List, map, Result, Ok, Err, inl, inr, sym, subst}
 use Rattle.rewriting.specs.Rules.{System}
 use Rattle.rewriting.specs.Systems.{IsWellFormed}
+use Rattle.rewriting.specs.Confluence.{IsConfluent}
+use Rattle.join_systems.specs.FileRelation.{IsFromFile}
+use Rattle.join_systems.specs.Laws.{FilesAreConfluent}
 use Rattle.certificates.specs.Certificates.{Certificate, Peak, peak_certificate}
 use Rattle.valid_certificates.specs.Certificates.{IsValid}
 use Rattle.valid_certificates.specs.Laws.{ValidPeaksReachApart}
@@ -19,10 +22,9 @@ use Rattle.portfolio.specs.declared.Outcome.{Outcome}
 use Rattle.portfolio.specs.declared.Outcome.TheVariants.{Found, Exhausted, Spent}
 use Rattle.portfolio.specs.Answers.{SearchesAll, IfExhausted}
 use Rattle.cops_read.specs.NameTable.{NameTable}
-use Rattle.cops_read.specs.File.{IsFile}
 use Rattle.cert_check.specs.Kinds.{verdict_of}
 use Rattle.concon_run.specs.Words.{IsProve}
-use Rattle.concon_run.specs.Outcomes.{SpellsSystem, IsShown}
+use Rattle.concon_run.specs.Outcomes.{SpellsSystem, IsWhollyConfluent, IsShown}
 use Rattle.concon_run.specs.Searching.{bad_file, HoldsNone}
 use Rattle.concon_run.specs.Causes.{Run, searched, bytes_of, HasFailed, IsCaused, IsRight}
 use Rattle.concon_run.specs.Judging.{SystemAnswers, SearchAnswers, outcome_of, answer_of_search}
@@ -32,9 +34,13 @@ use Rattle.cert_check.proofs.Bounds.{spelt_over}
 use Rattle.concon_run.proofs.Unread.{no_system_caused, no_system_right}
 
 module _ (names : NameTable) (sys : System) where
-  module _ (good : IsWellFormed sys) (file : List ℕ) (spells : IsFile file sys names) (confluent : ValidSystemsAreConfluent) (measured : ValidMeasuredSystemsAreConfluent) (apart : ValidPeaksReachApart) where
+  module _ (good : IsWellFormed sys) (named : sys.arities ≡ map (λ s. s.1) names.symbols) (from : IsFromFile sys) (files : FilesAreConfluent)
+      (confluent : ValidSystemsAreConfluent) (measured : ValidMeasuredSystemsAreConfluent) (apart : ValidPeaksReachApart) where
+    wholly : IsConfluent sys → IsWhollyConfluent sys
+    wholly h = record { file = files sys from h; system = h }
+
     peak_shown : (peak : Peak) → HasText names (peak_certificate peak) → IsValid sys (peak_certificate peak) → IsShown sys (peak_certificate peak) (verdict_of (peak_certificate peak))
-    peak_shown peak text valid = apart sys peak good (spelt_over names sys.arities spells.meant.arities peak.start text.0.0) valid
+    peak_shown peak text valid = apart sys peak good (spelt_over names sys.arities named peak.start text.0.0) valid
 
     given_shown : (item : PeakItem) (c : Certificate) → GivesPeak names sys item c → IsShown sys c (verdict_of c)
     given_shown (make_listing n) c h = absurd h.0
@@ -43,10 +49,11 @@ module _ (names : NameTable) (sys : System) where
 
     -- what is found shows what it is for
     pub found_shown : (c : Certificate) (n : ℕ) → (pruned_spaces names sys).Finds c n → IsValid sys c → IsShown sys c (verdict_of c)
-    found_shown c n (inl (inl f)) valid = subst (λ d. IsShown sys d (verdict_of d)) (sym f.certificate) (confluent sys f.entries good (subst (IsValid sys) f.certificate valid))
+    found_shown c n (inl (inl f)) valid =
+        subst (λ d. IsShown sys d (verdict_of d)) (sym f.certificate) (wholly (confluent sys f.entries good (subst (IsValid sys) f.certificate valid)))
     found_shown c n (inl (inr (none, (a, b, costs, f, e)))) valid = given_shown f.first.item c f.first.gives
     found_shown c n (inr (none, (a, b, costs, f, e))) valid =
-        subst (λ d. IsShown sys d (verdict_of d)) (sym f.certificate) (measured sys f.measure f.entries good (subst (IsValid sys) f.certificate valid))
+        subst (λ d. IsShown sys d (verdict_of d)) (sym f.certificate) (wholly (measured sys f.measure f.entries good (subst (IsValid sys) f.certificate valid)))
 
     pub ended : (law : IsSearchable sys (pruned_spaces names sys)) (units : ℕ) (before after : Counts) → before.left ≡ units → (r : Result Outcome NoMemory) → SearchesAll (pruned_spaces names sys) before after r
         → IfExhausted r (HoldsNone names sys) → SearchAnswers sys names units r

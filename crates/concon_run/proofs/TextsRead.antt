@@ -9,6 +9,7 @@ use Rattle.cc_io.specs.declared.shelf.ReadAllError.TheVariants.{ReadFault, TooLo
 use Rattle.concon_run.specs.FileRefusals.{long_file, most_file_bytes}
 use Rattle.rewriting.specs.Rules.{System}
 use Rattle.rewriting.specs.Confluence.{IsConfluent}
+use Rattle.join_systems.specs.FileRelation.{IsFromFile, IsFileConfluent}
 use Rattle.certificates.specs.Certificates.{Peak, peak_certificate}
 use Rattle.valid_certificates.specs.Laws.{ReachesApart}
 use Rattle.cert_model.specs.declared.reasons.Rejected as reasons
@@ -67,11 +68,14 @@ module _ (cert : Bytes) (failed : Type 0) (sys : System) (names : NameTable) (by
   pub cert_rejected : (reason : reasons.Rejected) → BytesAnswers sys names bytes (Err (Rejected reason)) → CertificateAnswers cert failed sys names (Err (verdicts.Rejected names reason))
   cert_rejected reason h = (refl, (h.0, (bytes, f, short, h.1), h.2))
 
-  shown_by : (v : Verdict) → OnYes {E = BytesError} (Ok v) (IsConfluent sys)
-      → OnNo {E = BytesError} (Ok v) ((peak : Peak) × IsCertificateText names bytes (peak_certificate peak) × ReachesApart sys peak) → IsShownBy cert sys names v
-  shown_by Yes confluent h = confluent
-  shown_by No confluent h = (h.0, (bytes, f, short, h.1), h.2)
+  module _ (from : IsFromFile sys) where
+    shown_by : (v : Verdict) → OnYes {E = BytesError} (Ok v) (IsConfluent sys) → OnYes {E = BytesError} (Ok v) (IsFromFile sys → IsFileConfluent sys)
+        → OnNo {E = BytesError} (Ok v) ((peak : Peak) × IsCertificateText names bytes (peak_certificate peak) × ReachesApart sys peak) → IsShownBy cert sys names v
+    shown_by Yes confluent file h = record { file = file from; system = confluent }
+    shown_by No confluent file h = (h.0, (bytes, f, short, h.1), h.2)
 
-  pub cert_judged : (v : Verdict) → BytesAnswers sys names bytes (Ok v) → OnYes {E = BytesError} (Ok v) (IsConfluent sys)
-      → OnNo {E = BytesError} (Ok v) ((peak : Peak) × IsCertificateText names bytes (peak_certificate peak) × ReachesApart sys peak) → CertificateAnswers cert failed sys names (Ok v)
-  cert_judged v h confluent apart = (h.0, (bytes, f, short, h.1), h.2, h.3, shown_by v confluent apart)
+    pub cert_judged : (v : Verdict) → BytesAnswers sys names bytes (Ok v) → OnYes {E = BytesError} (Ok v) (IsConfluent sys)
+        → OnYes {E = BytesError} (Ok v) (IsFromFile sys → IsFileConfluent sys)
+        → OnNo {E = BytesError} (Ok v) ((peak : Peak) × IsCertificateText names bytes (peak_certificate peak) × ReachesApart sys peak)
+        → CertificateAnswers cert failed sys names (Ok v)
+    cert_judged v h confluent file apart = (h.0, (bytes, f, short, h.1), h.2, h.3, shown_by v confluent file apart)

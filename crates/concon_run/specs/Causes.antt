@@ -76,7 +76,7 @@ IsCaused run (cert_fault file cert) =
     IsCheck run.words file cert × HasFailed run cert × ((sys : System) × (names : NameTable) × SpellsSystem (bytes_of run file) sys names)
 IsCaused run no_memory = ((file : List ℕ) × NamesFile run.words file) ⊎ ((n : ℕ) × IsSelftest run.words n)
 
--- an answer that the system is confluent, or that it is not, is right
+-- an answer that the file's relation is confluent, or that it is not, is right
 abbrev pub IsRight : Run → Answer → Type 0
 IsRight run (checked file cert (shown verdict)) = IsTrueOf (bytes_of run file) (bytes_of run cert) verdict
 IsRight run (searched file budget (found names c)) = (sys : System) × SpellsSystem (bytes_of run file) sys names × IsShown sys c (verdict_of c)

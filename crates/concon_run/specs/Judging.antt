@@ -1,7 +1,6 @@
 -- What the parts of a check and of a search answer.
 use Rattle.std.specs.Prelude.{◌≡◌, ℕ, List, Option, Some, None, IfSome, Result, Ok, Err}
 use Rattle.rewriting.specs.Rules.{System}
-use Rattle.rewriting.specs.Confluence.{IsConfluent}
 use Rattle.certificates.specs.Certificates as math
 use Rattle.valid_certificates.specs.Certificates.{IsValid, IsRejected}
 use Rattle.valid_certificates.specs.Laws.{ReachesApart}
@@ -19,7 +18,7 @@ use Rattle.cert_check.specs.declared.Verdict.TheVariants as verdict
 use Rattle.cc_io.specs.declared.shelf.ReadAllError.TheVariants as reading
 use Rattle.concon_run.specs.FileRefusals.{FileRefusal, long_file, file_refusal_of}
 use Rattle.concon_run.specs.CertRefusals.{long_certificate, cert_refusal_of}
-use Rattle.concon_run.specs.Outcomes.{Bytes, no_system, no_certificate, rejected, shown, SpellsSystem, IsRefusedFile, SpellsCertificate, IsRefusedCertificate, IsShown}
+use Rattle.concon_run.specs.Outcomes.{Bytes, no_system, no_certificate, rejected, shown, SpellsSystem, IsRefusedFile, SpellsCertificate, IsRefusedCertificate, IsWhollyConfluent, IsShown}
 use Rattle.concon_run.specs.Searching.{SearchOutcome, bad_file, found, over_budget, exhausted, IsFirstValid, HoldsNone}
 use Rattle.concon_run.specs.Causes.{Answer, checked, searched, file_fault, cert_fault, no_memory}
 use Rattle.concon_run.specs.declared.files.NoSystem.{NoSystem}
@@ -40,7 +39,7 @@ SystemAnswers file failed (Err (none.Refused e)) = IfSome (file_refusal_of e) (I
 
 -- what it shows that a certificate is valid, of which this is the text
 abbrev pub IsShownBy : Bytes → System → NameTable → Verdict → Type 0
-IsShownBy cert sys names verdict.Yes = IsConfluent sys
+IsShownBy cert sys names verdict.Yes = IsWhollyConfluent sys
 IsShownBy cert sys names verdict.No = (peak : math.Peak) × SpellsCertificate cert names (math.peak_certificate peak) × ReachesApart sys peak
 
 -- the text is that of a valid certificate, or is refused, or is that of one that is rejected

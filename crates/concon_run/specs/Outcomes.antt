@@ -2,6 +2,7 @@
 use Rattle.std.specs.Prelude.{◌≡◌, ◌≤◌, ℕ, List, [], length, codes}
 use Rattle.rewriting.specs.Rules.{System}
 use Rattle.rewriting.specs.Confluence.{IsConfluent}
+use Rattle.join_systems.specs.FileRelation.{IsFileConfluent}
 use Rattle.certificates.specs.Certificates.{Certificate, Peak, peak_certificate}
 use Rattle.certificates.specs.Reasons.{Rejection}
 use Rattle.valid_certificates.specs.Certificates.{IsValid, IsRejected}
@@ -54,14 +55,19 @@ ComesTo file cert (shown verdict) =
     (sys : System) × (names : NameTable) × (c : Certificate) × SpellsSystem file sys names × SpellsCertificate cert names c × IsValid sys c
     × (verdict ≡ verdict_of c)
 
+-- the file's own relation is confluent, and so is that of the system
+pub record IsWhollyConfluent (sys : System) : Type 0 where
+  pub file : IsFileConfluent sys
+  pub system : IsConfluent sys
+
 -- what a certificate shows of a system
 abbrev pub IsShown : System → Certificate → Verdict → Type 0
-IsShown sys c verdict.Yes = IsConfluent sys
+IsShown sys c verdict.Yes = IsWhollyConfluent sys
 IsShown sys c verdict.No = IsPeakApart sys c
 
--- the file spells a system that is confluent
+-- the file spells a system, and its own relation is confluent
 abbrev pub IsConfirmed : Bytes → Type 0
-IsConfirmed file = (sys : System) × (names : NameTable) × SpellsSystem file sys names × IsConfluent sys
+IsConfirmed file = (sys : System) × (names : NameTable) × SpellsSystem file sys names × IsWhollyConfluent sys
 
 -- the file spells a system, for which there is a peak: its derivations lead from the start to two terms without a common reduct
 abbrev pub IsDisproved : Bytes → Type 0

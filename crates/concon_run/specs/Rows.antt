@@ -43,7 +43,7 @@ IsVerdict run verdict = CheckComesTo run (shown verdict) ⊎ ((names : NameTable
 abbrev pub IsYes : Run → Type 0
 IsYes run = IsVerdict run Yes ⊎ ((n : ℕ) × IsSelftest run.words n)
 
--- the words name the text of a system that is confluent
+-- the words name the text of a system, and its file's relation is confluent, as is that of the system
 abbrev pub NamesConfluentSystem : Run → Type 0
 NamesConfluentSystem run = (file : List ℕ) × NamesFile run.words file × IsConfirmed (bytes_of run file)
 

@@ -11,7 +11,7 @@ use cc_io::{ReadAllError, Shelf, read_all};
 use cert_check::{BytesError, Verdict, check_bytes};
 use cert_model::Rejected;
 use cert_text::CertError;
-use cops_read::Names;
+use cops_read::{Names, one_reading};
 use std::alloc::Global;
 use term_core::System;
 
@@ -44,6 +44,7 @@ fn verdict_on<S: Shelf>(
     requires { (file : List ℕ) × IsFile file sys.now names }
     ensures answers { CertificateAnswers (told_or_any (S.contents shelf.old cert.now)) (Rose (S.faults shelf.old cert.now) (S.faults shelf.new cert.now)) sys.now names result }
 {
+    one_reading();
     let bytes = match read_all(alloc, shelf, cert, CERT_LIMIT) {
         Ok(bytes) => bytes,
         Err(error) => return Err(NoVerdict::CertUnread(error)),

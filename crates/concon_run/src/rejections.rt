@@ -135,6 +135,14 @@ fn put_measure(out: &mut Vec<u8>, reason: MeasureReason) -> Result<(), AllocErro
                 Piece::Text(b" constant"),
             ],
         ),
+        MeasureReason::Order { rule } => put_all(
+            out,
+            &[
+                Piece::Text(b"measure rule "),
+                Piece::Number(rule),
+                Piece::Text(b" order"),
+            ],
+        ),
     }
 }
 

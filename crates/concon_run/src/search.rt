@@ -8,7 +8,8 @@ ghost use Rattle.concon_run.specs.Judging.{SearchAnswers, answer_of_search};
 use crate::files::{NoSystem, system_of};
 use cc_count::Budget;
 use cc_io::Shelf;
-use cops_read::Names;
+use cops_read::{Names, one_reading};
+use join_systems::join_systems_keep_their_rules;
 use ortho_check::valid_certificates_are_confluent;
 use portfolio::{Outcome, prove};
 use quasi_check::valid_measured_systems_are_confluent;
@@ -42,6 +43,8 @@ fn outcome_within(
     requires { (file : List ℕ) × IsFile file sys.now names.now }
     ensures { SearchAnswers sys.now names.now units result }
 {
+    one_reading();
+    join_systems_keep_their_rules();
     quasi_spaces_are_searchable();
     valid_certificates_are_confluent();
     valid_measured_systems_are_confluent();

@@ -120,11 +120,11 @@ pub fn run<S: Shelf, K: Sink, E: Sink>(
         × IsCaused run answer × IsLeft answer (S.begun shelf.old) (S.begun shelf.new) (S.given shelf.old) (S.given shelf.new)
         × IsTold (said_of answer) result (K.written out.old) (K.written out.new) (E.written err.old) (E.written err.new)
         (K.faults out.old) (K.faults out.new) (E.faults err.old) (E.faults err.new) }
-    // Where out grew by a text that begins with Y, the system is confluent.
+    // Where out grew by a text that begins with Y, the file's relation is confluent, and so is that of the system.
     ensures yes_is_sound { let run = run_of (texts words.now) (S.contents shelf.old) (S.faults shelf.old) (S.faults shelf.new) in
         (before : List ℕ) (text : List ℕ) → K.written out.old ≡ Some before → K.written out.new ≡ Some (before ++ (codes "Y" ++ text)) →
         NamesConfluentSystem run }
-    // Where out grew by a text that begins with N, the system is not confluent.
+    // Where out grew by a text that begins with N, some file term reaches two that have no common reduct, by the file's relation and by that of the system.
     ensures no_is_sound { let run = run_of (texts words.now) (S.contents shelf.old) (S.faults shelf.old) (S.faults shelf.new) in
         (before : List ℕ) (text : List ℕ) → K.written out.old ≡ Some before → K.written out.new ≡ Some (before ++ (codes "N" ++ text)) →
         NamesPeakApart run }

@@ -136,10 +136,12 @@ module _ (names : NameTable) (sys : System) (t : Term) (x y : Reached) (first : 
       no_file (h.start, ends.first, ends.second)
 
   module _ (a : Apartness) (tries : TriesApart sys x.term y.term a) where
-    pub gives : HasFileSymbols sys t × HasFileSymbols sys x.term × HasFileSymbols sys y.term → AreShownApart sys x.term y.term a → (c : Certificate) → c ≡ peak_of t x y a → HasText names c → GivesPeak names sys (try_ends t x y) c
+    pub gives : HasFileSymbols sys t × HasFileSymbols sys x.term × HasFileSymbols sys y.term → AreShownApart sys x.term y.term a
+        → (c : Certificate) → c ≡ peak_of t x y a → HasText names c → GivesPeak names sys (try_ends t x y) c
     gives file shown c is text = (
       ((a, tries, is), text),
-      subst (IsValid sys) (sym is) (record { start = file.0; u = x.term; v = y.term; ends = record { first = first; second = second }; apart = record { first = file.1; second = file.2; apart = shown } }),
+      subst (IsValid sys) (sym is)
+          (record { start = file.0; u = x.term; v = y.term; ends = record { first = first; second = second }; apart = record { first = file.1; second = file.2; apart = shown } }),
     )
 
     pub without_text : (c : Certificate) → c ≡ peak_of t x y a → (HasText names c → ⊥) → (d : Certificate) → GivesPeak names sys (try_ends t x y) d → ⊥

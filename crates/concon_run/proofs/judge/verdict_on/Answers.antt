@@ -9,6 +9,9 @@ use Rattle.concon_run.specs.Causes.{told_or_any}
 use Rattle.concon_run.proofs.TextsRead.{cert_unread, cert_judged}
 use Rattle.concon_run.proofs.judge.verdict_on.Goals as goal
 
+pub check_bytes-requires : goal.check_bytes-requires
+check_bytes-requires g c = record { names = c.one_reading.ensures.named c.requires.0 c.args.sys.now c.args.names c.requires.1 }
+
 pub returns-in-Err : goal.returns-in-Err
 returns-in-Err g c = record { answers = cert_unread _ _ c.args.sys.now c.args.names c.in-Err.error c.in-Err.ensures.fault c.in-Err.ensures.longer }
 
@@ -17,7 +20,9 @@ returns-in-Ok-check_bytes g c =
     let v = c.in-Ok-check_bytes.verdict in
     record {
       answers =
-          cert_judged (told_or_any (g.S.Shelf.contents c.args.shelf.now c.args.cert.now)) (Unit {0}) c.args.sys.now c.args.names c.in-Ok.bytes.items c.in-Ok.ensures.all c.in-Ok.ensures.limit v
+          cert_judged (told_or_any (g.S.Shelf.contents c.args.shelf.now c.args.cert.now)) (Unit {0}) c.args.sys.now c.args.names c.in-Ok.bytes.items c.in-Ok.ensures.all c.in-Ok.ensures.limit
+          (c.one_reading.ensures.told c.requires.0 c.args.sys.now c.args.names c.requires.1) v
           (subst (λ b. BytesAnswers c.args.sys.now c.args.names b (Ok v)) c.deref.ensures.value c.in-Ok-check_bytes.ensures.answers) c.in-Ok-check_bytes.ensures.yes
+          c.in-Ok-check_bytes.ensures.file
           (subst (λ b. OnNo {E = BytesError} (Ok v) ((p : Peak) × IsCertificateText c.args.names b (peak_certificate p) × ReachesApart c.args.sys.now p)) c.deref.ensures.value c.in-Ok-check_bytes.ensures.no);
     }
