@@ -74,15 +74,19 @@ standing k ds d sorted at = record {
   same = λ e. refl;
 }
 
--- nothing is wanted
-pub added_nothing : (P : Transition → Type 0) (ds : List Transition) → IsSorted IsTransitionBefore ds → ((d : Transition) → P d → ⊥) → IsAdded P ds ds
-added_nothing P ds sorted none = record {
+-- what is wanted is there
+pub added_before : (P : Transition → Type 0) (ds : List Transition) → IsSorted IsTransitionBefore ds → ((d : Transition) → P d → Contains ds d) → IsAdded P ds ds
+added_before P ds sorted there = record {
   part = record { only = λ x h. inl h; sorted = sorted };
   kept = λ x h. h;
-  every = λ x p. absurd (none x p);
+  every = there;
   more = omega arith;
   same = λ e. refl;
 }
+
+-- nothing is wanted
+pub added_nothing : (P : Transition → Type 0) (ds : List Transition) → IsSorted IsTransitionBefore ds → ((d : Transition) → P d → ⊥) → IsAdded P ds ds
+added_nothing P ds sorted none = added_before P ds sorted (λ d p. absurd (none d p))
 
 -- one part after another, whatever the wanted are called
 pub part_after : (P Q R : Transition → Type 0) (a b c : List Transition) → ((d : Transition) → P d → R d) → ((d : Transition) → Q d → R d) → IsPartOf P a b → IsPartOf Q b c → IsPartOf R a c

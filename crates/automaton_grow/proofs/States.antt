@@ -36,6 +36,12 @@ twin_from p q (c ∷ ds) d h = go (λ k. later_twin p q c ds d (twin_from p q ds
     go rest true e k = first rest e (contains_cases (record c { target = q }) (twins p q ds) d k)
     go rest false e k = rest k
 
+-- a twin at the state itself is the transition
+pub own_twin : (p : ℕ) (ds : List Transition) (d : Transition) → Contains (twins p p ds) d → Contains ds d
+own_twin p ds d h =
+    let t = twin_from p p ds d h in
+    subst (Contains ds) (sym (t.same ∙ ap (λ (z : ℕ). record t.source { target = z }) (sym t.leads))) t.stands
+
 pub twin_in : (p q : ℕ) (ds : List Transition) (c : Transition) → Contains ds c → c.target ≡ p → Contains (twins p q ds) (record c { target = q })
 twin_in p q [] c h e = absurd (contains_none c h)
 twin_in p q (b ∷ ds) c h e = go (λ k. twin_in p q ds c k e) (contains_cases b ds c h)

@@ -21,6 +21,10 @@ abbrev pub twins_of : (ℕ → ℕ) → Term → ℕ → List Transition → Lis
 twins_of e (var x) q ds = twins (e x) q ds
 twins_of e (app f ts) q ds = []
 
+-- each of the first transitions is one of the others
+abbrev pub HasAll : List Transition → List Transition → Type 0
+HasAll ds others = (d : Transition) → Contains ds d → Contains others d
+
 -- the transition is asked for by the transitions ds, where the left side reaches q with these states; the rule's first state is n
 abbrev pub IsAskedAt : ℕ → Rule → List Transition → List ℕ → ℕ → Transition → Type 0
 IsAskedAt n r ds cs q d = Contains (grown (state_of (variable_occurrences r.left) cs) n r.right q) d ⊎ Contains (twins_of (state_of (variable_occurrences r.left) cs) r.right q ds) d

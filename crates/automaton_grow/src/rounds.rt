@@ -10,7 +10,7 @@ ghost use Rattle.term_core.specs.RuleView.{rule_view};
 ghost use Rattle.cert_model.specs.EvidenceView.{transition_view, automaton_view};
 ghost use Rattle.automaton_runs.specs.Counted.{under_all};
 ghost use Rattle.automaton_runs.specs.Arrivals.{arrival_view};
-ghost use Rattle.automaton_grow.specs.Growing.{twins, IsAskedAt, IsAskedByRule, IsAskedBelow, AddAnswers, AreAllStates, IsPartial};
+ghost use Rattle.automaton_grow.specs.Growing.{twins, HasAll, IsAskedAt, IsAskedByRule, IsAskedBelow, AddAnswers, AreAllStates, IsPartial};
 ghost use Rattle.automaton_grow.specs.Limits.{AreNarrowBelow};
 ghost use Rattle.automaton_grow.specs.Rounds.{IsForSymbol, IsBasicOf, IsAskedByRows, PartialAnswers, RoundAnswers};
 
@@ -104,6 +104,25 @@ fn add_twins(
     Ok(())
 }
 
+// Adds the same, where all transitions are there already, and so are the twins at a state itself.
+fn add_moved(
+    alloc: Global,
+    current: &[Transition],
+    from: u32,
+    to: u32,
+    next: &mut Vec<Transition>,
+) -> Result<(), GrowError>
+    requires kept { HasAll (map transition_view current.now) (map transition_view next.old.items) }
+    requires sorted { IsSorted IsTransitionBefore (map transition_view next.old.items) }
+    requires few { length (map transition_view next.old.items) ≤ 5000 }
+    ensures { AddAnswers (Contains (twins from to (map transition_view current.now))) (map transition_view next.old.items) (map transition_view next.new.items) result }
+{
+    if from == to {
+        return Ok(());
+    }
+    add_twins(alloc, current, from, to, next)
+}
+
 // Adds what the rule asks for where its left side reaches a state by a choice for its leaves.
 fn add_asked(
     alloc: Global,
@@ -115,6 +134,7 @@ fn add_asked(
     state: u32,
     next: &mut Vec<Transition>,
 ) -> Result<(), GrowError>
+    requires kept { HasAll (map transition_view current.now) (map transition_view next.old.items) }
     requires leaves { leaves.now ≡ variable_occurrences (view rule.now.left) }
     requires room { first + size (view rule.now.right) < 2 ^ 32 }
     requires sorted { IsSorted IsTransitionBefore (map transition_view next.old.items) }
@@ -122,7 +142,7 @@ fn add_asked(
     ensures { AddAnswers (IsAskedAt first (rule_view rule.now) (map transition_view current.now) choice.now state) (map transition_view next.old.items) (map transition_view next.new.items) result }
 {
     match &rule.right {
-        Term::Var(x) => add_twins(alloc, current, state_of(leaves, choice, *x), state, next),
+        Term::Var(x) => add_moved(alloc, current, state_of(leaves, choice, *x), state, next),
         Term::Fun(_, _) => {
             let mut grown = Vec::new(alloc);
             push_grown(alloc, leaves, choice, first, &rule.right, state, &mut grown)?;
@@ -140,6 +160,7 @@ fn add_rule(
     rows: &[Arrival],
     next: &mut Vec<Transition>,
 ) -> Result<(), GrowError>
+    requires kept { HasAll (map transition_view current.now) (map transition_view next.old.items) }
     requires room { first + size (view rule.now.right) < 2 ^ 32 }
     requires sorted { IsSorted IsTransitionBefore (map transition_view next.old.items) }
     requires few { length (map transition_view next.old.items) ≤ 5000 }
@@ -177,6 +198,7 @@ fn grow_rule(
     requires fits { Fits (view rule.now.left) }
     requires narrow { current.now.states ^ length (variable_occurrences (view rule.now.left)) ≤ 100000 }
     requires states { AreAllStates (automaton_view current.now) }
+    requires kept { HasAll (map transition_view current.now.transitions.items) (map transition_view next.old.items) }
     requires room { first + size (view rule.now.right) < 2 ^ 32 }
     requires sorted { IsSorted IsTransitionBefore (map transition_view next.old.items) }
     requires few { length (map transition_view next.old.items) ≤ 5000 }
@@ -201,6 +223,7 @@ fn grow_rules(
     requires most { current.now.states ≤ 64 }
     requires narrow { AreNarrowBelow current.now.states sys.now.rules (length sys.now.rules) }
     requires partial { IsPartial sys.now (view s.now) (map transition_view current.now.transitions.items) }
+    requires kept { HasAll (map transition_view current.now.transitions.items) (map transition_view next.old.items) }
     requires sorted { IsSorted IsTransitionBefore (map transition_view next.old.items) }
     requires few { length (map transition_view next.old.items) ≤ 5000 }
     ensures { AddAnswers (IsAskedBelow sys.now (view s.now) (length sys.now.rules) (map transition_view current.now.transitions.items)) (map transition_view next.old.items) (map transition_view next.new.items) result }

@@ -14,9 +14,9 @@ pub returns-in-Var : goal.returns-in-Var
 returns-in-Var c =
     let ds = map transition_view c.args.current.now in
     let a = map transition_view c.args.next.now.items in
-    let b = map transition_view c.add_twins.new.next.items in
-    asked_var (rule_view c.args.rule.now) c.args.first ds c.args.choice.now c.args.state c.in-Var.x a b c.add_twins.result (ap view c.in-Var.is ∙ view-Var c.in-Var.x)
-    (subst (λ z. AddAnswers (Contains (twins z c.args.state ds)) a b c.add_twins.result) (c.state_of.ensures ∙ ap (λ z. state_of z c.args.choice.now c.in-Var.x) c.requires.leaves) c.add_twins.ensures)
+    let b = map transition_view c.add_moved.new.next.items in
+    asked_var (rule_view c.args.rule.now) c.args.first ds c.args.choice.now c.args.state c.in-Var.x a b c.add_moved.result (ap view c.in-Var.is ∙ view-Var c.in-Var.x)
+    (subst (λ z. AddAnswers (Contains (twins z c.args.state ds)) a b c.add_moved.result) (c.state_of.ensures ∙ ap (λ z. state_of z c.args.choice.now c.in-Var.x) c.requires.leaves) c.add_moved.ensures)
 
 pub returns-in_ok-push_grown-in-Fun : goal.returns-in_ok-push_grown-in-Fun
 returns-in_ok-push_grown-in-Fun c =
