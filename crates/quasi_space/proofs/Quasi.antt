@@ -53,11 +53,19 @@ module _ (names : NameTable) (sys : System) (by : MeasureTrials) (trials : AreTr
         f.certificate ∙ ap₂ quasi_certificate measures.1 entries.1 ∙ sym g.certificate,
       )
 
+  quasi_finds_within : (c : Certificate) (n m : ℕ) → IsQuasiFound by names sys c n → IsQuasiCost by sys m → n ≤ m
+  quasi_finds_within c n m f (inl (os, h, (u, x, e))) =
+      let same = ap (all_items_cost sys) (quasi_open_once sys f.overlaps os f.is_open h) in
+      let less = trials.within f.measure f.units u f.first x in
+      let up = f.up_to in omega (arith, same, less, up, e)
+  quasi_finds_within c n m f (inr (none, e)) = absurd (none f.overlaps f.is_open)
+
   pub quasi_searchable : IsSearchable sys (quasi_space_by by names sys)
   quasi_searchable =
       record {
         searched = quasi_searched;
         finds_once = quasi_finds_once;
+        finds_within = quasi_finds_within;
         costs_once = quasi_cost_once;
         has_cost = quasi_has_cost;
         has_price = has_price (quasi_space_by by names sys) quasi_cost_once quasi_has_cost quasi_finds_once;

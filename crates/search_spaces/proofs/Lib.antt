@@ -1,4 +1,5 @@
 pub mod Entries
+pub mod FewUnits
 pub mod GrownOnce
 pub mod Ortho
 pub mod Peak

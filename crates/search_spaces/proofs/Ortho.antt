@@ -1,5 +1,5 @@
 -- What the ortho space finds is valid; what a search of it may answer.
-use Rattle.std.proofs.Common.{ℕ, ◌≡◌, ◌<◌, inl, inr, List, [], ◌∷◌, None, refl, sym, ap, ◌∙◌, subst, arith}
+use Rattle.std.proofs.Common.{ℕ, ◌≡◌, ◌<◌, ◌≤◌, inl, inr, List, [], ◌∷◌, None, refl, sym, ap, ◌∙◌, subst, arith}
 use Rattle.rewriting.specs.Rules.{System}
 use Rattle.unifier_run.specs.Overlaps.{Overlap}
 use Rattle.certificates.specs.Certificates.{PairEntry, Certificate, ortho_certificate}
@@ -16,7 +16,7 @@ use Rattle.first_found.proofs.Rows.{firsts_once, firsts_within, none_of_rows, en
 use Rattle.search_spaces.specs.Texts.{HasText}
 use Rattle.search_spaces.specs.PairItems.{PairItem, ortho_items}
 use Rattle.search_spaces.specs.Entries.{IsFirstEntry, overlap_cost, StopsAtOverlap}
-use Rattle.search_spaces.specs.Ortho.{IsOrthoOpen, IsOrthoEntry, IsOrthoFound, ortho_space}
+use Rattle.search_spaces.specs.Ortho.{IsOrthoOpen, IsOrthoEntry, IsOrthoFound, IsOrthoCost, ortho_space}
 use Rattle.search_spaces.proofs.Entries.{entry_once, entry_within, stops_before, stops_within}
 
 -- entries with valid evidence settle their overlaps
@@ -54,6 +54,12 @@ module _ (names : NameTable) (sys : System) where
       let same = open_once g.overlaps f.overlaps g.is_open f.is_open in
       let entries = firsts_once (IsOrthoEntry sys) (entry_once ortho sys ortho_items) f.overlaps f.entries g.entries n m f.firsts (subst (λ z. AreFirsts (IsOrthoEntry sys) z g.entries m) same g.firsts) in
       (entries.0, f.certificate ∙ ap ortho_certificate entries.1 ∙ sym g.certificate)
+
+  pub ortho_finds_within : (c : Certificate) (n m : ℕ) → IsOrthoFound names sys c n → IsOrthoCost sys m → n ≤ m
+  ortho_finds_within c n m f (inl (os, h, e)) =
+      let most = firsts_within (IsOrthoEntry sys) (overlap_cost ortho_items) (entry_within ortho sys ortho_items) f.overlaps f.entries n f.firsts in
+      let whole = ap (cost_of (overlap_cost ortho_items)) (open_once f.overlaps os f.is_open h) in omega (arith, most, whole, e)
+  ortho_finds_within c n m f (inr (none, e)) = absurd (none f.overlaps f.is_open)
 
   -- where a class fails or the overlaps are refused, nothing is paid
   pub ends_closed : ((os : List Overlap) → IsOrthoOpen sys os → ⊥) → (left : ℕ) → MayEndExactly (ortho_space names sys) left 0 nothing

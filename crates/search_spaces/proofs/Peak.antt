@@ -1,5 +1,5 @@
 -- What the peak space finds is valid, and where it finds nothing, none of its certificates is; what a search of it may answer.
-use Rattle.std.proofs.Common.{ℕ, ◌≡◌, ◌<◌, inl, inr, List, [], ◌∷◌, ◌++◌, map, refl, sym, ap, ◌∙◌, subst, arith}
+use Rattle.std.proofs.Common.{ℕ, ◌≡◌, ◌<◌, ◌≤◌, inl, inr, List, [], ◌∷◌, ◌++◌, map, refl, sym, ap, ◌∙◌, subst, arith}
 use Rattle.rewriting.specs.Lists.{IsAmong}
 use Rattle.rewriting.proofs.Lists.{among_middle}
 use Rattle.rewriting.specs.Rules.{System}
@@ -11,7 +11,7 @@ use Rattle.unifier_run.specs.Overlaps.{Overlap, AreOverlaps}
 use Rattle.valid_certificates.proofs.OneOverlaps.{overlaps_once}
 use Rattle.first_found.specs.Items.{NoneGives, GivesNothing, cost_of, IsFirst, IsStopped}
 use Rattle.first_found.specs.Spaces.{IsSearched, IsBarren, IsDearer, CostsOnce, HasCost, FindsOnce, MayEndExactly, found, nothing, spent}
-use Rattle.first_found.proofs.Items.{none_of_no_first, first_once, not_both, stopped_before, stopped_within}
+use Rattle.first_found.proofs.Items.{none_of_no_first, first_once, first_within, not_both, stopped_before, stopped_within}
 use Rattle.search_spaces.specs.PeakItems.{PeakItem, peak_item_cost, peak_items, GivesPeak}
 use Rattle.search_spaces.specs.Peak.{AreStarts, ArePeakItems, IsPeakHeld, IsPeakFound, IsPeakCost, peak_space}
 use Rattle.search_spaces.proofs.PeakOnce.{peak_once}
@@ -73,6 +73,9 @@ module _ (names : NameTable) (sys : System) where
   peak_finds_once c d n m f g =
       let same = first_once (GivesPeak names sys) peak_item_cost f.items c d n m f.first (first_of f.items f.are d m g) in
       (same.0, peak_once names sys same.1.0 c d same.1.1.0 same.1.2.0)
+
+  pub peak_finds_within : (c : Certificate) (n m : ℕ) → IsPeakFound names sys c n → IsPeakCost sys m → n ≤ m
+  peak_finds_within c n m f (items, are, e) = let most = first_within (GivesPeak names sys) peak_item_cost items c n (first_of items are c n f) in omega (arith, most, e)
 
   -- how a search of the items may end
   module _ (items : List PeakItem) (are : ArePeakItems sys items) where
