@@ -1,10 +1,10 @@
 -- A query's tree in which nothing is refused means conditions within the limits, and no others.
-use Rattle.std.proofs.Common.{◌≡◌, ℕ, zero, suc, ◌+◌, ◌≤◌, Bool, true, false, List, [], ◌∷◌, ◌++◌, length, map, None, refl, sym, ap, ap₂, subst, ◌∙◌, arith, length-append}
+use Rattle.std.proofs.Common.{◌≡◌, ℕ, suc, ◌+◌, ◌≤◌, Bool, true, false, List, [], ◌∷◌, ◌++◌, length, map, None, refl, sym, ap, subst, ◌∙◌, arith, length-append}
 use Rattle.std.specs.Prelude.{if◌then◌else◌}
 use Rattle.std.specs.List.{position_or_len}
 use Rattle.std.specs.Str.{bytes_eq}
 use Rattle.file_text.specs.Syntax.{Phrase, Phrases, word, call, none, more, ConditionTree}
-use Rattle.rewriting.specs.Terms.{Term, var, app, Terms, nil, cons, size, size_all, depth, depth_all, Fits}
+use Rattle.rewriting.specs.Terms.{Term, var, app, Terms, nil, cons, size, size_all, depth, depth_all}
 use Rattle.rewriting.specs.Variables as math
 use Rattle.rewriting.specs.Rules as rules
 use Rattle.rewriting.specs.Rules.{Condition}

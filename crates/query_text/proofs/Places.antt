@@ -1,18 +1,18 @@
 -- The place of a refusal is within the text.
-use Rattle.std.proofs.Common.{◌≡◌, ℕ, zero, suc, ◌<◌, ◌≤◌, List, [], ◌∷◌, ◌++◌, length, drop, Option, Some, None, false, refl, sym, ap, subst, ◌∙◌, arith, codes}
+use Rattle.std.proofs.Common.{◌≡◌, ℕ, zero, suc, ◌<◌, ◌≤◌, List, [], ◌∷◌, ◌++◌, length, drop, Option, Some, None, refl, sym, ap, subst, ◌∙◌, arith, codes}
 use Rattle.std.specs.Prelude.{slice_range}
 use Rattle.std.proofs.lemmas.List.{length-drop, append-nil}
 use Rattle.file_text.specs.declared.Kind.{Kind}
 use Rattle.file_text.specs.declared.Kind.TheVariants.{Id, LeftParen, RightParen, Comma, Bar, Arrow, Equal}
 use Rattle.file_text.specs.declared.Token.{Token}
-use Rattle.file_text.specs.Syntax.{Name, Phrase, Phrases, word, call, none, more, ConditionTree, RuleTree, FileTree}
+use Rattle.file_text.specs.Syntax.{Name, RuleTree, FileTree}
 use Rattle.file_text.specs.Tokens.{kind_at, open_after, Piece, token, comment, tokens_of, StandInTurn}
 use Rattle.file_text.specs.Texts.{word_of_kind, words_of, place_of_token}
 use Rattle.file_text.specs.Grammar.{Word, left_paren, right_paren, id_at, rules, spelled_blocks}
 use Rattle.file_text.proofs.Fronts.{kind_fits}
-use Rattle.file_text.proofs.TreeWords.{OfWord, OfWords, OfPhrase, OfPhrases, OfConditions, of_file}
+use Rattle.file_text.proofs.TreeWords.{OfWord, OfWords, OfConditions, of_file}
 use Rattle.file_text.proofs.Within.{NameWithin, PlaceWithin}
-use Rattle.cops_systems.specs.Uses.{Spot, spots, spots_of_all, Side, side_of, Event, place, uses_from, term_events, condition_events}
+use Rattle.cops_systems.specs.Uses.{Event, place}
 use Rattle.cops_systems.proofs.Places.{EventsWithin, conditions_within}
 use Rattle.query_text.specs.Grammar.{QueryTree, QueryParts, conditions_of, spelled_block, spelled_conditions, spelled_query}
 use Rattle.query_text.specs.Texts.{IsQueryText, IsNoQueryText}
