@@ -1,5 +1,5 @@
 -- What the search for an answer, and its parts, answer.
-use Rattle.std.specs.Prelude.{ℕ, ◌≡◌, ◌≤◌, List, [], ◌∷◌, map, Option, None, Some, Result, Ok, Err}
+use Rattle.std.specs.Prelude.{ℕ, ◌≡◌, ◌≤◌, List, map, Option, None, Some, Result, Ok, Err}
 use Rattle.rewriting.specs.Rules.{Condition, System}
 use Rattle.term_core.specs.View.{view}
 use Rattle.term_core.specs.declared.terms.NoMemory.{NoMemory}

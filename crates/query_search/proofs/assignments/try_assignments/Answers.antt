@@ -1,7 +1,6 @@
-use Rattle.std.proofs.Common.{◌≡◌, ◌∷◌, [], Ok, map, length, refl, sym, ap, subst, ◌∙◌, arith}
+use Rattle.std.proofs.Common.{◌∷◌, [], Ok, map, sym, ap, subst, ◌∙◌}
 use Rattle.std.proofs.lemmas.List.{length-map}
 use Rattle.std.specs.FinMap.{empty}
-use Rattle.rewriting.specs.Rules.{System}
 use Rattle.rewriting.specs.Terms.{app, nil}
 use Rattle.term_core.specs.RuleView.{condition_view}
 use Rattle.query_space.specs.Assignments.{constants}

@@ -1,4 +1,4 @@
-use Rattle.std.proofs.Common.{◌≡◌, ◌-◌, get_or, sym, ap, ◌∙◌, arith}
+use Rattle.std.proofs.Common.{◌-◌, get_or, sym, ap, ◌∙◌}
 use Rattle.rewriting.specs.Terms.{app}
 use Rattle.term_core.specs.View.{views}
 use Rattle.term_core.proofs.Views.{view-Var, view-Fun}

@@ -1,4 +1,4 @@
-use Rattle.std.proofs.Common.{◌≡◌, ◌++◌, drop, map}
+use Rattle.std.proofs.Common.{◌≡◌, ◌++◌, drop}
 use Rattle.query_space.specs.Assignments.{constants_from, constants}
 use Rattle.query_search.specs.Choices.{constants_of}
 use Rattle.query_search.proofs.choices.constants_of.Given as goal

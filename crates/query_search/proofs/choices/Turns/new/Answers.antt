@@ -1,4 +1,4 @@
-use Rattle.std.proofs.Common.{rules, ap, sym, subst, ◌∙◌, arith, length, length-append, [], ◌∷◌}
+use Rattle.std.proofs.Common.{ap, sym, subst, ◌∙◌, arith, length, length-append, [], ◌∷◌}
 use Rattle.query_search.specs.Choices.{AreZeros}
 use Rattle.query_search.proofs.Turning.{zeros_push}
 use Rattle.query_search.proofs.choices.Turns.new.Goals as goal

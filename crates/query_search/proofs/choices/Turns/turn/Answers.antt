@@ -1,4 +1,4 @@
-use Rattle.std.proofs.Common.{◌≡◌, ◌-◌, ◌≤◌, refl, sym, subst, suc, length, arith, ◌∙◌}
+use Rattle.std.proofs.Common.{◌≡◌, ◌-◌, refl, sym, length, arith, ◌∙◌}
 use Rattle.std.proofs.lemmas.List.{length-set}
 use Rattle.query_search.proofs.Turning.{none_turned, turned_back, turned_up, all_turned}
 use Rattle.query_search.proofs.choices.Turns.turn.Goals as goal
