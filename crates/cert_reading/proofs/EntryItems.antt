@@ -48,11 +48,11 @@ module _ (names : NameTable) (end n : ℕ) (b : List ℕ) (begins : BeginsEntry 
   stop_same P [] i more rest e p w r q = record { marks = []; item = entries_from n; more = []; rest = b; walks = refl; refused = step_same [] ∙ ap (step names) w ∙ r; place = p }
   stop_same P (m ∷ ms) i more rest e p w r q = record { marks = m ∷ ms; item = i; more = more; rest = rest; walks = walk_same (m ∷ ms) [] _ (λ x. cc) w; refused = r; place = q }
 
-  stopped_same : (P : Place) (t : Option (CertificateCause × ℕ)) → P (entries_from n ∷ []) b → IsStoppedWhere P names end (pairs_from 1 ∷ []) b t → IsStoppedWhere P names end (entries_from n ∷ []) b t
+  pub stopped_same : (P : Place) (t : Option (CertificateCause × ℕ)) → P (entries_from n ∷ []) b → IsStoppedWhere P names end (pairs_from 1 ∷ []) b t → IsStoppedWhere P names end (entries_from n ∷ []) b t
   stopped_same P None p x = tt
   stopped_same P (Some e) p x = λ le. let there = x le in stop_same P there.marks there.item there.more there.rest e p there.walks there.refused there.place
 
-  run_same : (f : Naming → List Mark) (to : List Item) (r : List ℕ) → (f (name_of names) ≡ [] → ⊥) → Run names end (pairs_from 1 ∷ []) f to b r → Run names end (entries_from n ∷ []) f to b r
+  pub run_same : (f : Naming → List Mark) (to : List Item) (r : List ℕ) → (f (name_of names) ≡ [] → ⊥) → Run names end (pairs_from 1 ∷ []) f to b r → Run names end (entries_from n ∷ []) f to b r
   run_same f to r some x = record { walks = λ le items. walk_same (f (name_of names)) items _ some (x.walks le items); found = x.found }
 
 entries_on : (P : Place) (names : NameTable) (end n : ℕ) (f : Naming → List Mark) (to : List Item) (b r : List ℕ) (s t : Option CertError) → (s ≡ None → BeginsEntry b) → (f (name_of names) ≡ [] → ⊥) → P (entries_from n ∷ []) b → ReadsOnWhere P names end (pairs_from 1 ∷ []) f to b r s t → ReadsOnWhere P names end (entries_from n ∷ []) f to b r s t

@@ -15,6 +15,7 @@ use Rattle.cert_grammar.specs.CertificateMarks.{infeasibility_marks, evidence_ma
 use Rattle.cert_grammar.specs.Refusals.{HaveNames, Pass}
 use Rattle.cert_grammar.proofs.Names.{found_is_named}
 use Rattle.cert_grammar.proofs.Runs.{no_name}
+use Rattle.cert_laws.proofs.AlikeWhole.{closing}
 use Rattle.cert_laws.proofs.Along.{have_append}
 use Rattle.cert_laws.proofs.PassTerms.{first_met, range_met, few_met, number_met, places_met, pass_append}
 use Rattle.cert_laws.proofs.PassSteps.{derivation_met}
@@ -175,9 +176,6 @@ answered (peak_certificate p) names given h = by given (first_met names (fits_an
     by : (g : Bool) → is_answer false (Some g) ≡ true → g ≡ false
     by true e = absurd cc
     by false e = refl
-
-abbrev closing : List Mark
-closing = fixed (codes "end\n") ∷ []
 
 -- what passes along the marks of this certificate is its text
 pub certificate_found : (c : Certificate) (names : NameTable) (given : Option Bool) (bytes : List ℕ) → IsPlain c → HaveNames (certificate_marks (name_of names) given c) → Pass names (certificate_marks (name_of names) given c) → AreFound names (certificate_marks tagged given c)

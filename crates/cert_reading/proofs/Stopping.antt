@@ -17,7 +17,7 @@ module _ (P : Place) (names : NameTable) (end : ℕ) where
   alone : (ms : List Mark) (from mid : List Item) (b r : List ℕ) → Walks names ms (left_at end (from ++ []) b) (left_at end (mid ++ []) r) → Walks names ms (left_at end from b) (left_at end mid r)
   alone ms from mid b r w = subst (λ (x : List Item). Walks names ms (left_at end x b) (left_at end mid r)) (append-nil from) (subst (λ (x : List Item). Walks names ms (left_at end (from ++ []) b) (left_at end x r)) (append-nil mid) w)
 
-  stop_behind : (from mid : List Item) (f : Naming → List Mark) (b r : List ℕ) (t : Option (CertificateCause × ℕ)) → Run names end from f mid b r → IsStoppedWhere P names end mid r t → IsStoppedWhere P names end from b t
+  pub stop_behind : (from mid : List Item) (f : Naming → List Mark) (b r : List ℕ) (t : Option (CertificateCause × ℕ)) → Run names end from f mid b r → IsStoppedWhere P names end mid r t → IsStoppedWhere P names end from b t
   stop_behind from mid f b r None x y = tt
   stop_behind from mid f b r (Some e) x y = λ le.
       let first = alone (f (name_of names)) from mid b r (x.walks le []) in
@@ -127,7 +127,7 @@ stays_where {P} {names} {end} {from} {to} {f} {s} e q = record { on = stays_on P
 
 -- ---- anywhere
 
-any_stop : (P : Place) (names : NameTable) (end : ℕ) (from : List Item) (b : List ℕ) (t : Option (CertificateCause × ℕ)) → IsStoppedWhere P names end from b t → IsStoppedWhere Anywhere names end from b t
+pub any_stop : (P : Place) (names : NameTable) (end : ℕ) (from : List Item) (b : List ℕ) (t : Option (CertificateCause × ℕ)) → IsStoppedWhere P names end from b t → IsStoppedWhere Anywhere names end from b t
 any_stop P names end from b None x = tt
 any_stop P names end from b (Some e) x = λ le. let there = x le in record { marks = there.marks; item = there.item; more = there.more; rest = there.rest; walks = there.walks; refused = there.refused; place = tt }
 
@@ -179,3 +179,24 @@ pair_later n m le h = let same : n ≡ h.0 = same_number n h.0 h.1 in let less =
 
 pub first_entry : (n : ℕ) (q : List ℕ) → IsInEntry n (pairs_from n ∷ []) q
 first_entry n q = record { early = λ h. pair_later n (suc n) (omega arith) h; going = λ e. let same : n ≡ suc n = cc in absurd (omega (arith, same)) }
+
+-- ---- what is known of a reading that began with nothing refused
+
+ran_on : (P : Place) (names : NameTable) (end : ℕ) (from to : List Item) (f : Naming → List Mark) (b r : List ℕ) (s t : Option CertError) → s ≡ None → t ≡ None → ReadsOnWhere P names end from f to b r s t → Run names end from f to b r
+ran_on P names end from to f b r None None p q x = x
+ran_on P names end from to f b r (Some d) t p q x = absurd cc
+ran_on P names end from to f b r None (Some e) p q x = absurd cc
+
+pub ran : {P : Place} {names : NameTable} {end : ℕ} {from to : List Item} {f : Naming → List Mark} {s t : Reading} → s.refused ≡ None → t.refused ≡ None → ReadsWhere P names end from f to s t → Run names end from f to s.left.now t.left.now
+ran {P} {names} {end} {from} {to} {f} {s} {t} p q x = ran_on P names end from to f s.left.now t.left.now s.refused t.refused p q x.on
+
+same_some : (d e : CertError) → ◌≡◌ {A = Option CertError} (Some d) (Some e) → d ≡ e
+same_some d e q = cc
+
+stopped_on : (P : Place) (names : NameTable) (end : ℕ) (from to : List Item) (f : Naming → List Mark) (b r : List ℕ) (s t : Option CertError) (e : CertError) → s ≡ None → t ≡ Some e → ReadsOnWhere P names end from f to b r s t → IsStoppedWhere P names end from b (told e)
+stopped_on P names end from to f b r None None e p q x = absurd cc
+stopped_on P names end from to f b r (Some d) t e p q x = absurd cc
+stopped_on P names end from to f b r None (Some d) e p q x = subst (λ (y : CertError). IsStoppedWhere P names end from b (told y)) (same_some d e q) x
+
+pub stopped_where : {P : Place} {names : NameTable} {end : ℕ} {from to : List Item} {f : Naming → List Mark} {s t : Reading} (e : CertError) → s.refused ≡ None → t.refused ≡ Some e → ReadsWhere P names end from f to s t → IsStoppedWhere P names end from s.left.now (told e)
+stopped_where {P} {names} {end} {from} {to} {f} {s} {t} e p q x = stopped_on P names end from to f s.left.now t.left.now s.refused t.refused e p q x.on

@@ -14,7 +14,7 @@ use Rattle.cert_laws.proofs.ExactReader.{goes_nearer, refuses_rightly}
 use Rattle.cert_words.specs.Walks.{left_at, StepsOver, Walks, Run, IsStopped}
 use Rattle.cert_words.proofs.Walking.{goes_where}
 
-walks_reached : (names : NameTable) (bytes : List ℕ) (ms : List Mark) (l k : Left) → Reached names bytes l → Walks names ms l k → Reached names bytes k
+pub walks_reached : (names : NameTable) (bytes : List ℕ) (ms : List Mark) (l k : Left) → Reached names bytes l → Walks names ms l k → Reached names bytes k
 walks_reached names bytes [] l k r w = subst (Reached names bytes) w r
 walks_reached names bytes (m ∷ ms) l k r w = walks_reached names bytes ms w.0 k (goes_nearer names bytes l w.0 r w.1.goes).0 w.2
 
@@ -49,10 +49,12 @@ read_whole names bytes marks r =
     let w = r.walks (omega arith) [] in
     (walks_text names (marks (name_of names)) _ _ w ∙ append-nil (marks_text (marks (name_of names))), walks_pass names (marks (name_of names)) _ _ w)
 
+-- where a reader begins
+pub start_reached : (names : NameTable) (bytes : List ℕ) → Reached names bytes (left_at (length bytes) (opening ∷ []) bytes)
+start_reached names bytes = let none : 0 ≡ length bytes - length bytes = omega arith in subst (λ (n : ℕ). Reached names bytes (record { at = n; items = opening ∷ []; bytes = bytes })) none (reached_start names bytes)
+
 -- the refusal of a part of the text, read from its first item on, is that of the text
 pub refused_whole : (names : NameTable) (bytes : List ℕ) (e : CertificateCause × ℕ) → IsStopped names (length bytes) (opening ∷ []) bytes (Some e) → IsCertificateRefused names bytes e.0 e.1
 refused_whole names bytes e h =
     let s = h (omega arith) [] in
-    let none : 0 ≡ length bytes - length bytes = omega arith in
-    let start = subst (λ (n : ℕ). Reached names bytes (record { at = n; items = opening ∷ []; bytes = bytes })) none (reached_start names bytes) in
-    refuses_rightly names bytes (left_at (length bytes) (s.item ∷ (s.more ++ [])) s.rest) e.0 e.1 (walks_reached names bytes s.marks _ _ start s.walks) s.refused
+    refuses_rightly names bytes (left_at (length bytes) (s.item ∷ (s.more ++ [])) s.rest) e.0 e.1 (walks_reached names bytes s.marks _ _ (start_reached names bytes) s.walks) s.refused
