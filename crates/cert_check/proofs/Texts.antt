@@ -12,10 +12,10 @@ use Rattle.cert_model.specs.declared.reasons.Rejected as reasons
 use Rattle.cert_grammar.specs.CertificateText.{IsCertificateText}
 use Rattle.cert_laws.specs.MarkLaws.{NeverBoth}
 use Rattle.cert_grammar.specs.Marks.{syntax, unknown_name, wrong_arity, bad_number, too_many, too_deep}
-use Rattle.cert_refusals.specs.CertRefusals.{IsRefusedAs}
-use Rattle.cert_refusals.specs.ReaderView.{counted_view}
-use Rattle.cert_refusals.specs.declared.error.CertError.{CertError}
-use Rattle.cert_refusals.specs.declared.error.CertError.TheVariants as refused
+use Rattle.cert_words.specs.CertRefusals.{IsRefusedAs}
+use Rattle.cert_words.specs.Words.{counted_view}
+use Rattle.cert_words.specs.declared.error.CertError.{CertError}
+use Rattle.cert_words.specs.declared.error.CertError.TheVariants as refused
 use Rattle.cert_openings.specs.Openings.{Opening, certificate_for}
 use Rattle.cert_text.specs.Reading.{Reading}
 use Rattle.cert_text.specs.OpenedText.{IsReadUpTo, IsOpenedAs}

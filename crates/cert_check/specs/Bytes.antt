@@ -8,9 +8,9 @@ use Rattle.cops_names.specs.NameTable.{NameTable}
 use Rattle.cert_model.specs.ReasonView.{rejected_view}
 use Rattle.cert_grammar.specs.CertificateText.{IsCertificateText}
 use Rattle.cert_openings.specs.Openings.{Opening, certificate_for}
-use Rattle.cert_refusals.specs.CertRefusals.{IsRefusedAs}
-use Rattle.cert_refusals.specs.declared.error.CertError.{CertError}
-use Rattle.cert_refusals.specs.declared.error.CertError.TheVariants as refused
+use Rattle.cert_words.specs.CertRefusals.{IsRefusedAs}
+use Rattle.cert_words.specs.declared.error.CertError.{CertError}
+use Rattle.cert_words.specs.declared.error.CertError.TheVariants as refused
 use Rattle.cert_check.specs.Kinds.{verdict_of}
 use Rattle.cert_check.specs.declared.Verdict.{Verdict}
 use Rattle.cert_check.specs.declared.bytes.BytesError.{BytesError}

@@ -1,6 +1,6 @@
 -- The errors of a certificate's text.
-use Rattle.cert_refusals.specs.declared.error.CertError.{CertError}
-use Rattle.cert_refusals.specs.declared.error.CertError.TheVariants as refused
+use Rattle.cert_words.specs.declared.error.CertError.{CertError}
+use Rattle.cert_words.specs.declared.error.CertError.TheVariants as refused
 use Rattle.validity.specs.declared.CheckError.{CheckError}
 use Rattle.validity.specs.declared.CheckError.TheVariants as check
 use Rattle.cert_check.specs.declared.bytes.BytesError.{BytesError}

@@ -17,7 +17,7 @@ whole_marks x g o = sym (append_assoc (answer_marks g) (fixed (codes "concon 1\n
 abbrev pub EndsInBytes : List Mark → Type 0
 EndsInBytes ms = (front : List Mark) × (b : ℕ) × (t : List ℕ) × (ms ≡ front ++ fixed (b ∷ t) ∷ [])
 
-ends_behind : (a b : List Mark) → EndsInBytes b → EndsInBytes (a ++ b)
+pub ends_behind : (a b : List Mark) → EndsInBytes b → EndsInBytes (a ++ b)
 ends_behind a b h = (a ++ h.0, h.1, h.2, ap (λ (z : List Mark). a ++ z) h.3 ∙ sym (append_assoc a h.0 (fixed (h.1 ∷ h.2) ∷ [])))
 
 entries_end : (es : List LinearEntry) (x : Naming) (n : ℕ) (a : List Mark) → EndsInBytes a → EndsInBytes (a ++ entries_marks x n es)

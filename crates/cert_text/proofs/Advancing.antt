@@ -1,73 +1,117 @@
--- What one step over the entries of a text answers.
-use Rattle.std.proofs.Common.{◌≡◌, ◌≢◌, ℕ, ◌+◌, ◌<◌, List, [], ◌∷◌, ◌++◌, length, Option, None, Some, Result, Err, Bor, refl, sym, ap, ◌∙◌, subst, arith}
-use Rattle.std.specs.Prelude.{option_map}
-use Rattle.std.specs.Result.{IsErrAnd}
-use Rattle.std.proofs.lemmas.List.{length_push}
-use Rattle.std.proofs.lemmas.Result.{err_from_is_err_and}
+-- What one call of `Pairs::next` reads, or refuses.
+use Rattle.std.proofs.Common.{◌≡◌, ◌⊎◌, inl, inr, ◌≤◌, ◌+◌, ℕ, suc, Bool, List, [], ◌∷◌, ◌++◌, length, Option, Some, None, Result, Ok, Err, IfSome, IfNone, codes, refl, sym, ap, ◌∙◌, subst, arith, length-append}
+use Rattle.std.proofs.lemmas.List.{append-nil, length_push}
 use Rattle.certificates.specs.Certificates as math
 use Rattle.certificates.specs.Certificates.{Certificate}
 use Rattle.cops_names.specs.NameTable.{NameTable}
 use Rattle.cert_model.specs.declared.model.PairEntry.{PairEntry}
 use Rattle.cert_model.specs.CertificateView.{pair_entry_view}
+use Rattle.cert_grammar.specs.Words.{name_of}
 use Rattle.cert_grammar.specs.EvidenceText.{pairs_text}
 use Rattle.cert_grammar.specs.CertificateText.{IsCertificateText}
-use Rattle.cert_openings.specs.Openings.{Opening, certificate_for, IsRead}
-use Rattle.cert_lines.specs.declared.error.Unread.{Unread}
-use Rattle.cert_lines.specs.declared.error.Unread.TheVariants.{NoText, NoMemory}
-use Rattle.cert_lines.specs.Answers.{IsRefused}
-use Rattle.cert_lines.specs.ReadingEvidence.{PairAt, NextAt}
-use Rattle.cert_lines.specs.ReadingCertificates.{BeginsNoEntry}
-use Rattle.cert_lines.proofs.Parts.{words_apart}
-use Rattle.cert_lines.proofs.PairLines.{last_line}
-use Rattle.cert_text.specs.Reading.{Reading, HasRead, IsAll, ReadsOn, IsAtEnd, NextAnswers}
-use Rattle.cert_text.specs.ReadingView.{place_of, IsUpTo}
-use Rattle.cert_text.proofs.Entries.{read_same, read_whole, whole_read, read_more, entry_shorter, nothing_left, one_too_many}
+use Rattle.cert_grammar.specs.Marks.{CertificateCause, syntax, Naming, Mark, fixed, marks_text}
+use Rattle.cert_grammar.specs.CertificateMarks.{pairs_marks}
+use Rattle.cert_grammar.specs.Refusals.{IsCertificateRefused}
+use Rattle.cert_grammar.specs.Items as Items
+use Rattle.cert_grammar.specs.Items.{Item, pairs_from, entries_from}
+use Rattle.cert_laws.proofs.OneAnswer.{never_both}
+use Rattle.cert_openings.specs.Openings.{BeginsEntry, Opening, certificate_for, IsRead}
+use Rattle.cert_openings.proofs.Lines.{bytes_apart}
+use Rattle.cert_words.specs.declared.error.CertError.{CertError}
+use Rattle.cert_words.specs.declared.reading.Reading as code
+use Rattle.cert_words.specs.Words.{told}
+use Rattle.cert_words.specs.CertRefusals.{IsRefusedAs}
+use Rattle.cert_words.specs.Walks.{left_at, Walks, tagged, AreFound, Run}
+use Rattle.cert_words.proofs.Walking.{run_then}
+use Rattle.cert_words.proofs.Whole.{walks_text}
+use Rattle.cert_reading.specs.Plain.{ArePlainPairs, IsPlainEvidence}
+use Rattle.cert_reading.specs.Stops.{IsInEntry, IsStoppedWhere, ReadsWhere}
+use Rattle.cert_reading.proofs.Stopping.{stop_behind, any_stop, stopped_where}
+use Rattle.cert_reading.proofs.EntryItems.{stopped_same, run_same}
+use Rattle.cert_text.specs.Reading.{Reading, HasRead, IsAll, ReadsOn, IsAtEnd}
+use Rattle.cert_text.specs.ReadingView.{place_of, IsNext, read_marks, IsUpTo}
+use Rattle.cert_text.proofs.Entries.{last_line, read_same, read_whole, whole_read, entries_behind}
+use Rattle.cert_text.proofs.Ends.{read_more}
+use Rattle.cert_text.proofs.Runs.{run_read, refused_as, refused_as_told, refused_behind}
+use Rattle.cert_text.proofs.Begun.{in_entry}
 
 -- the reading of a text with these bytes left
 abbrev pub up_to : NameTable → List ℕ → List ℕ → Reading
 up_to names bytes left = record { names = names; bytes = bytes; place = place_of bytes left }
 
--- what was found, seen as it is in the definitions
-abbrev pub Found : NameTable → List ℕ → Option (PairEntry × Bor (List ℕ)) → Type 0
-Found names left x = NextAt names left (option_map (λ y. (pair_entry_view y.0, y.1.now)) x)
+-- ---- from the overlap that is next
 
-pub pair_found : (names : NameTable) (left : List ℕ) (x : Option (PairEntry × Bor (List ℕ))) (e : PairEntry) (r : Bor (List ℕ)) → Found names left x → x ≡ Some (e, r) → PairAt names left (pair_entry_view e, r.now)
-pair_found names left x e r h q = subst (Found names left) q h
+entry_place : (k : ℕ) (q : List ℕ) → IsInEntry 1 (entries_from k ∷ []) q
+entry_place k q = record { early = λ h. let e = h.1 in cc; going = λ e. cc }
 
-last_found : (names : NameTable) (left : List ℕ) (x : Option (PairEntry × Bor (List ℕ))) → Found names left x → x ≡ None → left ≡ last_line
-last_found names left x h q = subst (Found names left) q h
+next_stop : (names : NameTable) (end n : ℕ) (item : Item) (b : List ℕ) (t : Option (CertificateCause × ℕ)) → IsNext item n b → IsStoppedWhere (IsInEntry n) names end (pairs_from n ∷ []) b t → IsStoppedWhere (IsInEntry n) names end (item ∷ []) b t
+next_stop names end n item b t (inl e) h = subst (λ (i : Item). IsStoppedWhere (IsInEntry n) names end (i ∷ []) b t) (sym e) h
+next_stop names end n item b t (inr x) h =
+    subst (λ (i : Item). IsStoppedWhere (IsInEntry n) names end (i ∷ []) b t) (sym x.1)
+    (subst (λ (k : ℕ). IsStoppedWhere (IsInEntry k) names end (entries_from x.0 ∷ []) b t) (sym x.2)
+    (stopped_same names end x.0 b x.3 (IsInEntry 1) t (entry_place x.0 b) (subst (λ (k : ℕ). IsStoppedWhere (IsInEntry k) names end (pairs_from k ∷ []) b t) x.2 h)))
 
-pair_is_not_last : (names : NameTable) (left : List ℕ) (x : math.PairEntry × List ℕ) → PairAt names left x → left ≡ last_line → ⊥
-pair_is_not_last names left x p q = words_apart 0 101 112 (sym q ∙ p.2) refl refl refl
+next_run : (names : NameTable) (end n : ℕ) (item : Item) (f : Naming → List Mark) (to : List Item) (b r : List ℕ) → IsNext item n b → (f (name_of names) ≡ [] → ⊥) → Run names end (pairs_from n ∷ []) f to b r → Run names end (item ∷ []) f to b r
+next_run names end n item f to b r (inl e) some h = subst (λ (i : Item). Run names end (i ∷ []) f to b r) (sym e) h
+next_run names end n item f to b r (inr x) some h =
+    subst (λ (i : Item). Run names end (i ∷ []) f to b r) (sym x.1) (run_same names end x.0 b x.3 f to r some (subst (λ (k : ℕ). Run names end (pairs_from k ∷ []) f to b r) x.2 h))
 
-one_more_ends : (names : NameTable) (es : List math.PairEntry) (e : math.PairEntry) (rest : List ℕ) → BeginsNoEntry (pairs_text names (es ++ e ∷ []) ++ rest)
-one_more_ends names [] e rest = (λ b q. words_apart 0 112 102 q refl refl refl, λ b q. words_apart 0 112 97 q refl refl refl)
-one_more_ends names (f ∷ es) e rest = (λ b q. words_apart 0 112 102 q refl refl refl, λ b q. words_apart 0 112 97 q refl refl refl)
+pub run_as : (names : NameTable) (end : ℕ) (from to : List Item) (f g : Naming → List Mark) (b r : List ℕ) → ((u : Naming) → f u ≡ g u) → Run names end from f to b r → Run names end from g to b r
+run_as names end from to f g b r e x = record {
+  walks = λ le items. subst (λ (ms : List Mark). Walks names ms (left_at end (from ++ items) b) (left_at end (to ++ items) r)) (e (name_of names)) (x.walks le items);
+  found = subst (AreFound names) (e tagged) x.found;
+}
 
-module _ (names : NameTable) (bytes left : List ℕ) (count : ℕ) (u : IsUpTo names bytes left count) where
-  -- an opening and entries that are read up to here leave these bytes, and are as many
-  left_there : (o : Opening) (es : List math.PairEntry) (r : IsRead names bytes o es (place_of bytes left)) → (r.rest ≡ left) × (length es ≡ count)
-  left_there o es r =
-      let same = read_same names bytes o u.opening es u.entries (place_of bytes left) r u.read in
-      (same.2 ∙ u.rest, ap length same.1 ∙ u.counted)
+abbrev pub Pair : NameTable → ℕ → ℕ → code.Reading → code.Reading → PairEntry → Type 0
+Pair names end n s t p = ReadsWhere (IsInEntry n) names end (pairs_from n ∷ []) (λ u. pairs_marks u n (pair_entry_view p ∷ [])) (pairs_from (suc n) ∷ []) s t
 
-  shorter : (e : math.PairEntry) (rest : List ℕ) → PairAt names left (e, rest) → place_of bytes rest + length rest ≡ length bytes
-  shorter e rest p = omega (arith, entry_shorter names left e rest p, ap length u.rest, u.read.place)
+abbrev pub Last : NameTable → ℕ → ℕ → code.Reading → code.Reading → Type 0
+Last names end n s t = ReadsWhere (IsInEntry n) names end (pairs_from n ∷ []) (λ u. fixed (codes "end\n") ∷ []) [] s t
 
-  -- one entry more
-  pub held_on : (e : math.PairEntry) (rest : List ℕ) → PairAt names left (e, rest) → count ≢ 20000 → IsUpTo names bytes rest (count + 1)
-  held_on e rest p n =
-      let few : length u.entries < 20000 = omega (arith, u.counted, u.few, n) in
-      let more = read_more names bytes u.opening u.entries (place_of bytes left) u.read e rest (place_of bytes rest) (subst (λ (w : List ℕ). PairAt names w (e, rest)) (sym u.rest) p) few (shorter e rest p) in
+pub next_refused : (names : NameTable) (end n : ℕ) (s t : code.Reading) (found : Option PairEntry) (e : CertError) → s.refused ≡ None → t.refused ≡ Some e → IfSome found (Pair names end n s t) → IfNone found (Last names end n s t) → IsStoppedWhere (IsInEntry n) names end (pairs_from n ∷ []) s.left.now (told e)
+next_refused names end n s t None e none q h k = stopped_where e none q k
+next_refused names end n s t (Some p) e none q h k = stopped_where e none q h
+
+module _ (names : NameTable) (bytes left : List ℕ) (count n : ℕ) (u : IsUpTo names bytes left count) (is_n : n ≡ suc count) where
+  next : IsNext u.item n left
+  next = subst (λ (k : ℕ). IsNext u.item k left) (sym is_n) u.next
+
+  within : length left ≤ length bytes
+  within = let place = u.read.place in let rest = ap length u.rest in omega (arith, place, rest)
+
+  -- an opening and entries that are read up to here leave these bytes, and are those
+  left_there : (o : Opening) (es : List math.PairEntry) (r : IsRead names bytes o es (place_of bytes left)) → (o ≡ u.opening) × (es ≡ u.entries) × (r.rest ≡ left)
+  left_there o es r = let same = read_same names bytes o u.opening es u.entries (place_of bytes left) r u.read in (same.0, same.1, same.2 ∙ u.rest)
+
+  -- an entry is read
+  longer : (p : math.PairEntry) (rest : List ℕ) → Run names (length bytes) (pairs_from n ∷ []) (λ v. pairs_marks v n (p ∷ [])) (pairs_from (suc n) ∷ []) left rest → Run names (length bytes) (Items.opening ∷ []) (λ v. read_marks v u.given u.opening (u.entries ++ p ∷ [])) (pairs_from (suc n) ∷ []) bytes rest
+  longer p rest r =
+      let number : n ≡ suc (length u.entries) = is_n ∙ ap suc (sym u.counted) in
+      run_as names (length bytes) (Items.opening ∷ []) (pairs_from (suc n) ∷ []) _ _ bytes rest
+      (λ v. ap (λ (k : ℕ). read_marks v u.given u.opening u.entries ++ pairs_marks v k (p ∷ [])) number ∙ read_more v u.given u.opening u.entries p)
+      (run_then names (length bytes) (Items.opening ∷ []) (u.item ∷ []) (pairs_from (suc n) ∷ []) (λ v. read_marks v u.given u.opening u.entries) (λ v. pairs_marks v n (p ∷ [])) bytes left rest u.run (next_run names (length bytes) n u.item (λ v. pairs_marks v n (p ∷ [])) (pairs_from (suc n) ∷ []) left rest next (λ e. cc) r))
+
+  pub held_on : (p : math.PairEntry) (rest : List ℕ) (count_then : ℕ) → IsPlainEvidence p.evidence → count_then ≡ n → Run names (length bytes) (pairs_from n ∷ []) (λ v. pairs_marks v n (p ∷ [])) (pairs_from (suc n) ∷ []) left rest → IsUpTo names bytes rest count_then
+  held_on p rest count_then plain e r =
+      let run = longer p rest r in
+      let plains = plain_more u.entries u.plain in
+      let there = run_read names bytes rest u.given u.opening (u.entries ++ p ∷ []) (pairs_from (suc n) ∷ []) plains run in
       record {
         opening = u.opening;
-        entries = u.entries ++ e ∷ [];
-        read = more.0;
-        rest = more.1;
-        counted = length_push u.entries e ∙ ap (λ (n : ℕ). n + 1) u.counted;
-        few = omega (arith, u.few, n);
-        ended = one_more_ends names u.entries e rest;
+        entries = u.entries ++ p ∷ [];
+        given = u.given;
+        item = pairs_from (suc n);
+        read = there.0;
+        rest = there.1;
+        counted = (let long = length_push u.entries p in let old = u.counted in omega (arith, long, old, is_n, e));
+        plain = plains;
+        run = run;
+        next = inl (ap (λ (k : ℕ). pairs_from (suc k)) (sym e));
       }
+    where
+      plain_more : (es : List math.PairEntry) → ArePlainPairs es → ArePlainPairs (es ++ p ∷ [])
+      plain_more [] h = (plain, tt)
+      plain_more (x ∷ es) h = (h.0, plain_more es h.1)
 
   module _ (old : Reading) (is : up_to names bytes left ≡ old) where
     read_here : (o : Opening) (es : List math.PairEntry) → HasRead old o es → IsRead names bytes o es (place_of bytes left)
@@ -76,32 +120,81 @@ module _ (names : NameTable) (bytes left : List ℕ) (count : ℕ) (u : IsUpTo n
     text_here : (c : Certificate) → IsCertificateText old.names old.bytes c → IsCertificateText names bytes c
     text_here c h = subst (λ (q : Reading). IsCertificateText q.names q.bytes c) (sym is) h
 
-    pub reads_on : (e : math.PairEntry) (rest : List ℕ) → PairAt names left (e, rest) → count ≢ 20000 → ReadsOn old e (up_to names bytes rest)
-    reads_on e rest p n o es r =
-        let here = read_here o es r in
-        let there = left_there o es here in
-        let few : length es < 20000 = omega (arith, there.1, u.few, n) in
-        (read_more names bytes o es (place_of bytes left) here e rest (place_of bytes rest) (subst (λ (w : List ℕ). PairAt names w (e, rest)) (sym there.0) p) few (shorter e rest p)).0
+    after_here : (o : Opening) (es : List math.PairEntry) (place : ℕ) → IsRead old.names old.bytes o es place → IsRead names bytes o es place
+    after_here o es place h = subst (λ (q : Reading). IsRead q.names q.bytes o es place) (sym is) h
 
-    pub never_whole : (e : math.PairEntry) (rest : List ℕ) → PairAt names left (e, rest) → (o : Opening) (es : List math.PairEntry) → HasRead old o es → IsAll old o es → ⊥
-    never_whole e rest p o es r h =
-        let here = read_here o es r in
-        pair_is_not_last names left (e, rest) p (sym (left_there o es here).0 ∙ whole_read names bytes o es (place_of bytes left) here (text_here (certificate_for o es) h))
+    pub reads_on : (p : math.PairEntry) (rest : List ℕ) → IsPlainEvidence p.evidence → Run names (length bytes) (pairs_from n ∷ []) (λ v. pairs_marks v n (p ∷ [])) (pairs_from (suc n) ∷ []) left rest → ReadsOn old p (up_to names bytes rest)
+    unfolding held_on
+    reads_on p rest plain r o es h =
+        let there = left_there o es (read_here o es h) in
+        let held = held_on p rest n plain refl r in
+        subst (λ (x : Opening). IsRead names bytes x (es ++ p ∷ []) (place_of bytes rest)) (sym there.0) (subst (λ (x : List math.PairEntry). IsRead names bytes u.opening (x ++ p ∷ []) (place_of bytes rest)) (sym there.1) held.read)
 
-    pub at_end : (x : Option (PairEntry × Bor (List ℕ))) → Found names left x → x ≡ None → IsAtEnd old
-    at_end x h q o es r =
-        let here = read_here o es r in
-        let whole = read_whole names bytes o es (place_of bytes left) here ((left_there o es here).0 ∙ last_found names left x h q) in
-        subst (λ (p : Reading). IsCertificateText p.names p.bytes (certificate_for o es)) is whole
+    -- what is left is the last line
+    left_last : (o : Opening) (es : List math.PairEntry) → HasRead old o es → IsAll old o es → left ≡ last_line
+    left_last o es h k = let here = read_here o es h in sym (left_there o es here).2 ∙ whole_read names bytes o es (place_of bytes left) here (text_here (certificate_for o es) k)
 
-    pub too_many : (e : math.PairEntry) (rest : List ℕ) → PairAt names left (e, rest) → count ≡ 20000 → (c : Certificate) → IsCertificateText old.names old.bytes c → ⊥
-    too_many e rest p n c h = one_too_many names bytes left count u (omega (arith, n)) (e, rest) p c (text_here c h)
+    pub never_whole : (p : math.PairEntry) (rest : List ℕ) → Run names (length bytes) (pairs_from n ∷ []) (λ v. pairs_marks v n (p ∷ [])) (pairs_from (suc n) ∷ []) left rest → (o : Opening) (es : List math.PairEntry) → HasRead old o es → IsAll old o es → ⊥
+    never_whole p rest r o es h k = bytes_apart 112 101 _ _ refl (sym (walks_text names (pairs_marks (name_of names) n (p ∷ [])) _ _ (r.walks within [])) ∙ left_last o es h k)
 
-    pub stopped_there : (new : Reading) (r : Result (Option PairEntry) Unread) (x : Unread) → IsErrAnd r (λ y. y ≡ x) → IsRefused (NextAt names left) x → NextAnswers old new r
-    stopped_there new r x e h =
-        let there = err_from_is_err_and r e in
-        subst (NextAnswers old new) (sym (subst (λ y. r ≡ Err y) there.2 there.1)) (by x h)
-      where
-        by : (x : Unread) → IsRefused (NextAt names left) x → NextAnswers old new (Err x)
-        by NoText h = λ c k. nothing_left names bytes left count u h c (text_here c k)
-        by NoMemory h = tt
+    -- an entry stands where the last line does not
+    entry_left : (o : Opening) (es : List math.PairEntry) (p : math.PairEntry) (place : ℕ) → HasRead old o es → IsRead old.names old.bytes o (es ++ p ∷ []) place → (rest : List ℕ) × (left ≡ pairs_text names (p ∷ []) ++ rest)
+    entry_left o es p place h k =
+        let here = read_here o es h in
+        let after = after_here o (es ++ p ∷ []) place k in
+        (after.rest, sym (left_there o es here).2 ∙ entries_behind names bytes o es (p ∷ []) (place_of bytes left) place here after)
+
+    module _ (rest : List ℕ) (r : Run names (length bytes) (pairs_from n ∷ []) (λ v. fixed (codes "end\n") ∷ []) [] left rest) where
+      left_text : left ≡ last_line ++ rest
+      left_text = walks_text names (fixed (codes "end\n") ∷ []) _ _ (r.walks within [])
+
+      pub at_end : rest ≡ [] → IsAtEnd old
+      at_end e o es h =
+          let here = read_here o es h in
+          let whole = read_whole names bytes o es (place_of bytes left) here ((left_there o es here).2 ∙ left_text ∙ ap (λ (w : List ℕ). last_line ++ w) e) in
+          subst (λ (q : Reading). IsCertificateText q.names q.bytes (certificate_for o es)) is whole
+
+      pub no_entry : (o : Opening) (es : List math.PairEntry) (p : math.PairEntry) (place : ℕ) → HasRead old o es → IsRead old.names old.bytes o (es ++ p ∷ []) place → ⊥
+      no_entry o es p place h k = let there = entry_left o es p place h k in bytes_apart 112 101 _ _ refl (sym there.1 ∙ left_text)
+
+      pub not_whole : (rest ≡ [] → ⊥) → (o : Opening) (es : List math.PairEntry) → HasRead old o es → IsAll old o es → ⊥
+      not_whole some o es h k = by rest some (sym left_text ∙ left_last o es h k)
+        where
+          by : (q : List ℕ) → (q ≡ [] → ⊥) → last_line ++ q ≡ last_line → ⊥
+          by [] f e = f refl
+          by (x ∷ q) f e = cc
+
+      pub behind_refused : (at : ℕ) → (rest ≡ [] → ⊥) → at ≡ place_of bytes rest → IsCertificateRefused old.names old.bytes syntax at
+      behind_refused at some e =
+          let run = run_then names (length bytes) (Items.opening ∷ []) (u.item ∷ []) [] (λ v. read_marks v u.given u.opening u.entries) (λ v. fixed (codes "end\n") ∷ []) bytes left rest u.run (next_run names (length bytes) n u.item (λ v. fixed (codes "end\n") ∷ []) [] left rest next (λ q. cc) r) in
+          subst (λ (q : Reading). IsCertificateRefused q.names q.bytes syntax at) is (refused_behind names bytes rest (λ v. read_marks v u.given u.opening u.entries ++ (fixed (codes "end\n") ∷ [])) at some e run)
+
+    module _ (e : CertError) (s : IsStoppedWhere (IsInEntry n) names (length bytes) (pairs_from n ∷ []) left (told e)) where
+      stop : IsStoppedWhere (IsInEntry n) names (length bytes) (u.item ∷ []) left (told e)
+      stop = next_stop names (length bytes) n u.item left (told e) next s
+
+      refused_here : IsRefusedAs names bytes e
+      refused_here =
+          refused_as names bytes e
+          (any_stop (IsInEntry n) names (length bytes) (Items.opening ∷ []) bytes (told e)
+          (stop_behind (IsInEntry n) names (length bytes) (Items.opening ∷ []) (u.item ∷ []) (λ v. read_marks v u.given u.opening u.entries) bytes left (told e) u.run stop))
+
+      pub refused_there : IsRefusedAs old.names old.bytes e
+      refused_there = subst (λ (q : Reading). IsRefusedAs q.names q.bytes e) is refused_here
+
+      -- nothing is told of a text that goes on
+      pub not_told : (o : Opening) (es : List math.PairEntry) → HasRead old o es → IsAll old o es → told e ≡ None
+      not_told o es h k = by (told e) refl
+        where
+          by : (t : Option (CertificateCause × ℕ)) → told e ≡ t → told e ≡ None
+          by None q = q
+          by (Some x) q = absurd (never_both names bytes (certificate_for o es) x.0 x.1 (text_here (certificate_for o es) k) (refused_as_told names bytes e x.0 x.1 refused_here q))
+
+      pub not_told_at : (o : Opening) (es : List math.PairEntry) (p : math.PairEntry) (place : ℕ) → HasRead old o es → IsRead old.names old.bytes o (es ++ p ∷ []) place → told e ≡ None
+      not_told_at o es p place h k = by (told e) refl
+        where
+          by : (t : Option (CertificateCause × ℕ)) → told e ≡ t → told e ≡ None
+          by None q = q
+          by (Some x) q =
+              let at_item = subst (IsStoppedWhere (IsInEntry n) names (length bytes) (u.item ∷ []) left) q stop in
+              absurd (in_entry names bytes left count u x (subst (λ (m : ℕ). IsStoppedWhere (IsInEntry m) names (length bytes) (u.item ∷ []) left (Some x)) is_n at_item within) o es p place (read_here o es h) (after_here o (es ++ p ∷ []) place k))

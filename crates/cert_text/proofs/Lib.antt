@@ -1,5 +1,9 @@
-pub mod StepByStep
+pub mod OneCertificate
 pub mod Entries
-pub mod Openings
+pub mod Runs
+pub mod Ends
+pub mod Ahead
+pub mod Begun
 pub mod Advancing
+pub mod Openings
 pub mod Refusing

@@ -1,143 +1,81 @@
--- A certificate's text that is read up to its entries.
-use Rattle.std.proofs.Common.{◌≡◌, ◌⊎◌, inl, inr, ℕ, ◌+◌, List, [], ◌∷◌, ◌++◌, length, refl, sym, ap, ◌∙◌, subst, codes, arith, append_assoc}
-use Rattle.std.proofs.lemmas.List.{append-nil, length-append}
-use Rattle.certificates.specs.Certificates.{PairEntry, Peak, Certificate, peak_certificate}
+-- A text that is read up to its entries.
+use Rattle.std.proofs.Common.{◌≡◌, inl, inr, ◌≤◌, ℕ, Bool, true, false, List, [], ◌∷◌, ◌++◌, length, Option, Some, None, codes, refl, sym, ap, ◌∙◌, subst, arith, append_assoc}
+use Rattle.std.proofs.lemmas.List.{append-nil}
+use Rattle.certificates.specs.Certificates.{MeasureCertificate, Peak, peak_certificate}
 use Rattle.cops_names.specs.NameTable.{NameTable}
-use Rattle.cert_grammar.specs.EvidenceText.{pairs_text}
-use Rattle.cert_grammar.specs.CertificateText.{measure_text, body_text, CanBeSpelt, IsCertificateText}
-use Rattle.cert_openings.specs.Openings.{Opening, ortho_opening, quasi_opening, certificate_for, IsRead, BeginsEntry, lines_text, IsOpeningEnd, IsOpened}
-use Rattle.cert_lines.specs.ReadingCertificates.{BeginsNoEntry}
-use Rattle.cert_lines.specs.ReadingBeginnings.{Beginning, no_measure, a_measure, a_peak, KindAt, PlainAt, answer_before, BeginningAt}
-use Rattle.cert_lines.proofs.Parts.{word_off, words_apart}
-use Rattle.cert_lines.proofs.PairLines.{last_line}
-use Rattle.cert_lines.proofs.Beginnings.{first_line, beginning_one}
-use Rattle.cert_lines.proofs.Whole.{text_of_beginning}
-use Rattle.cert_text.specs.ReadingView.{place_of, IsUpTo}
-use Rattle.cert_text.specs.OpenedText.{IsUnopened}
-use Rattle.cert_text.proofs.Entries.{beginning_for, read_begins, opening_pairs}
+use Rattle.cert_grammar.specs.Words.{name_of}
+use Rattle.cert_grammar.specs.CertificateText.{IsCertificateText}
+use Rattle.cert_grammar.specs.Marks.{CertificateCause, Naming, Mark, fixed, marks_text}
+use Rattle.cert_grammar.specs.CertificateMarks.{answer_marks, measure_marks, peak_marks}
+use Rattle.cert_grammar.specs.Items as Items
+use Rattle.cert_grammar.specs.Items.{Item, pairs_from, entries_from, start_line}
+use Rattle.cert_openings.specs.Openings.{BeginsEntry, Opening, ortho_opening, quasi_opening, IsOpened, IsOpeningEnd}
+use Rattle.cert_openings.proofs.Lines.{bytes_apart}
+use Rattle.cert_openings.proofs.OneEnd.{answer_text, first_line, Kind, plain, measured, kind_text, lexed, same_answer}
+use Rattle.cert_openings.proofs.Ends.{openings_end}
+use Rattle.cert_words.specs.declared.error.CertError.{CertError}
+use Rattle.cert_words.specs.declared.reading.Reading.{Reading}
+use Rattle.cert_words.specs.Words.{told}
+use Rattle.cert_words.specs.Walks.{Run, ReadsOn, Reads}
+use Rattle.cert_words.proofs.Whole.{walks_text}
+use Rattle.cert_reading.specs.Headings.{kind_mark, item_of, heading_marks}
+use Rattle.cert_reading.specs.declared.headings.Kind as kinds_of
+use Rattle.cert_reading.specs.declared.headings.Kind.TheVariants as kinds
+use Rattle.cert_reading.specs.Stops.{Place, ReadsWhere, ReadsOnWhere, IsStoppedWhere, IsUnopened}
+use Rattle.cert_text.specs.ReadingView.{place_of, IsNext, read_marks, IsUpTo}
+use Rattle.cert_text.proofs.Runs.{run_read}
+use Rattle.cert_text.proofs.Advancing.{run_as}
+use Rattle.cert_text.proofs.Begun.{unopened}
 
--- ---- the first byte of what is left
+-- the lines of a heading, of a kind that is known
+pub kinded : {P : Place} {names : NameTable} {end : ℕ} {s t : Reading} (given : Option Bool) (kind k : kinds_of.Kind) → kind ≡ k → ReadsWhere P names end (Items.opening ∷ []) (λ u. heading_marks given kind) (item_of kind ∷ []) s t → ReadsWhere P names end (Items.opening ∷ []) (λ u. heading_marks given k) (item_of k ∷ []) s t
+kinded {P} {names} {end} {s} {t} given kind k e h = subst (λ (x : kinds_of.Kind). ReadsWhere P names end (Items.opening ∷ []) (λ u. heading_marks given x) (item_of x ∷ []) s t) e h
 
-entry_ends_measure : (rest : List ℕ) → BeginsEntry rest → BeginsNoEntry rest
-entry_ends_measure [] b = absurd b
-entry_ends_measure (x ∷ rest) (inl e) = (λ b q. words_apart 0 112 102 (ap (λ (y : ℕ). y ∷ rest) (sym e) ∙ q) refl refl refl, λ b q. words_apart 0 112 97 (ap (λ (y : ℕ). y ∷ rest) (sym e) ∙ q) refl refl refl)
-entry_ends_measure (x ∷ rest) (inr e) = (λ b q. words_apart 0 101 102 (ap (λ (y : ℕ). y ∷ rest) (sym e) ∙ q) refl refl refl, λ b q. words_apart 0 101 97 (ap (λ (y : ℕ). y ∷ rest) (sym e) ∙ q) refl refl refl)
+pub up_to_entries : (names : NameTable) (bytes rest : List ℕ) (given : Option Bool) (o : Opening) (item : Item) → IsNext item 1 rest → Run names (length bytes) (Items.opening ∷ []) (λ u. read_marks u given o []) (item ∷ []) bytes rest → IsUpTo names bytes rest 0
+up_to_entries names bytes rest given o item next run =
+    let there = run_read names bytes rest given o [] (item ∷ []) tt run in
+    record { opening = o; entries = []; given = given; item = item; read = there.0; rest = there.1; counted = refl; plain = tt; run = run; next = next }
 
-pairs_begin_entry : (names : NameTable) (ps : List PairEntry) → BeginsEntry (pairs_text names ps ++ last_line)
-pairs_begin_entry names [] = inr refl
-pairs_begin_entry names (p ∷ ps) = inl refl
+pub opened : (names : NameTable) (bytes rest : List ℕ) (given : Option Bool) (o : Opening) (item : Item) → BeginsEntry rest → Run names (length bytes) (Items.opening ∷ []) (λ u. read_marks u given o []) (item ∷ []) bytes rest → IsOpened names bytes o (place_of bytes rest)
+opened names bytes rest given o item b run = let there = run_read names bytes rest given o [] (item ∷ []) tt run in record { read = there.0; begins = subst BeginsEntry (sym there.1) b }
 
--- ---- the opening that is found
+-- the marks of a heading and of a measure
+pub measured_marks_are : (u : Naming) (given : Option Bool) (m : MeasureCertificate) → heading_marks given kinds.Quasi ++ measure_marks u m ≡ read_marks u given (quasi_opening m) []
+measured_marks_are u given m =
+    append_assoc (answer_marks given) (fixed (codes "concon 1\n") ∷ kind_mark given kinds.Quasi ∷ fixed (codes "\n") ∷ []) (measure_marks u m)
+    ∙ ap (λ (ms : List Mark). answer_marks given ++ (fixed (codes "concon 1\n") ∷ kind_mark given kinds.Quasi ∷ fixed (codes "\n") ∷ ms)) (sym (append-nil (measure_marks u m)))
 
-opening_body : (names : NameTable) (o : Opening) (bytes rest : List ℕ) → KindAt names bytes (beginning_for o rest) → (bytes ≡ body_text names (certificate_for o []) ++ rest) × CanBeSpelt names (certificate_for o [])
-opening_body names ortho_opening bytes rest h = (h, (omega arith, tt))
-opening_body names (quasi_opening m) bytes rest h = (
-  h.1 ∙ ap (λ (w : List ℕ). codes "quasi\n" ++ w) (h.2.0 ∙ ap (λ (w : List ℕ). w ++ rest) (sym (append-nil (measure_text names m)))),
-  (h.2.1, omega arith, tt),
-)
+-- ---- peaks
 
-answer_of : (o : Opening) (rest : List ℕ) → answer_before (beginning_for o rest) ≡ codes "YES\n"
-answer_of ortho_opening rest = refl
-answer_of (quasi_opening m) rest = refl
+peak_text : (g : Option Bool) (r : List ℕ) → marks_text (heading_marks g kinds.Peak) ++ r ≡ answer_text g ++ (first_line ++ (codes "peak\n" ++ r))
+peak_text None r = refl
+peak_text (Some true) r = refl
+peak_text (Some false) r = refl
 
--- a part at the back begins at its place
-back_place : (front rest bytes : List ℕ) → bytes ≡ front ++ rest → place_of bytes rest + length rest ≡ length bytes
-back_place front rest bytes e = omega (arith, ap length e, length-append front rest)
+no_kind : (k : Kind) (x y : List ℕ) → codes "peak\n" ++ x ≡ kind_text k ++ y → ⊥
+no_kind plain x y e = bytes_apart 112 111 _ _ refl e
+no_kind measured x y e = bytes_apart 112 113 _ _ refl e
 
-regroup : (a f b r : List ℕ) → a ++ (f ++ (b ++ r)) ≡ (a ++ (f ++ b)) ++ r
-regroup a f b r = simp append_assoc
+-- what begins as a peak does has no end of an opening
+pub no_end : (names : NameTable) (bytes rest : List ℕ) (given : Option Bool) (to : List Item) → Run names (length bytes) (Items.opening ∷ []) (λ u. heading_marks given kinds.Peak) to bytes rest → (end : ℕ) → IsOpeningEnd bytes end → ⊥
+no_end names bytes rest given to run end h =
+    let l = lexed bytes end h in
+    let text = walks_text names (heading_marks given kinds.Peak) _ _ (run.walks (omega arith) []) in
+    no_kind l.kind _ _ (same_answer given l.given _ _ (sym (peak_text given rest) ∙ sym text ∙ l.text)).1
 
-opening_read : (names : NameTable) (bytes : List ℕ) (o : Opening) (rest : List ℕ) → BeginningAt names bytes (beginning_for o rest) → (r : IsRead names bytes o [] (place_of bytes rest)) × (r.rest ≡ rest)
-opening_read names bytes o rest (inl h) =
-    let body = opening_body names o h.0 rest h.2 in
-    let text : bytes ≡ [] ++ (first_line ++ (body_text names (certificate_for o []) ++ rest)) = h.1 ∙ ap (λ (w : List ℕ). first_line ++ w) body.0 in (
-      record {
-        answer = [];
-        is_answer = inl refl;
-        rest = rest;
-        text = text;
-        place = back_place ([] ++ (first_line ++ body_text names (certificate_for o []))) rest bytes (text ∙ regroup [] first_line (body_text names (certificate_for o [])) rest);
-        spelt = body.1;
-      },
-      refl,
-    )
-opening_read names bytes o rest (inr h) =
-    let body = opening_body names o h.2.0 rest h.2.2 in
-    let text : bytes ≡ codes "YES\n" ++ (first_line ++ (body_text names (certificate_for o []) ++ rest)) =
-    h.1 ∙ ap (λ (w : List ℕ). w ++ h.0) (answer_of o rest) ∙ ap (λ (w : List ℕ). codes "YES\n" ++ w) (h.2.1 ∙ ap (λ (w : List ℕ). first_line ++ w) body.0) in (
-      record {
-        answer = codes "YES\n";
-        is_answer = inr refl;
-        rest = rest;
-        text = text;
-        place = back_place (codes "YES\n" ++ (first_line ++ body_text names (certificate_for o []))) rest bytes (text ∙ regroup (codes "YES\n") first_line (body_text names (certificate_for o [])) rest);
-        spelt = body.1;
-      },
-      refl,
-    )
+-- ---- where no opening is read, none is there
 
-pub opened : (names : NameTable) (bytes : List ℕ) (o : Opening) (rest : List ℕ) → BeginningAt names bytes (beginning_for o rest) → BeginsEntry rest → IsOpened names bytes o (place_of bytes rest)
-opened names bytes o rest h b = let there = opening_read names bytes o rest h in record { read = there.0; begins = subst BeginsEntry (sym there.1) b }
+pub none_opened : (names : NameTable) (bytes : List ℕ) (e : CertError) → IsStoppedWhere IsUnopened names (length bytes) (Items.opening ∷ []) bytes (told e) → (t : CertificateCause × ℕ) → told e ≡ Some t → (o : Opening) (end : ℕ) → IsOpened names bytes o end → ⊥
+none_opened names bytes e s t q o end h = unopened names bytes t (subst (IsStoppedWhere IsUnopened names (length bytes) (Items.opening ∷ []) bytes) q s (omega arith)) o end h
 
-pub up_to_entries : (names : NameTable) (bytes : List ℕ) (o : Opening) (rest : List ℕ) → BeginningAt names bytes (beginning_for o rest) → BeginsEntry rest → IsUpTo names bytes rest 0
-up_to_entries names bytes o rest h b =
-    let there = opening_read names bytes o rest h in
-    record { opening = o; entries = []; read = there.0; rest = there.1; counted = refl; few = omega arith; ended = entry_ends_measure rest b }
+peak_on : (names : NameTable) (bytes b r : List ℕ) (given : Option Bool) (f : Naming → List Mark) (to : List Item) (s : Option CertError) (e : CertError) → ReadsOnWhere IsUnopened names (length bytes) (Items.opening ∷ []) (λ u. heading_marks given kinds.Peak) (start_line ∷ []) bytes b None s → ReadsOn names (length bytes) (start_line ∷ []) f to b r s (Some e)
+    → (t : CertificateCause × ℕ) → told e ≡ Some t → (o : Opening) (end : ℕ) → IsOpened names bytes o end → ⊥
+peak_on names bytes b r given f to None e h p t q o end i = no_end names bytes b given (start_line ∷ []) h end (openings_end names bytes o end i)
+peak_on names bytes b r given f to (Some d) e h p t q o end i = none_opened names bytes d h t (sym p ∙ q) o end i
 
--- ---- where there is none
-
-opening_begins : (names : NameTable) (bytes : List ℕ) (o : Opening) (end : ℕ) → IsOpened names bytes o end → (rest : List ℕ) × BeginningAt names bytes (beginning_for o rest) × BeginsEntry rest
-opening_begins names bytes o end h = (h.read.rest, read_begins names bytes o [] end h.read (entry_ends_measure h.read.rest h.begins), h.begins)
-
-rest_of : Beginning → List ℕ
-rest_of (no_measure rest) = rest
-rest_of (a_measure m rest) = rest
-rest_of (a_peak p) = []
-
-rest_is : (o : Opening) (rest : List ℕ) → rest_of (beginning_for o rest) ≡ rest
-unfolding rest_of
-rest_is ortho_opening rest = refl
-rest_is (quasi_opening m) rest = refl
-
--- no beginning, so no text and no opening
-pub nothing_begins : (names : NameTable) (bytes : List ℕ) → ((x : Beginning) → BeginningAt names bytes x → ⊥) → ((c : Certificate) → IsCertificateText names bytes c → (x : Beginning) × BeginningAt names bytes x) → IsUnopened names bytes
-nothing_begins names bytes none begun = record {
-  no_text = λ c h. let there = begun c h in none there.0 there.1;
-  no_opening = λ o end h. let there = opening_begins names bytes o end h in none (beginning_for o there.0) there.1;
-}
-
--- a beginning behind which no entry begins
-pub other_line : (names : NameTable) (bytes : List ℕ) (o : Opening) (rest : List ℕ) → BeginningAt names bytes (beginning_for o rest) → (BeginsEntry rest → ⊥) → IsUnopened names bytes
-other_line names bytes o rest h bad = record {
-  no_text = λ c k. let there = opening_pairs names bytes o rest h c k in bad (subst BeginsEntry (sym there.1.0) (pairs_begin_entry names there.0));
-  no_opening = λ p end k.
-      let there = opening_begins names bytes p end k in
-      let same : there.0 ≡ rest = sym (rest_is p there.0) ∙ ap rest_of (beginning_one names bytes (beginning_for p there.0) (beginning_for o rest) there.1 h) ∙ rest_is o rest in
-      bad (subst BeginsEntry same there.2);
-}
-
--- ---- a peak
-
-pub peak_whole : (names : NameTable) (bytes : List ℕ) (p : Peak) → BeginningAt names bytes (a_peak p) → IsCertificateText names bytes (peak_certificate p)
-peak_whole names bytes p h = text_of_beginning names bytes (a_peak p) (peak_certificate p) h refl
-
-no_kind : (names : NameTable) (bytes kind back : List ℕ) (p : Peak) → (kind ≡ codes "ortho\n") ⊎ (kind ≡ codes "quasi\nlinear\n") → PlainAt names bytes (a_peak p) → bytes ≡ first_line ++ (kind ++ back) → ⊥
-no_kind names bytes kind back p is h e = by is (sym (word_off first_line bytes h.0 (kind ++ back) h.1 e) ∙ h.2.1)
-  where
-    by : (kind ≡ codes "ortho\n") ⊎ (kind ≡ codes "quasi\nlinear\n") → kind ++ back ≡ codes "peak\n" ++ h.2.0 → ⊥
-    by (inl i) q = words_apart 0 111 112 (ap (λ (w : List ℕ). w ++ back) (sym i) ∙ q) refl refl refl
-    by (inr i) q = words_apart 0 113 112 (ap (λ (w : List ℕ). w ++ back) (sym i) ∙ q) refl refl refl
-
-pub peaks_have_no_end : (names : NameTable) (bytes : List ℕ) (p : Peak) → BeginningAt names bytes (a_peak p) → (end : ℕ) → IsOpeningEnd bytes end → ⊥
-peaks_have_no_end names bytes p h end k = by h k.is_answer
-  where
-    with_answer : (answer : List ℕ) → k.answer ≡ answer → bytes ≡ answer ++ (first_line ++ (k.kind ++ (lines_text k.lines ++ k.rest)))
-    with_answer answer e = k.text ∙ ap (λ (w : List ℕ). w ++ (first_line ++ (k.kind ++ (lines_text k.lines ++ k.rest)))) e
-
-    by : BeginningAt names bytes (a_peak p) → (k.answer ≡ []) ⊎ ((k.answer ≡ codes "YES\n") ⊎ (k.answer ≡ codes "NO\n")) → ⊥
-    by (inl h) (inl a) = no_kind names bytes k.kind (lines_text k.lines ++ k.rest) p k.is_kind h (with_answer [] a)
-    by (inl h) (inr (inl a)) = words_apart 0 99 89 (sym h.1 ∙ with_answer (codes "YES\n") a) refl refl refl
-    by (inl h) (inr (inr a)) = words_apart 0 99 78 (sym h.1 ∙ with_answer (codes "NO\n") a) refl refl refl
-    by (inr h) (inl a) = words_apart 0 78 99 (sym h.1 ∙ with_answer [] a) refl refl refl
-    by (inr h) (inr (inl a)) = words_apart 0 78 89 (sym h.1 ∙ with_answer (codes "YES\n") a) refl refl refl
-    by (inr h) (inr (inr a)) = no_kind names h.0 k.kind (lines_text k.lines ++ k.rest) p k.is_kind h.2 (word_off (codes "NO\n") bytes h.0 (first_line ++ (k.kind ++ (lines_text k.lines ++ k.rest))) h.1 (with_answer (codes "NO\n") a))
+pub none_at_peak : (names : NameTable) (bytes : List ℕ) (given : Option Bool) (f : Naming → List Mark) (to : List Item) (s t u : Reading) (e : CertError) → s.left.now ≡ bytes → s.refused ≡ None → u.refused ≡ Some e → ReadsWhere IsUnopened names (length bytes) (Items.opening ∷ []) (λ u. heading_marks given kinds.Peak) (start_line ∷ []) s t → Reads names (length bytes) (start_line ∷ []) f to t u
+    → (x : CertificateCause × ℕ) → told e ≡ Some x → (o : Opening) (end : ℕ) → IsOpened names bytes o end → ⊥
+none_at_peak names bytes given f to s t u e same none some h p =
+    peak_on names bytes t.left.now u.left.now given f to t.refused e
+    (subst (λ (x : List ℕ). ReadsOnWhere IsUnopened names (length bytes) (Items.opening ∷ []) (λ u. heading_marks given kinds.Peak) (start_line ∷ []) x t.left.now None t.refused) same (subst (λ (o : Option CertError). ReadsOnWhere IsUnopened names (length bytes) (Items.opening ∷ []) (λ u. heading_marks given kinds.Peak) (start_line ∷ []) s.left.now t.left.now o t.refused) none h.on))
+    (subst (λ (o : Option CertError). ReadsOn names (length bytes) (start_line ∷ []) f to t.left.now u.left.now t.refused o) some p.on)

@@ -7,10 +7,8 @@ use Rattle.cert_grammar.specs.CertificateText.{IsCertificateText}
 use Rattle.cert_grammar.specs.Marks.{CertificateCause}
 use Rattle.cert_grammar.specs.Refusals.{IsCertificateRefused}
 use Rattle.cert_openings.specs.Openings.{Opening, ortho_opening, quasi_opening, IsOpeningEnd, IsOpened}
-use Rattle.cert_lines.specs.declared.error.Unread.{Unread}
-use Rattle.cert_lines.specs.declared.error.Unread.TheVariants as unread
-use Rattle.cert_refusals.specs.declared.error.CertError.{CertError}
-use Rattle.cert_refusals.specs.ReaderView.{told}
+use Rattle.cert_words.specs.declared.error.CertError.{CertError}
+use Rattle.cert_words.specs.Words.{told}
 use Rattle.cert_text.specs.Reading.{Reading}
 use Rattle.cert_text.specs.declared.opening.Opened.{Opened}
 use Rattle.cert_text.specs.declared.opening.Opened.TheVariants.{Ortho, Quasi, Peak}
@@ -40,14 +38,3 @@ abbrev pub HasNoEndAtPeak : List ℕ → Opened → Type 0
 HasNoEndAtPeak bytes (Ortho pairs) = Unit {0}
 HasNoEndAtPeak bytes (Quasi measure pairs) = Unit {0}
 HasNoEndAtPeak bytes (Peak peak) = (end : ℕ) → IsOpeningEnd bytes end → ⊥
-
--- the bytes are no certificate's text, and no opening stands in front
-pub record IsUnopened (names : NameTable) (bytes : List ℕ) : Type 0 where
-  pub no_text : (c : Certificate) → IsCertificateText names bytes c → ⊥
-  pub no_opening : (o : Opening) (end : ℕ) → IsOpened names bytes o end → ⊥
-
--- the text is opened, or there is nothing to be opened, or memory was refused
-abbrev pub OpenAnswers : NameTable → List ℕ → Result Opened Unread → Type 0
-OpenAnswers names bytes (Ok opened) = IsOpenedAs names bytes opened × HasNoEndAtPeak bytes opened
-OpenAnswers names bytes (Err unread.NoText) = IsUnopened names bytes
-OpenAnswers names bytes (Err unread.NoMemory) = Unit {0}

@@ -7,10 +7,8 @@ use Rattle.cert_model.specs.declared.model.PairEntry.{PairEntry}
 use Rattle.cert_model.specs.CertificateView.{pair_entry_view}
 use Rattle.cert_grammar.specs.CertificateText.{IsCertificateText}
 use Rattle.cert_openings.specs.Openings.{Opening, certificate_for, IsRead}
-use Rattle.cert_lines.specs.declared.error.Unread.{Unread}
-use Rattle.cert_lines.specs.declared.error.Unread.TheVariants as unread
-use Rattle.cert_refusals.specs.declared.error.CertError.{CertError}
-use Rattle.cert_refusals.specs.ReaderView.{told}
+use Rattle.cert_words.specs.declared.error.CertError.{CertError}
+use Rattle.cert_words.specs.Words.{told}
 
 -- names, bytes, and the place up to which they are read
 pub record Reading : Type 0 where
@@ -44,14 +42,13 @@ GivesNone (Ok None) = Unit {0}
 GivesNone (Ok (Some e)) = ⊥
 GivesNone (Err e) = told e ≡ None
 
+-- an entry, unless memory was refused
+abbrev pub GivesSome : Result (Option PairEntry) CertError → Type 0
+GivesSome (Ok None) = ⊥
+GivesSome (Ok (Some e)) = Unit {0}
+GivesSome (Err e) = told e ≡ None
+
 -- without an entry nothing is read
 abbrev pub StaysWithout : {E : Type 0} → Reading → Reading → Result (Option PairEntry) E → Type 0
 StaysWithout old new (Ok (Some e)) = Unit {0}
 StaysWithout old new _ = new ≡ old
-
--- an entry is read; or all is; or no certificate has the bytes as its text; or memory was refused
-abbrev pub NextAnswers : Reading → Reading → Result (Option PairEntry) Unread → Type 0
-NextAnswers old new (Ok (Some e)) = ReadsOn old (pair_entry_view e) new × ((o : Opening) (es : List math.PairEntry) → HasRead old o es → IsAll old o es → ⊥)
-NextAnswers old new (Ok None) = IsAtEnd old
-NextAnswers old new (Err unread.NoText) = (c : Certificate) → IsCertificateText old.names old.bytes c → ⊥
-NextAnswers old new (Err unread.NoMemory) = Unit {0}

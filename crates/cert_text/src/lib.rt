@@ -19,18 +19,17 @@
 //! after the other.
 //!
 //! The definitions stand in `cert_grammar`: the one text of a certificate (`CertificateText`), and why and where
-//! another text is refused (`Refusals`). The exported calls here are over the reader of lines and words
-//! (`cert_lines`), the steps to the first refusal (`cert_refusals`) and the writer (`cert_writing`).
+//! another text is refused (`Refusals`). The exported calls here are over the reader (`cert_words`, `cert_reading`)
+//! and the writer (`cert_writing`).
 #![tactic(auto)]
 
 mod laws;
 mod opening;
 mod pairs;
 mod reader;
-mod refusal;
 mod writer;
 
-pub use cert_refusals::{CertCount, CertError};
+pub use cert_words::{CertCount, CertError};
 pub use cert_writing::text_len;
 pub use laws::{
     demands_are_met, grammar_is_deterministic, one_answer, reader_stops_at_refusals, worked_texts,

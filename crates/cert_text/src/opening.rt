@@ -1,15 +1,13 @@
 //! Reads the text of a certificate up to its entries.
 
-ghost use Rattle.std.specs.Prelude.{◌↔◌, IsTrue, IfOk, IfErr};
-ghost use Rattle.cert_openings.specs.Openings.{BeginsEntry};
-ghost use Rattle.cert_refusals.specs.CertRefusals.{IsRefusedAs};
-ghost use Rattle.cert_text.specs.OpenedText.{IsOpenedAs, IsRefusedBehind, IsToldBefore, HasNoEndAtPeak, OpenAnswers};
+ghost use Rattle.std.specs.Prelude.{IfOk, IfErr};
+ghost use Rattle.cert_words.specs.CertRefusals.{IsRefusedAs};
+ghost use Rattle.cert_text.specs.OpenedText.{IsOpenedAs, IsRefusedBehind, IsToldBefore, HasNoEndAtPeak};
 
 use crate::pairs::Pairs;
-use crate::refusal::refusal;
-use cert_lines::{Beginning, Unread, read_beginning};
 use cert_model::{MeasureCert, Peak};
-use cert_refusals::CertError;
+use cert_reading::{Kind, entries_begin, heading, measure, peak};
+use cert_words::{CertError, Reading};
 use cops_names::Names;
 use std::alloc::Global;
 
@@ -24,36 +22,6 @@ pub enum Opened<'a> {
     Peak(Peak),
 }
 
-// Whether an overlap or the last line may begin here.
-fn begins_entry(bytes: &[u8]) -> bool
-    ensures { IsTrue result ↔ BeginsEntry bytes.now }
-{
-    matches!(bytes, [b'p' | b'e', ..])
-}
-
-// The text up to its entries, of which the first line begins there.
-fn open<'a>(alloc: Global, names: &'a Names, bytes: &'a [u8]) -> Result<Opened<'a>, Unread>
-    ensures { OpenAnswers names.now bytes.now result }
-{
-    match read_beginning(alloc, names, bytes)? {
-        Beginning::Ortho(rest) => {
-            if begins_entry(rest) {
-                Ok(Opened::Ortho(Pairs::behind(names, bytes, rest)))
-            } else {
-                Err(Unread::NoText)
-            }
-        }
-        Beginning::Quasi(measure, rest) => {
-            if begins_entry(rest) {
-                Ok(Opened::Quasi(measure, Pairs::behind(names, bytes, rest)))
-            } else {
-                Err(Unread::NoText)
-            }
-        }
-        Beginning::Peak(peak) => Ok(Opened::Peak(peak)),
-    }
-}
-
 /// Reads a text up to its entries, a peak to its end; else its refusal.
 pub fn open_cert<'a>(
     alloc: Global,
@@ -66,9 +34,38 @@ pub fn open_cert<'a>(
     ensures early { IfErr result (IsToldBefore bytes.now) }
     ensures peak { IfOk result (HasNoEndAtPeak bytes.now) }
 {
-    match open(alloc, names, bytes) {
-        Ok(opened) => Ok(opened),
-        Err(Unread::NoMemory) => Err(CertError::NoMemory),
-        Err(Unread::NoText) => Err(refusal(alloc, names, bytes)),
+    let end = bytes.len();
+    let mut at = Reading {
+        left: bytes,
+        refused: None,
+    };
+    let (_, kind) = heading(end, &mut at);
+    match kind {
+        Kind::Ortho => {
+            entries_begin(end, &mut at);
+            match at.refused {
+                Some(refused) => Err(refused),
+                None => Ok(Opened::Ortho(Pairs::behind(names, bytes, at.left))),
+            }
+        }
+        Kind::Quasi => {
+            let measure = measure(alloc, names, end, &mut at);
+            match at.refused {
+                Some(refused) => Err(refused),
+                None => Ok(Opened::Quasi(measure, Pairs::behind(names, bytes, at.left))),
+            }
+        }
+        Kind::Peak => {
+            let peak = peak(alloc, names, end, &mut at);
+            if let Some(refused) = at.refused {
+                return Err(refused);
+            }
+            if !at.left.is_empty() {
+                return Err(CertError::CertSyntax {
+                    at: end.saturating_sub(at.left.len()),
+                });
+            }
+            Ok(Opened::Peak(peak))
+        }
     }
 }

@@ -1,18 +1,16 @@
 //! The entries of a certificate, read one after the other.
 
-ghost use Rattle.std.specs.Prelude.{◌≡◌, ℕ, List, IfOk, IfErr, IfSome, IfNone};
+ghost use Rattle.std.specs.Prelude.{◌≡◌, ◌++◌, ℕ, List, [], ◌∷◌, IfOk, IfErr, IfSome, IfNone};
 ghost use Rattle.certificates.specs.Certificates as math;
 ghost use Rattle.cert_model.specs.CertificateView.{pair_entry_view};
-ghost use Rattle.cert_openings.specs.Openings.{Opening};
-ghost use Rattle.cert_refusals.specs.CertRefusals.{IsRefusedAs};
-ghost use Rattle.cert_text.specs.Reading.{Reading, HasRead, IsAll, ReadsOn, IsAtEnd, HasTextOf, GivesNone, StaysWithout, NextAnswers};
+ghost use Rattle.cert_openings.specs.Openings.{Opening, IsRead};
+ghost use Rattle.cert_words.specs.CertRefusals.{IsRefusedAs};
+ghost use Rattle.cert_text.specs.Reading.{Reading, HasRead, IsAll, ReadsOn, IsAtEnd, HasTextOf, GivesNone, GivesSome, StaysWithout};
 ghost use Rattle.cert_text.specs.ReadingView.{place_of, IsUpTo};
 
-use crate::refusal::refusal;
-use cert_grammar::MOST_PAIRS;
-use cert_lines::{Unread, next_pair};
 use cert_model::PairEntry;
-use cert_refusals::CertError;
+use cert_reading::next_pair;
+use cert_words::CertError;
 use cops_names::Names;
 use std::alloc::Global;
 use std::marker::Model;
@@ -53,23 +51,6 @@ impl<'a> Pairs<'a> {
         }
     }
 
-    // The next entry; none at the last line.
-    fn advance(&mut self, alloc: Global) -> Result<Option<PairEntry>, Unread>
-        ensures answer { NextAnswers self.old self.new result }
-        ensures stays { StaysWithout self.old self.new result }
-        ensures text { HasTextOf self.old self.new }
-    {
-        let Some((entry, rest)) = next_pair(alloc, self.names, self.left)? else {
-            return Ok(None);
-        };
-        if self.count == MOST_PAIRS {
-            return Err(Unread::NoText);
-        }
-        self.left = rest;
-        self.count += 1;
-        Ok(Some(entry))
-    }
-
     /// The next entry; none at the last line, where the text ends; else the refusal of the text, the same at each later call.
     ///
     /// Where memory is refused nothing has been read.
@@ -77,14 +58,30 @@ impl<'a> Pairs<'a> {
         ensures entry { IfOk result (λ found. IfSome found (λ e. ReadsOn self.old (pair_entry_view e) self.new)) }
         ensures none { IfOk result (λ found. IfNone found (IsAtEnd self.old)) }
         ensures none_exactly { (o : Opening) (es : List math.PairEntry) → HasRead self.old o es → IsAll self.old o es → GivesNone result }
+        ensures ready { (o : Opening) (es : List math.PairEntry) (e : math.PairEntry) (place : ℕ) → HasRead self.old o es → IsRead self.old.names self.old.bytes o (es ++ e ∷ []) place → GivesSome result }
         ensures refused { IfErr result (λ e. IsRefusedAs self.old.names self.old.bytes e) }
         ensures stays { StaysWithout self.old self.new result }
         ensures text { HasTextOf self.old self.new }
     {
-        match self.advance(alloc) {
-            Ok(found) => Ok(found),
-            Err(Unread::NoMemory) => Err(CertError::NoMemory),
-            Err(Unread::NoText) => Err(refusal(alloc, self.names, self.bytes)),
+        let end = self.bytes.len();
+        let mut at = cert_words::Reading {
+            left: self.left,
+            refused: None,
+        };
+        let found = next_pair(alloc, self.names, end, &mut at, self.count as usize + 1);
+        if let Some(refused) = at.refused {
+            return Err(refused);
+        }
+        match found {
+            Some(entry) => {
+                self.left = at.left;
+                self.count += 1;
+                Ok(Some(entry))
+            }
+            None if at.left.is_empty() => Ok(None),
+            None => Err(CertError::CertSyntax {
+                at: end.saturating_sub(at.left.len()),
+            }),
         }
     }
 }

@@ -1,14 +1,15 @@
+//! Reads the text of a certificate whole.
+
 ghost use Rattle.std.specs.Prelude.{◌≡◌, ℕ, List, IfOk, IfErr};
 ghost use Rattle.certificates.specs.Certificates as math;
 ghost use Rattle.cops_names.specs.NameTable.{NameTable};
 ghost use Rattle.cert_model.specs.CertificateView.{certificate_view};
 ghost use Rattle.cert_grammar.specs.CertificateText.{IsCertificateText};
-ghost use Rattle.cert_refusals.specs.CertRefusals.{IsRefusedAs};
+ghost use Rattle.cert_words.specs.CertRefusals.{IsRefusedAs};
 
-use crate::refusal::refusal;
-use cert_lines::{Unread, certificate};
 use cert_model::Certificate;
-use cert_refusals::CertError;
+use cert_reading::certificate;
+use cert_words::{CertError, Reading};
 use cops_names::Names;
 use std::alloc::Global;
 
@@ -18,11 +19,21 @@ pub fn read_cert(alloc: Global, names: &Names, bytes: &[u8]) -> Result<Certifica
     ensures found { IfOk result (λ c. IsCertificateText names.now bytes.now (certificate_view c)) }
     ensures refused { IfErr result (λ e. IsRefusedAs names.now bytes.now e) }
 {
-    match certificate(alloc, names, bytes) {
-        Ok(found) => Ok(found),
-        Err(Unread::NoMemory) => Err(CertError::NoMemory),
-        Err(Unread::NoText) => Err(refusal(alloc, names, bytes)),
+    let end = bytes.len();
+    let mut at = Reading {
+        left: bytes,
+        refused: None,
+    };
+    let found = certificate(alloc, names, end, &mut at);
+    if let Some(refused) = at.refused {
+        return Err(refused);
     }
+    if !at.left.is_empty() {
+        return Err(CertError::CertSyntax {
+            at: end.saturating_sub(at.left.len()),
+        });
+    }
+    Ok(found)
 }
 
 /// Bytes are the text of one certificate at most.

@@ -14,7 +14,7 @@ use Rattle.concon_run.specs.FileRefusals.{FileRefusal, long_file, no_system_text
 use Rattle.cert_grammar.specs.CertificateText.{IsCertificateText}
 use Rattle.cert_laws.specs.MarkLaws as texts
 use Rattle.concon_run.specs.CertRefusals.{CertRefusal, long_certificate, no_certificate_text, most_cert_bytes, IsCertRefused}
-use Rattle.cert_lines.proofs.Whole.{same_certificate}
+use Rattle.cert_text.proofs.OneCertificate.{same_certificate}
 use Rattle.concon_run.specs.Words.{IsCheck}
 use Rattle.concon_run.specs.Said.{Said, IsTold}
 use Rattle.concon_run.specs.Outcomes.{Bytes, CheckOutcome, no_system, no_certificate, rejected, shown, SpellsSystem, IsRefusedFile, SpellsCertificate, IsRefusedCertificate, ComesTo, status_of, said_of_outcome}

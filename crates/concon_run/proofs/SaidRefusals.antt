@@ -3,7 +3,7 @@ use Rattle.std.proofs.Common.{◌≡◌, ℕ, List, [], Option, Some, None, refl
 use Rattle.std.specs.Prelude.{Err, option_map}
 use Rattle.cops_read.specs.File.{FileCause}
 use Rattle.cert_grammar.specs.Marks as marks
-use Rattle.cert_refusals.specs.declared.error.CertError.{CertError}
+use Rattle.cert_words.specs.declared.error.CertError.{CertError}
 use Rattle.cc_io.specs.declared.shelf.ReadAllError.TheVariants as reading
 use Rattle.concon_run.specs.FileRefusals.{FileRefusal, long_file, no_system_text, file_cause_words, file_error_cause, file_refused_line}
 use Rattle.concon_run.specs.CertRefusals.{no_certificate_text, cert_cause_words, cert_error_cause, cert_refusal_text}

@@ -21,9 +21,9 @@ use Rattle.cert_grammar.specs.CertificateText.{IsCertificateText, CanBeSpelt, ce
 use Rattle.cert_laws.specs.MarkLaws.{NeverBoth}
 use Rattle.cert_model.specs.CertificateView.{certificate_view}
 use Rattle.cert_model.specs.declared.model.Certificate.{Certificate}
-use Rattle.cert_refusals.specs.CertRefusals.{IsRefusedAs}
-use Rattle.cert_refusals.specs.declared.error.CertError.{CertError}
-use Rattle.cert_refusals.specs.declared.error.CertError.TheVariants as bad
+use Rattle.cert_words.specs.CertRefusals.{IsRefusedAs}
+use Rattle.cert_words.specs.declared.error.CertError.{CertError}
+use Rattle.cert_words.specs.declared.error.CertError.TheVariants as bad
 use Rattle.cert_check.specs.Kinds.{verdict_of, CanBeJudged}
 use Rattle.cert_check.specs.declared.Verdict.{Verdict}
 use Rattle.cc_count.specs.Counts.{Counts, Spends}

@@ -20,8 +20,8 @@ use Rattle.cert_check.specs.declared.Verdict.{Verdict}
 use Rattle.cert_check.specs.declared.Verdict.TheVariants.{Yes, No}
 use Rattle.cert_check.specs.declared.bytes.BytesError.{BytesError}
 use Rattle.cert_check.specs.declared.bytes.BytesError.TheVariants.{Cert, Rejected}
-use Rattle.cert_refusals.specs.declared.error.CertError.{CertError}
-use Rattle.cert_refusals.specs.declared.error.CertError.TheVariants as cert_causes
+use Rattle.cert_words.specs.declared.error.CertError.{CertError}
+use Rattle.cert_words.specs.declared.error.CertError.TheVariants as cert_causes
 use Rattle.concon_run.specs.CertRefusals.{long_certificate, most_cert_bytes}
 use Rattle.concon_run.specs.Outcomes.{Bytes, IsRefusedFile, IsRefusedCertificate}
 use Rattle.concon_run.specs.Causes.{told_or_any}

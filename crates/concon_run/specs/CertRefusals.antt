@@ -3,9 +3,9 @@ use Rattle.std.specs.Prelude.{◌≤◌, ◌<◌, ℕ, List, length, Option, Som
 use Rattle.cops_read.specs.NameTable.{NameTable}
 use Rattle.cert_grammar.specs.Marks as marks
 use Rattle.cert_grammar.specs.Refusals.{IsCertificateRefused}
-use Rattle.cert_refusals.specs.ReaderView.{counted_view}
-use Rattle.cert_refusals.specs.declared.error.CertError.{CertError}
-use Rattle.cert_refusals.specs.declared.error.CertError.TheVariants.{CertSyntax, UnknownName, WrongArity, BadNumber, CertTooDeep, TooMany, NoMemory}
+use Rattle.cert_words.specs.Words.{counted_view}
+use Rattle.cert_words.specs.declared.error.CertError.{CertError}
+use Rattle.cert_words.specs.declared.error.CertError.TheVariants.{CertSyntax, UnknownName, WrongArity, BadNumber, CertTooDeep, TooMany, NoMemory}
 use Rattle.concon_run.specs.FileRefusals.{refused_line}
 
 -- no certificate is longer

@@ -1,4 +1,4 @@
-use Rattle.cert_lines.proofs.Whole.{same_certificate}
+use Rattle.cert_text.proofs.OneCertificate.{same_certificate}
 use Rattle.cert_text.proofs.reader.one_certificate.Goals as goal
 
 pub returns : goal.returns

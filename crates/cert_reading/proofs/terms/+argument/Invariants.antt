@@ -1,0 +1,28 @@
+use Rattle.std.proofs.Common.{◌≡◌, ◌<◌, ◌≤◌, ◌+◌, ◌-◌, ◌*◌, if◌then◌else◌, ℕ, suc, true, false, List, [], ◌∷◌, None, length, map}
+use Rattle.rewriting.specs.Terms.{size_all}
+use Rattle.term_core.specs.View.{view, views}
+use Rattle.cert_grammar.specs.Items.{Frame}
+use Rattle.cert_grammar.specs.Items as spec
+use Rattle.cert_words.specs.Nodes.{inner_marks}
+use Rattle.cert_words.specs.Walks.{Reads}
+use Rattle.cert_reading.proofs.TermMarks.{commas}
+use Rattle.cert_reading.proofs.terms.+argument.Given as goal
+
+abbrev pub invariant-arguments-arguments : goal.invariant-arguments-arguments
+invariant-arguments-arguments l = record {
+  going : l.more ≡ true → (name : List ℕ) (fs : List Frame) → suc (suc (length fs)) ≡ l.fn.depth → Reads l.fn.names l.fn.end (spec.node l.fn.n (record { name = name; argument = 1 } ∷ fs) ∷ []) (λ u. commas u l.fn.depth l.fn.n (map view l.args.items)) (spec.node l.next (record { name = name; argument = suc (length l.args.items) } ∷ fs) ∷ []) l.fn.at l.at;
+  closed : l.more ≡ false → (name : List ℕ) (fs : List Frame) → suc (suc (length fs)) ≡ l.fn.depth → Reads l.fn.names l.fn.end (spec.node l.fn.n (record { name = name; argument = 1 } ∷ fs) ∷ []) (λ u. inner_marks u l.fn.depth l.fn.n (views l.args.items)) (spec.term_closed l.next name (length l.args.items) fs ∷ []) l.fn.at l.at;
+  counted : l.at.refused ≡ None → l.next ≡ l.fn.n + size_all (views l.args.items);
+  some : l.at.refused ≡ None → l.more ≡ false → 0 < length l.args.items;
+  low : l.fn.n ≤ l.next;
+  high : l.next ≤ 10001;
+}
+
+abbrev pub decreases-argument : goal.decreases-argument
+decreases-argument l = 2 * (402 - l.depth)
+
+abbrev pub decreases-arguments : goal.decreases-arguments
+decreases-arguments l = 2 * (402 - l.depth) + 1
+
+abbrev pub decreases-arguments-arguments : goal.decreases-arguments-arguments
+decreases-arguments-arguments l = 2 * (10001 - l.next) + (if l.more then 1 else 0)

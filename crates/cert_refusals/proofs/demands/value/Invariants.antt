@@ -1,5 +1,0 @@
-use Rattle.cert_refusals.proofs.Judging.{ValueOn}
-use Rattle.cert_refusals.proofs.demands.value.Given as goal
-
-abbrev pub invariant-digits : goal.invariant-digits
-invariant-digits l = ValueOn l.digits l.b-index l.value

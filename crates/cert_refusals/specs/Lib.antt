@@ -1,2 +1,0 @@
-pub mod ReaderView
-pub mod CertRefusals

@@ -1,0 +1,137 @@
+-- A reader goes along what stands there, and never stops before its end.
+use Rattle.std.proofs.Common.{◌≡◌, ◌⊎◌, inl, inr, ◌<◌, ◌+◌, ℕ, suc, List, [], ◌∷◌, ◌++◌, take, Option, Some, None, codes, refl, sym, ap, ◌∙◌, subst, arith, append_assoc}
+use Rattle.std.proofs.lemmas.List.{append-nil, append_cancel_left}
+use Rattle.cops_names.specs.NameTable.{NameTable}
+use Rattle.cert_grammar.specs.Marks.{CertificateCause, Mark, fixed, mark_text, marks_text, demands_of, verdict}
+use Rattle.cert_grammar.specs.Refusals.{Pass}
+use Rattle.cert_grammar.specs.Scans.{Scan, scan}
+use Rattle.cert_grammar.specs.Items.{Item, Lead, text, check, keyword, numeral_lead, position_lead, variable_lead, name_lead, leads, pair_or_end, pairs_from, entries_from, measure}
+use Rattle.cert_grammar.specs.FirstRefusal.{mode_of, first_there, taken, mark_of, items_of, Left, Step, goes_on, refuses, behind_lead, judged, step, step_lead}
+use Rattle.cert_grammar.proofs.ScanLaws.{IsWordOf}
+use Rattle.cert_laws.proofs.LeadTables.{In}
+use Rattle.cert_laws.proofs.OneRefusal.{passed_anywhere}
+use Rattle.cert_laws.proofs.PassTerms.{pass_append}
+use Rattle.cert_laws.proofs.Paths.{Takes, Path, text_is, lead_scan, first_complete, take_front}
+use Rattle.cert_laws.proofs.Moves.{There, takes_along}
+use Rattle.cert_laws.proofs.Reached.{Move, Moves, SameTaken, same_taken}
+use Rattle.cert_openings.specs.Openings.{BeginsEntry}
+use Rattle.cert_openings.proofs.Lines.{apart}
+use Rattle.cert_words.specs.Walks.{left_at}
+use Rattle.cert_reading.specs.Stops.{lowest, IsLater, AreLater, IsList}
+
+-- ---- from a path to moves
+
+-- bytes that begin with the text of marks are read along them, if these end in bytes
+pub moves_along : (front : List Mark) (u : List ℕ) (back : List Mark) (s : List Item) (bytes rest : List ℕ) → Path (front ++ (fixed u ∷ back)) s [] → bytes ≡ marks_text front ++ (u ++ rest) → (t : List Item) × Moves (front ++ fixed u ∷ []) s bytes t rest × Path back t []
+moves_along [] u back [] bytes rest p e = absurd p
+moves_along [] u back (i ∷ s) bytes rest p e = (
+  p.0 ++ s,
+  (p.0, rest, record { takes = p.1; there = takes_along i (fixed u) p.0 s back bytes [] (fixed u) p.1 p.2 (record { back = back; parts = refl; rest = rest; text = e; reached = tt }); text = e }, (refl, refl)),
+  p.2,
+)
+moves_along (m ∷ front) u back [] bytes rest p e = absurd p
+moves_along (m ∷ front) u back (i ∷ s) bytes rest p e =
+    let behind = marks_text front ++ (u ++ rest) in
+    let whole : bytes ≡ mark_text m ++ behind = e ∙ append_assoc (mark_text m) (marks_text front) (u ++ rest) in
+    let there = takes_along i m p.0 s (front ++ (fixed u ∷ back)) bytes (m ∷ front) (fixed u) p.1 p.2 (record { back = back; parts = refl; rest = rest; text = e; reached = tt }) in
+    let others = moves_along front u back (p.0 ++ s) behind rest p.2 refl in
+    (others.0, (p.0, behind, record { takes = p.1; there = there; text = whole }, others.1), others.2)
+
+-- ---- two readers of the same bytes
+
+-- the first gets to where the other is, or stays before
+pub data Meet (f g : List Mark) (t : List Item) (r : List ℕ) (u : List Item) (q : List ℕ) : Type 0 where
+  ahead : (more : List Mark) → Moves more t r u q → Meet f g t r u q
+  behind_it : (m : Mark) (ms : List Mark) → f ≡ g ++ m ∷ ms → Moves (m ∷ ms) u q t r → Meet f g t r u q
+
+meet_more : (m n : Mark) (f g : List Mark) (t : List Item) (r : List ℕ) (u : List Item) (q : List ℕ) → m ≡ n → Meet f g t r u q → Meet (m ∷ f) (n ∷ g) t r u q
+meet_more m n f g t r u q e (ahead more h) = ahead more h
+meet_more m n f g t r u q e (behind_it k ms p h) = behind_it k ms (ap (λ (x : Mark). x ∷ f) e ∙ ap (λ (x : List Mark). n ∷ x) p) h
+
+pub meet : (f g : List Mark) (s t u : List Item) (b r q : List ℕ) → Moves f s b t r → Moves g s b u q → Meet f g t r u q
+meet [] g s t u b r q h k = ahead g (subst (λ (x : List Item). Moves g x r u q) h.0 (subst (λ (x : List ℕ). Moves g s x u q) h.1 k))
+meet (m ∷ f) [] s t u b r q h k = behind_it m f refl (subst (λ (x : List Item). Moves (m ∷ f) x q t r) k.0 (subst (λ (x : List ℕ). Moves (m ∷ f) s x t r) k.1 h))
+meet (m ∷ f) (n ∷ g) [] t u b r q h k = absurd h
+meet (m ∷ f) (n ∷ g) (i ∷ s) t u b r q h k =
+    let same = same_taken i m n h.0 k.0 b h.2.takes k.2.takes h.2.there k.2.there in
+    let rest : h.1 ≡ k.1 = append_cancel_left (mark_text m) h.1 k.1 (sym h.2.text ∙ k.2.text ∙ ap (λ (x : Mark). mark_text x ++ k.1) (sym same.marks)) in
+    meet_more m n f g t r u q same.marks (meet f g (h.0 ++ s) t u h.1 r q h.3 (subst (λ (x : List ℕ). Moves g (h.0 ++ s) x u q) (sym rest) (subst (λ (x : List Item). Moves g (x ++ s) k.1 u q) (sym same.items) k.3)))
+
+-- the word that is read with a lead
+read_size : (a : Lead) (w b : List ℕ) → IsWordOf (mode_of a) w → (t : There a w b) → take (scan (mode_of a) b).size b ≡ w
+read_size a w b h t = ap (λ (x : List ℕ). take (scan (mode_of a) x).size x) t.parts ∙ ap (λ (s : Scan). take s.size (w ++ t.rest)) (lead_scan a w t.rest h t.ends) ∙ take_front w t.rest
+
+mark_read : (a : Lead) (w b : List ℕ) → IsWordOf (mode_of a) w → There a w b → mark_of a (take (taken a b) b) ≡ mark_of a w
+mark_read (text bytes items) w b h t = refl
+mark_read (check demand byte items) w b h t = refl
+mark_read (keyword bytes demands items) w b h t = refl
+mark_read (numeral_lead demands items) w b h t = ap (mark_of (numeral_lead demands items)) (read_size (numeral_lead demands items) w b h t)
+mark_read (position_lead items) w b h t = ap (mark_of (position_lead items)) (read_size (position_lead items) w b h t)
+mark_read (variable_lead demands items) w b h t = ap (mark_of (variable_lead demands items)) (read_size (variable_lead demands items) w b h t)
+mark_read (name_lead demands items) w b h t = ap (mark_of (name_lead demands items)) (read_size (name_lead demands items) w b h t)
+
+goes_or_refuses : (l : Left) (e : CertificateCause) (at : ℕ) → goes_on l ≡ refuses e at → ⊥
+goes_or_refuses l e at q = cc
+
+-- where a mark is read that passes nothing is refused
+never_refused : (names : NameTable) (end : ℕ) (i : Item) (s : List Item) (m : Mark) (b behind : List ℕ) (new : List Item) (e : CertificateCause) (at : ℕ) → Move i m b behind new → verdict names 0 (demands_of m) ≡ None → step names (left_at end (i ∷ s) b) ≡ refuses e at → ⊥
+never_refused names end i s m b behind new e at h v r =
+    let k = h.takes in
+    let t = h.there in
+    let l = left_at end (i ∷ s) b in
+    let first : first_there (leads i) b ≡ Some k.lead = ap (first_there (leads i)) t.parts ∙ first_complete i k.lead k.word_of t.rest k.among k.spelt t.ends in
+    let mark : mark_of k.lead (take (taken k.lead b) b) ≡ m = mark_read k.lead k.word_of b k.spelt t ∙ sym k.mark in
+    let passed : verdict names l.at (demands_of (mark_of k.lead (take (taken k.lead b) b))) ≡ None = ap (λ (x : Mark). verdict names l.at (demands_of x)) mark ∙ passed_anywhere names 0 l.at (demands_of m) v in
+    goes_or_refuses (behind_lead l k.lead s) e at
+    (sym (ap (λ (x : Option Lead). step_lead names l x i s) first ∙ ap (λ (x : Option (CertificateCause × ℕ)). judged x (behind_lead l k.lead s)) passed) ∙ r)
+
+-- a reader that stops has gone along what passes
+pub stops_ahead : (names : NameTable) (end : ℕ) (f g : List Mark) (s t : List Item) (b r : List ℕ) (i : Item) (more : List Item) (q : List ℕ) (e : CertificateCause) (at : ℕ) → Moves f s b t r → Pass names f → Moves g s b (i ∷ more) q → step names (left_at end (i ∷ more) q) ≡ refuses e at → (ms : List Mark) × Moves ms t r (i ∷ more) q
+stops_ahead names end f g s t b r i more q e at h p k z = by (meet f g s t (i ∷ more) b r q h k)
+  where
+    by : Meet f g t r (i ∷ more) q → (ms : List Mark) × Moves ms t r (i ∷ more) q
+    by (ahead ms y) = (ms, y)
+    by (behind_it m ms w y) = absurd (never_refused names end i more m q y.1 y.0 e at y.2 (pass_append names g (m ∷ ms) (subst (Pass names) w p)).1.0 z)
+
+-- ---- what stands below
+
+pub lowest_behind : (k : Item) (ks : List Item) (j : Item) (s : List Item) → lowest k (ks ++ j ∷ s) ≡ lowest j s
+lowest_behind k [] j s = refl
+lowest_behind k (l ∷ ks) j s = lowest_behind l ks j s
+
+-- an overlap is read, or the last line
+pub pair_step : (n k : ℕ) (m : Mark) (new : List Item) → n < suc k → Takes (pairs_from k) m new → AreLater n (new ++ [])
+pair_step n k m new less h = by h.among
+  where
+    by : In h.lead (leads (pairs_from k)) → AreLater n (new ++ [])
+    by (inl e) = subst (λ (x : List Item). AreLater n (x ++ [])) (sym (h.items ∙ ap (λ (a : Lead). items_of a h.word_of) e)) (suc k, refl, less)
+    by (inr (inl e)) = subst (λ (x : List Item). AreLater n (x ++ [])) (sym (h.items ∙ ap (λ (a : Lead). items_of a h.word_of) e)) tt
+    by (inr (inr x)) = absurd x
+
+later_step : (n : ℕ) (i : Item) (s : List Item) (m : Mark) (new : List Item) → Takes i m new → AreLater n (i ∷ s) → AreLater n (new ++ s)
+later_step n i [] m new h x = let less = x.2 in pair_step n x.0 m new (omega (arith, less)) (subst (λ (j : Item). Takes j m new) x.1 h)
+later_step n i (j ∷ s) m [] h x = x
+later_step n i (j ∷ s) m (k ∷ ks) h x = subst (IsLater n) (sym (lowest_behind k ks j s)) x
+
+pub later_moves : (n : ℕ) (ms : List Mark) (s t : List Item) (b r : List ℕ) → Moves ms s b t r → AreLater n s → AreLater n t
+later_moves n [] s t b r h x = subst (AreLater n) h.0 x
+later_moves n (m ∷ ms) [] t b r h x = absurd h
+later_moves n (m ∷ ms) (i ∷ s) t b r h x = later_moves n ms (h.0 ++ s) t h.1 r h.3 (later_step n i s m h.0 h.2.takes x)
+
+-- ---- behind an opening
+
+no_entry : (a : ℕ) (w b rest : List ℕ) → BeginsEntry b → b ≡ (a ∷ w) ++ rest → (a ≡ 112 → ⊥) → (a ≡ 101 → ⊥) → ⊥
+no_entry a w [] rest h e p q = h
+no_entry a w (c ∷ b) rest (inl x) e p q = let same : c ≡ a = cc in p (sym same ∙ x)
+no_entry a w (c ∷ b) rest (inr x) e p q = let same : c ≡ a = cc in q (sym same ∙ x)
+
+-- where an overlap or the last line begins, it is read
+pub entry_step : (k : ℕ) (m : Mark) (b behind : List ℕ) (new : List Item) → BeginsEntry b → Move (entries_from k) m b behind new → AreLater 1 (new ++ [])
+entry_step k m b behind new begins h = by h.takes.among
+  where
+    by : In h.takes.lead (leads (entries_from k)) → AreLater 1 (new ++ [])
+    by (inl e) = absurd (no_entry 102 (codes "un") b h.there.rest begins (h.there.parts ∙ ap (λ (w : List ℕ). w ++ h.there.rest) (text_is (codes "fun") h.takes.word_of (subst (λ (a : Lead). IsWordOf (mode_of a) h.takes.word_of) e h.takes.spelt))) (apart 102 112 refl) (apart 102 101 refl))
+    by (inr (inl e)) = absurd (no_entry 97 (codes "ux") b h.there.rest begins (h.there.parts ∙ ap (λ (w : List ℕ). w ++ h.there.rest) (text_is (codes "aux") h.takes.word_of (subst (λ (a : Lead). IsWordOf (mode_of a) h.takes.word_of) e h.takes.spelt))) (apart 97 112 refl) (apart 97 101 refl))
+    by (inr (inr (inl e))) = subst (λ (x : List Item). AreLater 1 (x ++ [])) (sym (h.takes.items ∙ ap (λ (a : Lead). items_of a h.takes.word_of) e)) (2, refl, omega arith)
+    by (inr (inr (inr (inl e)))) = subst (λ (x : List Item). AreLater 1 (x ++ [])) (sym (h.takes.items ∙ ap (λ (a : Lead). items_of a h.takes.word_of) e)) tt
+    by (inr (inr (inr (inr x)))) = absurd x

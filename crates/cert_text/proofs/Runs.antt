@@ -1,0 +1,133 @@
+-- What a run along the marks of an opening and of entries has read, and where a run refuses a text.
+use Rattle.std.proofs.Common.{◌≡◌, ◌⊎◌, inl, inr, ◌+◌, ◌-◌, ◌<◌, ℕ, suc, Bool, List, [], ◌∷◌, ◌++◌, length, Option, Some, None, codes, refl, sym, ap, ◌∙◌, subst, arith, append_assoc, length-append}
+use Rattle.std.proofs.lemmas.List.{append-nil, append_cancel_right}
+use Rattle.certificates.specs.Certificates.{PairEntry, Certificate}
+use Rattle.cops_names.specs.NameTable.{NameTable}
+use Rattle.cert_grammar.specs.Words.{name_of}
+use Rattle.cert_grammar.specs.CertificateText.{body_text, certificate_text, answer_line, IsCertificateText}
+use Rattle.cert_grammar.specs.Marks.{CertificateCause, syntax, Naming, Mark, fixed, marks_text}
+use Rattle.cert_grammar.specs.CertificateMarks.{answer_marks, body_marks, certificate_marks}
+use Rattle.cert_grammar.specs.Refusals.{HaveNames, Pass, IsCertificateRefused}
+use Rattle.cert_grammar.specs.Items.{Item, opening}
+use Rattle.cert_grammar.specs.FirstRefusal.{Left, refuses, step}
+use Rattle.cert_laws.proofs.AlikeWhole.{closing}
+use Rattle.cert_laws.proofs.ExactReader.{refuses_rightly}
+use Rattle.cert_laws.proofs.FirstRefusals.{Reached}
+use Rattle.cert_laws.proofs.Spelt.{have_both, pass_both, text_both}
+use Rattle.cert_openings.specs.Openings.{Opening, ortho_opening, quasi_opening, certificate_for, IsRead}
+use Rattle.cert_openings.proofs.OneEnd.{first_line}
+use Rattle.cert_words.specs.declared.error.CertError.{CertError}
+use Rattle.cert_words.specs.declared.error.CertError.TheVariants.{CertSyntax, UnknownName, WrongArity, BadNumber, CertTooDeep, TooMany, NoMemory}
+use Rattle.cert_words.specs.Words.{told}
+use Rattle.cert_words.specs.CertRefusals.{IsRefusedAs}
+use Rattle.cert_words.specs.Walks.{left_at, Walks, tagged, AreFound, Run}
+use Rattle.cert_words.proofs.Walking.{found_then}
+use Rattle.cert_words.proofs.Whole.{walks_text, walks_pass, walks_reached, start_reached}
+use Rattle.cert_reading.specs.Plain.{ArePlainPairs, IsPlain}
+use Rattle.cert_reading.specs.Stops.{Anywhere, StopsWhere, IsStoppedWhere}
+use Rattle.cert_reading.proofs.Found.{walks_named}
+use Rattle.cert_reading.proofs.FoundWhole.{certificate_found}
+use Rattle.cert_text.specs.ReadingView.{place_of, read_marks}
+use Rattle.cert_text.proofs.Entries.{last_line, front, yes_line}
+
+-- ---- a run to the end
+
+pub whole_found : (names : NameTable) (bytes : List ℕ) (given : Option Bool) (c : Certificate) → IsPlain c → Run names (length bytes) (opening ∷ []) (λ u. certificate_marks u given c) [] bytes [] → IsCertificateText names bytes c
+whole_found names bytes given c p r =
+    let ms = certificate_marks (name_of names) given c in
+    let w = r.walks (omega arith) [] in
+    certificate_found c names given bytes p (walks_named names ms _ _ w) (walks_pass names ms _ _ w) r.found (walks_text names ms _ _ w ∙ append-nil (marks_text ms))
+
+-- ---- a run behind an opening and entries
+
+plain_for : (o : Opening) (es : List PairEntry) → ArePlainPairs es → IsPlain (certificate_for o es)
+plain_for ortho_opening es p = p
+plain_for (quasi_opening m) es p = p
+
+-- the last line behind them
+closed : (u : Naming) (given : Option Bool) (o : Opening) (es : List PairEntry) → read_marks u given o es ++ closing ≡ certificate_marks u given (certificate_for o es)
+closed u given o es = append_assoc (answer_marks given) (fixed (codes "concon 1\n") ∷ body_marks u given (certificate_for o es)) closing
+
+front_of : (names : NameTable) (t : List ℕ) (o : Opening) (es : List PairEntry) → (t ++ last_line ≡ certificate_text names (certificate_for o es)) ⊎ (t ++ last_line ≡ answer_line (certificate_for o es) ++ certificate_text names (certificate_for o es))
+    → (answer : List ℕ) × ((answer ≡ []) ⊎ (answer ≡ codes "YES\n")) × (t ≡ front names answer o es)
+front_of names t o es (inl e) = ([], inl refl, append_cancel_right t (first_line ++ body_text names (certificate_for o es)) last_line (e ∙ sym (append_assoc first_line (body_text names (certificate_for o es)) last_line)))
+front_of names t o es (inr e) =
+    let body = body_text names (certificate_for o es) in (
+      codes "YES\n",
+      inr refl,
+      append_cancel_right t (codes "YES\n" ++ (first_line ++ body)) last_line
+          (e ∙ ap (λ (a : List ℕ). a ++ certificate_text names (certificate_for o es)) (sym (yes_line o es)) ∙ ap (λ (w : List ℕ). codes "YES\n" ++ w) (sym (append_assoc first_line body last_line)) ∙ sym (append_assoc (codes "YES\n") (first_line ++ body) last_line)),
+    )
+
+ungroup : (a f b r : List ℕ) → (a ++ (f ++ b)) ++ r ≡ a ++ (f ++ (b ++ r))
+ungroup a f b r = simp append_assoc
+
+pub run_read : (names : NameTable) (bytes left : List ℕ) (given : Option Bool) (o : Opening) (es : List PairEntry) (to : List Item) → ArePlainPairs es → Run names (length bytes) (opening ∷ []) (λ u. read_marks u given o es) to bytes left → (r : IsRead names bytes o es (place_of bytes left)) × (r.rest ≡ left)
+run_read names bytes left given o es to p r =
+    let ms = read_marks (name_of names) given o es in
+    let c = certificate_for o es in
+    let w = r.walks (omega arith) [] in
+    let text = walks_text names ms _ _ w in
+    let named = subst HaveNames (closed (name_of names) given o es) (have_both ms closing (walks_named names ms _ _ w) tt) in
+    let passed = subst (Pass names) (closed (name_of names) given o es) (pass_both names ms closing (walks_pass names ms _ _ w) (refl, tt)) in
+    let found = subst (AreFound names) (closed tagged given o es) (found_then names (read_marks tagged given o es) closing r.found tt) in
+    let whole = certificate_found c names given (marks_text ms ++ last_line) (plain_for o es p) named passed found (sym (text_both ms closing) ∙ ap marks_text (closed (name_of names) given o es)) in
+    let at_front = front_of names (marks_text ms) o es whole.text in
+    let long = ap length text ∙ length-append (marks_text ms) left in (
+      record {
+        answer = at_front.0;
+        is_answer = at_front.1;
+        rest = left;
+        text = text ∙ ap (λ (t : List ℕ). t ++ left) at_front.2 ∙ ungroup at_front.0 first_line (body_text names c) left;
+        place = (let q : place_of bytes left + length left ≡ length bytes = omega (arith, long) in q);
+        spelt = whole.spelt;
+      },
+      refl,
+    )
+
+-- ---- refusals
+
+stop_refused : (names : NameTable) (bytes : List ℕ) (e : CertificateCause × ℕ) → StopsWhere Anywhere names (length bytes) (opening ∷ []) bytes e → IsCertificateRefused names bytes e.0 e.1
+stop_refused names bytes e s = refuses_rightly names bytes (left_at (length bytes) (s.item ∷ s.more) s.rest) e.0 e.1 (walks_reached names bytes s.marks _ _ (start_reached names bytes) s.walks) s.refused
+
+-- what is told where a reader stops is the refusal of the text
+pub refused_as : (names : NameTable) (bytes : List ℕ) (e : CertError) → IsStoppedWhere Anywhere names (length bytes) (opening ∷ []) bytes (told e) → IsRefusedAs names bytes e
+refused_as names bytes (CertSyntax at) s = stop_refused names bytes _ (s (omega arith))
+refused_as names bytes (UnknownName at) s = stop_refused names bytes _ (s (omega arith))
+refused_as names bytes (WrongArity at) s = stop_refused names bytes _ (s (omega arith))
+refused_as names bytes (BadNumber at) s = stop_refused names bytes _ (s (omega arith))
+refused_as names bytes (CertTooDeep at) s = stop_refused names bytes _ (s (omega arith))
+refused_as names bytes (TooMany what at) s = stop_refused names bytes _ (s (omega arith))
+refused_as names bytes NoMemory s = tt
+
+-- bytes behind the last line are refused
+pub refused_behind : (names : NameTable) (bytes left : List ℕ) (marks : Naming → List Mark) (at : ℕ) → (left ≡ [] → ⊥) → at ≡ length bytes - length left → Run names (length bytes) (opening ∷ []) marks [] bytes left → IsCertificateRefused names bytes syntax at
+refused_behind names bytes [] marks at some e r = absurd (some refl)
+refused_behind names bytes (b ∷ left) marks at some e r =
+    subst (λ (n : ℕ). IsCertificateRefused names bytes syntax n) (sym e)
+    (refuses_rightly names bytes (left_at (length bytes) [] (b ∷ left)) syntax (length bytes - length (b ∷ left)) (walks_reached names bytes (marks (name_of names)) _ _ (start_reached names bytes) (r.walks (omega arith) [])) refl)
+
+-- the refusal that an error tells
+as_told : (names : NameTable) (bytes : List ℕ) (x y : CertificateCause × ℕ) → IsCertificateRefused names bytes x.0 x.1 → ◌≡◌ {A = Option (CertificateCause × ℕ)} (Some x) (Some y) → IsCertificateRefused names bytes y.0 y.1
+as_told names bytes x y h e = let same : x ≡ y = cc in subst (λ (z : CertificateCause × ℕ). IsCertificateRefused names bytes z.0 z.1) same h
+
+pub refused_as_told : (names : NameTable) (bytes : List ℕ) (e : CertError) (f : CertificateCause) (at : ℕ) → IsRefusedAs names bytes e → told e ≡ Some (f, at) → IsCertificateRefused names bytes f at
+refused_as_told names bytes (CertSyntax place) f at h t = as_told names bytes _ (f, at) h t
+refused_as_told names bytes (UnknownName place) f at h t = as_told names bytes _ (f, at) h t
+refused_as_told names bytes (WrongArity place) f at h t = as_told names bytes _ (f, at) h t
+refused_as_told names bytes (BadNumber place) f at h t = as_told names bytes _ (f, at) h t
+refused_as_told names bytes (CertTooDeep place) f at h t = as_told names bytes _ (f, at) h t
+refused_as_told names bytes (TooMany what place) f at h t = as_told names bytes _ (f, at) h t
+refused_as_told names bytes NoMemory f at h t = absurd cc
+
+-- ---- bytes that are left, or none
+
+pub no_bytes : (b : List ℕ) → length b ≡ 0 → b ≡ []
+no_bytes [] e = refl
+no_bytes (x ∷ b) e = absurd (omega (arith, e))
+
+pub some_bytes : (b : List ℕ) → 0 < length b → b ≡ [] → ⊥
+some_bytes b h e = let none = ap length e in omega (arith, h, none)
+
+pub run_to : (names : NameTable) (end : ℕ) (from to : List Item) (f : Naming → List Mark) (b r : List ℕ) → r ≡ [] → Run names end from f to b r → Run names end from f to b []
+run_to names end from to f b r e h = subst (Run names end from f to b) e h

@@ -1,0 +1,10 @@
+pub mod Scanning
+pub mod Fronts
+pub mod Judging
+pub mod BadParts
+pub mod Walking
+pub mod Stepping
+pub mod NodeReads
+pub mod Choosing
+pub mod Exact
+pub mod Whole

@@ -1,0 +1,38 @@
+-- Nodes, and what stands behind them.
+use Rattle.std.proofs.Common.{◌≡◌, ◌+◌, ℕ, suc, List, [], ◌∷◌, Some, length, refl, ap, zero, ◌≤◌, ◌-◌, arith}
+use Rattle.cops_names.specs.NameTable.{NameTable}
+use Rattle.cert_grammar.specs.Marks.{Naming, Mark}
+use Rattle.cert_grammar.specs.WordMarks.{is_node}
+use Rattle.cert_grammar.specs.Items.{Frame, Item, name_lead, variable_lead, leads, node, name_behind, term_behind}
+use Rattle.cert_words.specs.declared.error.CertError.{CertError}
+use Rattle.cert_words.specs.declared.reading.Reading.{Reading}
+use Rattle.cert_words.specs.declared.nodes.Node.{Node}
+use Rattle.cert_words.specs.declared.nodes.Node.TheVariants.{Symbol, Variable}
+use Rattle.cert_words.specs.Walks.{Reads}
+use Rattle.cert_words.specs.Nodes.{NodeRead}
+use Rattle.cert_words.proofs.Walking.{already}
+
+pub node_leads : (n depth : ℕ) (g : Frame) (fs : List Frame) → suc (suc (length fs)) ≡ depth → leads (node n (g ∷ fs)) ≡ name_lead (is_node depth n) (λ name. name_behind (suc n) name (g ∷ fs) ∷ []) ∷ variable_lead (is_node depth n) (term_behind (suc n) (g ∷ fs) ∷ []) ∷ []
+node_leads n depth g fs e = ap (λ (d : ℕ). name_lead (is_node d n) (λ name. name_behind (suc n) name (g ∷ fs) ∷ []) ∷ variable_lead (is_node d n) (term_behind (suc n) (g ∷ fs) ∷ []) ∷ []) e
+
+pub refused_node : (names : NameTable) (end : ℕ) (i : Item) (depth n : ℕ) (new : List ℕ → List Item) (other to : List Item) (marks : Naming → List Mark) (s t : Reading) (r : Node) (e : CertError) → t.refused ≡ Some e → NodeRead names end i depth n new other s t r → Reads names end (i ∷ []) marks to s t
+refused_node names end i depth n new other to marks s t (Symbol f) e q h = already e q h
+refused_node names end i depth n new other to marks s t (Variable x) e q h = already e q h
+
+pub suc_is : (n : ℕ) → suc n ≡ n + 1
+suc_is n = omega arith
+
+pub any_frame : Frame
+any_frame = record { name = []; argument = 0 }
+
+-- so many frames
+abbrev pub frames : ℕ → List Frame
+frames zero = []
+frames (suc k) = any_frame ∷ frames k
+
+frames_length : (k : ℕ) → length (frames k) ≡ k
+frames_length zero = refl
+frames_length (suc k) = ap suc (frames_length k)
+
+pub frames_deep : (depth : ℕ) → 2 ≤ depth → suc (suc (length (frames (depth - 2)))) ≡ depth
+frames_deep depth h = let e = frames_length (depth - 2) in omega (arith, e, h)

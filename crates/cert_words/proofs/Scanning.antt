@@ -1,0 +1,35 @@
+-- How far words are read at a place inside bytes.
+use Rattle.std.proofs.Common.{◌≡◌, ◌+◌, ◌<◌, ℕ, suc, List, ◌∷◌, Option, Some, None, option_map, length, drop, get_or, sym, ap, ◌∙◌, add-one, arith}
+use Rattle.std.proofs.Math.Seq.{drop-cons}
+use Rattle.cert_words.specs.declared.scans.Mode as code
+use Rattle.cert_grammar.specs.Scans.{Mode, Scan, scan, scan_next, next}
+use Rattle.cert_words.specs.Words.{mode_view}
+
+-- behind so many bytes of the longest front that begins a word, with the rest of it
+pub record ScansOn (begins : Mode) (bytes : List ℕ) (m : Mode) (at : ℕ) : Type 0 where
+  pub size : (scan begins bytes).size ≡ at + (scan m (drop at bytes)).size
+  pub mode : (scan begins bytes).mode ≡ (scan m (drop at bytes)).mode
+
+-- with the first byte
+pub scan_cons : (m : Mode) (b : ℕ) (bs rest : List ℕ) (n : Option Mode) → rest ≡ b ∷ bs → next m b ≡ n → scan m rest ≡ scan_next m n (λ k. scan k bs)
+scan_cons m b bs rest n e f = rw e (ap (λ (k : Option Mode). scan_next m k (λ j. scan j bs)) f)
+
+here : (m : Mode) (bytes : List ℕ) (at : ℕ) (n : Option Mode) → at < length bytes → n ≡ next m (get_or bytes at 0) → scan m (drop at bytes) ≡ scan_next m n (λ k. scan k (drop (at + 1) bytes))
+here m bytes at n h e = rw add-one (scan_cons m (get_or bytes at 0) (drop (suc at) bytes) (drop at bytes) n (drop-cons bytes at 0 h) (sym e))
+
+-- no word goes on with the byte here
+pub scan_stops : (begins m : Mode) (bytes : List ℕ) (at : ℕ) (r : Option code.Mode) → ScansOn begins bytes m at → at < length bytes → option_map mode_view r ≡ next m (get_or bytes at 0) → r ≡ None → (at ≡ (scan begins bytes).size) × (m ≡ (scan begins bytes).mode)
+scan_stops begins m bytes at r s h e none =
+    let it = here m bytes at None h (sym (ap (option_map mode_view) none) ∙ e) in
+    let size : (scan m (drop at bytes)).size ≡ 0 = ap (λ (x : Scan). x.size) it in
+    let mode : (scan m (drop at bytes)).mode ≡ m = ap (λ (x : Scan). x.mode) it in
+    let all = s.size in
+    (omega (arith, size, all), sym (s.mode ∙ mode))
+
+pub scan_goes_on : (begins m : Mode) (bytes : List ℕ) (at : ℕ) (r : Option code.Mode) (k : code.Mode) → ScansOn begins bytes m at → at < length bytes → option_map mode_view r ≡ next m (get_or bytes at 0) → r ≡ Some k → ScansOn begins bytes (mode_view k) (at + 1)
+scan_goes_on begins m bytes at r k s h e some =
+    let it = here m bytes at (Some (mode_view k)) h (sym (ap (option_map mode_view) some) ∙ e) in
+    let size : (scan m (drop at bytes)).size ≡ suc (scan (mode_view k) (drop (at + 1) bytes)).size = ap (λ (x : Scan). x.size) it in
+    let mode : (scan m (drop at bytes)).mode ≡ (scan (mode_view k) (drop (at + 1) bytes)).mode = ap (λ (x : Scan). x.mode) it in
+    let all = s.size in
+    record { size = omega (arith, size, all); mode = s.mode ∙ mode }

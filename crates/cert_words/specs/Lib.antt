@@ -1,0 +1,5 @@
+pub mod Words
+pub mod Walks
+pub mod Nodes
+pub mod Choices
+pub mod CertRefusals

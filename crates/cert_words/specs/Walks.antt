@@ -1,0 +1,100 @@
+-- How a part of a text is read: along the marks of a value, or up to a refusal.
+use Rattle.std.specs.Prelude.{◌≡◌, ◌≤◌, ◌-◌, nat_le, nat_lt, ◌&&◌, true, false, ℕ, List, [], ◌∷◌, ◌++◌, length, take, Option, Some, None, Result, Ok, Err, Vec}
+use Rattle.std.specs.Global.{Global}
+use Rattle.certificates.specs.Evidence.{Transition}
+use Rattle.cops_names.specs.NameTable.{NameTable, number_of}
+use Rattle.cert_grammar.specs.Words.{name_of}
+use Rattle.cert_grammar.specs.Marks.{CertificateCause, Naming, Mark, fixed, word, symbol, behind, verdict}
+use Rattle.cert_grammar.specs.WordMarks.{are_places}
+use Rattle.cert_grammar.specs.Scans.{value}
+use Rattle.cert_grammar.specs.Items.{Item, Lead, leads}
+use Rattle.cert_grammar.specs.FirstRefusal.{first_there, taken, mark_of, Left, refuses, goes_on, step}
+use Rattle.cert_words.specs.declared.error.CertError.{CertError}
+use Rattle.cert_words.specs.declared.reading.Reading.{Reading}
+use Rattle.cert_words.specs.Words.{told, IsTold}
+
+-- where the reader is with these bytes left of a text of so many
+abbrev pub left_at : ℕ → List Item → List ℕ → Left
+left_at end items bytes = record { at = end - length bytes; items = items; bytes = bytes }
+
+-- a step that goes on, and the mark over which it goes
+pub record StepsOver (names : NameTable) (l : Left) (m : Mark) (k : Left) : Type 0 where
+  pub item : Item
+  pub others : List Item
+  pub items : l.items ≡ item ∷ others
+  pub lead : Lead
+  pub first : first_there (leads item) l.bytes ≡ Some lead
+  pub mark : m ≡ mark_of lead (take (taken lead l.bytes) l.bytes)
+  pub goes : step names l ≡ goes_on k
+
+abbrev pub Walks : NameTable → List Mark → Left → Left → Type 0
+Walks names [] l k = l ≡ k
+Walks names (m ∷ ms) l k = (j : Left) × StepsOver names l m j × Walks names ms j k
+
+-- a symbol is the one that is found by its name; each is named by its number alone here
+abbrev pub tagged : Naming
+tagged f = f ∷ []
+
+abbrev pub IsFound : NameTable → List ℕ → Type 0
+IsFound names [] = Unit {0}
+IsFound names (f ∷ others) = number_of names.symbols (name_of names f) ≡ Some f
+
+abbrev pub AreFound : NameTable → List Mark → Type 0
+AreFound names [] = Unit {0}
+AreFound names (fixed bytes ∷ ms) = AreFound names ms
+AreFound names (word bytes demands ∷ ms) = AreFound names ms
+AreFound names (symbol name demands ∷ ms) = IsFound names name × AreFound names ms
+AreFound names (behind demand ∷ ms) = AreFound names ms
+
+-- from these items on to those, along the marks of a value, whatever items are behind them
+pub record Run (names : NameTable) (end : ℕ) (from : List Item) (marks : Naming → List Mark) (to : List Item) (bytes rest : List ℕ) : Type 0 where
+  pub walks : length bytes ≤ end → (items : List Item) → Walks names (marks (name_of names)) (left_at end (from ++ items) bytes) (left_at end (to ++ items) rest)
+  pub found : AreFound names (marks tagged)
+
+-- what is told is the refusal at this item, whatever items are behind it; wanting memory tells nothing
+abbrev pub IsStuckAt : NameTable → ℕ → Item → List ℕ → Option (CertificateCause × ℕ) → Type 0
+IsStuckAt names end i bytes None = Unit {0}
+IsStuckAt names end i bytes (Some e) = (items : List Item) → step names (left_at end (i ∷ items) bytes) ≡ refuses e.0 e.1
+
+-- a refusal before the items behind these
+pub record StopsAt (names : NameTable) (end : ℕ) (from items : List Item) (bytes : List ℕ) (e : CertificateCause × ℕ) : Type 0 where
+  pub marks : List Mark
+  pub item : Item
+  pub more : List Item
+  pub rest : List ℕ
+  pub walks : Walks names marks (left_at end (from ++ items) bytes) (left_at end (item ∷ (more ++ items)) rest)
+  pub refused : step names (left_at end (item ∷ (more ++ items)) rest) ≡ refuses e.0 e.1
+
+-- the same of what is told; wanting memory tells nothing
+abbrev pub IsStopped : NameTable → ℕ → List Item → List ℕ → Option (CertificateCause × ℕ) → Type 0
+IsStopped names end from bytes None = Unit {0}
+IsStopped names end from bytes (Some e) = length bytes ≤ end → (items : List Item) → StopsAt names end from items bytes e
+
+-- what was refused stays so; else the part is read, or refused
+abbrev pub ReadsOn : NameTable → ℕ → List Item → (Naming → List Mark) → List Item → List ℕ → List ℕ → Option CertError → Option CertError → Type 0
+ReadsOn names end from marks to bytes rest None None = Run names end from marks to bytes rest
+ReadsOn names end from marks to bytes rest (Some d) None = ⊥
+ReadsOn names end from marks to bytes rest None (Some e) = IsStopped names end from bytes (told e)
+ReadsOn names end from marks to bytes rest (Some d) (Some e) = told e ≡ told d
+
+pub record Reads (names : NameTable) (end : ℕ) (from : List Item) (marks : Naming → List Mark) (to : List Item) (old new : Reading) : Type 0 where
+  pub on : ReadsOn names end from marks to old.left.now new.left.now old.refused new.refused
+
+-- the number that digits spell, where it is in a range
+abbrev pub IsWithin : ℕ → ℕ → List ℕ → Option ℕ → Type 0
+IsWithin least bound digits None = (nat_le least (value digits) && nat_lt (value digits) bound) ≡ false
+IsWithin least bound digits (Some n) = (n ≡ value digits) × ((nat_le least (value digits) && nat_lt (value digits) bound) ≡ true)
+
+-- the numbers of a position, or why they are none, if not for want of memory
+abbrev pub IsPlaces : NameTable → ℕ → List ℕ → Result (Vec ℕ Global) CertError → Type 0
+IsPlaces names at p (Ok places) = (places.items ≡ p) × (verdict names at (are_places 0 p) ≡ None)
+IsPlaces names at p (Err e) = IsTold (verdict names at (are_places 0 p)) (told e)
+
+-- a variable has no states: its marks do not show them
+abbrev pub HasNoStates : Option ℕ → List ℕ → Type 0
+HasNoStates None states = states ≡ []
+HasNoStates (Some f) states = Unit {0}
+
+abbrev pub AreWithoutStates : List Transition → Type 0
+AreWithoutStates [] = Unit {0}
+AreWithoutStates (t ∷ ts) = HasNoStates t.symbol t.arguments × AreWithoutStates ts

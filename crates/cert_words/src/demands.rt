@@ -1,0 +1,68 @@
+//! What words must meet.
+
+ghost use Rattle.std.specs.Prelude.{◌≡◌, ◌≤◌, ◌<◌, None, Some, MatchOption};
+ghost use Rattle.cops_names.specs.NameTable.{NameTable, number_of};
+ghost use Rattle.cert_grammar.specs.Words.{largest, IsIdentifier};
+ghost use Rattle.cert_grammar.specs.Marks as spec;
+ghost use Rattle.cert_grammar.specs.Scans as scans;
+ghost use Rattle.cert_words.specs.Words.{counted_view};
+
+use crate::error::CertCount;
+use cert_grammar::{
+    MOST_ENTRIES, MOST_NUMBERS, MOST_PAIRS, MOST_REDEXES, MOST_STATES, MOST_STEPS, MOST_TRANSITIONS,
+};
+use cops_names::Names;
+use std::str;
+use term_core::MAX_NODES;
+
+/// The greatest number.
+pub const LARGEST: u64 = 4_294_967_295;
+
+pub fn limit(what: CertCount) -> usize
+    ensures { result ≡ spec.limit (counted_view what) }
+{
+    match what {
+        CertCount::Pairs => MOST_PAIRS as usize,
+        CertCount::Entries => MOST_ENTRIES as usize,
+        CertCount::Numbers => MOST_NUMBERS,
+        CertCount::Steps => MOST_STEPS as usize,
+        CertCount::Redexes => MOST_REDEXES as usize,
+        CertCount::States => MOST_STATES as usize,
+        CertCount::Transitions => MOST_TRANSITIONS as usize,
+        CertCount::Nodes => MAX_NODES as usize,
+    }
+}
+
+// the number that the digits spell, unless it is too great
+pub fn value(digits: &[u8]) -> Option<u32>
+    ensures { MatchOption result (largest < scans.value digits.now) (λ n. (n ≡ scans.value digits.now) × (n ≤ largest)) }
+{
+    let mut value: u64 = 0;
+    'digits: for b in digits {
+        value = 10 * value + (*b as u64).saturating_sub(48);
+        if value > LARGEST {
+            return None;
+        }
+    }
+    Some(value as u32)
+}
+
+// the name, and the symbol that it is of
+fn numbered<'a>(names: &Names, name: &'a str) -> Option<(&'a str, u32)>
+    ensures { MatchOption result (number_of names.now.symbols name.now ≡ None) (λ x. (x.0.now ≡ name.now) × (number_of names.now.symbols name.now ≡ Some x.1)) }
+{
+    match names.symbol_number(name) {
+        Some(f) => Some((name, f)),
+        None => None,
+    }
+}
+
+// the name as text, and the symbol that it is of
+pub fn symbol<'a>(names: &Names, name: &'a [u8]) -> Option<(&'a str, u32)>
+    ensures { MatchOption result (IsIdentifier name.now → number_of names.now.symbols name.now ≡ None) (λ x. (x.0.now ≡ name.now) × (number_of names.now.symbols name.now ≡ Some x.1)) }
+{
+    match str::from_utf8(name) {
+        Ok(text) => numbered(names, text),
+        Err(_) => None,
+    }
+}

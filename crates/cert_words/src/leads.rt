@@ -1,0 +1,114 @@
+//! What can stand first of a part, and how far the longest front goes that begins so.
+
+ghost use Rattle.std.specs.Prelude.{◌≡◌, ◌≤◌, ◌+◌, ◌-◌, MatchOption, ℕ, Some, length, map, true, false};
+ghost use Rattle.cert_grammar.specs.Marks.{syntax};
+ghost use Rattle.cert_grammar.specs.FirstRefusal as spec;
+ghost use Rattle.cert_words.specs.declared.leads.Lead.TheVariants as leading;
+ghost use Rattle.cert_words.specs.Words.{mode_view, bare, told, IsLeadRead};
+
+use crate::error::CertError;
+use crate::scans::{Mode, is_word, scan};
+use cert_grammar::behind;
+use cops_lex::is_id;
+
+/// What can stand first of a part.
+#[derive(Clone, Copy, Drop)]
+pub enum Lead {
+    /// These bytes.
+    Text(&'static [u8]),
+    /// No bytes, where this byte comes next.
+    Check(u8),
+    /// This word, whole.
+    Keyword(&'static [u8]),
+    Number,
+    Position,
+    /// A bar and a number.
+    Variable,
+    Name,
+}
+
+fn mode_of(lead: Lead) -> Mode
+    ensures { mode_view result ≡ spec.mode_of (bare lead) }
+{
+    match lead {
+        Lead::Text(word) | Lead::Keyword(word) => Mode::Spelling(word),
+        Lead::Check(b) => Mode::Byte(b),
+        Lead::Number => Mode::NumberBegins,
+        Lead::Position => Mode::PlaceBegins,
+        Lead::Variable => Mode::BarBegins,
+        Lead::Name => Mode::NameBegins,
+    }
+}
+
+// words end where no byte of an identifier follows
+fn ends_here(rest: &[u8]) -> bool
+    ensures { result ≡ spec.ends_here rest.now }
+{
+    match rest {
+        [] => true,
+        [b, ..] => !is_id(*b),
+    }
+}
+
+fn ends_lead(lead: Lead, rest: &[u8]) -> bool
+    ensures { result ≡ spec.ends_lead (bare lead) rest.now }
+{
+    match lead {
+        Lead::Text(_) | Lead::Check(_) => true,
+        Lead::Keyword(_) | Lead::Number | Lead::Position | Lead::Variable | Lead::Name => {
+            ends_here(rest)
+        }
+    }
+}
+
+/// The bytes that are read with the lead, and what is behind them, where all of the lead is there.
+pub fn front(lead: Lead, left: &[u8]) -> Option<(&[u8], &[u8])>
+    ensures { MatchOption result (spec.is_there (bare lead) left.now ≡ false) (λ x. IsLeadRead (bare lead) left.now x.0.now x.1.now) }
+{
+    match lead {
+        Lead::Text(word) => match behind(left, word) {
+            Some(rest) => Some((word, rest)),
+            None => None,
+        },
+        Lead::Check(b) => match behind(left, &[b]) {
+            Some(_) => Some((b"", left)),
+            None => None,
+        },
+        other => whole(other, left),
+    }
+}
+
+// the same of a word, which ends where no byte of an identifier follows
+fn whole(lead: Lead, left: &[u8]) -> Option<(&[u8], &[u8])>
+    requires { (b : ℕ) → lead ≡ leading.Check b → ⊥ }
+    ensures { MatchOption result (spec.is_there (bare lead) left.now ≡ false) (λ x. IsLeadRead (bare lead) left.now x.0.now x.1.now) }
+{
+    let (size, mode) = scan(mode_of(lead), left);
+    let (word, rest) = left.split_at(size);
+    if !is_word(mode) || !ends_lead(lead, rest) {
+        return None;
+    }
+    Some((word, rest))
+}
+
+/// The longest front with which one of the leads can begin.
+pub fn longest(leads: &[Lead], left: &[u8]) -> usize
+    ensures longest { result ≡ spec.longest (map bare leads.now) left.now }
+    ensures within { result ≤ length left.now }
+{
+    let mut most = 0;
+    'leads: for lead in leads {
+        let (size, _) = scan(mode_of(*lead), left);
+        most = most.max(size);
+    }
+    most
+}
+
+/// The place of the first byte that goes on with none of the leads.
+pub fn stuck(leads: &[Lead], left: &[u8], end: usize) -> CertError
+    ensures { told result ≡ Some (syntax, (end - length left.now) + spec.longest (map bare leads.now) left.now) }
+{
+    CertError::CertSyntax {
+        at: end.saturating_sub(left.len()) + longest(leads, left),
+    }
+}

@@ -1,0 +1,156 @@
+//! Nodes of terms, and what stands behind symbols.
+
+ghost use Rattle.std.specs.Prelude.{◌≡◌, ◌≤◌, ◌+◌, ℕ, true, false, List, [], ◌∷◌, None, length, codes, MatchOption};
+ghost use Rattle.cops_names.specs.NameTable.{NameTable};
+ghost use Rattle.cert_grammar.specs.Words.{name_of};
+ghost use Rattle.cert_grammar.specs.Marks.{meets, verdict, has_arity, fixed, behind};
+ghost use Rattle.cert_grammar.specs.WordMarks.{is_node};
+ghost use Rattle.cert_grammar.specs.Items.{Item, leads};
+ghost use Rattle.cert_grammar.specs.Items as spec;
+ghost use Rattle.cert_words.specs.Words.{told};
+ghost use Rattle.cert_words.specs.Walks.{Reads};
+ghost use Rattle.cert_words.specs.Nodes.{NodeRead, IsFoundNode, IsBarNumber};
+ghost use Rattle.cert_words.specs.declared.nodes.Next.TheVariants as next;
+
+use crate::demands::{symbol, value};
+use crate::error::{CertCount, CertError};
+use crate::leads::{Lead, front, stuck};
+use crate::reading::Reading;
+use cops_names::Names;
+use term_core::{MAX_DEPTH, MAX_NODES};
+
+/// A node: the number of its symbol, or of its variable.
+#[derive(Clone, Copy, Drop)]
+pub enum Node {
+    Symbol(u32),
+    Variable(u32),
+}
+
+/// What stands behind a symbol's name.
+#[derive(Clone, Copy, Drop)]
+pub enum Next {
+    Open,
+    Comma,
+    Close,
+}
+
+// why a node may not have this depth and this number
+fn missed(depth: usize, n: usize, at: usize) -> Option<CertError>
+    ensures refused { MatchOption result ((names : NameTable) → verdict names at (is_node depth n) ≡ None) (λ e. (names : NameTable) → verdict names at (is_node depth n) ≡ told e) }
+    ensures shallow { result ≡ None → depth ≤ 400 }
+    ensures few { result ≡ None → n ≤ 10000 }
+{
+    if n > MAX_NODES as usize {
+        return Some(CertError::TooMany {
+            what: CertCount::Nodes,
+            at,
+        });
+    }
+    if depth > MAX_DEPTH as usize {
+        return Some(CertError::CertTooDeep { at });
+    }
+    None
+}
+
+// the number behind the bar
+fn bar_number(word: &[u8]) -> Option<u32>
+    ensures { IsBarNumber word.now result }
+{
+    match word {
+        [] => None,
+        [_, digits @ ..] => value(digits),
+    }
+}
+
+/// A node at this depth, the one with this number.
+pub fn next_node(names: &Names, end: usize, at: &mut Reading, depth: usize, n: usize) -> Node
+    ensures read { (i : Item) (new : List ℕ → List Item) (other : List Item) → leads i ≡ spec.name_lead (is_node depth n) new ∷ spec.variable_lead (is_node depth n) other ∷ [] → NodeRead names.now end i depth n new other at.old at.new result }
+    ensures found { at.new.refused ≡ None → IsFoundNode names.now result }
+    ensures shallow { at.new.refused ≡ None → depth ≤ 400 }
+    ensures few { at.new.refused ≡ None → n ≤ 10000 }
+{
+    if at.refused.is_some() {
+        return Node::Variable(0);
+    }
+    let place = end.saturating_sub(at.left.len());
+    if let Some((name, rest)) = front(Lead::Name, at.left) {
+        let Some((_, f)) = symbol(names, name) else {
+            at.refused = Some(CertError::UnknownName { at: place });
+            return Node::Variable(0);
+        };
+        match missed(depth, n, place) {
+            Some(refused) => at.refused = Some(refused),
+            None => at.left = rest,
+        }
+        return Node::Symbol(f);
+    }
+    let Some((word, rest)) = front(Lead::Variable, at.left) else {
+        at.refused = Some(stuck(&[Lead::Name, Lead::Variable], at.left, end));
+        return Node::Variable(0);
+    };
+    let Some(x) = bar_number(word) else {
+        at.refused = Some(CertError::BadNumber { at: place + 1 });
+        return Node::Variable(0);
+    };
+    match missed(depth, n, place) {
+        Some(refused) => at.refused = Some(refused),
+        None => at.left = rest,
+    }
+    Node::Variable(x)
+}
+
+/// A bracket; or none, and a comma or the other bracket comes next, where a symbol has no arguments.
+pub fn opened_or(end: usize, at: &mut Reading, met: bool) -> Next
+    ensures opened { result ≡ next.Open → (names : NameTable) (f n : ℕ) (i : Item) (new comma close : List Item) → leads i ≡ spec.text (codes "(") new ∷ spec.check (has_arity (name_of names f) n) 44 comma ∷ spec.check (has_arity (name_of names f) n) 41 close ∷ [] → Reads names end (i ∷ []) (λ u. fixed (codes "(") ∷ []) new at.old at.new }
+    ensures comma { result ≡ next.Comma → (names : NameTable) (f n : ℕ) (i : Item) (new comma close : List Item) → leads i ≡ spec.text (codes "(") new ∷ spec.check (has_arity (name_of names f) n) 44 comma ∷ spec.check (has_arity (name_of names f) n) 41 close ∷ [] → meets names (has_arity (name_of names f) n) ≡ met → Reads names end (i ∷ []) (λ u. behind (has_arity (u f) n) ∷ []) comma at.old at.new }
+    ensures close { result ≡ next.Close → (names : NameTable) (f n : ℕ) (i : Item) (new comma close : List Item) → leads i ≡ spec.text (codes "(") new ∷ spec.check (has_arity (name_of names f) n) 44 comma ∷ spec.check (has_arity (name_of names f) n) 41 close ∷ [] → meets names (has_arity (name_of names f) n) ≡ met → Reads names end (i ∷ []) (λ u. behind (has_arity (u f) n) ∷ []) close at.old at.new }
+{
+    if at.refused.is_some() {
+        return Next::Close;
+    }
+    if let Some((_, rest)) = front(Lead::Text(b"("), at.left) {
+        at.left = rest;
+        return Next::Open;
+    }
+    let place = end.saturating_sub(at.left.len());
+    if let Some(_) = front(Lead::Check(b','), at.left) {
+        if !met {
+            at.refused = Some(CertError::WrongArity { at: place });
+        }
+        return Next::Comma;
+    }
+    let Some(_) = front(Lead::Check(b')'), at.left) else {
+        let leads = [Lead::Text(b"("), Lead::Check(b','), Lead::Check(b')')];
+        at.refused = Some(stuck(&leads, at.left, end));
+        return Next::Close;
+    };
+    if !met {
+        at.refused = Some(CertError::WrongArity { at: place });
+    }
+    Next::Close
+}
+
+/// Whether a comma comes next, or else the bracket, behind a symbol with so many arguments.
+pub fn closed_or(end: usize, at: &mut Reading, met: bool) -> bool
+    ensures comma { result ≡ true → (names : NameTable) (f n : ℕ) (i : Item) (comma close : List Item) → leads i ≡ spec.check (has_arity (name_of names f) n) 44 comma ∷ spec.check (has_arity (name_of names f) n) 41 close ∷ [] → meets names (has_arity (name_of names f) n) ≡ met → Reads names end (i ∷ []) (λ u. behind (has_arity (u f) n) ∷ []) comma at.old at.new }
+    ensures close { result ≡ false → (names : NameTable) (f n : ℕ) (i : Item) (comma close : List Item) → leads i ≡ spec.check (has_arity (name_of names f) n) 44 comma ∷ spec.check (has_arity (name_of names f) n) 41 close ∷ [] → meets names (has_arity (name_of names f) n) ≡ met → Reads names end (i ∷ []) (λ u. behind (has_arity (u f) n) ∷ []) close at.old at.new }
+{
+    if at.refused.is_some() {
+        return false;
+    }
+    let place = end.saturating_sub(at.left.len());
+    if let Some(_) = front(Lead::Check(b','), at.left) {
+        if !met {
+            at.refused = Some(CertError::WrongArity { at: place });
+        }
+        return true;
+    }
+    let Some(_) = front(Lead::Check(b')'), at.left) else {
+        at.refused = Some(stuck(&[Lead::Check(b','), Lead::Check(b')')], at.left, end));
+        return false;
+    };
+    if !met {
+        at.refused = Some(CertError::WrongArity { at: place });
+    }
+    false
+}

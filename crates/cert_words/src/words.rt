@@ -1,0 +1,338 @@
+//! Words, each of which is read with what it must meet, or refused.
+
+ghost use Rattle.std.specs.Prelude.{◌≡◌, ◌≤◌, ◌<◌, ◌++◌, ◌-◌, ℕ, suc, true, false, List, [], ◌∷◌, None, Some, length, IfSome, IfNone};
+ghost use Rattle.cops_names.specs.NameTable.{NameTable, number_of, arity_at};
+ghost use Rattle.cert_grammar.specs.Words.{largest, name_of};
+ghost use Rattle.cert_grammar.specs.Marks.{is_number, meets, has_arity, in_range, is_few, is_shallow, fixed, word, symbol, behind};
+ghost use Rattle.cert_grammar.specs.Marks.{limit as most};
+ghost use Rattle.cert_grammar.specs.WordMarks.{numeral, position};
+ghost use Rattle.cert_grammar.specs.Items.{Item, leads};
+ghost use Rattle.cert_grammar.specs.Items as spec;
+ghost use Rattle.cert_words.specs.Words.{counted_view, told};
+ghost use Rattle.cert_words.specs.Walks.{Reads, IsStuckAt, IsWithin};
+
+use crate::demands::{limit, symbol, value};
+use crate::error::{CertCount, CertError};
+use crate::leads::{Lead, front, stuck};
+use crate::reading::Reading;
+use cert_grammar::MOST_NESTING;
+use cops_names::Names;
+
+// The place of what is left.
+fn place(end: usize, left: &[u8]) -> usize
+    ensures { result ≡ end - length left.now }
+{
+    end.saturating_sub(left.len())
+}
+
+/// These bytes alone.
+pub fn text(end: usize, at: &mut Reading, bytes: &'static [u8])
+    ensures { (names : NameTable) (i : Item) (new : List Item) → leads i ≡ spec.text bytes.now new ∷ [] → Reads names end (i ∷ []) (λ u. fixed bytes.now ∷ []) new at.old at.new }
+{
+    if at.refused.is_some() {
+        return;
+    }
+    match front(Lead::Text(bytes), at.left) {
+        Some((_, rest)) => at.left = rest,
+        None => at.refused = Some(stuck(&[Lead::Text(bytes)], at.left, end)),
+    }
+}
+
+/// These bytes, or those.
+pub fn either(end: usize, at: &mut Reading, one: &'static [u8], other: &'static [u8]) -> bool
+    requires { 0 < length one.now }
+    ensures one { result ≡ true → (names : NameTable) (i : Item) (new new_other : List Item) → leads i ≡ spec.text one.now new ∷ spec.text other.now new_other ∷ [] → Reads names end (i ∷ []) (λ u. fixed one.now ∷ []) new at.old at.new }
+    ensures other { result ≡ false → (names : NameTable) (i : Item) (new new_other : List Item) → leads i ≡ spec.text one.now new ∷ spec.text other.now new_other ∷ [] → Reads names end (i ∷ []) (λ u. fixed other.now ∷ []) new_other at.old at.new }
+    ensures shorter { result ≡ true → length at.new.left.now < length at.old.left.now }
+{
+    if at.refused.is_some() {
+        return false;
+    }
+    if let Some((_, rest)) = front(Lead::Text(one), at.left) {
+        at.left = rest;
+        return true;
+    }
+    match front(Lead::Text(other), at.left) {
+        Some((_, rest)) => at.left = rest,
+        None => {
+            at.refused = Some(stuck(&[Lead::Text(one), Lead::Text(other)], at.left, end));
+        }
+    }
+    false
+}
+
+// the number that the digits spell, where it is at least the one and below the other
+fn within(digits: &[u8], least: u32, bound: u64) -> Option<u32>
+    requires { bound ≤ suc largest }
+    ensures { IsWithin least bound digits.now result }
+{
+    match value(digits) {
+        Some(n) if least <= n && (n as u64) < bound => Some(n),
+        _ => None,
+    }
+}
+
+/// A number that is at least the one and below the other.
+pub fn number(end: usize, at: &mut Reading, least: u32, bound: u64) -> u32
+    requires { bound ≤ suc largest }
+    ensures read { (names : NameTable) (i : Item) (new : ℕ → List Item) → leads i ≡ spec.numeral_lead (λ n. in_range 0 least bound n ∷ []) new ∷ [] → Reads names end (i ∷ []) (λ u. word (numeral result) (in_range 0 least bound result ∷ []) ∷ []) (new result) at.old at.new }
+    ensures within { length at.new.left.now ≤ length at.old.left.now }
+{
+    if at.refused.is_some() {
+        return 0;
+    }
+    let Some((word, rest)) = front(Lead::Number, at.left) else {
+        at.refused = Some(stuck(&[Lead::Number], at.left, end));
+        return 0;
+    };
+    match within(word, least, bound) {
+        Some(n) => {
+            at.left = rest;
+            n
+        }
+        None => {
+            at.refused = Some(CertError::BadNumber {
+                at: place(end, at.left),
+            });
+            0
+        }
+    }
+}
+
+/// A number that is at least the one, and tells how many follow.
+pub fn counted(end: usize, at: &mut Reading, least: u32, what: CertCount) -> u32
+    ensures { (names : NameTable) (i : Item) (new : ℕ → List Item) → leads i ≡ spec.numeral_lead (λ n. in_range 0 least (suc largest) n ∷ is_few (counted_view what) n ∷ []) new ∷ [] → Reads names end (i ∷ []) (λ u. word (numeral result) (in_range 0 least (suc largest) result ∷ is_few (counted_view what) result ∷ []) ∷ []) (new result) at.old at.new }
+{
+    if at.refused.is_some() {
+        return 0;
+    }
+    let Some((word, rest)) = front(Lead::Number, at.left) else {
+        at.refused = Some(stuck(&[Lead::Number], at.left, end));
+        return 0;
+    };
+    let Some(n) = within(word, least, 4_294_967_296) else {
+        at.refused = Some(CertError::BadNumber {
+            at: place(end, at.left),
+        });
+        return 0;
+    };
+    if n as usize > limit(what) {
+        at.refused = Some(CertError::TooMany {
+            what,
+            at: place(end, at.left),
+        });
+        return 0;
+    }
+    at.left = rest;
+    n
+}
+
+/// The word before a derivation in this nesting.
+pub fn nested(end: usize, at: &mut Reading, bytes: &'static [u8], level: u32)
+    ensures read { (names : NameTable) (i : Item) (new : List Item) → leads i ≡ spec.keyword bytes.now (is_shallow 50 level ∷ []) new ∷ [] → Reads names end (i ∷ []) (λ u. word bytes.now (is_shallow 50 level ∷ []) ∷ []) new at.old at.new }
+    ensures shallow { at.new.refused ≡ None → level ≤ 50 }
+{
+    if at.refused.is_some() {
+        return;
+    }
+    let Some((_, rest)) = front(Lead::Keyword(bytes), at.left) else {
+        at.refused = Some(stuck(&[Lead::Keyword(bytes)], at.left, end));
+        return;
+    };
+    if level > MOST_NESTING {
+        at.refused = Some(CertError::CertTooDeep {
+            at: place(end, at.left),
+        });
+        return;
+    }
+    at.left = rest;
+}
+
+/// A symbol by its name, or these bytes.
+pub fn name_or(names: &Names, end: usize, at: &mut Reading, bytes: &'static [u8]) -> Option<u32>
+    ensures name { IfSome result (λ f. (i : Item) (new : List ℕ → List Item) (other : List Item) → leads i ≡ spec.name_lead [] new ∷ spec.text bytes.now other ∷ [] → Reads names.now end (i ∷ []) (λ u. symbol (u f) [] ∷ []) (new (name_of names.now f)) at.old at.new) }
+    ensures found { IfSome result (λ f. number_of names.now.symbols (name_of names.now f) ≡ Some f) }
+    ensures other { IfNone result ((i : Item) (new : List ℕ → List Item) (other : List Item) → leads i ≡ spec.name_lead [] new ∷ spec.text bytes.now other ∷ [] → Reads names.now end (i ∷ []) (λ u. fixed bytes.now ∷ []) other at.old at.new) }
+{
+    if at.refused.is_some() {
+        return None;
+    }
+    if let Some((name, rest)) = front(Lead::Name, at.left) {
+        return match symbol(names, name) {
+            Some((_, f)) => {
+                at.left = rest;
+                Some(f)
+            }
+            None => {
+                at.refused = Some(CertError::UnknownName {
+                    at: place(end, at.left),
+                });
+                None
+            }
+        };
+    }
+    match front(Lead::Text(bytes), at.left) {
+        Some((_, rest)) => at.left = rest,
+        None => {
+            at.refused = Some(stuck(&[Lead::Name, Lead::Text(bytes)], at.left, end));
+        }
+    }
+    None
+}
+
+/// A symbol by its name.
+pub fn name(names: &Names, end: usize, at: &mut Reading) -> u32
+    ensures { (i : Item) (new : List ℕ → List Item) → leads i ≡ spec.name_lead [] new ∷ [] → Reads names.now end (i ∷ []) (λ u. symbol (u result) [] ∷ []) (new (name_of names.now result)) at.old at.new }
+{
+    if at.refused.is_some() {
+        return 0;
+    }
+    let Some((name, rest)) = front(Lead::Name, at.left) else {
+        at.refused = Some(stuck(&[Lead::Name], at.left, end));
+        return 0;
+    };
+    match symbol(names, name) {
+        Some((_, f)) => {
+            at.left = rest;
+            f
+        }
+        None => {
+            at.refused = Some(CertError::UnknownName {
+                at: place(end, at.left),
+            });
+            0
+        }
+    }
+}
+
+/// Any number, the one with this number in its line.
+pub fn numbered(end: usize, at: &mut Reading, what: CertCount, n: usize) -> u32
+    ensures within { length at.new.left.now ≤ length at.old.left.now }
+    ensures read { (names : NameTable) (i : Item) (new : ℕ → List Item) → leads i ≡ spec.numeral_lead (λ k. in_range 0 0 (suc largest) k ∷ is_few (counted_view what) n ∷ []) new ∷ [] → Reads names end (i ∷ []) (λ u. word (numeral result) (in_range 0 0 (suc largest) result ∷ is_few (counted_view what) n ∷ []) ∷ []) (new result) at.old at.new }
+{
+    if at.refused.is_some() {
+        return 0;
+    }
+    let Some((word, rest)) = front(Lead::Number, at.left) else {
+        at.refused = Some(stuck(&[Lead::Number], at.left, end));
+        return 0;
+    };
+    let Some(k) = within(word, 0, 4_294_967_296) else {
+        at.refused = Some(CertError::BadNumber {
+            at: place(end, at.left),
+        });
+        return 0;
+    };
+    if n > limit(what) {
+        at.refused = Some(CertError::TooMany {
+            what,
+            at: place(end, at.left),
+        });
+        return 0;
+    }
+    at.left = rest;
+    k
+}
+
+/// Whether the symbol has so many arguments.
+pub fn has_so_many(names: &Names, f: u32, n: usize) -> bool
+    ensures { result ≡ is_number n (arity_at names.now f) }
+{
+    match names.arity(f) {
+        Some(arity) => arity as usize == n,
+        None => false,
+    }
+}
+
+/// No bytes, before this byte: whether a symbol has so many arguments.
+pub fn checked(end: usize, at: &mut Reading, byte: u8, met: bool)
+    ensures { (names : NameTable) (f n : ℕ) (i : Item) (new : List Item) → leads i ≡ spec.check (has_arity (name_of names f) n) byte new ∷ [] → meets names (has_arity (name_of names f) n) ≡ met → Reads names end (i ∷ []) (λ u. behind (has_arity (u f) n) ∷ []) new at.old at.new }
+{
+    if at.refused.is_some() {
+        return;
+    }
+    let Some(_) = front(Lead::Check(byte), at.left) else {
+        at.refused = Some(stuck(&[Lead::Check(byte)], at.left, end));
+        return;
+    };
+    if !met {
+        at.refused = Some(CertError::WrongArity {
+            at: place(end, at.left),
+        });
+    }
+}
+
+/// These bytes, or none before this byte, where a symbol has no arguments.
+pub fn opened(end: usize, at: &mut Reading, bytes: &'static [u8], byte: u8, met: bool) -> bool
+    ensures opened { result ≡ true → (names : NameTable) (f n : ℕ) (i : Item) (new other : List Item) → leads i ≡ spec.text bytes.now new ∷ spec.check (has_arity (name_of names f) n) byte other ∷ [] → Reads names end (i ∷ []) (λ u. fixed bytes.now ∷ []) new at.old at.new }
+    ensures none { result ≡ false → (names : NameTable) (f n : ℕ) (i : Item) (new other : List Item) → leads i ≡ spec.text bytes.now new ∷ spec.check (has_arity (name_of names f) n) byte other ∷ [] → meets names (has_arity (name_of names f) n) ≡ met → Reads names end (i ∷ []) (λ u. behind (has_arity (u f) n) ∷ []) other at.old at.new }
+{
+    if at.refused.is_some() {
+        return false;
+    }
+    if let Some((_, rest)) = front(Lead::Text(bytes), at.left) {
+        at.left = rest;
+        return true;
+    }
+    let Some(_) = front(Lead::Check(byte), at.left) else {
+        at.refused = Some(stuck(&[Lead::Text(bytes), Lead::Check(byte)], at.left, end));
+        return false;
+    };
+    if !met {
+        at.refused = Some(CertError::WrongArity {
+            at: place(end, at.left),
+        });
+    }
+    false
+}
+
+/// Puts what was read last, unless the text is refused.
+pub fn put<T: Drop>(at: &mut Reading, list: &mut Vec<T>, x: T)
+    ensures grown { at.new.refused ≡ None → list.new.items ≡ list.old.items ++ x ∷ [] }
+    ensures read { (names : NameTable) (end : ℕ) (from : List Item) → Reads names end from (λ u. []) from at.old at.new }
+    ensures within { length at.new.left.now ≤ length at.old.left.now }
+{
+    if at.refused.is_some() {
+        return;
+    }
+    if list.push(x).is_err() {
+        at.refused = Some(CertError::NoMemory);
+    }
+}
+
+/// This word, which is counted, or those bytes.
+pub fn counted_or(
+    end: usize,
+    at: &mut Reading,
+    bytes: &'static [u8],
+    what: CertCount,
+    n: usize,
+    other: &'static [u8],
+) -> bool
+    ensures word { result ≡ true → (names : NameTable) (i : Item) (new new_other : List Item) → leads i ≡ spec.keyword bytes.now (is_few (counted_view what) n ∷ []) new ∷ spec.text other.now new_other ∷ [] → Reads names end (i ∷ []) (λ u. word bytes.now (is_few (counted_view what) n ∷ []) ∷ []) new at.old at.new }
+    ensures other { result ≡ false → (names : NameTable) (i : Item) (new new_other : List Item) → leads i ≡ spec.keyword bytes.now (is_few (counted_view what) n ∷ []) new ∷ spec.text other.now new_other ∷ [] → Reads names end (i ∷ []) (λ u. fixed other.now ∷ []) new_other at.old at.new }
+    ensures few { result ≡ true → at.new.refused ≡ None → n ≤ most (counted_view what) }
+    ensures here { at.old.refused ≡ None → (names : NameTable) (i : Item) (new new_other : List Item) → leads i ≡ spec.keyword bytes.now (is_few (counted_view what) n ∷ []) new ∷ spec.text other.now new_other ∷ [] → IfSome at.new.refused (λ e. IsStuckAt names end i at.old.left.now (told e)) }
+{
+    if at.refused.is_some() {
+        return false;
+    }
+    if let Some((_, rest)) = front(Lead::Keyword(bytes), at.left) {
+        if n > limit(what) {
+            at.refused = Some(CertError::TooMany {
+                what,
+                at: place(end, at.left),
+            });
+            return true;
+        }
+        at.left = rest;
+        return true;
+    }
+    match front(Lead::Text(other), at.left) {
+        Some((_, rest)) => at.left = rest,
+        None => {
+            at.refused = Some(stuck(&[Lead::Keyword(bytes), Lead::Text(other)], at.left, end));
+        }
+    }
+    false
+}
