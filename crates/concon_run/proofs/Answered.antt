@@ -1,20 +1,20 @@
--- What is said of a command is one answer, with its cause.
-use Rattle.std.proofs.Common.{◌≡◌, ℕ, List, Option, inl, inr}
-use Rattle.concon_run.specs.Words.{IsSelftest, NamesFile}
-use Rattle.concon_run.specs.Said.{Said}
-use Rattle.concon_run.specs.Replies.{IsSaidIfMemory}
-use Rattle.concon_run.specs.Causes.{Run, Answer, self_tested, no_memory, said_of, IsCaused, IsRight, IsLeft}
-use Rattle.concon_run.specs.Answered.{Answered}
-use Rattle.concon_run.proofs.Commands.{file_or_test}
+-- What is said is one answer, or that memory was refused.
+use Rattle.std.proofs.Common.{◌≡◌, ◌⊎◌, Option, Some, None, subst, inl, inr}
+use Rattle.std.specs.Prelude.{IfSome}
+use Rattle.concon_run.specs.Run.{Run}
+use Rattle.concon_run.specs.Said.{Said, IsSaidIfMemory, Tells, TellsIfMemory, IsUnlessHindered, no_memory_said}
+use Rattle.concon_run.specs.Replies.{said_if_any}
 
-module _ (run : Run) (begun_before begun_now : Option (List ℕ)) (given_before given_now : ℕ) (said : Said) where
-  pub answered : (file : List ℕ) → NamesFile run.words file → (answer : Answer) → IsCaused run answer → IsRight run answer
-      → IsLeft answer begun_before begun_now given_before given_now → IsSaidIfMemory (said_of answer) said → Answered run begun_before begun_now given_before given_now said
-  answered file names answer caused right left (inl s) = (answer, caused, right, left, s, λ n form. absurd (file_or_test run.words file n names form))
-  answered file names answer caused right left (inr s) = (no_memory, inl (file, names), tt, tt, s, λ n form. absurd (file_or_test run.words file n names form))
+pub answered : {A : Type 0} (P : A → Type 0) (said_of : A → Said) (said : Said) (o : Option A) → IfSome o P → IsSaidIfMemory (said_if_any said_of o) said
+    → ((answer : A) × P answer × (said ≡ said_of answer)) ⊎ (said ≡ no_memory_said)
+answered P said_of said (Some a) p (inl s) = inl (a, p, s)
+answered P said_of said (Some a) p (inr s) = inr s
+answered P said_of said None p (inl s) = inr s
+answered P said_of said None p (inr s) = inr s
 
-  -- what is said of a test, which asks nothing of the shelf
-  pub self_answered : (n : ℕ) → IsSelftest run.words n → begun_now ≡ begun_before → given_now ≡ given_before → IsSaidIfMemory (said_of (self_tested n)) said
-      → Answered run begun_before begun_now given_before given_now said
-  self_answered n form begun given (inl s) = (self_tested n, form, tt, (begun, given), s, λ m asked. (begun, given))
-  self_answered n form begun given (inr s) = (no_memory, inr (n, form), tt, tt, s, λ m asked. (begun, given))
+-- the status of what is told is that of what is said, or of what took its place
+pub told_or_wanting : (run : Run) (said : Said) → TellsIfMemory run said → IsUnlessHindered said.status run.status
+told_or_wanting run said (inl (inl whole)) = inl whole.0
+told_or_wanting run said (inl (inr part)) = inr (inr part.0)
+told_or_wanting run said (inr (inl whole)) = inr (inl whole.0)
+told_or_wanting run said (inr (inr part)) = inr (inr part.0)

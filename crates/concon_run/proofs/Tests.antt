@@ -1,5 +1,5 @@
--- What a test goes through: nothing but memory can stand in its way, and it counts what it has to.
-use Rattle.std.proofs.Common.{◌≡◌, ◌+◌, ◌*◌, ◌≤◌, ◌++◌, ℕ, zero, suc, List, [], map, length, Ok, refl, sym, ap, ap₂, ◌∙◌, subst, inl, arith}
+-- A test: its words; nothing but memory can stand in its way, and it counts what it has to.
+use Rattle.std.proofs.Common.{◌≡◌, ◌⊎◌, ◌+◌, ◌*◌, ◌<◌, ◌≤◌, ◌++◌, ℕ, zero, suc, List, [], map, length, Ok, refl, sym, ap, ap₂, ◌∙◌, subst, inl, inr, decimal, arith}
 use Rattle.std.specs.List.{range_with_len}
 use Rattle.std.proofs.lemmas.List.{length-map}
 use Rattle.std.proofs.lemmas.List.FromFn.{length-map-range_with_len}
@@ -37,12 +37,13 @@ use Rattle.generated_systems.specs.Generated.{generated, generated_names}
 use Rattle.generated_systems.specs.Certificate.{overlap_for, conflict, generated_certificate}
 use Rattle.generated_systems.specs.Laws.{CertificatesHaveTexts, CertificatesAreFound}
 use Rattle.generator.proofs.Sound.{rule_count}
-use Rattle.concon_run.specs.Said.{Said}
-use Rattle.concon_run.specs.Outcomes.{status_of}
-use Rattle.concon_run.specs.Causes.{self_tested, said_of}
-use Rattle.concon_run.specs.Replies.{IsSaidIfMemory}
-use Rattle.concon_run.specs.Tests.{pair_count, tested_line, IsPassed}
+use Rattle.concon_run.specs.Said.{Said, IsSaidIfMemory}
+use Rattle.concon_run.specs.Verdicts.{status_of}
+use Rattle.concon_run.specs.Words.{IsBudget}
+use Rattle.concon_run.specs.Selftest.{IsSelftest, said_of_test, pair_count, tested_line, IsPassed}
 use Rattle.concon_run.specs.declared.selftest.Tested.{Tested}
+use Rattle.concon_run.proofs.Letters.{first_letter}
+use Rattle.concon_run.proofs.Numbers.{same_budget}
 
 -- what was written of a generated system spells it
 pub written_file : (n : ℕ) (start bytes : List ℕ) (made : System) (names : NameTable) → start ≡ [] → bytes ≡ start ++ system_text names made → made ≡ generated n → names ≡ generated_names n
@@ -135,6 +136,21 @@ abbrev said_with : ℕ → ℕ → ℕ → Verdict → ℕ → Said
 said_with n rules pairs verdict steps =
     record { status = status_of verdict; out = tested_line n (record { rules = rules; pairs = pairs; verdict = verdict; steps = steps }); err = [] }
 
-pub passed_said : (n : ℕ) (t : Tested) (said : Said) → IsPassed n t → IsSaidIfMemory (said_with n t.rules t.pairs t.verdict t.steps) said → IsSaidIfMemory (said_of (self_tested n)) said
+pub passed_said : (n : ℕ) (t : Tested) (said : Said) → IsPassed n t → IsSaidIfMemory (said_with n t.rules t.pairs t.verdict t.steps) said → IsSaidIfMemory (said_of_test n) said
 passed_said n t said p h =
     subst (λ w. IsSaidIfMemory w said) (ap₂ (λ r q. said_with n r q t.verdict t.steps) p.rules p.pairs ∙ ap₂ (said_with n (4 * n) n) p.verdict p.steps) h
+
+pub letter_of_test : (words : List (List ℕ)) (n : ℕ) → IsSelftest words n → first_letter words ≡ 115
+letter_of_test words n h = ap first_letter h.1
+
+-- the number of a test is in decimal, as that of a budget
+as_budget : (word : List ℕ) (n : ℕ) → word ≡ decimal n → n ≤ 200 → IsBudget word n
+as_budget word n e most = (e, omega arith)
+
+pub other_test : (word : List ℕ) (m : ℕ) → IsBudget word m → (m ≡ 0) ⊎ ((m ≡ 0 → ⊥) × (200 < m)) → (n : ℕ) → word ≡ decimal n → 1 ≤ n → n ≤ 200 → ⊥
+other_test word m b (inl none) n e least most = let same = same_budget word word n m refl (as_budget word n e most) b in omega (arith, same)
+other_test word m b (inr (some, more)) n e least most = let same = same_budget word word n m refl (as_budget word n e most) b in omega (arith, same)
+
+-- two tests that the words ask for are one
+pub test_once : (words : List (List ℕ)) (n m : ℕ) → IsSelftest words n → IsSelftest words m → m ≡ n
+test_once words n m (number, e, h, least, most) (numeral, f, k, low, high) = same_budget number numeral n m (cc) (as_budget number n h most) (as_budget numeral m k high)

@@ -1,49 +1,62 @@
--- What was read of a file that gives no system is the cause of the answer.
-use Rattle.std.proofs.Common.{List, ℕ, Option, Some, None, Err, inl}
-use Rattle.std.specs.Prelude.{IfSome}
-use Rattle.concon_run.specs.Words.{NamesFile}
-use Rattle.cc_io.specs.Errors.{IsBegunIfAny}
+-- What is answered, and said, where FILE gives no system.
+use Rattle.std.proofs.Common.{◌≡◌, ℕ, ◌+◌, ◌<◌, List, [], length, replicate, Option, Some, None, Err, refl, sym, subst, arith}
+use Rattle.std.specs.Prelude.{IfSome, IsErrOf, option_map}
+use Rattle.std.proofs.lemmas.List.{length-replicate}
+use Rattle.cops_read.specs.File.{FileCause}
+use Rattle.cc_io.specs.Errors.{IsTooLong}
+use Rattle.cc_io.specs.declared.shelf.ReadAllError.{ReadAllError}
 use Rattle.cc_io.specs.declared.shelf.ReadAllError.TheVariants as reading
-use Rattle.concon_run.specs.FileRefusals.{FileRefusal, long_file, file_refusal_of}
-use Rattle.concon_run.specs.Outcomes.{IsRefusedFile}
-use Rattle.concon_run.specs.Causes.{Run, Answer, bytes_of, HasFailed, IsCaused, IsRight, IsLeft}
-use Rattle.concon_run.specs.Judging.{SystemAnswers, refused_answer, no_system_answer}
+use Rattle.concon_run.specs.FileRefusals.{FileRefusal, long_file, no_system_text, most_file_bytes, file_cause_words, file_error_cause, file_refusal_of, file_refused_line}
+use Rattle.concon_run.specs.Run.{ShelfRun, HasFailed}
+use Rattle.concon_run.specs.Said.{Said, IsSaidIfMemory, read_fault_said}
+use Rattle.concon_run.specs.Systems.{told_or_any, bytes_of, IsRefusedFile}
+use Rattle.concon_run.specs.Files.{SystemAnswers, no_system_answer, no_system_said}
+use Rattle.concon_run.specs.Refusals.{refused_said}
+use Rattle.concon_run.specs.Replies.{said_if_any}
 use Rattle.concon_run.specs.declared.files.NoSystem.{NoSystem}
 use Rattle.concon_run.specs.declared.files.NoSystem.TheVariants.{Unread, Refused}
+use Rattle.concon_run.specs.declared.status.Status.TheVariants as status
 
-module _ (run : Run) (file : List ℕ) (refused : FileRefusal → Answer) where
-  module _ (names : NamesFile run.words file) (caused : (r : FileRefusal) → IsRefusedFile (bytes_of run file) r → IsCaused run (refused r)) where
-    refusal_caused : (o : Option FileRefusal) → IfSome o (IsRefusedFile (bytes_of run file)) → IsCaused run (refused_answer refused o)
-    refusal_caused (Some r) h = caused r h
-    refusal_caused None h = inl (file, names)
+-- some text is longer, and if one is told it is
+pub long_text : (told : Option (List ℕ)) (limit : ℕ) → IfSome told (λ bytes. limit < length bytes) → (bytes : List ℕ) × told_or_any told bytes × (limit < length bytes)
+long_text None limit l = (replicate (limit + 1) 0, tt, rw (length-replicate {A = ℕ} (limit + 1) 0) (omega arith))
+long_text (Some bytes) limit l = (bytes, refl, l)
 
-    pub no_system_caused : (e : NoSystem) → SystemAnswers (bytes_of run file) (HasFailed run file) (Err e) → IsCaused run (no_system_answer file refused e)
-    no_system_caused (Unread reading.ReadFault) h = (names, h)
-    no_system_caused (Unread (reading.TooLong n)) h = caused long_file h
-    no_system_caused (Unread reading.NoMemory) h = inl (file, names)
-    no_system_caused (Refused e) h = refusal_caused (file_refusal_of e) h
+no_system_beyond : (told : Option (List ℕ)) → IfSome told (λ bytes. most_file_bytes < length bytes) → IsRefusedFile (told_or_any told) long_file
+no_system_beyond told l = long_text told most_file_bytes l
 
-  -- such an answer says nothing of the system
-  module _ (right : (r : FileRefusal) → IsRight run (refused r)) where
-    refusal_right : (o : Option FileRefusal) → IsRight run (refused_answer refused o)
-    refusal_right (Some r) = right r
-    refusal_right None = tt
+pub file_unread : {A : Type 0} (told : Option (List ℕ)) (failed : Type 0) (e : ReadAllError) → (IsErrOf {T = A} (Err e) reading.ReadFault → failed) → (IsTooLong e → IfSome told (λ bytes. most_file_bytes < length bytes))
+    → SystemAnswers (told_or_any told) failed (Err (Unread e))
+file_unread told failed reading.ReadFault fault long = fault refl
+file_unread told failed (reading.TooLong n) fault long = no_system_beyond told (long tt)
+file_unread told failed reading.NoMemory fault long = tt
 
-    pub no_system_right : (e : NoSystem) → IsRight run (no_system_answer file refused e)
-    no_system_right (Unread reading.ReadFault) = tt
-    no_system_right (Unread (reading.TooLong n)) = right long_file
-    no_system_right (Unread reading.NoMemory) = tt
-    no_system_right (Refused e) = refusal_right (file_refusal_of e)
+-- the answer, by what is known of it where the file is not read, and where it is refused
+module _ {A : Type 0} (P : A → Type 0) (shelf : ShelfRun) (file : List ℕ) (unread : A) (refused : FileRefusal → A)
+    (fails : HasFailed shelf file → P unread) (refuses : (r : FileRefusal) → IsRefusedFile (bytes_of shelf file) r → P (refused r)) where
+  refusal : (o : Option FileRefusal) → IfSome o (IsRefusedFile (bytes_of shelf file)) → IfSome (option_map refused o) P
+  refusal (Some r) h = refuses r h
+  refusal None h = tt
 
--- and no other file was begun
-module _ (file : List ℕ) (refused : FileRefusal → Answer) (begun_before begun_now : Option (List ℕ)) (given_before given_now : ℕ) where
-  module _ (only : IsBegunIfAny file begun_now) (left : (r : FileRefusal) → IsLeft (refused r) begun_before begun_now given_before given_now) where
-    refusal_left : (o : Option FileRefusal) → IsLeft (refused_answer refused o) begun_before begun_now given_before given_now
-    refusal_left (Some r) = left r
-    refusal_left None = tt
+  pub given_none : (e : NoSystem) → SystemAnswers (bytes_of shelf file) (HasFailed shelf file) (Err e) → IfSome (no_system_answer unread refused e) P
+  given_none (Unread reading.ReadFault) h = fails h
+  given_none (Unread (reading.TooLong n)) h = refuses long_file h
+  given_none (Unread reading.NoMemory) h = tt
+  given_none (Refused e) h = refusal (file_refusal_of e) h
 
-    pub no_system_left : (e : NoSystem) → IsLeft (no_system_answer file refused e) begun_before begun_now given_before given_now
-    no_system_left (Unread reading.ReadFault) = only
-    no_system_left (Unread (reading.TooLong n)) = left long_file
-    no_system_left (Unread reading.NoMemory) = tt
-    no_system_left (Refused e) = refusal_left (file_refusal_of e)
+-- what is said is what the answer says
+module _ {A : Type 0} (said_of : A → Said) (file : List ℕ) (unread : A) (refused : FileRefusal → A) (faults : said_of unread ≡ read_fault_said file)
+    (says : (r : FileRefusal) → said_of (refused r) ≡ record { status = status.FileRefused; out = []; err = file_refused_line file r }) where
+  refused_file : (o : Option (FileCause × ℕ))
+      → refused_said status.FileRefused file (option_map (λ r. (r.1, file_cause_words r.0)) o) ≡ said_if_any said_of (option_map refused (option_map (λ r. no_system_text r.0 r.1) o))
+  refused_file (Some r) = sym (says (no_system_text r.0 r.1))
+  refused_file None = refl
+
+  no_system_so : (e : NoSystem) → no_system_said file e ≡ said_if_any said_of (no_system_answer unread refused e)
+  no_system_so (Unread reading.ReadFault) = sym faults
+  no_system_so (Unread (reading.TooLong n)) = sym (says long_file)
+  no_system_so (Unread reading.NoMemory) = refl
+  no_system_so (Refused e) = refused_file (file_error_cause e)
+
+  pub no_system_is_said : (e : NoSystem) (said : Said) → IsSaidIfMemory (no_system_said file e) said → IsSaidIfMemory (said_if_any said_of (no_system_answer unread refused e)) said
+  no_system_is_said e said h = subst (λ w. IsSaidIfMemory w said) (no_system_so e) h

@@ -1,10 +1,9 @@
 -- What a reply says.
-use Rattle.std.specs.Prelude.{◌≡◌, ◌⊎◌, List, [], ℕ, codes, if◌then◌else◌}
+use Rattle.std.specs.Prelude.{List, [], ℕ, Option, Some, None, if◌then◌else◌}
 use Rattle.concon_run.specs.declared.reply.Text.{Text}
 use Rattle.concon_run.specs.declared.reply.Text.TheVariants.{Fixed, Made}
 use Rattle.concon_run.specs.declared.reply.Reply.{Reply}
-use Rattle.concon_run.specs.Said.{Said}
-use Rattle.concon_run.specs.declared.status.Status.TheVariants as status
+use Rattle.concon_run.specs.Said.{Said, no_memory_said}
 
 abbrev pub text_bytes : Text → List ℕ
 text_bytes (Fixed b) = b.now
@@ -17,9 +16,7 @@ reply_said r = record {
   err = if r.to_out then [] else text_bytes r.text;
 }
 
-abbrev pub no_memory_said : Said
-no_memory_said = record { status = status.NoMemory; out = []; err = codes "no memory\n" }
-
--- this is said, or that memory was refused
-abbrev pub IsSaidIfMemory : Said → Said → Type 0
-IsSaidIfMemory wanted said = (said ≡ wanted) ⊎ (said ≡ no_memory_said)
+-- what is said of an answer; where there is none, that memory was refused
+abbrev pub said_if_any : {A : Type 0} → (A → Said) → Option A → Said
+said_if_any said (Some answer) = said answer
+said_if_any said None = no_memory_said

@@ -1,9 +1,10 @@
 -- What the program says, and how much of it the sinks take.
-use Rattle.std.specs.Prelude.{◌≡◌, ◌⊎◌, ◌<◌, ℕ, List, [], length, take, Option}
+use Rattle.std.specs.Prelude.{◌≡◌, ◌⊎◌, ◌<◌, ◌++◌, ℕ, List, [], length, take, codes}
 use Rattle.cc_io.specs.Faults.{Rose}
 use Rattle.cc_io.specs.Bytes.{appended}
+use Rattle.concon_run.specs.Run.{SinkRun, Run}
 use Rattle.concon_run.specs.declared.status.Status.{Status}
-use Rattle.concon_run.specs.declared.status.Status.TheVariants.{WriteFault}
+use Rattle.concon_run.specs.declared.status.Status.TheVariants as statuses
 
 -- a status, the text for out and the text for err
 pub record Said : Type 0 where
@@ -11,17 +12,43 @@ pub record Said : Type 0 where
   pub out : List ℕ
   pub err : List ℕ
 
+-- the sink took a text whole
+abbrev pub TakesWhole : List ℕ → SinkRun → Type 0
+TakesWhole text sink = sink.written_now ≡ appended sink.written_before text
+
 -- A text that goes to a sink was not taken whole: a proper front of it was, and the faults rose. Of no text nothing was taken.
-abbrev pub TakesPart : List ℕ → Option (List ℕ) → Option (List ℕ) → ℕ → ℕ → Type 0
-TakesPart text old new before now = ((text ≡ []) × (new ≡ old)) ⊎ (Rose before now × ((n : ℕ) × (n < length text) × (new ≡ appended old (take n text))))
+abbrev pub TakesPart : List ℕ → SinkRun → Type 0
+TakesPart text sink =
+    ((text ≡ []) × (sink.written_now ≡ sink.written_before))
+    ⊎ (Rose sink.faults_before sink.faults_now × ((n : ℕ) × (n < length text) × (sink.written_now ≡ appended sink.written_before (take n text))))
 
 -- the texts are what out and err took
-abbrev pub IsWhole : Said → Status → Option (List ℕ) → Option (List ℕ) → Option (List ℕ) → Option (List ℕ) → Type 0
-IsWhole said status out_old out_new err_old err_new =
-    (status ≡ said.status) × (out_new ≡ appended out_old said.out) × (err_new ≡ appended err_old said.err)
+abbrev pub IsWhole : Said → Status → SinkRun → SinkRun → Type 0
+IsWhole said status out err = (status ≡ said.status) × TakesWhole said.out out × TakesWhole said.err err
 
 -- or, where the faults of the sink that the text goes to rose, that took a proper front of it
-abbrev pub IsTold : Said → Status → Option (List ℕ) → Option (List ℕ) → Option (List ℕ) → Option (List ℕ) → ℕ → ℕ → ℕ → ℕ → Type 0
-IsTold said status out_old out_new err_old err_new out_before out_now err_before err_now =
-    IsWhole said status out_old out_new err_old err_new
-    ⊎ ((status ≡ WriteFault) × TakesPart said.out out_old out_new out_before out_now × TakesPart said.err err_old err_new err_before err_now)
+abbrev pub IsTold : Said → Status → SinkRun → SinkRun → Type 0
+IsTold said status out err = IsWhole said status out err ⊎ ((status ≡ statuses.WriteFault) × TakesPart said.out out × TakesPart said.err err)
+
+-- a run tells this
+abbrev pub Tells : Run → Said → Type 0
+Tells run said = IsTold said run.status run.out run.err
+
+abbrev pub no_memory_said : Said
+no_memory_said = record { status = statuses.NoMemory; out = []; err = codes "no memory\n" }
+
+-- this is said, or that memory was refused
+abbrev pub IsSaidIfMemory : Said → Said → Type 0
+IsSaidIfMemory wanted said = (said ≡ wanted) ⊎ (said ≡ no_memory_said)
+
+-- a run tells this, or that memory was refused
+abbrev pub TellsIfMemory : Run → Said → Type 0
+TellsIfMemory run said = Tells run said ⊎ Tells run no_memory_said
+
+-- this status, or one that takes its place: memory was refused, or a sink failed
+abbrev pub IsUnlessHindered : Status → Status → Type 0
+IsUnlessHindered wanted answer = (answer ≡ wanted) ⊎ ((answer ≡ statuses.NoMemory) ⊎ (answer ≡ statuses.WriteFault))
+
+-- of a file that the shelf failed at
+abbrev pub read_fault_said : List ℕ → Said
+read_fault_said name = record { status = statuses.ReadFault; out = []; err = name ++ codes ": read fault\n" }

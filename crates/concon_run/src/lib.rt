@@ -6,14 +6,14 @@
 #![tactic(auto)]
 
 mod answers;
+mod check;
+mod commands;
 mod files;
-mod found;
-mod judge;
 mod pieces;
+mod prove;
 mod refusals;
 mod rejections;
 mod reply;
-mod search;
 mod selftest;
 mod status;
 mod top;

@@ -1,8 +1,9 @@
 //! What is to be said, made whole before any of it is written.
 ghost use Rattle.std.specs.Prelude.{◌≡◌, IfOk, []};
-ghost use Rattle.concon_run.specs.Said.{IsTold};
 ghost use Rattle.concon_run.specs.Pieces.{pieces_text};
-ghost use Rattle.concon_run.specs.Replies.{text_bytes, reply_said, IsSaidIfMemory, no_memory_said};
+ghost use Rattle.concon_run.specs.Replies.{text_bytes, reply_said};
+ghost use Rattle.concon_run.specs.Run.{sink_run};
+ghost use Rattle.concon_run.specs.Said.{IsTold, IsSaidIfMemory, no_memory_said};
 
 use crate::pieces::{Piece, put_all};
 use crate::status::Status;
@@ -82,8 +83,7 @@ pub fn answer(alloc: Global, status: Status, pieces: &[Piece]) -> Reply
 
 /// Writes a reply, and gives the status with which the run ends.
 pub fn deliver<K: Sink, E: Sink>(reply: &Reply, out: &mut K, err: &mut E) -> Status
-    ensures { IsTold (reply_said reply.now) result (K.written out.old) (K.written out.new) (E.written err.old) (E.written err.new)
-        (K.faults out.old) (K.faults out.new) (E.faults err.old) (E.faults err.new) }
+    ensures { IsTold (reply_said reply.now) result (sink_run K.Sink out.old out.new) (sink_run E.Sink err.old err.new) }
 {
     let bytes = bytes_of_text(&reply.text);
     if reply.to_out {

@@ -1,6 +1,6 @@
-//! Does with a generated system what a user does with a file: it is written and read, a certificate is searched for, and what
-//! is read of that one's text is checked.
-ghost use Rattle.std.specs.Prelude.{◌≡◌, ◌≤◌, ℕ, [], IfOk};
+//! The command selftest: does with a generated system what a user does with a file: it is written and read, a certificate is
+//! searched for, and what is read of that one's text is checked.
+ghost use Rattle.std.specs.Prelude.{◌≡◌, ◌≤◌, ◌∷◌, ℕ, List, [], IfOk, IfSome, IfNone, MatchOption, codes, decimal};
 ghost use Rattle.certificates.specs.Certificates as math;
 ghost use Rattle.valid_certificates.specs.Certificates.{IsValid};
 ghost use Rattle.cert_grammar.specs.CertificateText.{CanBeSpelt};
@@ -8,14 +8,16 @@ ghost use Rattle.cert_model.specs.CertificateView.{certificate_view};
 ghost use Rattle.cert_check.specs.Kinds.{verdict_of, CanBeJudged};
 ghost use Rattle.search_spaces.specs.Ortho.{ortho_space};
 ghost use Rattle.generated_systems.specs.Generated.{generated, generated_names};
-ghost use Rattle.concon_run.specs.Causes.{Answer, said_of};
-ghost use Rattle.concon_run.specs.Outcomes as outcomes;
-ghost use Rattle.concon_run.specs.Replies.{reply_said, IsSaidIfMemory};
-ghost use Rattle.concon_run.specs.Tests.{pair_count, tested_line, IsPassed};
+ghost use Rattle.concon_run.specs.Verdicts as verdicts;
+ghost use Rattle.concon_run.specs.Replies.{reply_said};
+ghost use Rattle.concon_run.specs.Said.{IsSaidIfMemory};
+ghost use Rattle.concon_run.specs.Selftest.{IsSelftest, said_of_test, pair_count, tested_line, IsPassed};
+ghost use Rattle.concon_run.specs.Words.{texts};
 
 use crate::answers::{status_of, verdict_word};
 use crate::pieces::Piece;
 use crate::reply::{Reply, answer, no_memory};
+use crate::words::budget_of;
 use cc_count::Budget;
 use cert_check::{CheckError, Verdict, check};
 use cert_model::Certificate;
@@ -28,6 +30,43 @@ use portfolio::{Outcome, prove};
 use std::alloc::Global;
 use term_core::{NoMemory, System};
 use valid_certificates::certificates_have_one_answer;
+
+// No test has a greater number.
+const MOST_TESTED: u64 = 200;
+
+// The number of a test that the word is in decimal, as a budget is.
+fn test_number(word: &str) -> Option<u32>
+    ensures { MatchOption result ((n : ℕ) → word.now ≡ decimal n → 1 ≤ n → n ≤ 200 → ⊥) (λ n. (word.now ≡ decimal n) × (1 ≤ n) × (n ≤ 200)) }
+{
+    let n = budget_of(word)?;
+    if n == 0 || n > MOST_TESTED {
+        None
+    } else {
+        Some(n as u32)
+    }
+}
+
+// The word for the number of a test.
+fn test_word<'a>(words: &[&'a str]) -> Option<&'a str>
+    ensures found { IfSome result (λ number. texts words.now ≡ codes "selftest" ∷ number.now ∷ []) }
+    ensures none { IfNone result ((number : List ℕ) → texts words.now ≡ codes "selftest" ∷ number ∷ [] → ⊥) }
+{
+    if let [command, number] = words {
+        if *command == "selftest" {
+            return Some(*number);
+        }
+    }
+    None
+}
+
+/// The number of the test that the words ask for.
+pub fn selftest_of(words: &[&str]) -> Option<u32>
+    ensures found { IfSome result (IsSelftest (texts words.now)) }
+    ensures none { IfNone result ((n : ℕ) → IsSelftest (texts words.now) n → ⊥) }
+{
+    let word = test_word(words)?;
+    test_number(word)
+}
 
 // How many units a test may spend.
 const TEST_BUDGET: u64 = 1000000;
@@ -139,7 +178,7 @@ fn test(alloc: Global, n: u32) -> Result<Tested, NoMemory>
 
 // Says what a test counted.
 fn tested_reply(alloc: Global, n: u32, tested: Tested) -> Reply
-    ensures { IsSaidIfMemory (record { status = outcomes.status_of tested.verdict; out = tested_line n tested; err = [] }) (reply_said result) }
+    ensures { IsSaidIfMemory (record { status = verdicts.status_of tested.verdict; out = tested_line n tested; err = [] }) (reply_said result) }
 {
     answer(
         alloc,
@@ -164,7 +203,7 @@ fn tested_reply(alloc: Global, n: u32, tested: Tested) -> Reply
 pub fn selftest_reply(alloc: Global, n: u32) -> Reply
     requires least { 1 ≤ n }
     requires most { n ≤ 200 }
-    ensures { IsSaidIfMemory (said_of (Answer.self_tested n)) (reply_said result) }
+    ensures { IsSaidIfMemory (said_of_test n) (reply_said result) }
 {
     match test(alloc, n) {
         Ok(tested) => tested_reply(alloc, n, tested),

@@ -1,4 +1,4 @@
-use Rattle.concon_run.proofs.TextsRead.{file_unread}
+use Rattle.concon_run.proofs.Unread.{file_unread}
 use Rattle.concon_run.proofs.files.system_of.Goals as goal
 
 pub returns-in-Err-clause-answers : goal.returns-in-Err-clause-answers

@@ -1,4 +1,4 @@
-use Rattle.concon_run.proofs.Commands.{no_number, large_number, other_number}
+use Rattle.concon_run.proofs.Numbers.{no_number, large_number, other_number}
 use Rattle.concon_run.proofs.words.budget_of.Goals as goal
 
 pub returns-in_default : goal.returns-in_default

@@ -1,0 +1,68 @@
+-- Words are one command at most, and what is said of a run is said to that.
+use Rattle.std.proofs.Common.{◌≡◌, ◌⊎◌, ℕ, List, inl, inr, refl, ap, ap₂, sym, ◌∙◌, subst, arith}
+use Rattle.concon_run.specs.Run.{Run, AsksNothing}
+use Rattle.concon_run.specs.Said.{Said, Tells, TellsIfMemory, no_memory_said}
+use Rattle.concon_run.specs.Check.{IsCheck}
+use Rattle.concon_run.specs.Prove.{IsProve}
+use Rattle.concon_run.specs.Selftest.{IsSelftest}
+use Rattle.concon_run.specs.Commands.{Command, check, prove, selftest, IsCommand, IsNoCommand, AnswerTo, said_to, IsAnswerTo, AsksFor, IsSaidTo, IsSaidFor, IsAnswered}
+use Rattle.concon_run.proofs.Letters.{first_letter}
+use Rattle.concon_run.proofs.Checks.{letter_of_check, same_file, same_cert}
+use Rattle.concon_run.proofs.Searches.{letter_of_prove, prove_once}
+use Rattle.concon_run.proofs.Tests.{letter_of_test, test_once}
+
+pub no_command : (words : List (List ℕ)) → ((file cert : List ℕ) → IsCheck words file cert → ⊥) → ((file : List ℕ) (budget : ℕ) → IsProve words file budget → ⊥)
+    → ((n : ℕ) → IsSelftest words n → ⊥) → IsNoCommand words
+no_command words unchecked unproved untested (check file cert) h = unchecked file cert h
+no_command words unchecked unproved untested (prove file budget) h = unproved file budget h
+no_command words unchecked unproved untested (selftest n) h = untested n h
+
+-- the first letter of the word for a command
+abbrev letter : Command → ℕ
+letter (check file cert) = 99
+letter (prove file budget) = 112
+letter (selftest n) = 115
+
+first_is : (words : List (List ℕ)) (c : Command) → IsCommand words c → first_letter words ≡ letter c
+first_is words (check file cert) h = letter_of_check words file cert h
+first_is words (prove file budget) h = letter_of_prove words file budget h
+first_is words (selftest n) h = letter_of_test words n h
+
+apart : (words : List (List ℕ)) (c d : Command) → IsCommand words c → IsCommand words d → (letter c ≡ letter d → ⊥) → ⊥
+apart words c d h k differ = differ (sym (first_is words c h) ∙ first_is words d k)
+
+pub command_once : (words : List (List ℕ)) (c d : Command) → IsCommand words c → IsCommand words d → d ≡ c
+command_once words (check file cert) (check other others) h k = ap₂ check (same_file words file cert other others h k) (same_cert words file cert other others h k)
+command_once words (prove file a) (prove other b) h k = let same = prove_once words file other a b h k in ap₂ prove same.0 same.1
+command_once words (selftest n) (selftest m) h k = ap selftest (test_once words n m h k)
+command_once words (check file cert) (prove other b) h k = absurd (apart words (check file cert) (prove other b) h k (λ e. omega (arith, e)))
+command_once words (check file cert) (selftest m) h k = absurd (apart words (check file cert) (selftest m) h k (λ e. omega (arith, e)))
+command_once words (prove file a) (check other others) h k = absurd (apart words (prove file a) (check other others) h k (λ e. omega (arith, e)))
+command_once words (prove file a) (selftest m) h k = absurd (apart words (prove file a) (selftest m) h k (λ e. omega (arith, e)))
+command_once words (selftest n) (check other others) h k = absurd (apart words (selftest n) (check other others) h k (λ e. omega (arith, e)))
+command_once words (selftest n) (prove other b) h k = absurd (apart words (selftest n) (prove other b) h k (λ e. omega (arith, e)))
+
+module _ (run : Run) (h : IsAnswered run) where
+  -- where the words are this command, what is said is said to it
+  pub said_to_it : (command : Command) → IsCommand run.words command → IsSaidFor run.words run.shelf h.0 → IsSaidTo run.shelf command h.0
+  said_to_it command form (inl none) = absurd (none.0 command form)
+  said_to_it command form (inr (other, asked, says)) = subst (λ c. IsSaidTo run.shelf c h.0) (command_once run.words command other form asked) says
+
+  pub asked_for : (command : Command) → IsCommand run.words command → AsksFor run.shelf command
+  asked_for command form = (said_to_it command form h.1).asks
+
+  -- where each answer to it tells this, this is told, unless memory was refused
+  pub told_to_it : (command : Command) → IsCommand run.words command → (wanted : Said)
+      → ((answer : AnswerTo command) → IsAnswerTo run.shelf command answer → Tells run (said_to command answer) → TellsIfMemory run wanted) → TellsIfMemory run wanted
+  told_to_it command form wanted go = by_case (said_to_it command form h.1).says
+    where
+      by_case : ((answer : AnswerTo command) × IsAnswerTo run.shelf command answer × (h.0 ≡ said_to command answer)) ⊎ (h.0 ≡ no_memory_said) → TellsIfMemory run wanted
+      by_case (inl (answer, good, same)) = go answer good (subst (Tells run) same h.2)
+      by_case (inr none) = inr (subst (Tells run) none h.2)
+
+  pub nothing_asked : IsNoCommand run.words → AsksNothing run.shelf
+  nothing_asked none = by_case h.1
+    where
+      by_case : IsSaidFor run.words run.shelf h.0 → AsksNothing run.shelf
+      by_case (inl usage) = usage.1
+      by_case (inr (command, form, says)) = absurd (none command form)

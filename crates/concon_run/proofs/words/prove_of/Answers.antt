@@ -1,6 +1,0 @@
-use Rattle.concon_run.specs.Words.{texts}
-use Rattle.concon_run.proofs.Commands.{no_search}
-use Rattle.concon_run.proofs.words.prove_of.Goals as goal
-
-pub returns-in_default-file_and_number-clause-none : goal.returns-in_default-file_and_number-clause-none
-returns-in_default-file_and_number-clause-none c = no_search (texts c.args.words.now) c.in_default.ensures.none c.in_default-file_and_number.ensures.none

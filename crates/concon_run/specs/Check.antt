@@ -1,0 +1,128 @@
+-- The command check: its words, what it may answer and why, the texts of that, and what each answer means.
+use Rattle.std.specs.Prelude.{◌≡◌, ◌⊎◌, ◌≤◌, ℕ, List, [], ◌∷◌, length, codes}
+use Rattle.rewriting.specs.Rules.{System}
+use Rattle.certificates.specs.Certificates.{Certificate, Peak, peak_certificate}
+use Rattle.certificates.specs.Reasons.{Rejection}
+use Rattle.valid_certificates.specs.Certificates.{IsValid, IsRejected}
+use Rattle.valid_certificates.specs.Laws.{ReachesApart}
+use Rattle.cert_check.specs.Kinds.{verdict_of}
+use Rattle.cert_check.specs.declared.Verdict.{Verdict}
+use Rattle.cert_check.specs.declared.Verdict.TheVariants as verdict
+use Rattle.cops_read.specs.NameTable.{NameTable}
+use Rattle.cert_grammar.specs.CertificateText.{IsCertificateText}
+use Rattle.concon_run.specs.Rejections.{rejected_line}
+use Rattle.concon_run.specs.FileRefusals.{FileRefusal, file_refused_line}
+use Rattle.concon_run.specs.CertRefusals.{CertRefusal, most_cert_bytes, IsCertRefused, cert_refused_line}
+use Rattle.concon_run.specs.Run.{ShelfRun, Run, HasFailed, BeginsAtMost}
+use Rattle.concon_run.specs.Said.{Said, TellsIfMemory, IsUnlessHindered, read_fault_said}
+use Rattle.concon_run.specs.Systems.{Bytes, bytes_of, told_bytes, SpellsSystem, IsRefusedFile, IsConfirmed}
+use Rattle.concon_run.specs.Verdicts.{status_of, verdict_text}
+use Rattle.concon_run.specs.declared.status.Status.{Status}
+use Rattle.concon_run.specs.declared.status.Status.TheVariants as status
+
+-- the words name a file and a certificate to be checked
+abbrev pub IsCheck : List (List ℕ) → List ℕ → List ℕ → Type 0
+IsCheck words file cert = words ≡ codes "check" ∷ file ∷ cert ∷ []
+
+-- with these names the text is that of the certificate, or refused
+abbrev pub SpellsCertificate : Bytes → NameTable → Certificate → Type 0
+SpellsCertificate cert names c = (bytes : List ℕ) × cert bytes × (length bytes ≤ most_cert_bytes) × IsCertificateText names bytes c
+
+abbrev pub IsRefusedCertificate : Bytes → NameTable → CertRefusal → Type 0
+IsRefusedCertificate cert names refusal = (bytes : List ℕ) × cert bytes × IsCertRefused names bytes refusal
+
+-- what the two texts come to
+pub data CheckOutcome : Type 0 where
+  no_system : FileRefusal → CheckOutcome
+  no_certificate : CertRefusal → CheckOutcome
+  -- the certificate is rejected; the names are those of the file
+  rejected : NameTable → Rejection → CheckOutcome
+  -- the certificate is valid, and shows this of the system
+  shown : Verdict → CheckOutcome
+
+abbrev pub ComesTo : Bytes → Bytes → CheckOutcome → Type 0
+ComesTo file cert (no_system refusal) = IsRefusedFile file refusal
+ComesTo file cert (no_certificate refusal) = (sys : System) × (names : NameTable) × SpellsSystem file sys names × IsRefusedCertificate cert names refusal
+ComesTo file cert (rejected names reason) =
+    (sys : System) × (c : Certificate) × SpellsSystem file sys names × SpellsCertificate cert names c × IsRejected sys c reason
+ComesTo file cert (shown verdict) =
+    (sys : System) × (names : NameTable) × (c : Certificate) × SpellsSystem file sys names × SpellsCertificate cert names c × IsValid sys c
+    × (verdict ≡ verdict_of c)
+
+-- the file spells a system, and the certificate a peak: its derivations lead from the start to two terms without a common reduct
+abbrev pub IsRefuted : Bytes → Bytes → Type 0
+IsRefuted file cert =
+    (sys : System) × (names : NameTable) × (peak : Peak) × SpellsSystem file sys names × SpellsCertificate cert names (peak_certificate peak)
+    × ReachesApart sys peak
+
+-- the verdict is true
+abbrev pub IsTrueOf : Bytes → Bytes → Verdict → Type 0
+IsTrueOf file cert verdict.Yes = IsConfirmed file
+IsTrueOf file cert verdict.No = IsRefuted file cert
+
+-- what is said of it, with the words for the file and for the certificate
+abbrev pub said_of_outcome : List ℕ → List ℕ → CheckOutcome → Said
+said_of_outcome file cert (no_system refusal) = record { status = status.FileRefused; out = []; err = file_refused_line file refusal }
+said_of_outcome file cert (no_certificate refusal) = record { status = status.CertRefused; out = []; err = cert_refused_line cert refusal }
+said_of_outcome file cert (rejected names reason) = record { status = status.Rejected; out = rejected_line names reason; err = [] }
+said_of_outcome file cert (shown verdict) = record { status = status_of verdict; out = verdict_text verdict; err = [] }
+
+-- what is answered: what the texts come to, or that one of them was not read
+pub data CheckAnswer : Type 0 where
+  checked : CheckOutcome → CheckAnswer
+  file_unread : CheckAnswer
+  cert_unread : CheckAnswer
+
+abbrev pub said_of_check : List ℕ → List ℕ → CheckAnswer → Said
+said_of_check file cert (checked outcome) = said_of_outcome file cert outcome
+said_of_check file cert file_unread = read_fault_said file
+said_of_check file cert cert_unread = read_fault_said cert
+
+abbrev pub IsCheckCause : ShelfRun → List ℕ → List ℕ → CheckAnswer → Type 0
+IsCheckCause shelf file cert (checked outcome) = ComesTo (bytes_of shelf file) (bytes_of shelf cert) outcome
+IsCheckCause shelf file cert file_unread = HasFailed shelf file
+IsCheckCause shelf file cert cert_unread = HasFailed shelf cert × ((sys : System) × (names : NameTable) × SpellsSystem (bytes_of shelf file) sys names)
+
+-- an answer that the file's relation is confluent, or that it is not, is right
+abbrev pub IsCheckRight : ShelfRun → List ℕ → List ℕ → CheckAnswer → Type 0
+IsCheckRight shelf file cert (checked (shown verdict)) = IsTrueOf (bytes_of shelf file) (bytes_of shelf cert) verdict
+IsCheckRight shelf file cert _ = Unit {0}
+
+-- where the answer is about FILE, no other file was begun
+abbrev pub IsCheckLeft : ShelfRun → List ℕ → CheckAnswer → Type 0
+IsCheckLeft shelf file (checked (no_system refusal)) = BeginsAtMost file shelf
+IsCheckLeft shelf file file_unread = BeginsAtMost file shelf
+IsCheckLeft shelf file _ = Unit {0}
+
+pub record IsCheckAnswer (shelf : ShelfRun) (file cert : List ℕ) (answer : CheckAnswer) : Type 0 where
+  pub cause : IsCheckCause shelf file cert answer
+  pub right : IsCheckRight shelf file cert answer
+  pub left : IsCheckLeft shelf file answer
+
+-- no file but these two was begun, whatever is answered
+abbrev pub BeginsForCheck : ShelfRun → List ℕ → List ℕ → Type 0
+BeginsForCheck shelf file cert = BeginsAtMost file shelf ⊎ BeginsAtMost cert shelf
+
+-- the words are in form, and the check comes to this
+abbrev pub CheckComesTo : Run → CheckOutcome → Type 0
+CheckComesTo run outcome =
+    (file : List ℕ) × (cert : List ℕ) × IsCheck run.words file cert × ComesTo (bytes_of run.shelf file) (bytes_of run.shelf cert) outcome
+
+-- what the file and the certificate that the words name are told to come to, where no fault of the shelf rose
+abbrev pub CalmlyComesTo : Run → List ℕ → List ℕ → CheckOutcome → Type 0
+CalmlyComesTo run file cert outcome =
+    IsCheck run.words file cert × ComesTo (told_bytes run.shelf file) (told_bytes run.shelf cert) outcome
+    × (HasFailed run.shelf file → ⊥) × (HasFailed run.shelf cert → ⊥)
+
+-- then this is told, unless memory was refused
+abbrev pub CheckIsExact : Run → Type 0
+CheckIsExact run = (file cert : List ℕ) (outcome : CheckOutcome) → CalmlyComesTo run file cert outcome → TellsIfMemory run (said_of_outcome file cert outcome)
+
+-- a valid certificate is answered by what it shows
+abbrev pub CheckIsComplete : Run → Type 0
+CheckIsComplete run = (file cert : List ℕ) (verdict : Verdict) → CalmlyComesTo run file cert (shown verdict) → IsUnlessHindered (status_of verdict) run.status
+
+-- a check never answers that nothing was found
+abbrev pub IsOfCheck : Status → Type 0
+IsOfCheck status.Maybe = ⊥
+IsOfCheck _ = Unit {0}
