@@ -27,10 +27,7 @@ use std::alloc::Global;
 use term_core::NoMemory;
 
 // The terms of a list by their keys.
-fn index_of<'a>(
-    alloc: Global,
-    list: &'a [Entry],
-) -> Result<IndexMap<Vec<u64>, &'a Entry>, NoMemory>
+fn index_of<'a>(alloc: Global, list: &'a [Entry]) -> Result<IndexMap<Vec<u64>, &'a Entry>, NoMemory>
     requires fit { DoAllFit (table_view list.now) }
     requires once { IsWithoutRepetition (table_view list.now) }
     ensures { IfOk result (λ index. IsIndexOf (table_view list.now) index.entries) }
