@@ -20,8 +20,12 @@ pub fn of_line(alloc: Global, line: &str) -> Result<String, AllocError> {
     };
     let file = expanded(alloc, file)?;
     let text = expanded(alloc, text)?;
-    match read_system(alloc, file.as_bytes()) {
-        Ok((sys, names)) => of_system(alloc, &sys, &names, text.as_bytes(), budget),
+    of_file(alloc, file.as_bytes(), text.as_bytes(), budget)
+}
+
+fn of_file(alloc: Global, file: &[u8], bytes: &[u8], budget: u64) -> Result<String, AllocError> {
+    match read_system(alloc, file) {
+        Ok((sys, names)) => of_system(alloc, &sys, &names, bytes, budget),
         Err(e) => format!(in alloc; "{e}"),
     }
 }
