@@ -137,14 +137,14 @@ module _ (block : Names) where
       others = λ r names h. rw h refl;
     }
 
-    uses_after : (side : Side) (n : ℕ) (xs ys : List Spot) → uses_from side n (xs ++ ys) ≡ uses_from side n xs ++ uses_from side (n + length xs) ys
+    pub uses_after : (side : Side) (n : ℕ) (xs ys : List Spot) → uses_from side n (xs ++ ys) ≡ uses_from side n xs ++ uses_from side (n + length xs) ys
     uses_after side n [] ys = ap (λ (k : ℕ). uses_from side k ys) (let e : n ≡ n + 0 = omega arith in e)
     uses_after side n (x ∷ xs) ys =
         ap (λ (es : List Event). use_of record { side = side; spot = x; number = n } ∷ es)
         (uses_after side (suc n) xs ys ∙ ap (λ (k : ℕ). uses_from side (suc n) xs ++ uses_from side k ys) (let e : suc n + length xs ≡ n + suc (length xs) = omega arith in e))
 
     mutual
-      spots_length : (depth argument : ℕ) (p : Phrase) → length (spots depth argument p) ≡ nodes p
+      pub spots_length : (depth argument : ℕ) (p : Phrase) → length (spots depth argument p) ≡ nodes p
       spots_length depth argument (word f) = refl
       spots_length depth argument (call f ts) = ap suc (all_spots_length (suc depth) 1 ts)
 

@@ -13,7 +13,7 @@ module _ (bytes : List ℕ) where
   SpotsWithin [] = Unit {0}
   SpotsWithin (s ∷ ss) = (s.node.name.at ≤ length bytes) × SpotsWithin ss
 
-  abbrev EventsWithin : List Event → Type 0
+  abbrev pub EventsWithin : List Event → Type 0
   EventsWithin [] = Unit {0}
   EventsWithin (e ∷ es) = (place e ≤ length bytes) × EventsWithin es
 
@@ -42,7 +42,7 @@ module _ (bytes : List ℕ) where
   term_within : (side : Side) (p : Phrase) → OfPhrase (NameWithin bytes) (PlaceWithin bytes) p → EventsWithin (term_events side p)
   term_within side p h = uses_within side 1 (spots 1 0 p) (spots_within 1 0 p h)
 
-  conditions_within : (rule number : ℕ) (cs : List ConditionTree) → OfConditions (NameWithin bytes) (PlaceWithin bytes) cs → EventsWithin (condition_events rule number cs)
+  pub conditions_within : (rule number : ℕ) (cs : List ConditionTree) → OfConditions (NameWithin bytes) (PlaceWithin bytes) cs → EventsWithin (condition_events rule number cs)
   conditions_within rule number [] h = tt
   conditions_within rule number (c ∷ cs) h =
       both_events (term_events (side_of rule number false) c.left) _ (term_within (side_of rule number false) c.left h.0)

@@ -116,7 +116,7 @@ pub length_upto : (n : ℕ) → length (upto n) ≡ n
 length_upto zero = refl
 length_upto (suc n) = omega (arith, length_upto n, length-append (upto n) (n ∷ []))
 
-counts : (n : ℕ) → CountsFrom 0 (upto n)
+pub counts : (n : ℕ) → CountsFrom 0 (upto n)
 counts zero = tt
 counts (suc n) = counts_end 0 (upto n) n (counts n) (omega (arith, length_upto n))
 
@@ -124,7 +124,7 @@ each_over : (arities : List ℕ) (ts : Terms) → AreOver arities ts → Each (I
 each_over arities nil h = tt
 each_over arities (cons t ts) h = (h.0, each_over arities ts h.1)
 
-fits_of : (t : Term) → IsSmall t → Fits t
+pub fits_of : (t : Term) → IsSmall t → Fits t
 fits_of t h = record { nodes = let a = h.nodes in omega arith; levels = let a = h.levels in omega arith }
 
 each_fits : (ts : Terms) → Each IsSmall ts → Each Fits ts
@@ -161,7 +161,7 @@ module _ (block : List (List ℕ)) (table : List (List ℕ × ℕ)) where
         ap (λ (xs : List ℕ). math.with_variables_of xs ts) first ∙ numbers_in_all (with_variables block names p) longer ps ts e h.1
 
   -- the sides of conditions, and the terms of a rule
-  sides_are : (names : List (List ℕ)) (cs : List ConditionTree) (ds : List Condition) → AreConditionsOf block table names cs ds → AreTermsOf block table names (sides cs) (rules.sides ds)
+  pub sides_are : (names : List (List ℕ)) (cs : List ConditionTree) (ds : List Condition) → AreConditionsOf block table names cs ds → AreTermsOf block table names (sides cs) (rules.sides ds)
   sides_are names [] [] h = tt
   sides_are names [] (d ∷ ds) h = absurd h
   sides_are names (c ∷ cs) [] h = absurd h

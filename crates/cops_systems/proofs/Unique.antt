@@ -32,7 +32,7 @@ module _ (block : List (List ℕ)) (table : List (List ℕ × ℕ)) where
     one_terms names (more p ps) (cons t ts) nil h g = absurd g
     one_terms names (more p ps) (cons t ts) (cons u us) h g = ap₂ cons (one_term names p t u h.0 g.0) (one_terms names ps ts us h.1 g.1)
 
-  one_conditions : (names : List (List ℕ)) (cs : List ConditionTree) (ds es : List Condition) → AreConditionsOf block table names cs ds → AreConditionsOf block table names cs es → ds ≡ es
+  pub one_conditions : (names : List (List ℕ)) (cs : List ConditionTree) (ds es : List Condition) → AreConditionsOf block table names cs ds → AreConditionsOf block table names cs es → ds ≡ es
   one_conditions names [] [] [] h g = refl
   one_conditions names [] [] (e ∷ es) h g = absurd g
   one_conditions names [] (d ∷ ds) es h g = absurd h

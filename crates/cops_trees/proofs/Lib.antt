@@ -1,4 +1,4 @@
 mod Pushes
-mod FlatTrees
+pub mod FlatTrees
 mod FlatBlocks
 mod Parsed

@@ -187,6 +187,13 @@ enter b again s = if again then Err repeated_block else Ok (at_stage b s)
 abbrev pub no_rules : Reading
 no_rules = reading [] left_side [] [] want
 
+abbrev pub bare_node : Name → Node
+bare_node f = record { name = f; brackets = false; arguments = 0 }
+
+-- the conditions of a rule whose sides are this identifier, and whose bar is at 0
+abbrev pub condition_reading : Name → Reading
+condition_reading f = reading [] (condition_left (plain_rule (bare_node f ∷ []) (bare_node f ∷ []) (Some 0))) [] [] want
+
 -- an identifier behind a block's bracket
 abbrev pub title_step : Blocks → Name → Result Blocks SyntaxCause
 title_step b name =
@@ -219,6 +226,10 @@ variable_step b names _ = Err wrong_syntax
 abbrev pub or_syntax : Option Blocks → Result Blocks SyntaxCause
 or_syntax None = Err wrong_syntax
 or_syntax (Some b) = Ok b
+
+abbrev pub is_none : List Rule → Bool
+is_none [] = true
+is_none (r ∷ rs) = false
 
 abbrev pub is_flat : List ℕ → Bool
 is_flat [] = true

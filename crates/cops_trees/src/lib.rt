@@ -10,4 +10,6 @@ mod word;
 
 pub use file_text::ConditionType;
 pub use reader::{SyntaxError, read_tree};
+pub use rules::Reading;
 pub use tree::{CondText, FileText, Name, Node, RuleText};
+pub use word::{Word, word_at};

@@ -115,6 +115,34 @@ impl<'a> Reading<'a> {
         }
     }
 
+    /// The conditions of a rule, behind its sides, which are this identifier, and its bar at 0.
+    pub fn of_conditions(alloc: Global, name: Name<'a>) -> Result<Self, AllocError>
+        ensures { IfOk result (λ r. reading_view r ≡ flat.condition_reading (name_view name.entry)) }
+    {
+        let node = Node {
+            name,
+            brackets: false,
+            arguments: 0,
+        };
+        let mut left = Vec::new(alloc);
+        left.push(node)?;
+        let mut right = Vec::new(alloc);
+        right.push(node)?;
+        let rule = RuleText {
+            left,
+            right,
+            bar: Some(0),
+            conditions: Vec::new(alloc),
+        };
+        Ok(Reading {
+            rules: Vec::new(alloc),
+            part: Part::CondLeft(rule),
+            nodes: Vec::new(alloc),
+            opens: Vec::new(alloc),
+            last: Last::Want,
+        })
+    }
+
     // The identifier at this place has one more argument.
     fn raise(&mut self, place: usize)
         requires { IsRaisable (nodes_view self.old.nodes.items) place }
@@ -276,6 +304,13 @@ impl<'a> Reading<'a> {
             Last::Want => Ok(matches!(self.part, Part::Left)),
             Last::Opened => Ok(false),
         }
+    }
+
+    /// Whether no rule is whole.
+    pub fn has_none(&self) -> bool
+        ensures { result ≡ flat.is_none (rules_view self.now.rules.items) }
+    {
+        self.rules.is_empty()
     }
 
     /// Whether no bracket is open.

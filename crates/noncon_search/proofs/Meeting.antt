@@ -7,8 +7,8 @@ use Rattle.reach_lists.specs.Laws.{EachOf}
 use Rattle.reach_lists.specs.Solutions.{Reached}
 use Rattle.reach_lists.proofs.Each.{each_append, each_to}
 use Rattle.reach.specs.Parts.{DoAllFit}
-use Rattle.reach.specs.ReachedView.{reached_view, list_view}
-use Rattle.reach.specs.declared.listed.Reached as program
+use Rattle.reach.specs.EntryView.{entry_view, table_view}
+use Rattle.reach.specs.declared.listed.Entry as program
 use Rattle.reach.proofs.Rests.{rest_first}
 use Rattle.noncon_search.specs.declared.overlay.Overlay.{Overlay}
 use Rattle.noncon_search.specs.declared.ends.End.{End}
@@ -37,11 +37,11 @@ module _ (sys : System) (before after : Overlay) (e : End) (end : IsEnd sys e) (
   one_more_end es ends = each_append (IsEnd sys) es (e ∷ []) ends (end, tt)
 
 -- a list of terms that the ends stand for, one end more
-module _ (list : List program.Reached) (i : ℕ) (r : program.Reached) (low : i < length list) (here : r ≡ get_or list i r) where
-  pub one_more_listed : (es : List End) (e : End) → e.listed.now ≡ r → ends_view es ++ list_view (drop i list) ≡ list_view list → ends_view (es ++ e ∷ []) ++ list_view (drop (i + 1) list) ≡ list_view list
+module _ (list : List program.Entry) (i : ℕ) (r : program.Entry) (low : i < length list) (here : r ≡ get_or list i r) where
+  pub one_more_listed : (es : List End) (e : End) → e.listed.now ≡ r → ends_view es ++ table_view (drop i list) ≡ table_view list → ends_view (es ++ e ∷ []) ++ table_view (drop (i + 1) list) ≡ table_view list
   one_more_listed es e is all =
-      ap (λ (z : List Reached). z ++ list_view (drop (i + 1) list)) (map-append end_view es (e ∷ [])) ∙ append_assoc (ends_view es) (end_view e ∷ []) (list_view (drop (i + 1) list))
-      ∙ ap (λ (z : List Reached). ends_view es ++ z) (ap (λ x. reached_view x ∷ list_view (drop (i + 1) list)) is ∙ sym (rest_first reached_view list i r low here)) ∙ all
+      ap (λ (z : List Reached). z ++ table_view (drop (i + 1) list)) (map-append end_view es (e ∷ [])) ∙ append_assoc (ends_view es) (end_view e ∷ []) (table_view (drop (i + 1) list))
+      ∙ ap (λ (z : List Reached). ends_view es ++ z) (ap (λ x. entry_view x ∷ table_view (drop (i + 1) list)) is ∙ sym (rest_first entry_view list i r low here)) ∙ all
 
-  pub rest_fit : DoAllFit (list_view (drop i list)) → DoAllFit (list_view (drop (i + 1) list))
-  rest_fit fit = (subst DoAllFit (rest_first reached_view list i r low here) fit).1
+  pub rest_fit : DoAllFit (table_view (drop i list)) → DoAllFit (table_view (drop (i + 1) list))
+  rest_fit fit = (subst DoAllFit (rest_first entry_view list i r low here) fit).1

@@ -11,13 +11,13 @@ use Rattle.valid_certificates.specs.Peaks.{RedexPlace, MatchesAt}
 use Rattle.first_found.specs.Rows.{HasNone}
 use Rattle.reach_lists.specs.Solutions.{Reached}
 use Rattle.reach_lists.specs.Laws.{EachOf, IsWithoutRepetition}
-use Rattle.reach.specs.ReachedView.{reached_view}
+use Rattle.reach.specs.EntryView.{entry_view}
 use Rattle.search_spaces.specs.PeakItems.{IsFirstRefuted}
 use Rattle.term_core.specs.View.{view}
 use Rattle.noncon_search.specs.declared.ends.End.{End}
 
 abbrev pub end_view : End → Reached
-end_view e = reached_view e.listed.now
+end_view e = entry_view e.listed.now
 
 abbrev pub ends_view : List End → List Reached
 ends_view es = map end_view es

@@ -4,7 +4,7 @@ ghost use Rattle.rewriting.specs.Terms as math;
 ghost use Rattle.certificates.specs.Certificates.{by_rigid_caps};
 ghost use Rattle.term_core.specs.View.{view};
 ghost use Rattle.cert_model.specs.CertificateView.{certificate_view, apart_view};
-ghost use Rattle.reach.specs.ReachedView.{reached_view};
+ghost use Rattle.reach.specs.EntryView.{entry_view};
 ghost use Rattle.valid_certificates.specs.Peaks.{HasFileSymbols};
 ghost use Rattle.search_spaces.specs.PeakItems.{try_ends, TriesApart};
 ghost use Rattle.noncon_search.specs.Ends.{end_view, IsEnd, AreEnds};
@@ -16,7 +16,7 @@ use crate::redexes::refute_redexes;
 use cert_limits::has_text;
 use cert_model::{Certificate, NonJoin, Peak, Redex};
 use cops_names::Names;
-use reach::Reached;
+use reach::Entry;
 use rule_index::IndexedSystem;
 use std::alloc::Global;
 use tcap_infeasible::{ComparedCaps, compare_rigid_caps, made_caps_clash};
@@ -128,16 +128,16 @@ fn apart(
 fn certificate(
     alloc: Global,
     start: &Term,
-    first: &Reached,
-    second: &Reached,
+    first: &Entry,
+    second: &Entry,
     apart: NonJoin,
 ) -> Result<Certificate, NoMemory>
-    ensures { IfOk result (λ c. certificate_view c ≡ peak_of (view start.now) (reached_view first.now) (reached_view second.now) (apart_view apart)) }
+    ensures { IfOk result (λ c. certificate_view c ≡ peak_of (view start.now) (entry_view first.now) (entry_view second.now) (apart_view apart)) }
 {
     Ok(Certificate::Peak(Peak {
         start: try_clone(alloc, start)?,
-        first: first.by.try_clone(alloc)?,
-        second: second.by.try_clone(alloc)?,
+        first: first.derivation(alloc)?,
+        second: second.derivation(alloc)?,
         apart,
     }))
 }

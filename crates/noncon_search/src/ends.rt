@@ -3,7 +3,7 @@ ghost use Rattle.std.specs.Prelude.{◌≡◌, IfOk};
 ghost use Rattle.rewriting.specs.Terms as math;
 ghost use Rattle.reach_lists.specs.Laws.{EachOf};
 ghost use Rattle.reach.specs.Parts.{DoAllFit};
-ghost use Rattle.reach.specs.ReachedView.{list_view};
+ghost use Rattle.reach.specs.EntryView.{table_view};
 ghost use Rattle.term_core.specs.View.{view};
 ghost use Rattle.noncon_search.specs.Ends.{ends_view, IsEnd, AreMet};
 ghost use Rattle.noncon_search.specs.Laying.{IsLaid};
@@ -11,7 +11,7 @@ ghost use Rattle.noncon_search.specs.Laying.{IsLaid};
 use crate::made_caps::cap_of;
 use crate::overlay::Overlay;
 use crate::redexes::refute_redexes;
-use reach::Reached;
+use reach::Entry;
 use rule_index::IndexedSystem;
 use std::alloc::Global;
 use term_core::{NoMemory, Term};
@@ -21,7 +21,7 @@ use term_core::{NoMemory, Term};
 /// since that of thousands of terms would take much memory.
 #[derive(Drop)]
 pub struct End<'a> {
-    pub listed: &'a Reached,
+    pub listed: &'a Entry,
     pub is_refuted: bool,
     pub cap: Option<Term>,
     pub is_met: bool,
@@ -31,7 +31,7 @@ pub struct End<'a> {
 fn end_of<'a>(
     alloc: Global,
     sys: &IndexedSystem<'_>,
-    listed: &'a Reached,
+    listed: &'a Entry,
     overlay: &mut Overlay,
 ) -> Result<End<'a>, NoMemory>
     requires fits { math.Fits (view listed.now.term) }
@@ -54,10 +54,10 @@ fn end_of<'a>(
 pub fn ends_of<'a>(
     alloc: Global,
     sys: &IndexedSystem<'_>,
-    list: &'a [Reached],
+    list: &'a [Entry],
 ) -> Result<Vec<End<'a>>, NoMemory>
-    requires fit { DoAllFit (list_view list.now) }
-    ensures listed { IfOk result (λ es. ends_view es.items ≡ list_view list.now) }
+    requires fit { DoAllFit (table_view list.now) }
+    ensures listed { IfOk result (λ es. ends_view es.items ≡ table_view list.now) }
     ensures ends { IfOk result (λ es. EachOf (IsEnd sys.now) es.items) }
     ensures met { IfOk result (λ es. AreMet sys.now es.items) }
 {

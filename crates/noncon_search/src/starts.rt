@@ -4,7 +4,7 @@ ghost use Rattle.rewriting.specs.Terms as math;
 ghost use Rattle.reach_lists.specs.Laws.{EachOf};
 ghost use Rattle.search_spaces.specs.Listings.{listing};
 ghost use Rattle.search_spaces.specs.PeakItems.{peak_items_of, peak_items};
-ghost use Rattle.reach.specs.ReachedView.{list_view};
+ghost use Rattle.reach.specs.EntryView.{table_view};
 ghost use Rattle.term_core.specs.View.{view};
 ghost use Rattle.noncon_search.specs.Answers.{pair_items, WalkAnswers};
 
@@ -14,7 +14,7 @@ use cc_count::Budget;
 use cops_names::Names;
 use critical_pairs::Overlap;
 use flatterm::Work;
-use reach::{ReachStop, Reached, reach_in};
+use reach::{Entry, ReachStop, reach_in};
 use rule_index::IndexedSystem;
 use std::alloc::Global;
 use term_core::{NoMemory, Rule, Term};
@@ -32,12 +32,12 @@ fn try_listed(
     sys: &IndexedSystem<'_>,
     names: &Names,
     start: &Term,
-    listed: &[Reached],
+    listed: &[Entry],
     budget: &mut Budget,
 ) -> Result<Search, NoMemory>
     requires fits { math.Fits (view start.now) }
-    requires listed { list_view listed.now ≡ listing sys.now [] (view start.now) }
-    ensures { WalkAnswers names.now sys.now (pair_items (view start.now) (list_view listed.now)) budget.old budget.new result }
+    requires listed { table_view listed.now ≡ listing sys.now [] (view start.now) }
+    ensures { WalkAnswers names.now sys.now (pair_items (view start.now) (table_view listed.now)) budget.old budget.new result }
 {
     let ends = ends_of(alloc, sys, listed)?;
     try_pairs(alloc, sys, names, start, &ends, budget)

@@ -16,44 +16,44 @@ use Rattle.reach_lists.specs.Lists.{is_listed}
 use Rattle.reach_lists.specs.Laws.{EachOf, IsWithoutRepetition}
 use Rattle.reach_lists.proofs.Each.{each_append}
 use Rattle.reach.specs.Keys.{cells}
-use Rattle.reach.specs.ReachedView.{reached_view}
-use Rattle.reach.specs.declared.listed.Reached.{Reached}
+use Rattle.reach.specs.EntryView.{entry_view}
+use Rattle.reach.specs.declared.listed.Entry.{Entry}
 use Rattle.reach.proofs.Found.{key_tells, same_key}
 use Rattle.quasi_search.specs.Joins.{IsIndexOf, IsFirstListed, FindAnswers, ShareNone, IsFirstShared}
 
-abbrev Entry : Type 0
-Entry = Vec ℕ Global × Bor Reached
+abbrev Keyed : Type 0
+Keyed = Vec ℕ Global × Bor Entry
 
-abbrev entry_view : Entry → math.Reached
-entry_view e = reached_view e.1.now
+abbrev keyed_view : Keyed → math.Reached
+keyed_view e = entry_view e.1.now
 
-abbrev IsKeyed : Entry → Type 0
+abbrev IsKeyed : Keyed → Type 0
 IsKeyed e = e.0.items ≡ cells (view e.1.now.term)
 
 module _ (t : Term) where
-  abbrev found : List Entry → Option (Bor Reached)
+  abbrev found : List Keyed → Option (Bor Entry)
   found es = lookup (λ k. bytes_eq (cells t) k.items) es
 
-  abbrev Answer : List Entry → Option (Bor Reached) → Type 0
-  Answer es o = FindAnswers (map entry_view es) t o
+  abbrev Answer : List Keyed → Option (Bor Entry) → Type 0
+  Answer es o = FindAnswers (map keyed_view es) t o
 
-  behind_one : (e : Entry) (es : List Entry) (o : Option (Bor Reached)) → is_same (entry_view e).term t ≡ false → Answer es o → Answer (e ∷ es) o
+  behind_one : (e : Keyed) (es : List Keyed) (o : Option (Bor Entry)) → is_same (keyed_view e).term t ≡ false → Answer es o → Answer (e ∷ es) o
   behind_one e es (Some y) other h =
       record {
-        before = entry_view e ∷ h.before;
+        before = keyed_view e ∷ h.before;
         behind = h.behind;
-        split = ap (λ zs. entry_view e ∷ zs) h.split;
+        split = ap (λ zs. keyed_view e ∷ zs) h.split;
         is_term = h.is_term;
-        none_before = or_from (is_same (entry_view e).term t) (is_listed t h.before) other h.none_before;
+        none_before = or_from (is_same (keyed_view e).term t) (is_listed t h.before) other h.none_before;
       }
-  behind_one e es None other h = or_from (is_same (entry_view e).term t) (is_listed t (map entry_view es)) other h
+  behind_one e es None other h = or_from (is_same (keyed_view e).term t) (is_listed t (map keyed_view es)) other h
 
-  by_test : (e : Entry) (es : List Entry) (b : Bool) → is_same (entry_view e).term t ≡ b → Answer es (found es) → Answer (e ∷ es) (cond b (Some e.1) (found es))
+  by_test : (e : Keyed) (es : List Keyed) (b : Bool) → is_same (keyed_view e).term t ≡ b → Answer es (found es) → Answer (e ∷ es) (cond b (Some e.1) (found es))
   by_test e es true same h =
-      record { before = []; behind = map entry_view es; split = refl; is_term = same_is (entry_view e).term t same; none_before = refl }
+      record { before = []; behind = map keyed_view es; split = refl; is_term = same_is (keyed_view e).term t same; none_before = refl }
   by_test e es false other h = behind_one e es (found es) other h
 
-  find : size t ≤ 10000 → (es : List Entry) → EachOf IsKeyed es → Answer es (found es)
+  find : size t ≤ 10000 → (es : List Keyed) → EachOf IsKeyed es → Answer es (found es)
   find few [] h = refl
   find few (e ∷ es) (h, hs) =
       let u = view e.1.now.term in
@@ -61,14 +61,14 @@ module _ (t : Term) where
       by_test e es (bytes_eq (cells t) e.0.items) (sym test) (find few es hs)
 
 -- what a look-up by a key finds
-pub found_by : {S : Type 0} (m : HashMap (Vec ℕ Global) (Bor Reached) S) (key : List ℕ) (list : List math.Reached) (t : Term) → IsIndexOf list m.entries → size t ≤ 10000 → key ≡ cells t
-    → (p : Option (Bor Reached)) → p ≡ lookup (λ k. bytes_eq key k.items) m.entries → FindAnswers list t p
+pub found_by : {S : Type 0} (m : HashMap (Vec ℕ Global) (Bor Entry) S) (key : List ℕ) (list : List math.Reached) (t : Term) → IsIndexOf list m.entries → size t ≤ 10000 → key ≡ cells t
+    → (p : Option (Bor Entry)) → p ≡ lookup (λ k. bytes_eq key k.items) m.entries → FindAnswers list t p
 found_by m key list t index few is p e =
     subst (λ l. FindAnswers l t p) index.all
-    (subst (λ o. FindAnswers (map entry_view m.entries) t o) (sym (e ∙ ap (λ z. lookup (λ k. bytes_eq z k.items) m.entries) is)) (find t few m.entries index.keyed))
+    (subst (λ o. FindAnswers (map keyed_view m.entries) t o) (sym (e ∙ ap (λ z. lookup (λ k. bytes_eq z k.items) m.entries) is)) (find t few m.entries index.keyed))
 
 -- some of a list is in the index, and the rest is left
-pub record Indexing (list : List math.Reached) (entries : List Entry) (rest : List math.Reached) : Type 0 where
+pub record Indexing (list : List math.Reached) (entries : List Keyed) (rest : List math.Reached) : Type 0 where
   pub done : List math.Reached
   pub split : list ≡ done ++ rest
   pub index : IsIndexOf done entries
@@ -85,35 +85,35 @@ new_term (d ∷ done) x rest (h, hs) =
     (false_from_ne_true (is_same d.term x.term) (λ e. false≢true (sym h ∙ listed_middle d.term done x rest (sym (same_is d.term x.term e)))))
     (new_term done x rest hs)
 
-absent_key : (list : List math.Reached) (t : Term) (o : Option (Bor Reached)) → FindAnswers list t o → is_listed t list ≡ false → o ≡ None
+absent_key : (list : List math.Reached) (t : Term) (o : Option (Bor Entry)) → FindAnswers list t o → is_listed t list ≡ false → o ≡ None
 absent_key list t None h e = refl
 absent_key list t (Some y) h e =
-    absurd (false≢true (sym e ∙ subst (λ z. is_listed t z ≡ true) (sym h.split) (listed_middle t h.before (reached_view y.now) h.behind h.is_term)))
+    absurd (false≢true (sym e ∙ subst (λ z. is_listed t z ≡ true) (sym h.split) (listed_middle t h.before (entry_view y.now) h.behind h.is_term)))
 
-module _ {S : Type 0} (m : HashMap (Vec ℕ Global) (Bor Reached) S) (key : Vec ℕ Global) (r : Bor Reached) (is : key.items ≡ cells (view r.now.term)) (few : size (view r.now.term) ≤ 10000) where
-  one_more : (done : List math.Reached) → IsIndexOf done m.entries → is_listed (view r.now.term) done ≡ false → (entries : List Entry) → entries ≡ insert_entry same_key m.entries key r
-      → IsIndexOf (done ++ reached_view r.now ∷ []) entries
+module _ {S : Type 0} (m : HashMap (Vec ℕ Global) (Bor Entry) S) (key : Vec ℕ Global) (r : Bor Entry) (is : key.items ≡ cells (view r.now.term)) (few : size (view r.now.term) ≤ 10000) where
+  one_more : (done : List math.Reached) → IsIndexOf done m.entries → is_listed (view r.now.term) done ≡ false → (entries : List Keyed) → entries ≡ insert_entry same_key m.entries key r
+      → IsIndexOf (done ++ entry_view r.now ∷ []) entries
   one_more done index new entries e =
       let absent : get same_key m key ≡ None =
       absent_key done (view r.now.term) (get same_key m key) (found_by m key.items done (view r.now.term) index few is (get same_key m key) refl) new in
       let put : entries ≡ m.entries ++ (key, r) ∷ [] = e ∙ insert_entry-new same_key m key r absent in
       record {
-        all = ap (map entry_view) put ∙ map-append entry_view m.entries ((key, r) ∷ []) ∙ ap (λ z. z ++ reached_view r.now ∷ []) index.all;
+        all = ap (map keyed_view) put ∙ map-append keyed_view m.entries ((key, r) ∷ []) ∙ ap (λ z. z ++ entry_view r.now ∷ []) index.all;
         keyed = subst (EachOf IsKeyed) (sym put) (each_append IsKeyed m.entries ((key, r) ∷ []) index.keyed (is, tt));
       }
 
-  pub indexing_goes_on : (list rest behind : List math.Reached) → IsWithoutRepetition list → Indexing list m.entries rest → rest ≡ reached_view r.now ∷ behind
-      → (entries : List Entry) → entries ≡ insert_entry same_key m.entries key r → Indexing list entries behind
+  pub indexing_goes_on : (list rest behind : List math.Reached) → IsWithoutRepetition list → Indexing list m.entries rest → rest ≡ entry_view r.now ∷ behind
+      → (entries : List Keyed) → entries ≡ insert_entry same_key m.entries key r → Indexing list entries behind
   indexing_goes_on list rest behind once so_far e entries put =
-      let whole : list ≡ so_far.done ++ reached_view r.now ∷ behind = so_far.split ∙ ap (λ z. so_far.done ++ z) e in
+      let whole : list ≡ so_far.done ++ entry_view r.now ∷ behind = so_far.split ∙ ap (λ z. so_far.done ++ z) e in
       record {
-        done = so_far.done ++ reached_view r.now ∷ [];
-        split = whole ∙ sym (append_assoc so_far.done (reached_view r.now ∷ []) behind);
-        index = one_more so_far.done so_far.index (new_term so_far.done (reached_view r.now) behind (subst IsWithoutRepetition whole once)) entries put;
+        done = so_far.done ++ entry_view r.now ∷ [];
+        split = whole ∙ sym (append_assoc so_far.done (entry_view r.now ∷ []) behind);
+        index = one_more so_far.done so_far.index (new_term so_far.done (entry_view r.now) behind (subst IsWithoutRepetition whole once)) entries put;
       }
 
 -- a look-up that finds none
-pub none_found : (list : List math.Reached) (t : Term) (o : Option (Bor Reached)) → ((x : Bor Reached) → o ≡ Some x → ⊥) → FindAnswers list t o → is_listed t list ≡ false
+pub none_found : (list : List math.Reached) (t : Term) (o : Option (Bor Entry)) → ((x : Bor Entry) → o ≡ Some x → ⊥) → FindAnswers list t o → is_listed t list ≡ false
 none_found list t None other h = h
 none_found list t (Some x) other h = absurd (other x refl)
 

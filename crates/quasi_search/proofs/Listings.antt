@@ -9,7 +9,7 @@ use Rattle.reach_lists.specs.Lists.{successors, condition_list}
 use Rattle.reach_lists.specs.Laws.{IsWithoutRepetition}
 use Rattle.reach_lists.proofs.Laws.{none_twice}
 use Rattle.reach.specs.Parts.{DoAllFit}
-use Rattle.reach.specs.declared.listed.Reached.{Reached}
+use Rattle.reach.specs.declared.listed.Entry.{Entry}
 use Rattle.reach.proofs.Fitting.{listed_fit}
 use Rattle.search_spaces.specs.Listings.{listing, listing_cost}
 use Rattle.term_core.specs.declared.terms.NoMemory.{NoMemory}
@@ -32,19 +32,19 @@ module _ (sys : System) (o : Overlap) (t : Term) (a b : Counts) where
   item = make_listing (listing_cost sys o.pair.conditions t)
 
   -- a listing that is made gives nothing, and the walk goes on
-  pub listing_made : (rest : List QuasiItem) (l : Vec Reached Global) → ListedAnswers sys o t a b (Ok (Some l)) → (c : Counts) (r : Result Walk NoMemory)
+  pub listing_made : (rest : List QuasiItem) (l : Vec Entry Global) → ListedAnswers sys o t a b (Ok (Some l)) → (c : Counts) (r : Result Walk NoMemory)
       → WalkAnswers quasi_item_cost (GivesQuasi sys o) rest b c r → WalkAnswers quasi_item_cost (GivesQuasi sys o) (item ∷ rest) a c r
   listing_made rest l (is, s) c r h =
       goes_behind quasi_item_cost (GivesQuasi sys o) (item ∷ []) rest a b c r (item_bare quasi_item_cost (GivesQuasi sys o) item a b s (λ e g. g.0)) h
 
-  pub made_kept : (l : Vec Reached Global) → ListedAnswers sys o t a b (Ok (Some l)) → (n : ℕ) × Spends a n b
+  pub made_kept : (l : Vec Entry Global) → ListedAnswers sys o t a b (Ok (Some l)) → (n : ℕ) × Spends a n b
   made_kept l (is, s) = (listing_cost sys o.pair.conditions t, s)
 
-  module _ (f : Option (Vec Reached Global)) (other : (l : Vec Reached Global) → f ≡ Some l → ⊥) (h : ListedAnswers sys o t a b (Ok f)) where
+  module _ (f : Option (Vec Entry Global)) (other : (l : Vec Entry Global) → f ≡ Some l → ⊥) (h : ListedAnswers sys o t a b (Ok f)) where
     too_dear : (a.left < listing_cost sys o.pair.conditions t) × Spends a a.left b
     too_dear = go f other h
       where
-        go : (g : Option (Vec Reached Global)) → ((l : Vec Reached Global) → g ≡ Some l → ⊥) → ListedAnswers sys o t a b (Ok g)
+        go : (g : Option (Vec Entry Global)) → ((l : Vec Entry Global) → g ≡ Some l → ⊥) → ListedAnswers sys o t a b (Ok g)
             → (a.left < listing_cost sys o.pair.conditions t) × Spends a a.left b
         go None none k = k
         go (Some l) none k = absurd (none l refl)

@@ -19,8 +19,8 @@ use Rattle.cc_count.specs.Counts.{Counts}
 use Rattle.reach_lists.specs.Solutions.{Reached}
 use Rattle.reach_lists.specs.Lists.{is_listed}
 use Rattle.reach_lists.proofs.Each.{flat_map-append}
-use Rattle.reach.specs.ReachedView.{reached_view}
-use Rattle.reach.specs.declared.listed.Reached as listed
+use Rattle.reach.specs.EntryView.{entry_view}
+use Rattle.reach.specs.declared.listed.Entry as listed
 use Rattle.cc_count.proofs.Spending.{spends_none, spends_same}
 use Rattle.first_found.specs.Items.{GivesNothing, NoneGives, cost_of, IsFirst}
 use Rattle.first_found.proofs.Items.{cost_append, none_append, first_here, first_left, first_right, first_within}
@@ -130,13 +130,13 @@ module _ (sys : System) (o : Overlap) where
   )
 
   -- what was found in lists that are the listings
-  module _ (left right : List Reached) (left_is : left ≡ left_list) (right_is : right ≡ right_list) (f : Option (Bor listed.Reached × Bor listed.Reached)) (h : SharedAnswers left right (Ok f)) where
+  module _ (left right : List Reached) (left_is : left ≡ left_list) (right_is : right ≡ right_list) (f : Option (Bor listed.Entry × Bor listed.Entry)) (h : SharedAnswers left right (Ok f)) where
     at_listings : SharedAnswers left_list right_list (Ok f)
     at_listings = subst₂ (λ xs ys. SharedAnswers xs ys (Ok f)) left_is right_is h
 
-    pub shared_given : (x y : Bor listed.Reached) → f ≡ Some (x, y) → (a : Counts) (e : PairEvidence) → pair_evidence_view e ≡ joined_pair (reached_view x.now).by (reached_view y.now).by
+    pub shared_given : (x y : Bor listed.Entry) → f ≡ Some (x, y) → (a : Counts) (e : PairEvidence) → pair_evidence_view e ≡ joined_pair (entry_view x.now).by (entry_view y.now).by
         → WalkAnswers quasi_item_cost Gives (joins left_list right_list) a a (Ok (Given e))
-    shared_given x y is a e same = join_given (reached_view x.now) (reached_view y.now) (subst (λ z. SharedAnswers left_list right_list (Ok z)) is at_listings) a e same
+    shared_given x y is a e same = join_given (entry_view x.now) (entry_view y.now) (subst (λ z. SharedAnswers left_list right_list (Ok z)) is at_listings) a e same
 
     pub none_given : f ≡ None → (a : Counts) → WalkAnswers quasi_item_cost Gives (joins left_list right_list) a a (Ok Nothing)
     none_given is a = no_join (subst (λ z. SharedAnswers left_list right_list (Ok z)) is at_listings) a

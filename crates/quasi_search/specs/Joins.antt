@@ -9,12 +9,12 @@ use Rattle.reach_lists.specs.Solutions as math
 use Rattle.reach_lists.specs.Laws.{EachOf}
 use Rattle.reach_lists.specs.Lists.{is_listed}
 use Rattle.reach.specs.Keys.{cells}
-use Rattle.reach.specs.ReachedView.{reached_view}
-use Rattle.reach.specs.declared.listed.Reached.{Reached}
+use Rattle.reach.specs.EntryView.{entry_view}
+use Rattle.reach.specs.declared.listed.Entry.{Entry}
 
 -- the entries are the listed terms in order, each under its key
-pub record IsIndexOf (list : List math.Reached) (entries : List (Vec ℕ Global × Bor Reached)) : Type 0 where
-  pub all : map (λ e. reached_view e.1.now) entries ≡ list
+pub record IsIndexOf (list : List math.Reached) (entries : List (Vec ℕ Global × Bor Entry)) : Type 0 where
+  pub all : map (λ e. entry_view e.1.now) entries ≡ list
   pub keyed : EachOf (λ e. e.0.items ≡ cells (view e.1.now.term)) entries
 
 -- the first listed term that is t
@@ -25,8 +25,8 @@ pub record IsFirstListed (list : List math.Reached) (t : Term) (y : math.Reached
   pub is_term : y.term ≡ t
   pub none_before : is_listed t before ≡ false
 
-abbrev pub FindAnswers : List math.Reached → Term → Option (Bor Reached) → Type 0
-FindAnswers list t (Some y) = IsFirstListed list t (reached_view y.now)
+abbrev pub FindAnswers : List math.Reached → Term → Option (Bor Entry) → Type 0
+FindAnswers list t (Some y) = IsFirstListed list t (entry_view y.now)
 FindAnswers list t None = is_listed t list ≡ false
 
 -- no term of the first list is on the second
@@ -42,7 +42,7 @@ pub record IsFirstShared (xs ys : List math.Reached) (x y : math.Reached) : Type
   pub right : IsFirstListed ys x.term y
 
 -- the first shared term; or there is none
-abbrev pub SharedAnswers : List math.Reached → List math.Reached → Result (Option (Bor Reached × Bor Reached)) NoMemory → Type 0
-SharedAnswers xs ys (Ok (Some p)) = IsFirstShared xs ys (reached_view p.0.now) (reached_view p.1.now)
+abbrev pub SharedAnswers : List math.Reached → List math.Reached → Result (Option (Bor Entry × Bor Entry)) NoMemory → Type 0
+SharedAnswers xs ys (Ok (Some p)) = IsFirstShared xs ys (entry_view p.0.now) (entry_view p.1.now)
 SharedAnswers xs ys (Ok None) = ShareNone xs ys
 SharedAnswers xs ys (Err e) = Unit {0}

@@ -8,7 +8,7 @@ use Rattle.term_core.specs.declared.terms.NoMemory.{NoMemory}
 use Rattle.cc_count.specs.Counts.{Counts}
 use Rattle.reach_lists.specs.Laws.{EachOf}
 use Rattle.reach_lists.specs.Solutions.{Reached}
-use Rattle.reach.specs.ReachedView.{reached_view}
+use Rattle.reach.specs.EntryView.{entry_view}
 use Rattle.search_spaces.specs.Listings.{listing, listing_cost, pairs_of}
 use Rattle.pair_search.specs.Answers.{WalkAnswers}
 use Rattle.pair_search.specs.declared.walks.Walk.{Walk}
@@ -17,7 +17,7 @@ use Rattle.quasi_space.specs.QuasiItems.{QuasiItem, make_listing, two_reducts, q
 use Rattle.quasi_search.specs.declared.reducts.Reduct.{Reduct}
 
 abbrev pub reduct_view : Reduct → Reached
-reduct_view r = reached_view r.listed.now
+reduct_view r = entry_view r.listed.now
 
 abbrev pub reducts_view : List Reduct → List Reached
 reducts_view rs = map reduct_view rs

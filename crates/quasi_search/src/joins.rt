@@ -3,7 +3,6 @@ ghost use Rattle.std.specs.Prelude.{ℕ, ◌≡◌, IfOk, List};
 ghost use Rattle.rewriting.specs.Terms as terms;
 ghost use Rattle.unifier_run.specs.Overlaps.{IsOverlapOf};
 ghost use Rattle.certificates.specs.Evidence.{joined_pair};
-ghost use Rattle.cert_model.specs.DerivationView.{derivation_view};
 ghost use Rattle.cert_model.specs.EvidenceView.{pair_evidence_view};
 ghost use Rattle.critical_pairs.specs.View.{overlap_view};
 ghost use Rattle.cc_count.specs.Counts.{Spends};
@@ -11,7 +10,7 @@ ghost use Rattle.reach_lists.specs.Solutions as math;
 ghost use Rattle.reach_lists.specs.Laws.{IsWithoutRepetition};
 ghost use Rattle.reach.specs.Keys.{cells};
 ghost use Rattle.reach.specs.Parts.{DoAllFit};
-ghost use Rattle.reach.specs.ReachedView.{list_view};
+ghost use Rattle.reach.specs.EntryView.{entry_view, table_view};
 ghost use Rattle.pair_search.specs.Answers.{WalkAnswers};
 ghost use Rattle.quasi_space.specs.QuasiItems.{quasi_item_cost, GivesQuasi, join_items};
 ghost use Rattle.quasi_search.specs.Joins.{IsIndexOf, FindAnswers, SharedAnswers};
@@ -23,18 +22,18 @@ use critical_pairs::Overlap;
 use indexmap::IndexMap;
 use irreducible::LeftSides;
 use pair_search::Walk;
-use reach::{Reached, key_of};
+use reach::{Entry, key_of};
 use std::alloc::Global;
 use term_core::NoMemory;
 
 // The terms of a list by their keys.
 fn index_of<'a>(
     alloc: Global,
-    list: &'a [Reached],
-) -> Result<IndexMap<Vec<u64>, &'a Reached>, NoMemory>
-    requires fit { DoAllFit (list_view list.now) }
-    requires once { IsWithoutRepetition (list_view list.now) }
-    ensures { IfOk result (λ index. IsIndexOf (list_view list.now) index.entries) }
+    list: &'a [Entry],
+) -> Result<IndexMap<Vec<u64>, &'a Entry>, NoMemory>
+    requires fit { DoAllFit (table_view list.now) }
+    requires once { IsWithoutRepetition (table_view list.now) }
+    ensures { IfOk result (λ index. IsIndexOf (table_view list.now) index.entries) }
 {
     let mut index = IndexMap::new(alloc);
     'list: for listed in list {
@@ -45,7 +44,7 @@ fn index_of<'a>(
 }
 
 // The first listed term with a key.
-fn listed_by<'a>(index: &IndexMap<Vec<u64>, &'a Reached>, key: &[u64]) -> Option<&'a Reached>
+fn listed_by<'a>(index: &IndexMap<Vec<u64>, &'a Entry>, key: &[u64]) -> Option<&'a Entry>
     ensures { (list : List math.Reached) (t : terms.Term) → IsIndexOf list index.now.entries → terms.Fits t → key.now ≡ cells t → FindAnswers list t result }
 {
     match index.get(key) {
@@ -57,13 +56,13 @@ fn listed_by<'a>(index: &IndexMap<Vec<u64>, &'a Reached>, key: &[u64]) -> Option
 // The first term of the left list that is on the right one, too, as it is listed on both.
 fn first_shared<'a>(
     alloc: Global,
-    left: &'a [Reached],
-    right: &'a [Reached],
-) -> Result<Option<(&'a Reached, &'a Reached)>, NoMemory>
-    requires left { DoAllFit (list_view left.now) }
-    requires right { DoAllFit (list_view right.now) }
-    requires once { IsWithoutRepetition (list_view right.now) }
-    ensures { SharedAnswers (list_view left.now) (list_view right.now) result }
+    left: &'a [Entry],
+    right: &'a [Entry],
+) -> Result<Option<(&'a Entry, &'a Entry)>, NoMemory>
+    requires left { DoAllFit (table_view left.now) }
+    requires right { DoAllFit (table_view right.now) }
+    requires once { IsWithoutRepetition (table_view right.now) }
+    ensures { SharedAnswers (table_view left.now) (table_view right.now) result }
 {
     let index = index_of(alloc, right)?;
     'left: for first in left {
@@ -76,12 +75,12 @@ fn first_shared<'a>(
 }
 
 // The evidence that two listed terms are one.
-fn joined(alloc: Global, first: &Reached, second: &Reached) -> Result<PairEvidence, NoMemory>
-    ensures { IfOk result (λ e. pair_evidence_view e ≡ joined_pair (derivation_view first.now.by) (derivation_view second.now.by)) }
+fn joined(alloc: Global, first: &Entry, second: &Entry) -> Result<PairEvidence, NoMemory>
+    ensures { IfOk result (λ e. pair_evidence_view e ≡ joined_pair (entry_view first.now).by (entry_view second.now).by) }
 {
     Ok(PairEvidence::Join {
-        left: first.by.try_clone(alloc)?,
-        right: second.by.try_clone(alloc)?,
+        left: first.derivation(alloc)?,
+        right: second.derivation(alloc)?,
     })
 }
 

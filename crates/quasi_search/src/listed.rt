@@ -9,7 +9,7 @@ use cc_count::Budget;
 use critical_pairs::Overlap;
 use flatterm::Work;
 use irreducible::LeftSides;
-use reach::{ReachStop, Reached, reach_in};
+use reach::{Entry, ReachStop, reach_in};
 use std::alloc::Global;
 use term_core::{NoMemory, Term};
 
@@ -26,7 +26,7 @@ pub fn listed_under(
     overlap: &Overlap,
     start: &Term,
     budget: &mut Budget,
-) -> Result<Option<Vec<Reached>>, NoMemory>
+) -> Result<Option<Vec<Entry>>, NoMemory>
     requires overlap { IsOverlapOf sys.now (overlap_view overlap.now) }
     requires start { math.Fits (view start.now) }
     ensures { ListedAnswers sys.now (overlap_view overlap.now) (view start.now) budget.old budget.new result }

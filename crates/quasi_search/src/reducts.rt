@@ -8,12 +8,11 @@ ghost use Rattle.certificates.specs.Evidence.{unfeasible_pair};
 ghost use Rattle.certificates.specs.Judging.{hypothesis_at};
 ghost use Rattle.term_core.specs.View.{view};
 ghost use Rattle.term_core.specs.RuleView.{condition_view};
-ghost use Rattle.cert_model.specs.DerivationView.{derivation_view};
 ghost use Rattle.cert_model.specs.EvidenceView.{pair_evidence_view};
 ghost use Rattle.critical_pairs.specs.View.{overlap_view};
 ghost use Rattle.cc_count.specs.Counts.{Spends};
 ghost use Rattle.reach_lists.specs.Laws.{EachOf};
-ghost use Rattle.reach.specs.ReachedView.{list_view};
+ghost use Rattle.reach.specs.EntryView.{entry_view, table_view};
 ghost use Rattle.search_spaces.specs.Listings.{pairs_of};
 ghost use Rattle.pair_search.specs.Answers.{WalkAnswers};
 ghost use Rattle.quasi_space.specs.QuasiItems.{quasi_item_cost, GivesQuasi, reduct_items};
@@ -25,7 +24,7 @@ use cert_model::PairEvidence;
 use critical_pairs::Overlap;
 use irreducible::{LeftSides, do_all_clash};
 use pair_search::Walk;
-use reach::Reached;
+use reach::Entry;
 use std::alloc::Global;
 use term_core::{Cond, NoMemory};
 use unification::{Unified, unify_terms};
@@ -33,7 +32,7 @@ use unification::{Unified, unify_terms};
 // A listed term, and whether it is absolutely irreducible, which is asked once for all its pairs.
 #[derive(Drop)]
 struct Reduct<'a> {
-    listed: &'a Reached,
+    listed: &'a Entry,
     is_irreducible: bool,
 }
 
@@ -41,9 +40,9 @@ struct Reduct<'a> {
 fn reducts_of<'a>(
     alloc: Global,
     sys: &LeftSides<'_>,
-    list: &'a [Reached],
+    list: &'a [Entry],
 ) -> Result<Vec<Reduct<'a>>, NoMemory>
-    ensures listed { IfOk result (λ rs. reducts_view rs.items ≡ list_view list.now) }
+    ensures listed { IfOk result (λ rs. reducts_view rs.items ≡ table_view list.now) }
     ensures judged { IfOk result (λ rs. EachOf (IsJudged sys.now) rs.items) }
 {
     let mut reducts = Vec::with_capacity(alloc, list.len())?;
@@ -65,7 +64,7 @@ fn is_clash(outcome: &Unified) -> bool
 }
 
 // Whether the run of unification for two terms ends in a clash.
-fn do_clash(alloc: Global, first: &Reached, second: &Reached) -> Result<bool, NoMemory>
+fn do_clash(alloc: Global, first: &Entry, second: &Entry) -> Result<bool, NoMemory>
     ensures { IfOk result (λ b. IsTrue b ↔ IsOutcome (cons (view first.now.term) nil) (cons (view second.now.term) nil) clash) }
 {
     let outcome = unify_terms(alloc, &first.term, &second.term)?;
@@ -76,15 +75,15 @@ fn do_clash(alloc: Global, first: &Reached, second: &Reached) -> Result<bool, No
 fn unfeasible(
     alloc: Global,
     cond: u32,
-    first: &Reached,
-    second: &Reached,
+    first: &Entry,
+    second: &Entry,
 ) -> Result<PairEvidence, NoMemory>
-    ensures { IfOk result (λ e. pair_evidence_view e ≡ unfeasible_pair cond (derivation_view first.now.by) (derivation_view second.now.by)) }
+    ensures { IfOk result (λ e. pair_evidence_view e ≡ unfeasible_pair cond (entry_view first.now).by (entry_view second.now).by) }
 {
     Ok(PairEvidence::Unfeasible {
         cond,
-        first: first.by.try_clone(alloc)?,
-        second: second.by.try_clone(alloc)?,
+        first: first.derivation(alloc)?,
+        second: second.derivation(alloc)?,
     })
 }
 

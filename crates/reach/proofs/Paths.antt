@@ -1,5 +1,5 @@
 -- Paths that go on and come back.
-use Rattle.std.proofs.Common.{◌≡◌, ℕ, List, [], ◌∷◌, ◌++◌, map, length, take, drop, slice_get, None, Some, option_map, sym, ap, ap₂, ◌∙◌, le_refl}
+use Rattle.std.proofs.Common.{◌≡◌, ℕ, List, [], ◌∷◌, ◌++◌, map, length, take, drop, None, Some, option_map, sym, ap, ap₂, ◌∙◌, le_refl}
 use Rattle.std.proofs.lemmas.List.{take_all, take-append-le}
 use Rattle.rewriting.specs.Substitutions.{Bindings}
 use Rattle.rewriting.specs.Matching.{IsLeastMatch, HasNoMatch}
@@ -7,9 +7,9 @@ use Rattle.rewriting.specs.Rules.{Condition}
 use Rattle.matching.specs.Trails.{without, IsNoted}
 use Rattle.matching.proofs.Noted.{noted_back, noted_before}
 use Rattle.reach_lists.specs.Solutions as lists
-use Rattle.reach.specs.ReachedView.{list_view}
-use Rattle.reach.specs.PathView.{by_of, met_view, path_view, IsSamePath, IsEntered, IsMissed}
-use Rattle.reach.specs.declared.solutions.Met.{Met}
+use Rattle.origins.specs.OriginView.{origin_view}
+use Rattle.origins.specs.declared.Origin.{Origin}
+use Rattle.reach.specs.PathView.{path_view, IsSamePath, IsEntered, IsMissed}
 use Rattle.reach.specs.declared.solutions.Path.{Path}
 use Rattle.reach.proofs.Solving.{solution_found, solution_missed}
 use Rattle.reach.proofs.Offered.{map_push}
@@ -19,8 +19,8 @@ use Rattle.rewriting.specs.Tests.{match_onto}
 use Rattle.rewriting.proofs.MatchedOnto.{least_found, none_found}
 use Rattle.reach_lists.specs.Lists.{unconditional}
 
-abbrev solved : Bindings → List Met → lists.Solution
-solved v ms = record { values = v; by = map met_view ms }
+abbrev pub solved : Bindings → List Origin → lists.Solution
+solved v os = record { values = v; by = map origin_view os }
 
 pub same_view : (p q : Path) → IsSamePath p q → path_view q ≡ path_view p
 same_view p q h = ap₂ solved h.values h.by
@@ -30,11 +30,11 @@ same_both p q r h k = record { values = k.values ∙ h.values; trail = k.trail �
 
 -- a condition, and a term of its list
 module _ (c : Condition) (w : lists.Reached) (p q : Path) (noted : IsNoted p.values p.trail.items q.values q.trail.items) where
-  pub entered : (m : Met) → IsLeastMatch p.values q.values c.right w.term → q.by.items ≡ p.by.items ++ m ∷ [] → slice_get (list_view m.list.value.terms.items) m.at ≡ Some w → IsEntered c w p q
-  entered m least pushed at = record {
+  pub entered : (m : Origin) → IsLeastMatch p.values q.values c.right w.term → q.by.items ≡ p.by.items ++ m ∷ [] → origin_view m ≡ w.by → IsEntered c w p q
+  entered m least pushed is = record {
     found =
-        sym (solution_found c (path_view p) w q.values (map met_view q.by.items) least
-        (ap (map met_view) pushed ∙ map_push met_view p.by.items m ∙ ap (λ z. map met_view p.by.items ++ z ∷ []) (ap by_of at)));
+        sym (solution_found c (path_view p) w q.values (map origin_view q.by.items) least
+        (ap (map origin_view) pushed ∙ map_push origin_view p.by.items m ∙ ap (λ z. map origin_view p.by.items ++ z ∷ []) is));
     ahead = record {
       values = noted_back p.values q.values p.trail.items q.trail.items noted;
       trail = noted_before p.values q.values p.trail.items q.trail.items noted;

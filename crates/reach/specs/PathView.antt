@@ -1,23 +1,13 @@
 -- The solutions that a `Path` stands for.
-use Rattle.std.specs.Prelude.{◌≡◌, Option, None, Some, length, map, slice_get, take, drop}
-use Rattle.certificates.specs.Derivations.{Derivation, no_steps}
+use Rattle.std.specs.Prelude.{◌≡◌, None, Some, length, map, take, drop}
 use Rattle.rewriting.specs.Rules.{Condition}
 use Rattle.matching.specs.Trails.{without}
 use Rattle.reach_lists.specs.Solutions as math
-use Rattle.reach.specs.ReachedView.{list_view}
-use Rattle.reach.specs.declared.solutions.Met.{Met}
+use Rattle.origins.specs.OriginView.{origin_view}
 use Rattle.reach.specs.declared.solutions.Path.{Path}
 
-abbrev pub by_of : Option math.Reached → Derivation
-by_of None = no_steps
-by_of (Some r) = r.by
-
--- the derivation of the term with an index on a list
-abbrev pub met_view : Met → Derivation
-met_view m = by_of (slice_get (list_view m.list.value.terms.items) m.at)
-
 abbrev pub path_view : Path → math.Solution
-path_view p = record { values = p.values; by = map met_view p.by.items }
+path_view p = record { values = p.values; by = map origin_view p.by.items }
 
 -- a path that came back to where it was
 pub record IsSamePath (p q : Path) : Type 0 where

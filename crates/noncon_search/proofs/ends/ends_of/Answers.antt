@@ -1,6 +1,6 @@
 use Rattle.std.proofs.Common.{◌≡◌, ◌+◌, ◌++◌, drop, sym, subst}
 use Rattle.reach_lists.specs.Laws.{EachOf}
-use Rattle.reach.specs.ReachedView.{list_view}
+use Rattle.reach.specs.EntryView.{table_view}
 use Rattle.noncon_search.specs.Ends.{ends_view, IsEnd, AreMet}
 use Rattle.noncon_search.specs.Laying.{IsUnder}
 use Rattle.noncon_search.proofs.Meeting.{one_more_met, one_more_under, one_more_end, one_more_listed, rest_fit}
@@ -14,7 +14,7 @@ list-preserved c =
     let end = c.in_ok-end_of.ensures in
     let put = c.in_ok-push.ensures.items in
     record {
-      listed = subst (λ z. ends_view z ++ list_view (drop (c.list.listed-index + 1) c.args.list.now) ≡ list_view c.args.list.now) (sym put)
+      listed = subst (λ z. ends_view z ++ table_view (drop (c.list.listed-index + 1) c.args.list.now) ≡ table_view c.args.list.now) (sym put)
           (one_more_listed c.args.list.now c.list.listed-index c.listed-item.result c.list-test.true c.listed-item.is es e end.listed c.list.invariant.listed);
       ends = subst (EachOf (IsEnd sys)) (sym put) (one_more_end sys c.list.overlay c.end_of.new.overlay e end.end end.laid es c.list.invariant.ends);
       fit = rest_fit c.args.list.now c.list.listed-index c.listed-item.result c.list-test.true c.listed-item.is c.list.invariant.fit;

@@ -1,6 +1,6 @@
 use Rattle.std.proofs.Common.{◌+◌, ◌∙◌, drop, subst}
 use Rattle.reach.specs.Parts.{DoAllFit}
-use Rattle.reach.specs.ReachedView.{reached_view, list_view}
+use Rattle.reach.specs.EntryView.{entry_view, table_view}
 use Rattle.reach.proofs.Rests.{rest_first}
 use Rattle.term_core.specs.View.{view}
 use Rattle.quasi_search.proofs.Index.{none_found, unshared_goes_on, shared_here}
@@ -11,21 +11,21 @@ returns-in-Some c =
     let all = c.args.left.now in
     let i = c.left.first-index in
     let x = c.first-item.result in
-    let right = list_view c.args.right.now in
-    let next = rest_first reached_view all i x c.left-test.true c.first-item.is in
-    shared_here (list_view all) right (list_view (drop i all)) (reached_view x) (list_view (drop (i + 1) all)) c.left.invariant.unshared next
-    (reached_view c.in-Some.second.now) (c.in-Some.ensures right (view x.term) c.in_ok-index.ensures (subst DoAllFit next c.left.invariant.fit).0 (c.deref.ensures.value ∙ c.in_ok-key.ensures))
+    let right = table_view c.args.right.now in
+    let next = rest_first entry_view all i x c.left-test.true c.first-item.is in
+    shared_here (table_view all) right (table_view (drop i all)) (entry_view x) (table_view (drop (i + 1) all)) c.left.invariant.unshared next
+    (entry_view c.in-Some.second.now) (c.in-Some.ensures right (view x.term) c.in_ok-index.ensures (subst DoAllFit next c.left.invariant.fit).0 (c.deref.ensures.value ∙ c.in_ok-key.ensures))
 
 pub left-preserved : goal.left-preserved
 left-preserved c =
     let all = c.args.left.now in
     let i = c.left.first-index in
     let x = c.first-item.result in
-    let right = list_view c.args.right.now in
-    let next = rest_first reached_view all i x c.left-test.true c.first-item.is in
+    let right = table_view c.args.right.now in
+    let next = rest_first entry_view all i x c.left-test.true c.first-item.is in
     let fit = subst DoAllFit next c.left.invariant.fit in
     record {
-      unshared = unshared_goes_on (list_view all) right (list_view (drop i all)) (reached_view x) (list_view (drop (i + 1) all)) c.left.invariant.unshared next
+      unshared = unshared_goes_on (table_view all) right (table_view (drop i all)) (entry_view x) (table_view (drop (i + 1) all)) c.left.invariant.unshared next
           (none_found right (view x.term) c.listed_by.result c.in_default.not-Some (c.listed_by.ensures right (view x.term) c.in_ok-index.ensures fit.0 (c.deref.ensures.value ∙ c.in_ok-key.ensures)));
       fit = fit.1;
     }

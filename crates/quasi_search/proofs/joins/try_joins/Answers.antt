@@ -1,7 +1,7 @@
 use Rattle.cc_count.proofs.Spending.{kept_on}
 use Rattle.std.proofs.Common.{◌∙◌, ◌∷◌, Ok, ap, subst}
 use Rattle.critical_pairs.specs.View.{overlap_view}
-use Rattle.reach.specs.ReachedView.{list_view}
+use Rattle.reach.specs.EntryView.{table_view}
 use Rattle.search_spaces.specs.Listings.{listing, listing_cost}
 use Rattle.pair_search.specs.declared.walks.Walk.TheVariants.{Given, Nothing, Spent}
 use Rattle.quasi_space.specs.QuasiItems.{make_listing, joins}
@@ -49,8 +49,8 @@ pub first_shared-requires-clause-left : goal.first_shared-requires-clause-left
 first_shared-requires-clause-left c =
     let sys = c.args.sys.now in
     let o = overlap_view c.args.overlap.now in
-    listing_fits sys o.pair.conditions o.pair.left (list_view c.deref.result.now)
-    (ap list_view c.deref.ensures.value
+    listing_fits sys o.pair.conditions o.pair.left (table_view c.deref.result.now)
+    (ap table_view c.deref.ensures.value
     ∙ (subst (λ z. ListedAnswers sys o o.pair.left c.args.budget.now c.listed_under.new.budget (Ok z)) c.in-Some.is c.in_ok-left.ensures).0)
     c.requires.overlap.fits.left
 
@@ -58,8 +58,8 @@ pub first_shared-requires-clause-right : goal.first_shared-requires-clause-right
 first_shared-requires-clause-right c =
     let sys = c.args.sys.now in
     let o = overlap_view c.args.overlap.now in
-    listing_fits sys o.pair.conditions o.pair.right (list_view c.deref-2.result.now)
-    (ap list_view c.deref-2.ensures.value
+    listing_fits sys o.pair.conditions o.pair.right (table_view c.deref-2.result.now)
+    (ap table_view c.deref-2.ensures.value
     ∙ (subst (λ z. ListedAnswers sys o o.pair.right c.listed_under.new.budget c.listed_under-2.new.budget (Ok z)) c.in-Some-2.is c.in_ok-right.ensures).0)
     c.requires.overlap.fits.right
 
@@ -67,8 +67,8 @@ pub first_shared-requires-clause-once : goal.first_shared-requires-clause-once
 first_shared-requires-clause-once c =
     let sys = c.args.sys.now in
     let o = overlap_view c.args.overlap.now in
-    listing_once sys o.pair.conditions o.pair.right (list_view c.deref-2.result.now)
-    (ap list_view c.deref-2.ensures.value
+    listing_once sys o.pair.conditions o.pair.right (table_view c.deref-2.result.now)
+    (ap table_view c.deref-2.ensures.value
     ∙ (subst (λ z. ListedAnswers sys o o.pair.right c.listed_under.new.budget c.listed_under-2.new.budget (Ok z)) c.in-Some-2.is c.in_ok-right.ensures).0)
 
 pub returns-in_err-first-clause-kept : goal.returns-in_err-first-clause-kept
@@ -120,9 +120,9 @@ returns-in-Some-3-clause-answer c =
     (subst (λ z. ListedAnswers sys o o.pair.left c.args.budget.now c.listed_under.new.budget (Ok z)) c.in-Some.is c.in_ok-left.ensures) c.listed_under-2.new.budget (Ok (Given c.in_ok-joined-in-Some-3.field-0))
     (listing_made sys o o.pair.right c.listed_under.new.budget c.listed_under-2.new.budget (joins (listing sys o.pair.conditions o.pair.left) (listing sys o.pair.conditions o.pair.right)) c.in-Some-2.right
     (subst (λ z. ListedAnswers sys o o.pair.right c.listed_under.new.budget c.listed_under-2.new.budget (Ok z)) c.in-Some-2.is c.in_ok-right.ensures) c.listed_under-2.new.budget (Ok (Given c.in_ok-joined-in-Some-3.field-0))
-    (shared_given sys o (list_view c.deref.result.now) (list_view c.deref-2.result.now)
-    (ap list_view c.deref.ensures.value ∙ (subst (λ z. ListedAnswers sys o o.pair.left c.args.budget.now c.listed_under.new.budget (Ok z)) c.in-Some.is c.in_ok-left.ensures).0)
-    (ap list_view c.deref-2.ensures.value ∙ (subst (λ z. ListedAnswers sys o o.pair.right c.listed_under.new.budget c.listed_under-2.new.budget (Ok z)) c.in-Some-2.is c.in_ok-right.ensures).0)
+    (shared_given sys o (table_view c.deref.result.now) (table_view c.deref-2.result.now)
+    (ap table_view c.deref.ensures.value ∙ (subst (λ z. ListedAnswers sys o o.pair.left c.args.budget.now c.listed_under.new.budget (Ok z)) c.in-Some.is c.in_ok-left.ensures).0)
+    (ap table_view c.deref-2.ensures.value ∙ (subst (λ z. ListedAnswers sys o o.pair.right c.listed_under.new.budget c.listed_under-2.new.budget (Ok z)) c.in-Some-2.is c.in_ok-right.ensures).0)
     c.in_ok-first.field-0 c.in_ok-first.ensures c.in-Some-3.first c.in-Some-3.second c.in-Some-3.is c.listed_under-2.new.budget c.in_ok-joined-in-Some-3.field-0 c.in_ok-joined-in-Some-3.ensures))
 
 pub returns-clause-answer : goal.returns-clause-answer
@@ -134,7 +134,7 @@ returns-clause-answer c =
     (subst (λ z. ListedAnswers sys o o.pair.left c.args.budget.now c.listed_under.new.budget (Ok z)) c.in-Some.is c.in_ok-left.ensures) c.listed_under-2.new.budget (Ok Nothing)
     (listing_made sys o o.pair.right c.listed_under.new.budget c.listed_under-2.new.budget (joins (listing sys o.pair.conditions o.pair.left) (listing sys o.pair.conditions o.pair.right)) c.in-Some-2.right
     (subst (λ z. ListedAnswers sys o o.pair.right c.listed_under.new.budget c.listed_under-2.new.budget (Ok z)) c.in-Some-2.is c.in_ok-right.ensures) c.listed_under-2.new.budget (Ok Nothing)
-    (none_given sys o (list_view c.deref.result.now) (list_view c.deref-2.result.now)
-    (ap list_view c.deref.ensures.value ∙ (subst (λ z. ListedAnswers sys o o.pair.left c.args.budget.now c.listed_under.new.budget (Ok z)) c.in-Some.is c.in_ok-left.ensures).0)
-    (ap list_view c.deref-2.ensures.value ∙ (subst (λ z. ListedAnswers sys o o.pair.right c.listed_under.new.budget c.listed_under-2.new.budget (Ok z)) c.in-Some-2.is c.in_ok-right.ensures).0)
+    (none_given sys o (table_view c.deref.result.now) (table_view c.deref-2.result.now)
+    (ap table_view c.deref.ensures.value ∙ (subst (λ z. ListedAnswers sys o o.pair.left c.args.budget.now c.listed_under.new.budget (Ok z)) c.in-Some.is c.in_ok-left.ensures).0)
+    (ap table_view c.deref-2.ensures.value ∙ (subst (λ z. ListedAnswers sys o o.pair.right c.listed_under.new.budget c.listed_under-2.new.budget (Ok z)) c.in-Some-2.is c.in_ok-right.ensures).0)
     c.in_ok-first.field-0 c.in_ok-first.ensures c.in-None.is c.listed_under-2.new.budget))

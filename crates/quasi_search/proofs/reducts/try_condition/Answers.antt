@@ -6,7 +6,7 @@ use Rattle.term_core.specs.RuleView.{condition_view}
 use Rattle.critical_pairs.specs.View.{overlap_view}
 use Rattle.pair_check.proofs.Ready.{ready}
 use Rattle.reach_lists.specs.Laws.{EachOf}
-use Rattle.reach.specs.ReachedView.{list_view}
+use Rattle.reach.specs.EntryView.{table_view}
 use Rattle.search_spaces.specs.Listings.{listing, pairs_of}
 use Rattle.pair_search.specs.Answers.{WalkAnswers}
 use Rattle.quasi_space.specs.QuasiItems.{two_reducts, quasi_item_cost, GivesQuasi}
@@ -35,7 +35,7 @@ returns-clause-answer c =
     let t = view c.args.cond.now.left in
     let made = subst (λ z. ListedAnswers sys o t c.args.budget.now c.listed_under.new.budget (Ok z)) c.in-Some.is c.in_ok-list.ensures in
     let all : reducts_view c.deref-2.result.now ≡ listing sys o.pair.conditions t =
-    ap reducts_view c.deref-2.ensures.value ∙ c.in_ok-reducts.ensures.listed ∙ ap list_view c.deref.ensures.value ∙ made.0 in
+    ap reducts_view c.deref-2.ensures.value ∙ c.in_ok-reducts.ensures.listed ∙ ap table_view c.deref.ensures.value ∙ made.0 in
     listing_made sys o t c.args.budget.now c.listed_under.new.budget (map (two_reducts c.args.number) (pairs_of (listing sys o.pair.conditions t))) c.in-Some.list made c.try_pairs.new.budget c.try_pairs.result
     (subst (λ l. WalkAnswers quasi_item_cost (GivesQuasi sys o) (map (two_reducts c.args.number) (pairs_of l)) c.listed_under.new.budget c.try_pairs.new.budget c.try_pairs.result) all
     (c.try_pairs.ensures.answer sys o

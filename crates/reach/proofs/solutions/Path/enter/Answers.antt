@@ -1,7 +1,6 @@
-use Rattle.std.proofs.Common.{Some, ◌≡◌, slice_get, refl, ap, ◌∙◌, arith}
+use Rattle.std.proofs.Common.{refl, arith}
 use Rattle.term_core.specs.RuleView.{condition_view}
-use Rattle.reach.specs.ReachedView.{reached_view, list_view}
-use Rattle.reach.specs.declared.kept.KeptList.{KeptList}
+use Rattle.reach.specs.EntryView.{entry_view}
 use Rattle.reach.specs.declared.solutions.Path.{Path}
 use Rattle.reach.proofs.Paths.{entered, missed}
 use Rattle.reach.proofs.solutions.Path.enter.Goals as goal
@@ -9,13 +8,11 @@ use Rattle.reach.proofs.solutions.Path.enter.Goals as goal
 pub returns-then-not-branch : goal.returns-then-not-branch
 returns-then-not-branch c =
     let bound : Path = record { values = c.match_further.new.values; trail = c.match_further.new.trail; by = c.args.self.now.by } in
-    missed (condition_view c.args.cond.now) (reached_view c.args.w.now) c.args.self.now bound c.in_ok-match_further.ensures.noted _ c.len-from.result
+    missed (condition_view c.args.cond.now) (entry_view c.args.w.now) c.args.self.now bound c.in_ok-match_further.ensures.noted _ c.len-from.result
     (rw c.if-not-branch.true at c.in_ok-match_further.ensures.matched) (omega arith) c.take_back.ensures.values c.take_back.ensures.trail refl
 
 pub returns : goal.returns
 returns c =
     let bound : Path = record { values = c.match_further.new.values; trail = c.match_further.new.trail; by = c.push.new.self } in
-    let same : slice_get (list_view c.in_ok-clone.field-0.value.terms.items) c.args.at ≡ Some (reached_view c.args.w.now) =
-    ap (λ (l : KeptList). slice_get (list_view l.terms.items) c.args.at) c.in_ok-clone.ensures.cases ∙ c.requires in
-    entered (condition_view c.args.cond.now) (reached_view c.args.w.now) c.args.self.now bound c.in_ok-match_further.ensures.noted record { list = c.in_ok-clone.field-0; at = c.args.at }
-    (rw c.if-not-branch.false at c.in_ok-match_further.ensures.matched) c.in_ok-push.ensures.items same
+    entered (condition_view c.args.cond.now) (entry_view c.args.w.now) c.args.self.now bound c.in_ok-match_further.ensures.noted c.in_ok-share.field-0
+    (rw c.if-not-branch.false at c.in_ok-match_further.ensures.matched) c.in_ok-push.ensures.items c.in_ok-share.ensures

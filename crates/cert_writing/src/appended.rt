@@ -1,0 +1,88 @@
+ghost use Rattle.std.specs.Prelude.{◌≡◌, ◌++◌, false, OnOk, OnErr};
+ghost use Rattle.term_core.specs.View.{view};
+ghost use Rattle.cert_model.specs.DerivationView.{derivation_view};
+ghost use Rattle.cert_model.specs.EvidenceView.{inf_evidence_view};
+ghost use Rattle.cert_grammar.specs.Words.{term_text};
+ghost use Rattle.cert_grammar.specs.Steps.{derivation_text};
+ghost use Rattle.cert_grammar.specs.EvidenceText.{infeasibility_text};
+ghost use Rattle.cert_writing.specs.Written.{GrewByFront};
+
+use crate::output::Writer;
+use crate::written_evidence::put_infeasibility;
+use crate::written_steps::put_derivation;
+use crate::written_terms::put_term;
+use cert_model::{Derivation, InfEvidence};
+use cops_names::Names;
+use std::alloc::Global;
+use std::mem;
+use term_core::{NoMemory, Term};
+
+// Takes the bytes out, to put more behind them.
+fn begin(alloc: Global, out: &mut Vec<u8>) -> Writer
+    ensures bytes { result.bytes.items ≡ out.old.items }
+    ensures refused { result.refused ≡ false }
+{
+    Writer {
+        bytes: mem::replace(out, Vec::new(alloc)),
+        refused: false,
+    }
+}
+
+// Gives the bytes back, and tells whether memory was refused.
+fn finish(writer: Writer, out: &mut Vec<u8>) -> Result<(), NoMemory>
+    ensures bytes { out.new.items ≡ writer.bytes.items }
+    ensures whole { OnOk result (writer.refused ≡ false) }
+{
+    *out = writer.bytes;
+    if writer.refused {
+        Err(NoMemory)
+    } else {
+        Ok(())
+    }
+}
+
+/// Writes a term as it stands in certificates behind the bytes of `out`. A symbol without a name is written as nothing. Where
+/// memory is refused, a front of the text stands behind them.
+pub fn write_cert_term(
+    alloc: Global,
+    names: &Names,
+    t: &Term,
+    out: &mut Vec<u8>,
+) -> Result<(), NoMemory>
+    ensures written { OnOk result (out.new.items ≡ out.old.items ++ term_text names.now (view t.now)) }
+    ensures front { OnErr result (GrewByFront out.old.items (term_text names.now (view t.now)) out.new.items) }
+{
+    let mut writer = begin(alloc, out);
+    put_term(&mut writer, names, t);
+    finish(writer, out)
+}
+
+/// The same of the lines of a derivation, which have no names.
+pub fn write_deriv(
+    alloc: Global,
+    _names: &Names,
+    d: &Derivation,
+    out: &mut Vec<u8>,
+) -> Result<(), NoMemory>
+    ensures written { OnOk result (out.new.items ≡ out.old.items ++ derivation_text (derivation_view d.now)) }
+    ensures front { OnErr result (GrewByFront out.old.items (derivation_text (derivation_view d.now)) out.new.items) }
+{
+    let mut writer = begin(alloc, out);
+    put_derivation(&mut writer, d);
+    finish(writer, out)
+}
+
+/// The same of evidence that conditions are never met.
+pub fn write_inf(
+    alloc: Global,
+    names: &Names,
+    e: &InfEvidence,
+    out: &mut Vec<u8>,
+) -> Result<(), NoMemory>
+    ensures written { OnOk result (out.new.items ≡ out.old.items ++ infeasibility_text names.now (inf_evidence_view e.now)) }
+    ensures front { OnErr result (GrewByFront out.old.items (infeasibility_text names.now (inf_evidence_view e.now)) out.new.items) }
+{
+    let mut writer = begin(alloc, out);
+    put_infeasibility(&mut writer, names, e);
+    finish(writer, out)
+}

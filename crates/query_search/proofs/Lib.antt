@@ -1,0 +1,7 @@
+pub mod Sizes
+pub mod Walking
+pub mod Evidence
+pub mod Turning
+pub mod Assigning
+pub mod Full
+pub mod Ending

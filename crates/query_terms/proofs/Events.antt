@@ -1,0 +1,160 @@
+-- The first refusal among the identifiers of a query is the one that is found part by part.
+use Rattle.std.proofs.Common.{◌≡◌, ℕ, suc, ◌+◌, Bool, true, false, if◌then◌else◌, List, [], ◌∷◌, ◌++◌, length, Option, Some, None, refl, sym, ap, ap₂, subst, ◌∙◌, arith, append_assoc, append-nil}
+use Rattle.file_text.specs.Syntax.{Phrase, Phrases, word, call, none, more, count, ConditionTree}
+use Rattle.cops_names.specs.NameLists.{is_among, with_name}
+use Rattle.cops_systems.specs.Meaning.{with_variables, with_all_variables, sides}
+use Rattle.cops_systems.specs.Uses.{Spot, spots, spots_of_all, Side, side_of, Use, Event, use_of, bar_at, uses_from, term_events, condition_events}
+use Rattle.cops_systems.specs.Refusals.{variables_used}
+use Rattle.cops_systems.specs.Steps.{nodes}
+use Rattle.cops_systems.proofs.Events.{uses_after, spots_length}
+use Rattle.query_text.specs.Grammar.{QueryTree, conditions_of}
+use Rattle.query_text.specs.Meaning.{QueryCause, first_or, cause_at, first_refusal, variables_of, refusal_of}
+use Rattle.query_text.proofs.Facts.{clear, used_both}
+use Rattle.query_terms.specs.Steps.{or_refusal, term_refusal, terms_refusal}
+use Rattle.query_terms.specs.Conditions.{side_refusal, condition_refusal, conditions_refusal}
+
+abbrev Refused : Type 0
+Refused = Option (QueryCause × ℕ)
+
+abbrev Names : Type 0
+Names = List (List ℕ)
+
+or_assoc : (a b c : Refused) → or_refusal (or_refusal a b) c ≡ or_refusal a (or_refusal b c)
+or_assoc None b c = refl
+or_assoc (Some r) b c = refl
+
+first_or_or : (c : Option QueryCause) (at : ℕ) (a b : Refused) → first_or c at (or_refusal a b) ≡ or_refusal (first_or c at a) b
+first_or_or None at a b = refl
+first_or_or (Some cause) at a b = refl
+
+-- equal firsts, and equal others where there is no first
+or_same : (a b x y : Refused) → a ≡ b → (b ≡ None → x ≡ y) → or_refusal a x ≡ or_refusal b y
+or_same a None x y h g = ap (λ (o : Refused). or_refusal o x) h ∙ g refl
+or_same a (Some r) x y h g = ap (λ (o : Refused). or_refusal o x) h
+
+none_first : (a b : Refused) → or_refusal a b ≡ None → a ≡ None
+none_first None b h = refl
+none_first (Some r) b h = h
+
+none_then : (a b : Refused) → or_refusal a b ≡ None → b ≡ None
+none_then None b h = h
+none_then (Some r) b h = cc
+
+no_cause : (c : Option QueryCause) (at : ℕ) (o : Refused) → first_or c at o ≡ None → c ≡ None
+no_cause None at o h = refl
+no_cause (Some c) at o h = cc
+
+module _ (block : Names) (table : List (List ℕ × ℕ)) where
+  refusal_after : (front xs ys : List Event) → first_refusal block table front (xs ++ ys) ≡ or_refusal (first_refusal block table front xs) (first_refusal block table (front ++ xs) ys)
+  refusal_after front [] ys = ap (λ (f : List Event). first_refusal block table f ys) (sym (append-nil front))
+  refusal_after front (use_of u ∷ xs) ys =
+      ap (first_or (cause_at block table (variables_used block 1 [] front) u) u.spot.node.name.at) (refusal_after (front ++ use_of u ∷ []) xs ys)
+      ∙ first_or_or (cause_at block table (variables_used block 1 [] front) u) u.spot.node.name.at _ _
+      ∙ ap (λ (f : List Event). or_refusal (first_or (cause_at block table (variables_used block 1 [] front) u) u.spot.node.name.at
+      (first_refusal block table (front ++ use_of u ∷ []) xs)) (first_refusal block table f ys)) (append_assoc front (use_of u ∷ []) xs)
+  refusal_after front (bar_at at ∷ xs) ys =
+      refusal_after (front ++ bar_at at ∷ []) xs ys
+      ∙ ap (λ (f : List Event). or_refusal (first_refusal block table (front ++ bar_at at ∷ []) xs) (first_refusal block table f ys)) (append_assoc front (bar_at at ∷ []) xs)
+
+  -- these events are refused as told, and where they are not they add this to the variables
+  pub record IsPart (es : List Event) (refused : Names → Refused) (names_with : Names → Names) : Type 0 where
+    pub refusal : (front : List Event) → first_refusal block table front es ≡ refused (variables_used block 1 [] front)
+    pub variables : (names : Names) → refused names ≡ None → variables_used block 1 names es ≡ names_with names
+
+  part_then : (xs ys : List Event) (f g : Names → Refused) (v w : Names → Names) → IsPart xs f v → IsPart ys g w → IsPart (xs ++ ys) (λ names. or_refusal (f names) (g (v names))) (λ names. w (v names))
+  part_then xs ys f g v w p q = record {
+    refusal = λ front.
+        let names = variables_used block 1 [] front in
+        refusal_after front xs ys
+        ∙ or_same (first_refusal block table front xs) (f names) (first_refusal block table (front ++ xs) ys) (g (v names)) (p.refusal front)
+        (λ h. q.refusal (front ++ xs) ∙ ap g (used_both block table front xs [] ∙ p.variables names h));
+    variables = λ names h.
+        used_both block table xs ys names ∙ ap (λ (x : Names). variables_used block 1 x ys) (p.variables names (none_first _ _ h)) ∙ q.variables (v names) (none_then _ _ h);
+  }
+
+  part_none : IsPart [] (λ names. None) (λ names. names)
+  part_none = record { refusal = λ front. refl; variables = λ names h. refl }
+
+  part_as : (xs ys : List Event) (f g : Names → Refused) (v : Names → Names) → xs ≡ ys → ((names : Names) → f names ≡ g names) → IsPart xs f v → IsPart ys g v
+  part_as xs ys f g v e h p =
+      let q : IsPart xs g v = record { refusal = λ front. p.refusal front ∙ h _; variables = λ names n. p.variables names (h names ∙ n) } in
+      subst (λ (es : List Event). IsPart es g v) e q
+
+  abbrev side_at : ℕ → Side
+  side_at k = side_of 1 k false
+
+  free : (names : Names) (u : Use) → u.spot.node.brackets ≡ true → cause_at block table names u ≡ None → is_among block u.spot.node.name.text ≡ false
+  free names u b h = go (is_among block u.spot.node.name.text) refl
+    where
+      go : (c : Bool) → is_among block u.spot.node.name.text ≡ c → is_among block u.spot.node.name.text ≡ false
+      go true e = absurd (let wrong = (clear block table names u h).bare e in cc)
+      go false e = e
+
+  -- an identifier without brackets
+  part_word : (k : ℕ) (s : Spot) (n : ℕ) → IsPart (use_of record { side = side_at k; spot = s; number = n } ∷ [])
+      (λ names. first_or (cause_at block table names record { side = side_at k; spot = s; number = n }) s.node.name.at None)
+      (λ names. if is_among block s.node.name.text then with_name names s.node.name.text else names)
+  part_word k s n = record { refusal = λ front. refl; variables = λ names h. refl }
+
+  -- an identifier with brackets
+  part_head : (k : ℕ) (s : Spot) (n : ℕ) → s.node.brackets ≡ true → IsPart (use_of record { side = side_at k; spot = s; number = n } ∷ [])
+      (λ names. first_or (cause_at block table names record { side = side_at k; spot = s; number = n }) s.node.name.at None) (λ names. names)
+  part_head k s n b = record {
+    refusal = λ front. refl;
+    variables = λ names h. let e = free names record { side = side_at k; spot = s; number = n } b (no_cause _ s.node.name.at None h) in ap (λ (c : Bool). if c then with_name names s.node.name.text else names) e;
+  }
+
+  mutual
+    part_term : (k depth argument before : ℕ) (p : Phrase) → IsPart (uses_from (side_at k) (suc before) (spots depth argument p)) (λ names. term_refusal block table names k depth before p) (λ names. with_variables block names p)
+    part_term k depth argument before (word f) = part_word k record { node = record { name = f; brackets = false; arguments = 0 }; depth = depth; argument = argument } (suc before)
+    part_term k depth argument before (call f ts) =
+        let s : Spot = record { node = record { name = f; brackets = true; arguments = count ts }; depth = depth; argument = argument } in
+        let u : Use = record { side = side_at k; spot = s; number = suc before } in
+        let whole = part_then (use_of u ∷ []) (uses_from (side_at k) (suc (suc before)) (spots_of_all (suc depth) 1 ts))
+        (λ names. first_or (cause_at block table names u) f.at None) (λ names. terms_refusal block table names k (suc depth) (suc before) ts)
+        (λ names. names) (λ names. with_all_variables block names ts) (part_head k s (suc before) refl) (part_terms k (suc depth) 1 (suc before) ts) in
+        part_as _ _ (λ names. or_refusal (first_or (cause_at block table names u) f.at None) (terms_refusal block table names k (suc depth) (suc before) ts))
+        (λ names. term_refusal block table names k depth before (call f ts)) (λ names. with_variables block names (call f ts)) refl
+        (λ names.
+        sym (first_or_or (cause_at block table names u) f.at None (terms_refusal block table names k (suc depth) (suc before) ts))
+        ∙ ap₂ (λ (d b : ℕ). first_or (cause_at block table names u) f.at (terms_refusal block table names k d b ts))
+        (let e : suc depth ≡ depth + 1 = omega arith in e) (let e : suc before ≡ before + 1 = omega arith in e)) whole
+
+    part_terms : (k depth argument before : ℕ) (ps : Phrases) → IsPart (uses_from (side_at k) (suc before) (spots_of_all depth argument ps)) (λ names. terms_refusal block table names k depth before ps) (λ names. with_all_variables block names ps)
+    part_terms k depth argument before none = part_none
+    part_terms k depth argument before (more t ts) =
+        let first = uses_from (side_at k) (suc before) (spots depth argument t) in
+        let later = uses_from (side_at k) (suc (before + nodes t)) (spots_of_all depth (suc argument) ts) in
+        let number : suc before + length (spots depth argument t) ≡ suc (before + nodes t) = omega (arith, spots_length block true depth argument t) in
+        let split : first ++ later ≡ uses_from (side_at k) (suc before) (spots_of_all depth argument (more t ts)) =
+        sym (uses_after block true (side_at k) (suc before) (spots depth argument t) (spots_of_all depth (suc argument) ts)
+        ∙ ap (λ (m : ℕ). first ++ uses_from (side_at k) m (spots_of_all depth (suc argument) ts)) number) in
+        let whole = part_then first later (λ names. term_refusal block table names k depth before t) (λ names. terms_refusal block table names k depth (before + nodes t) ts)
+        (λ names. with_variables block names t) (λ names. with_all_variables block names ts) (part_term k depth argument before t) (part_terms k depth (suc argument) (before + nodes t) ts) in
+        part_as (first ++ later) (uses_from (side_at k) (suc before) (spots_of_all depth argument (more t ts)))
+        (λ names. or_refusal (term_refusal block table names k depth before t) (terms_refusal block table (with_variables block names t) k depth (before + nodes t) ts))
+        (λ names. terms_refusal block table names k depth before (more t ts)) (λ names. with_all_variables block names (more t ts)) split (λ names. refl) whole
+
+  part_side : (k : ℕ) (p : Phrase) → IsPart (term_events (side_at k) p) (λ names. side_refusal block table names k p) (λ names. with_variables block names p)
+  part_side k p = part_term k 1 0 0 p
+
+  part_conditions : (number : ℕ) (cs : List ConditionTree) → IsPart (condition_events 1 number cs) (λ names. conditions_refusal block table names number cs) (λ names. with_all_variables block names (sides cs))
+  part_conditions number [] = part_none
+  part_conditions number (c ∷ cs) =
+      let right = part_then (term_events (side_at number) c.right) (condition_events 1 (suc number) cs)
+      (λ names. side_refusal block table names number c.right) (λ names. conditions_refusal block table names (suc number) cs)
+      (λ names. with_variables block names c.right) (λ names. with_all_variables block names (sides cs)) (part_side number c.right) (part_conditions (suc number) cs) in
+      let whole = part_then (term_events (side_at number) c.left) (term_events (side_at number) c.right ++ condition_events 1 (suc number) cs)
+      (λ names. side_refusal block table names number c.left)
+      (λ names. or_refusal (side_refusal block table names number c.right) (conditions_refusal block table (with_variables block names c.right) (suc number) cs))
+      (λ names. with_variables block names c.left) (λ names. with_all_variables block (with_variables block names c.right) (sides cs)) (part_side number c.left) right in
+      part_as _ (condition_events 1 number (c ∷ cs))
+      (λ names. or_refusal (side_refusal block table names number c.left) (or_refusal (side_refusal block table (with_variables block names c.left) number c.right)
+      (conditions_refusal block table (with_variables block (with_variables block names c.left) c.right) (suc number) cs)))
+      (λ names. conditions_refusal block table names number (c ∷ cs)) (λ names. with_all_variables block names (sides (c ∷ cs))) refl
+      (λ names. sym (or_assoc (side_refusal block table names number c.left) (side_refusal block table (with_variables block names c.left) number c.right) _)
+      ∙ ap (λ (m : ℕ). or_refusal (condition_refusal block table names number c) (conditions_refusal block table (with_variables block (with_variables block names c.left) c.right) m cs))
+      (let e : suc number ≡ number + 1 = omega arith in e)) whole
+
+pub refusal_is : (table : List (List ℕ × ℕ)) (q : QueryTree) → refusal_of table q ≡ conditions_refusal (variables_of q) table [] 1 (conditions_of q)
+refusal_is table q = (part_conditions (variables_of q) table 1 (conditions_of q)).refusal []
