@@ -146,7 +146,7 @@ module _ (file query : List ℕ) where
 
   refused_query : (o : Option (text.Refusal × ℕ))
       → refused_said status.QueryRefused query (option_map (λ r. (r.1, query_cause_words r.0)) o)
-          ≡ said_if_any (said_of_query file query) (option_map (λ r. queried (bad_query r)) (option_map (λ r. no_query_text r.0 r.1) o))
+      ≡ said_if_any (said_of_query file query) (option_map (λ r. queried (bad_query r)) (option_map (λ r. no_query_text r.0 r.1) o))
   refused_query (Some r) = refl
   refused_query None = refl
 

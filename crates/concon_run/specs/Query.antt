@@ -195,14 +195,14 @@ abbrev pub NamesNeverMet : Run → Type 0
 NamesNeverMet run =
     (file : List ℕ) × (query : List ℕ) × (budget : ℕ) × IsQuery run.words file query budget
     × ((sys : System) × (names : NameTable) × (cs : List Condition) × (vs : List (List ℕ)) × Spells (bytes_of run.shelf file) (bytes_of run.shelf query) sys names cs vs
-       × IsInfeasible sys cs)
+    × IsInfeasible sys cs)
 
 -- the words name texts, and these values meet the conditions at some level, as a derivation for each condition shows
 abbrev pub NamesMet : Run → Type 0
 NamesMet run =
     (file : List ℕ) × (query : List ℕ) × (budget : ℕ) × IsQuery run.words file query budget
     × ((sys : System) × (names : NameTable) × (cs : List Condition) × (vs : List (List ℕ)) × Spells (bytes_of run.shelf file) (bytes_of run.shelf query) sys names cs vs
-       × ((ts : List Term) × (ds : List Derivation) × IsMet sys cs ts ds))
+    × ((ts : List Term) × (ds : List Derivation) × IsMet sys cs ts ds))
 
 -- out took an answer, and below it what shows it: the first that is good
 abbrev pub TookAnswer : Run → List ℕ → List ℕ → Type 0

@@ -21,8 +21,7 @@ returns-in-Some-Prove g c =
 
 pub returns-in-Some-Query : goal.returns-in-Some-Query
 returns-in-Some-Query g c =
-    inr
-    (
+    inr (
       query c.in-Some-Query.question.file.now c.in-Some-Query.question.query.now c.in-Some-Query.question.budget,
       subst (λ asked. IsCommand (texts c.args.words.now) (command_view asked)) c.in-Some-Query.field-0-is c.in-Some-Query.ensures.found,
       c.query_reply.ensures,
