@@ -9,6 +9,8 @@ pub mod OneOutcome
 pub mod Checks
 pub mod Searches
 pub mod Tests
+pub mod Asking
+pub mod ValueLines
 pub mod OneCommand
 pub mod Meant
 pub mod Sound

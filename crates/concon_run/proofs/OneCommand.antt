@@ -5,31 +5,39 @@ use Rattle.concon_run.specs.Said.{Said, Tells, TellsIfMemory, no_memory_said}
 use Rattle.concon_run.specs.Check.{IsCheck}
 use Rattle.concon_run.specs.Prove.{IsProve}
 use Rattle.concon_run.specs.Selftest.{IsSelftest}
-use Rattle.concon_run.specs.Commands.{Command, check, prove, selftest, IsCommand, IsNoCommand, AnswerTo, said_to, IsAnswerTo, AsksFor, IsSaidTo, IsSaidFor, IsAnswered}
+use Rattle.concon_run.specs.Query.{IsQuery}
+use Rattle.concon_run.specs.Commands.{Command, check, prove, selftest, query, IsCommand, IsNoCommand, AnswerTo, said_to, IsAnswerTo, AsksFor, IsSaidTo, IsSaidFor, IsAnswered}
 use Rattle.concon_run.proofs.Letters.{first_letter}
 use Rattle.concon_run.proofs.Checks.{letter_of_check, same_file, same_cert}
 use Rattle.concon_run.proofs.Searches.{letter_of_prove, prove_once}
 use Rattle.concon_run.proofs.Tests.{letter_of_test, test_once}
+use Rattle.concon_run.proofs.Asking.{letter_of_query, query_once}
 
 pub no_command : (words : List (List ℕ)) → ((file cert : List ℕ) → IsCheck words file cert → ⊥) → ((file : List ℕ) (budget : ℕ) → IsProve words file budget → ⊥)
-    → ((n : ℕ) → IsSelftest words n → ⊥) → IsNoCommand words
-no_command words unchecked unproved untested (check file cert) h = unchecked file cert h
-no_command words unchecked unproved untested (prove file budget) h = unproved file budget h
-no_command words unchecked unproved untested (selftest n) h = untested n h
+    → ((n : ℕ) → IsSelftest words n → ⊥) → ((file text : List ℕ) (budget : ℕ) → IsQuery words file text budget → ⊥) → IsNoCommand words
+no_command words unchecked unproved untested unasked (check file cert) h = unchecked file cert h
+no_command words unchecked unproved untested unasked (prove file budget) h = unproved file budget h
+no_command words unchecked unproved untested unasked (selftest n) h = untested n h
+no_command words unchecked unproved untested unasked (query file text budget) h = unasked file text budget h
 
 -- the first letter of the word for a command
 abbrev letter : Command → ℕ
 letter (check file cert) = 99
 letter (prove file budget) = 112
 letter (selftest n) = 115
+letter (query file text budget) = 113
 
 first_is : (words : List (List ℕ)) (c : Command) → IsCommand words c → first_letter words ≡ letter c
 first_is words (check file cert) h = letter_of_check words file cert h
 first_is words (prove file budget) h = letter_of_prove words file budget h
 first_is words (selftest n) h = letter_of_test words n h
+first_is words (query file text budget) h = letter_of_query words file text budget h
 
 apart : (words : List (List ℕ)) (c d : Command) → IsCommand words c → IsCommand words d → (letter c ≡ letter d → ⊥) → ⊥
 apart words c d h k differ = differ (sym (first_is words c h) ∙ first_is words d k)
+
+same_query : (file text other others : List ℕ) (a b : ℕ) → other ≡ file → others ≡ text → b ≡ a → query other others b ≡ query file text a
+same_query file text other others a b e f g = ap (λ (x : List ℕ). query x others b) e ∙ ap₂ (query file) f g
 
 pub command_once : (words : List (List ℕ)) (c d : Command) → IsCommand words c → IsCommand words d → d ≡ c
 command_once words (check file cert) (check other others) h k = ap₂ check (same_file words file cert other others h k) (same_cert words file cert other others h k)
@@ -41,6 +49,13 @@ command_once words (prove file a) (check other others) h k = absurd (apart words
 command_once words (prove file a) (selftest m) h k = absurd (apart words (prove file a) (selftest m) h k (λ e. omega (arith, e)))
 command_once words (selftest n) (check other others) h k = absurd (apart words (selftest n) (check other others) h k (λ e. omega (arith, e)))
 command_once words (selftest n) (prove other b) h k = absurd (apart words (selftest n) (prove other b) h k (λ e. omega (arith, e)))
+command_once words (query file text a) (query other others b) h k = let same = query_once words file text other others a b h k in same_query file text other others a b same.0 same.1 same.2
+command_once words (check file cert) (query other others b) h k = absurd (apart words (check file cert) (query other others b) h k (λ e. omega (arith, e)))
+command_once words (query file text a) (check other others) h k = absurd (apart words (query file text a) (check other others) h k (λ e. omega (arith, e)))
+command_once words (prove file a) (query other others b) h k = absurd (apart words (prove file a) (query other others b) h k (λ e. omega (arith, e)))
+command_once words (query file text a) (prove other b) h k = absurd (apart words (query file text a) (prove other b) h k (λ e. omega (arith, e)))
+command_once words (selftest n) (query other others b) h k = absurd (apart words (selftest n) (query other others b) h k (λ e. omega (arith, e)))
+command_once words (query file text a) (selftest m) h k = absurd (apart words (query file text a) (selftest m) h k (λ e. omega (arith, e)))
 
 module _ (run : Run) (h : IsAnswered run) where
   -- where the words are this command, what is said is said to it

@@ -9,7 +9,10 @@ use Rattle.concon_run.specs.Said.{Said, Tells, TakesWhole, TakesPart, no_memory_
 use Rattle.concon_run.specs.Check.{IsCheck, no_system, no_certificate, rejected, shown, CheckAnswer, checked, file_unread, cert_unread, said_of_check, IsCheckAnswer}
 use Rattle.concon_run.specs.Prove.{IsProve, bad_file, found, over_budget, exhausted, ProveAnswer, searched, said_of_prove, IsProveAnswer}
 use Rattle.concon_run.specs.Prove as search
-use Rattle.concon_run.specs.Commands.{Command, check, prove, selftest, IsCommand, AnswerTo, said_to, IsAnswerTo, IsSaidFor, usage_said, IsAnswered}
+use Rattle.concon_run.specs.Query.{IsQuery, bad_query, answer_found, QueryReply, queried, query_unread, said_of_query, IsQueryReply, NamesNeverMet, NamesMet}
+use Rattle.concon_run.specs.Query as asking
+use Rattle.query_space.specs.Items.{never_met, met_by}
+use Rattle.concon_run.specs.Commands.{Command, check, prove, selftest, query, IsCommand, AnswerTo, said_to, IsAnswerTo, IsSaidFor, usage_said, IsAnswered}
 use Rattle.concon_run.specs.Rows.{GrewBy, NamesConfluentSystem, NamesPeakApart, YesIsSound, NoIsSound}
 use Rattle.concon_run.proofs.Letters.{begins}
 
@@ -39,10 +42,22 @@ module _ (run : Run) (rest : List ℕ) where
   prove_by_n file budget form (searched exhausted) h e = absurd (begins 77 78 _ rest e (λ q. omega (arith, q)))
   prove_by_n file budget form search.file_unread h e = absurd cc
 
-  answer_by_n : (command : Command) → IsCommand run.words command → (a : AnswerTo command) → IsAnswerTo run.shelf command a → (said_to command a).out ≡ 78 ∷ rest → NamesPeakApart run
-  answer_by_n (check file cert) form a h e = check_by_n file cert form a h e
-  answer_by_n (prove file budget) form a h e = prove_by_n file budget form a h e
+  query_by_n : (file text : List ℕ) (budget : ℕ) → IsQuery run.words file text budget → (r : QueryReply) → IsQueryReply run.shelf file text budget r → (said_of_query file text r).out ≡ 78 ∷ rest → NamesMet run
+  query_by_n file text budget form (queried (asking.bad_file refusal)) h e = absurd cc
+  query_by_n file text budget form (queried (bad_query refusal)) h e = absurd cc
+  query_by_n file text budget form (queried (answer_found names vs (never_met evidence))) h e = absurd (begins 89 78 _ rest e (λ q. omega (arith, q)))
+  query_by_n file text budget form (queried (answer_found names vs (met_by ts ds))) h e =
+      (file, text, budget, form, (h.right.0, names, h.right.1, vs, h.right.2, (ts, ds, h.right.3)))
+  query_by_n file text budget form (queried asking.over_budget) h e = absurd (begins 77 78 _ rest e (λ q. omega (arith, q)))
+  query_by_n file text budget form (queried asking.exhausted) h e = absurd (begins 77 78 _ rest e (λ q. omega (arith, q)))
+  query_by_n file text budget form asking.file_unread h e = absurd cc
+  query_by_n file text budget form query_unread h e = absurd cc
+
+  answer_by_n : (command : Command) → IsCommand run.words command → (a : AnswerTo command) → IsAnswerTo run.shelf command a → (said_to command a).out ≡ 78 ∷ rest → NamesPeakApart run ⊎ NamesMet run
+  answer_by_n (check file cert) form a h e = inl (check_by_n file cert form a h e)
+  answer_by_n (prove file budget) form a h e = inl (prove_by_n file budget form a h e)
   answer_by_n (selftest n) form a h e = absurd (begins 115 78 _ rest e (λ q. omega (arith, q)))
+  answer_by_n (query file text budget) form a h e = inr (query_by_n file text budget form a h e)
 
   -- the same for Y
   check_by_y : (file cert : List ℕ) → IsCheck run.words file cert → (a : CheckAnswer) → IsCheckAnswer run.shelf file cert a → (said_of_check file cert a).out ≡ 89 ∷ rest → NamesConfluentSystem run
@@ -63,10 +78,22 @@ module _ (run : Run) (rest : List ℕ) where
   prove_by_y file budget form (searched exhausted) h e = absurd (begins 77 89 _ rest e (λ q. omega (arith, q)))
   prove_by_y file budget form search.file_unread h e = absurd cc
 
-  answer_by_y : (command : Command) → IsCommand run.words command → (a : AnswerTo command) → IsAnswerTo run.shelf command a → (said_to command a).out ≡ 89 ∷ rest → NamesConfluentSystem run
-  answer_by_y (check file cert) form a h e = check_by_y file cert form a h e
-  answer_by_y (prove file budget) form a h e = prove_by_y file budget form a h e
+  query_by_y : (file text : List ℕ) (budget : ℕ) → IsQuery run.words file text budget → (r : QueryReply) → IsQueryReply run.shelf file text budget r → (said_of_query file text r).out ≡ 89 ∷ rest → NamesNeverMet run
+  query_by_y file text budget form (queried (asking.bad_file refusal)) h e = absurd cc
+  query_by_y file text budget form (queried (bad_query refusal)) h e = absurd cc
+  query_by_y file text budget form (queried (answer_found names vs (never_met evidence))) h e =
+      (file, text, budget, form, (h.right.0, names, h.right.1, vs, h.right.2, h.right.3))
+  query_by_y file text budget form (queried (answer_found names vs (met_by ts ds))) h e = absurd (begins 78 89 _ rest e (λ q. omega (arith, q)))
+  query_by_y file text budget form (queried asking.over_budget) h e = absurd (begins 77 89 _ rest e (λ q. omega (arith, q)))
+  query_by_y file text budget form (queried asking.exhausted) h e = absurd (begins 77 89 _ rest e (λ q. omega (arith, q)))
+  query_by_y file text budget form asking.file_unread h e = absurd cc
+  query_by_y file text budget form query_unread h e = absurd cc
+
+  answer_by_y : (command : Command) → IsCommand run.words command → (a : AnswerTo command) → IsAnswerTo run.shelf command a → (said_to command a).out ≡ 89 ∷ rest → NamesConfluentSystem run ⊎ NamesNeverMet run
+  answer_by_y (check file cert) form a h e = inl (check_by_y file cert form a h e)
+  answer_by_y (prove file budget) form a h e = inl (prove_by_y file budget form a h e)
   answer_by_y (selftest n) form a h e = absurd (begins 115 89 _ rest e (λ q. omega (arith, q)))
+  answer_by_y (query file text budget) form a h e = inr (query_by_y file text budget form a h e)
 
   -- what is said, by its text for out
   module _ (x : ℕ) (G : Type 0) (go : (command : Command) → IsCommand run.words command → (a : AnswerTo command) → IsAnswerTo run.shelf command a → (said_to command a).out ≡ x ∷ rest → G) where
@@ -105,7 +132,7 @@ module _ (run : Run) (h : IsAnswered run) where
   took x (inr part) before text o e = begins_with x run.out h.0.out before text o e (inr part.1)
 
   pub no_is_sound : NoIsSound run
-  no_is_sound (before, text, o, e) = let n = took 78 h.2 before text o e in said_by run n.0 78 (NamesPeakApart run) (answer_by_n run n.0) h.0 h.1 n.1
+  no_is_sound (before, text, o, e) = let n = took 78 h.2 before text o e in said_by run n.0 78 (NamesPeakApart run ⊎ NamesMet run) (answer_by_n run n.0) h.0 h.1 n.1
 
   pub yes_is_sound : YesIsSound run
-  yes_is_sound (before, text, o, e) = let y = took 89 h.2 before text o e in said_by run y.0 89 (NamesConfluentSystem run) (answer_by_y run y.0) h.0 h.1 y.1
+  yes_is_sound (before, text, o, e) = let y = took 89 h.2 before text o e in said_by run y.0 89 (NamesConfluentSystem run ⊎ NamesNeverMet run) (answer_by_y run y.0) h.0 h.1 y.1

@@ -122,7 +122,8 @@ CheckIsExact run = (file cert : List ℕ) (outcome : CheckOutcome) → CalmlyCom
 abbrev pub CheckIsComplete : Run → Type 0
 CheckIsComplete run = (file cert : List ℕ) (verdict : Verdict) → CalmlyComesTo run file cert (shown verdict) → IsUnlessHindered (status_of verdict) run.status
 
--- a check never answers that nothing was found
+-- a check never answers that nothing was found, nor of a query
 abbrev pub IsOfCheck : Status → Type 0
 IsOfCheck status.Maybe = ⊥
+IsOfCheck status.QueryRefused = ⊥
 IsOfCheck _ = Unit {0}

@@ -7,11 +7,13 @@ pub mod Pieces
 pub mod Rejections
 pub mod FileRefusals
 pub mod CertRefusals
+pub mod QueryRefusals
 pub mod Systems
 pub mod Verdicts
 pub mod Check
 pub mod Prove
 pub mod Selftest
+pub mod Query
 pub mod Commands
 pub mod Rows
 pub mod Replies
@@ -19,3 +21,4 @@ pub mod Refusals
 pub mod Files
 pub mod Checking
 pub mod Proving
+pub mod Querying

@@ -121,8 +121,9 @@ TookProof run file =
 abbrev pub ProofStandsBelow : Run → Type 0
 ProofStandsBelow run = (file : List ℕ) (budget : ℕ) → IsProve run.words file budget → (run.status ≡ status.Yes) ⊎ (run.status ≡ status.No) → TookProof run file
 
--- a search never answers of a certificate that was handed in
+-- a search never answers of a certificate that was handed in, nor of a query
 abbrev pub IsOfProve : Status → Type 0
 IsOfProve status.Rejected = ⊥
 IsOfProve status.CertRefused = ⊥
+IsOfProve status.QueryRefused = ⊥
 IsOfProve _ = Unit {0}

@@ -1,5 +1,6 @@
 -- What a reply says.
-use Rattle.std.specs.Prelude.{List, [], ℕ, Option, Some, None, if◌then◌else◌}
+use Rattle.std.specs.Prelude.{◌≡◌, List, [], ℕ, Option, Some, None, Result, Ok, Err, if◌then◌else◌}
+use Rattle.concon_run.specs.declared.status.Status.{Status}
 use Rattle.concon_run.specs.declared.reply.Text.{Text}
 use Rattle.concon_run.specs.declared.reply.Text.TheVariants.{Fixed, Made}
 use Rattle.concon_run.specs.declared.reply.Reply.{Reply}
@@ -20,3 +21,8 @@ reply_said r = record {
 abbrev pub said_if_any : {A : Type 0} → (A → Said) → Option A → Said
 said_if_any said (Some answer) = said answer
 said_if_any said None = no_memory_said
+
+-- a text for out was made, and is said with the status; else that memory was refused
+abbrev pub IsMade : {V E : Type 0} → (V → List ℕ) → Status → Result V E → Said → Type 0
+IsMade bytes status (Ok v) said = said ≡ record { status = status; out = bytes v; err = [] }
+IsMade bytes status (Err e) said = said ≡ no_memory_said

@@ -5,6 +5,7 @@ ghost use Rattle.concon_run.specs.Commands.{command_view, IsCommand, IsNoCommand
 
 use crate::check::{Check, check_of};
 use crate::prove::{Prove, prove_of};
+use crate::queries::{Question, question_of};
 use crate::selftest::selftest_of;
 
 /// What is to be done.
@@ -14,6 +15,7 @@ pub enum Asked<'a> {
     Prove(Prove<'a>),
     /// The test with this number.
     Selftest { n: u32 },
+    Query(Question<'a>),
 }
 
 /// The command that the words are.
@@ -27,8 +29,11 @@ pub fn asked_of<'a>(words: &[&'a str]) -> Option<Asked<'a>>
     if let Some(prove) = prove_of(words) {
         return Some(Asked::Prove(prove));
     }
-    match selftest_of(words) {
-        Some(n) => Some(Asked::Selftest { n }),
+    if let Some(n) = selftest_of(words) {
+        return Some(Asked::Selftest { n });
+    }
+    match question_of(words) {
+        Some(question) => Some(Asked::Query(question)),
         None => None,
     }
 }

@@ -11,6 +11,7 @@ mod commands;
 mod files;
 mod pieces;
 mod prove;
+mod queries;
 mod refusals;
 mod rejections;
 mod reply;

@@ -4,11 +4,11 @@ ghost use Rattle.concon_run.specs.Status.{exit_code};
 /// How a run ended.
 #[derive(Clone, Copy, Debug, PartialEq, Eq)]
 pub enum Status {
-    /// The system is confluent.
+    /// The system is confluent, or the conditions are never met.
     Yes,
-    /// The system is not confluent.
+    /// The system is not confluent, or the conditions are met.
     No,
-    /// What is searched holds no valid certificate, or the budget was spent.
+    /// What is searched holds no valid certificate, or no answer; or the budget was spent.
     Maybe,
     /// The certificate is not valid.
     Rejected,
@@ -18,6 +18,8 @@ pub enum Status {
     FileRefused,
     /// The certificate is no text of a certificate, or too long.
     CertRefused,
+    /// The query is no text of one, or too long.
+    QueryRefused,
     /// A file was not read.
     ReadFault,
     /// The answer was not written whole.
@@ -35,7 +37,7 @@ impl Status {
             Status::Yes | Status::No => 0,
             Status::Maybe | Status::Rejected => 1,
             Status::Usage => 2,
-            Status::FileRefused | Status::CertRefused => 3,
+            Status::FileRefused | Status::CertRefused | Status::QueryRefused => 3,
             Status::ReadFault => 4,
             Status::WriteFault => 5,
             Status::NoMemory => 6,

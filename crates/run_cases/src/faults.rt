@@ -14,6 +14,8 @@ const CHECK: &[&str] = &["check", "x.trs", "c.crt"];
 
 const PROVE: &[&str] = &["prove", "x.trs"];
 
+const QUERY: &[&str] = &["query", "x.trs", "q"];
+
 // the files of a valid peak, on a shelf that fails at this call
 fn failing_shelf(alloc: Global, call: u64) -> Result<MemoryShelf, Fail> {
     let mut fails = Vec::new(alloc);
@@ -47,13 +49,17 @@ const NO_COMMANDS: &[&[&str]] = &[
     &["check", "x.trs"],
     &["prove", "x.trs", "c.crt"],
     &["selftest", "0"],
+    &["query", "x.trs"],
+    &["query", "x.trs", "q", "--budget"],
+    &["query", "x.trs", "q", "--budget", "01"],
+    &["query", "x.trs", "q", "c.crt"],
 ];
 
 #[test]
 fn words_that_are_no_command_ask_nothing(rt: HostRuntime) -> Result<(), Fail> {
     let mut shelf = failing_shelf(rt.alloc(), 1)?;
     let usage =
-        "usage: concon check FILE CERT\n       concon prove FILE [--budget N]\n       concon selftest N\n";
+        "usage: concon check FILE CERT\n       concon prove FILE [--budget N]\n       concon selftest N\n       concon query FILE QUERY [--budget N]\n";
     for words in NO_COMMANDS {
         let is_usage = is_told(rt.alloc(), words, &mut shelf, Status::Usage, usage)?;
         assert!(rt; is_usage);
@@ -77,6 +83,36 @@ fn a_fault_of_a_file_is_named(rt: HostRuntime) -> Result<(), Fail> {
         let is_named = is_told(rt.alloc(), CHECK, &mut shelf, Status::ReadFault, text)?;
         assert!(rt; is_named, "call {call}");
     }
+    Ok(())
+}
+
+const QUERY_FAULTS: &[(u64, &str)] = &[
+    (1, "x.trs: read fault\n"),
+    (2, "x.trs: read fault\n"),
+    (3, "x.trs: read fault\n"),
+    (4, "q: read fault\n"),
+    (5, "q: read fault\n"),
+    (6, "q: read fault\n"),
+];
+
+#[test]
+fn a_fault_of_a_query_is_named(rt: HostRuntime) -> Result<(), Fail> {
+    for &(call, text) in QUERY_FAULTS {
+        let mut shelf = failing_shelf(rt.alloc(), call)?;
+        let is_named = is_told(rt.alloc(), QUERY, &mut shelf, Status::ReadFault, text)?;
+        assert!(rt; is_named, "call {call}");
+    }
+    Ok(())
+}
+
+const NO_QUERY: &[&str] = &["query", "x.trs", "other"];
+
+#[test]
+fn a_query_that_is_not_there_is_named(rt: HostRuntime) -> Result<(), Fail> {
+    let mut shelf = failing_shelf(rt.alloc(), 100)?;
+    let text = "other: read fault\n";
+    let is_named = is_told(rt.alloc(), NO_QUERY, &mut shelf, Status::ReadFault, text)?;
+    assert!(rt; is_named);
     Ok(())
 }
 
@@ -208,6 +244,7 @@ const EXIT_CODES: &[(Status, u8)] = &[
     (Status::Usage, 2),
     (Status::FileRefused, 3),
     (Status::CertRefused, 3),
+    (Status::QueryRefused, 3),
     (Status::ReadFault, 4),
     (Status::WriteFault, 5),
     (Status::NoMemory, 6),

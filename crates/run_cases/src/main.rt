@@ -1,4 +1,4 @@
-//! Cases of `run`: what is answered to a file and a certificate.
+//! Cases of `run`: what is answered to a file and a certificate, or a query.
 //!
 //! Each word that the program is given names a file of cases, which begins with an account of their form. For each case it
 //! prints how the run ended and what was written.
@@ -22,6 +22,10 @@ fn files_of(alloc: Global, file: &str, certificate: &str) -> Result<Vec<MemoryFi
     })?;
     files.push(MemoryFile {
         name: String::from_str(alloc, "c.crt")?,
+        bytes: Vec::from_slice(alloc, certificate.as_bytes())?,
+    })?;
+    files.push(MemoryFile {
+        name: String::from_str(alloc, "q")?,
         bytes: Vec::from_slice(alloc, certificate.as_bytes())?,
     })?;
     Ok(files)

@@ -1,6 +1,6 @@
 use Rattle.std.proofs.Common.{inl, inr, refl, sym, subst}
 use Rattle.concon_run.specs.Words.{texts}
-use Rattle.concon_run.specs.Commands.{check, prove, selftest, command_view, IsCommand}
+use Rattle.concon_run.specs.Commands.{check, prove, selftest, query, command_view, IsCommand}
 use Rattle.concon_run.proofs.top.decide.Goals as goal
 
 pub returns-in-Some-Check : goal.returns-in-Some-Check
@@ -17,6 +17,14 @@ returns-in-Some-Prove g c =
       prove c.in-Some-Prove.prove.file.now c.in-Some-Prove.prove.budget,
       subst (λ asked. IsCommand (texts c.args.words.now) (command_view asked)) c.in-Some-Prove.field-0-is c.in-Some-Prove.ensures.found,
       c.prove_reply.ensures,
+    )
+
+pub returns-in-Some-Query : goal.returns-in-Some-Query
+returns-in-Some-Query g c =
+    inr (
+      query c.in-Some-Query.question.file.now c.in-Some-Query.question.query.now c.in-Some-Query.question.budget,
+      subst (λ asked. IsCommand (texts c.args.words.now) (command_view asked)) c.in-Some-Query.field-0-is c.in-Some-Query.ensures.found,
+      c.query_reply.ensures,
     )
 
 pub selftest_reply-requires-clause-least : goal.selftest_reply-requires-clause-least

@@ -1,4 +1,4 @@
-use Rattle.concon_run.specs.Commands.{check, prove, selftest}
+use Rattle.concon_run.specs.Commands.{check, prove, selftest, query}
 use Rattle.concon_run.proofs.top.run.Goals as goal
 
 pub returns-clause-answer : goal.returns-clause-answer
@@ -90,3 +90,21 @@ returns-clause-search_begins_file g c file budget form = c.run_known.ensures.ask
 
 pub returns-clause-check_begins_files : goal.returns-clause-check_begins_files
 returns-clause-check_begins_files g c file cert form = c.run_known.ensures.asked (check file cert) form
+
+pub returns-clause-queried : goal.returns-clause-queried
+returns-clause-queried g c = c.run_known.ensures.queried
+
+pub returns-clause-query_complete : goal.returns-clause-query_complete
+returns-clause-query_complete g c = c.run_known.ensures.query_complete
+
+pub returns-clause-query_proved : goal.returns-clause-query_proved
+returns-clause-query_proved g c = c.run_known.ensures.query_proved
+
+pub returns-clause-query_refused : goal.returns-clause-query_refused
+returns-clause-query_refused g c = c.run_known.ensures.query_refused
+
+pub returns-clause-of_query : goal.returns-clause-of_query
+returns-clause-of_query g c = c.run_known.ensures.of_query
+
+pub returns-clause-query_begins_files : goal.returns-clause-query_begins_files
+returns-clause-query_begins_files g c file text budget form = c.run_known.ensures.asked (query file text budget) form
