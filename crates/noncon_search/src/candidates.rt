@@ -162,12 +162,13 @@ pub fn candidate(
     requires ends { AreEnds sys.now (view start.now) (first.now ∷ second.now ∷ []) }
     ensures { CandidateAnswers names.now sys.now (try_ends (view start.now) (end_view first.now) (end_view second.now)) result }
 {
-    if !have_file_symbols(sys, start, &first.listed.term, &second.listed.term) {
-        return Ok(None);
-    }
     let Some(apart) = apart(alloc, sys, start, first, second)? else {
         return Ok(None);
     };
+    // Few pairs come so far; the terms of each are walked through.
+    if !have_file_symbols(sys, start, &first.listed.term, &second.listed.term) {
+        return Ok(None);
+    }
     let cert = certificate(alloc, start, first.listed, second.listed, apart)?;
     if has_text(names, &cert) {
         Ok(Some(cert))
