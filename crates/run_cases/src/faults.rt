@@ -39,7 +39,7 @@ fn is_told(
     text: &str,
 ) -> Result<bool, Fail> {
     let mut out = MemorySink::new(alloc, 100, 100, Vec::new(alloc))?;
-    let mut err = MemorySink::new(alloc, 100, 100, Vec::new(alloc))?;
+    let mut err = MemorySink::new(alloc, 200, 100, Vec::new(alloc))?;
     let found = status_of_run(alloc, words, shelf, &mut out, &mut err);
     Ok(found == status && out.written().is_empty() && err.written() == text.as_bytes())
 }
