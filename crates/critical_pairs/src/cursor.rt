@@ -1,4 +1,4 @@
-// Where a search for overlaps stands.
+//! Where a search for overlaps stands: at an outer rule, a position of its left side, and an inner rule.
 ghost use Rattle.std.specs.Prelude.{◌≡◌, ◌<◌, ◌^◌, [], length};
 ghost use Rattle.rewriting.specs.Terms.{Fits};
 ghost use Rattle.rule_index.specs.Index.{listed};

@@ -1,4 +1,4 @@
-// Whether the terms of a critical pair fit, by measures of instances that are not built.
+//! Whether the terms of a critical pair fit, by measures of instances that are not built.
 ghost use Rattle.std.specs.Prelude.{◌≡◌, ◌+◌, ◌<◌, ◌≤◌, ◌⊎◌, ◌↔◌, IsTrue, IsSome, IfSome, IfNone, Some, map};
 ghost use Rattle.rewriting.specs.Terms as math;
 ghost use Rattle.rewriting.specs.Terms.{Fits};

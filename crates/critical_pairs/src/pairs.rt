@@ -1,4 +1,4 @@
-// The critical pair of two rules that are renamed apart.
+//! The critical pair of two rules that are renamed apart.
 ghost use Rattle.std.specs.Prelude.{◌≡◌, ◌<◌, ◌^◌, IsSome, IfOk, map, length};
 ghost use Rattle.rewriting.specs.Terms as math;
 ghost use Rattle.rewriting.specs.Terms.{Fits};

@@ -1,4 +1,4 @@
-// The positions of a left side at which another rule may overlap it.
+//! The positions of a left side at which another rule may overlap it.
 ghost use Rattle.std.specs.Prelude.{◌≡◌, ◌++◌, IfOk, OnOk, map};
 ghost use Rattle.rewriting.specs.Terms.{Fits};
 ghost use Rattle.term_core.specs.View.{view};

@@ -1,4 +1,4 @@
-// Rules with other variables.
+//! Rules with other variables.
 ghost use Rattle.std.specs.Prelude.{◌≡◌, ◌≤◌, IfOk, map};
 ghost use Rattle.rewriting.specs.Rules.{sides};
 ghost use Rattle.rewriting.specs.Systems.{terms_of_rule, AreRules};

@@ -1,4 +1,4 @@
-// The overlaps of a system, one after the other.
+//! The overlaps of a system, one after the other.
 ghost use Rattle.std.specs.Prelude.{◌≡◌, ◌+◌, ◌<◌, ◌≤◌, ◌^◌, IfOk, OnErr};
 ghost use Rattle.critical_pairs.specs.Offers.{search_of, OfferAnswers, PassAnswers, DoesStay, DoesPass};
 ghost use Rattle.critical_pairs.specs.Cursors.{rest_of, IsCursor};

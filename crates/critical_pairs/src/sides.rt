@@ -1,4 +1,4 @@
-// The rules of a system with their variables renamed apart, and their runs.
+//! The rules of a system with their variables renamed apart, and the unifiers and overlaps of two of them.
 ghost use Rattle.std.specs.Prelude.{◌≡◌, IfOk};
 ghost use Rattle.critical_pairs.specs.Sides.{AreSides, IsSpotOf, IsUnifierAt, UnifierAnswers, OverlapAnswers, MeasureAnswers, IsRefusal};
 

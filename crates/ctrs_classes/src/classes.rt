@@ -1,3 +1,4 @@
+//! Whether a conditional system is of a class, and the first rule by which it is not.
 ghost use Rattle.std.specs.Prelude.{◌↔◌, IsTrue};
 ghost use Rattle.rewriting.specs.Systems.{IsRule};
 ghost use Rattle.rewriting.specs.Classes.{IsLeftLinear, IsType3, IsExtendedOriented, IsRightStable, IsDeterministic};

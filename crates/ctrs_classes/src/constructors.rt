@@ -1,3 +1,4 @@
+//! Defined symbols of a conditional system, and constructor terms.
 ghost use Rattle.std.specs.Prelude.{◌↔◌, IsTrue};
 ghost use Rattle.rewriting.specs.Classes.{IsConstructorTerm, IsDefined};
 ghost use Rattle.term_core.specs.View.{view};

@@ -1,3 +1,4 @@
+//! Variables in regions of a rule, its left side and the sides of its first conditions; and the first variable that is repeated.
 ghost use Rattle.std.specs.Prelude.{◌≡◌, ◌+◌, ◌≤◌, ◌&&◌, not, IfOk, map};
 ghost use Rattle.rewriting.specs.Terms.{size, size_all};
 ghost use Rattle.rewriting.specs.Variables as math;

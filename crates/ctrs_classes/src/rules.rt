@@ -1,3 +1,4 @@
+//! The conditions that the classes of conditional systems put on a single rule, with what is at fault in a rule that breaks them.
 ghost use Rattle.std.specs.Prelude.{◌≤◌, ◌<◌, ◌↔◌, IsTrue, length};
 ghost use Rattle.rewriting.specs.Systems.{IsRule};
 ghost use Rattle.rewriting.specs.Classes.{IsConstructorTerm, IsStable};

@@ -1,3 +1,4 @@
+//! Why a derivation has no end: its first bad step, by a path through steps and conditions and a reason; or want of memory.
 ghost use Rattle.std.specs.Prelude.{◌≡◌};
 ghost use Rattle.cert_model.specs.ReasonView.{step_reason_view};
 ghost use Rattle.derivation.specs.Errors.{IsBelow, IsHere};

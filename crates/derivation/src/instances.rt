@@ -1,3 +1,4 @@
+//! The rule that a step names, its match at the step's position, and instances of terms whose variables all have values.
 ghost use Rattle.std.specs.Prelude.{◌≡◌, [], option_map, IfSome};
 ghost use Rattle.rewriting.specs.Terms as math;
 ghost use Rattle.rewriting.specs.Rules as rules;

@@ -1,3 +1,4 @@
+//! Replaying a derivation step by step, where each condition of a rule is met by a nested derivation.
 ghost use Rattle.std.specs.Prelude.{◌≡◌, ◌≤◌, [], length, IfOk, map};
 ghost use Rattle.rewriting.specs.Matching.{IsLeastMatch, HasNoMatch};
 ghost use Rattle.certificates.specs.Reasons.{condition_fails};

@@ -1,3 +1,4 @@
+//! Terms with their numbers of nodes: taking out the subterm at a position, and putting another in its place within the limits.
 ghost use Rattle.std.specs.Prelude.{◌≡◌, Some, None, IsSome, IfSome, IfNone};
 ghost use Rattle.rewriting.specs.Terms as math;
 ghost use Rattle.rewriting.specs.Positions as position;

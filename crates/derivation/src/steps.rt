@@ -1,3 +1,4 @@
+//! The term after a single step: the contraction of a redex, or the use of a hypothesis.
 ghost use Rattle.std.specs.Prelude.{◌≡◌, [], Some, IfSome, IfNone, map};
 ghost use Rattle.rewriting.specs.Terms as math;
 ghost use Rattle.rewriting.specs.Positions as position;

@@ -1,4 +1,4 @@
-// Numbers of cells that proofs alone read.
+//! Numbers of cells that proofs alone read.
 ghost use Rattle.std.specs.Prelude.{◌≡◌, ℕ, ◌+◌};
 ghost use Rattle.std.specs.Borrow.{ftrue};
 

@@ -1,4 +1,4 @@
-// A cell that is in no chain.
+//! A cell that is in no chain.
 ghost use Rattle.std.specs.Prelude.{◌≡◌};
 ghost use Rattle.flatterm.specs.declared.Node.{Node};
 ghost use Rattle.flatterm.specs.Cells.{lone_owns};

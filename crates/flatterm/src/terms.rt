@@ -1,4 +1,4 @@
-// A term as cells, and back.
+//! Laying a term out as a chain of cells, and reading a term off such a chain.
 ghost use Rattle.std.specs.Prelude.{◌≡◌, ◌+◌, ◌<◌, ◌≤◌, [], IfOk, length};
 ghost use Rattle.rewriting.specs.Terms as math;
 ghost use Rattle.term_core.specs.View.{view};

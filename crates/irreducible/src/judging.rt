@@ -1,4 +1,4 @@
-// The runs by which a term is judged.
+//! The runs by which a term is judged: each of its parts that is no variable against the left sides with the same root.
 ghost use Rattle.std.specs.Prelude.{◌≡◌};
 ghost use Rattle.rewriting.specs.Terms as math;
 ghost use Rattle.rewriting.specs.Substitutions.{apply};

@@ -1,4 +1,4 @@
-// The left sides of a system, renamed once and found by their roots.
+//! The left sides of a system, renamed once and found by their roots.
 ghost use Rattle.std.specs.Prelude.{◌≡◌, true, IfOk, map};
 ghost use Rattle.rewriting.specs.Terms as math;
 ghost use Rattle.rewriting.specs.Substitutions.{apply};

@@ -1,3 +1,4 @@
+//! Matching by recursion on the pattern, where values are copies of parts of the subject.
 ghost use Rattle.std.specs.Prelude.{◌≡◌, IfOk, OnOk, MatchBool};
 ghost use Rattle.std.specs.FinMap as map;
 ghost use Rattle.rewriting.specs.Matching.{IsLeastMatch, HasNoMatch};

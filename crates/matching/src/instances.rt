@@ -1,3 +1,4 @@
+//! Whether a term is an instance of a pattern, decided without building the substitution.
 ghost use Rattle.std.specs.Prelude.{◌≡◌, ◌↔◌, IsTrue, option_map, Option};
 ghost use Rattle.rewriting.specs.Terms as math;
 ghost use Rattle.rewriting.specs.Substitutions.{Matches};

@@ -1,3 +1,4 @@
+//! Whether a term is a normal form of the rules without their conditions.
 ghost use Rattle.std.specs.Prelude.{◌↔◌, IsTrue, map};
 ghost use Rattle.rewriting.specs.NormalForms.{IsNormalForm};
 ghost use Rattle.term_core.specs.View.{view};

@@ -1,3 +1,4 @@
+//! Matching onto a subject that is given away: its parts become values and are not copied.
 ghost use Rattle.std.specs.Prelude.{IfOk, MatchBool};
 ghost use Rattle.rewriting.specs.Matching.{IsLeastMatch, HasNoMatch};
 ghost use Rattle.term_core.specs.View.{view, views};

@@ -1,3 +1,4 @@
+//! Operations on relations between numbers: insertion, the converse, other numbers on the left, and the first pair that another lacks.
 ghost use Rattle.std.specs.Prelude.{◌≡◌, ◌↔◌, ◌⊎◌, ◌<◌, ◌≤◌, ℕ, IfOk, OnOk, IsTrue, vec_len};
 ghost use Rattle.rewriting.specs.Lists.{IsAmong};
 ghost use Rattle.number_sets.specs.Sets.{members, LackingAnswers};

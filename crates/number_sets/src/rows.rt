@@ -1,3 +1,4 @@
+//! Relations between numbers, as a list of sets.
 ghost use Rattle.std.specs.Prelude.{◌≤◌, vec_len};
 
 use crate::words::NumberSet;

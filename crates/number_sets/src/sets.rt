@@ -1,3 +1,4 @@
+//! Operations on sets of numbers: insertion, union, intersection, membership, and the first number that another set lacks.
 ghost use Rattle.std.specs.Prelude.{◌≡◌, ◌↔◌, ◌⊎◌, ◌<◌, ◌≤◌, ◌+◌, ◌*◌, ◌∷◌, ℕ, [], get_or, vec_len, IfOk, OnOk, IsTrue};
 ghost use Rattle.rewriting.specs.Lists.{IsAmong};
 ghost use Rattle.number_sets.specs.Sets.{is_set, members, members_below, LackingAnswers};

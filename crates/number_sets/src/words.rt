@@ -1,3 +1,4 @@
+//! Sets of numbers, as bit vectors.
 ghost use Rattle.std.specs.Prelude.{◌≤◌, vec_len};
 
 /// A set of numbers, as the bits of words: it takes an eighth of a byte for each number up to its largest.

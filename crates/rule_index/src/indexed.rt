@@ -1,4 +1,4 @@
-// A system and the index of its rules in one value, so that no question about the system makes an index of its own.
+//! A system and the index of its rules in one value, so that no question about the system makes an index of its own.
 ghost use Rattle.std.specs.Prelude.{◌≡◌, ◌↔◌, IfOk, IsTrue, IsSome, Some, map};
 ghost use Rattle.rewriting.specs.Variables.{IsLinear};
 ghost use Rattle.rewriting.specs.Rules as math;

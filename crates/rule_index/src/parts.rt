@@ -1,4 +1,4 @@
-// The parts of a term one after the other, each with its position.
+//! The parts of a term one after the other, each with its position.
 ghost use Rattle.std.specs.Prelude.{◌≡◌, ◌≤◌, ◌++◌, ◌∷◌, [], OnOk, OnErr};
 ghost use Rattle.rewriting.specs.Terms.{size};
 ghost use Rattle.term_core.specs.View.{view, views};

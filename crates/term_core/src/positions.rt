@@ -1,3 +1,4 @@
+//! Positions in a term: the subterm at one, and the term with another subterm there.
 ghost use Rattle.std.specs.Prelude.{◌≡◌, ◌<◌, ◌+◌, IfOk, option_map, map, length, ◌++◌, OnOk, IsSome};
 ghost use Rattle.rewriting.specs.Terms as math;
 ghost use Rattle.rewriting.specs.Positions as position;

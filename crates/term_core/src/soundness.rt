@@ -1,4 +1,4 @@
-// Whether rules make a system.
+//! Whether rules make a system: arities, left sides, the numbering of variables, and limits of size.
 ghost use Rattle.std.specs.Prelude.{◌≡◌, ◌<◌, ◌+◌, ◌^◌, ◌↔◌, ℕ, IsTrue, IfSome, IfNone, map, length, slice_get};
 ghost use Rattle.rewriting.specs.Terms.{IsVariable, Fits};
 ghost use Rattle.rewriting.specs.Signatures.{IsOver};

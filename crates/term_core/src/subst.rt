@@ -1,3 +1,4 @@
+//! Substitutions as finite maps from variables to terms, and the instances of terms under them.
 ghost use Rattle.std.specs.Prelude.{◌≡◌, ◌+◌, ◌<◌, ◌≤◌, ◌⊎◌, ◌↔◌, ℕ, IfOk, OnOk, OnErr, IfSome, IfNone, IsTrue, option_map};
 ghost use Rattle.std.specs.FinMap as map;
 ghost use Rattle.rewriting.specs.Terms as math;

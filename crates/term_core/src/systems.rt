@@ -1,3 +1,4 @@
+//! Conditions, rules and conditional rewrite systems, and why rules make no system.
 ghost use Rattle.std.specs.Prelude.{◌≡◌, ◌<◌, ◌+◌, ◌^◌, OnOk, map, length};
 ghost use Rattle.rewriting.specs.Rules.{system_of};
 ghost use Rattle.rewriting.specs.Systems.{condition_count, IsSystem};

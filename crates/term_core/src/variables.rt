@@ -1,3 +1,4 @@
+//! The variables of a term: in order of first occurrence, those that are repeated, and whether the term is linear.
 ghost use Rattle.std.specs.Prelude.{◌≡◌, ◌≤◌, ◌<◌, ◌+◌, ◌↔◌, ℕ, IfOk, OnOk, IfSome, IsTrue, false, map};
 ghost use Rattle.rewriting.specs.Variables.{with_new, with_variables, variables, occurrences, IsLinear};
 ghost use Rattle.rewriting.specs.Terms.{var};

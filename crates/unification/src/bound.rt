@@ -1,5 +1,5 @@
-// Bound variables, and terms under them. A bound term is not copied: it stands in one of the sides of the run, with variables
-// that may be bound themselves.
+//! Triangular substitutions: bound variables, and terms under them. A bound term is not copied: it stands in one of the sides of the
+//! run, with variables that may be bound themselves.
 ghost use Rattle.std.specs.Prelude.{◌≡◌, ◌≤◌, ◌<◌, ◌+◌, ◌↔◌, ◌⊎◌, IsTrue, IfOk, IfSome, IfNone, length, map, take};
 ghost use Rattle.rewriting.specs.Terms as math;
 ghost use Rattle.rewriting.specs.Substitutions.{apply};

@@ -1,3 +1,4 @@
+//! Renaming terms: the variable `mul * k + add` for each variable k.
 ghost use Rattle.std.specs.Prelude.{◌≡◌, ◌≤◌, ◌<◌, ◌+◌, ◌*◌, ◌^◌, ℕ, true, IfOk};
 ghost use Rattle.rewriting.specs.Substitutions.{apply};
 ghost use Rattle.rewriting.specs.Variables.{occurs};

@@ -1,5 +1,5 @@
-// The run of unification, by recursion on the two sides of an equation. Equal sides are taken apart
-// like others, which binds nothing, and sides are measured only after a new binding.
+//! The run of unification, by recursion on the two sides of an equation. Equal sides are taken apart
+//! like others, which binds nothing, and sides are measured only after a new binding.
 ghost use Rattle.std.specs.Prelude.{◌≡◌, ◌↔◌, false, IsTrue, OnOk, length};
 ghost use Rattle.rewriting.specs.Terms as math;
 ghost use Rattle.rewriting.specs.Systems.{Each};

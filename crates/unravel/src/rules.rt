@@ -1,4 +1,4 @@
-// The rules of an unraveled system.
+//! The rules of an unraveled system: for a rule with n conditions n + 1 rules, chained by its auxiliary symbols.
 ghost use Rattle.std.specs.Prelude.{◌≡◌, ◌<◌, ◌≤◌, ◌+◌, ◌^◌, [], IfOk, map, length};
 ghost use Rattle.rewriting.specs.Terms as math;
 ghost use Rattle.rewriting.specs.Variables.{with_variables};

@@ -1,4 +1,4 @@
-// The sides of the rules of an unraveled system, before their variables are numbered anew.
+//! The sides of the rules of an unraveled system, before their variables are numbered anew.
 ghost use Rattle.std.specs.Prelude.{◌≡◌, ◌↔◌, ◌<◌, ◌^◌, ◌+◌, IsTrue, IfOk, OnOk, length};
 ghost use Rattle.rewriting.specs.Terms as math;
 ghost use Rattle.rewriting.specs.Substitutions.{apply, apply_all};

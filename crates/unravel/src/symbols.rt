@@ -1,4 +1,4 @@
-// The symbols of an unraveled system.
+//! The symbols of an unraveled system: their arities, and of which rule and condition each auxiliary one is.
 ghost use Rattle.std.specs.Prelude.{◌≡◌, ◌<◌, ◌≤◌, ◌+◌, ◌*◌, ◌^◌, ◌++◌, IfOk, OnOk, map, length};
 ghost use Rattle.rewriting.specs.Terms as math;
 ghost use Rattle.rewriting.specs.Rules.{sides};
