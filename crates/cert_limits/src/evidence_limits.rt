@@ -1,4 +1,4 @@
-// Evidence and overlaps.
+//! Whether evidence and overlaps can be spelt: the numbers of states, the heads of transitions, the derivations.
 ghost use Rattle.std.specs.Prelude.{◌↔◌, ◌∷◌, [], IsTrue, map};
 ghost use Rattle.cert_model.specs.EvidenceView.{transition_view, automaton_view, inf_evidence_view, pair_evidence_view};
 ghost use Rattle.cert_model.specs.CertificateView.{pair_entry_view};

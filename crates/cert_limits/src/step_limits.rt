@@ -1,4 +1,4 @@
-// Derivations.
+//! Whether derivations can be spelt: how many steps they have, and how deep those for conditions are nested.
 ghost use Rattle.std.specs.Prelude.{◌↔◌, IsTrue, map};
 ghost use Rattle.certificates.specs.Derivations.{derivation_of, derivations_of};
 ghost use Rattle.cert_model.specs.DerivationView.{derivation_view, step_view};

@@ -1,4 +1,4 @@
-// Names, positions and terms.
+//! Whether numbers, symbols, terms and positions can be spelt.
 ghost use Rattle.std.specs.Prelude.{◌≤◌, ◌↔◌, ℕ, List, IsTrue};
 ghost use Rattle.term_core.specs.View.{view, views};
 ghost use Rattle.cert_grammar.specs.Words.{largest, IsNamed, IsSpelt, AreSpelt, ArePlaces};

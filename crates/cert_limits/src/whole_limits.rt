@@ -1,4 +1,4 @@
-// Measures, peaks and whole certificates.
+//! Whether measures, peaks and whole certificates can be spelt with the names of a system.
 ghost use Rattle.std.specs.Prelude.{◌↔◌, ◌∷◌, [], IsTrue, map};
 ghost use Rattle.term_core.specs.HeadView.{head_view};
 ghost use Rattle.cert_model.specs.CertificateView.{pair_entry_view, linear_entry_view, measure_view, redex_view, apart_view, peak_view, certificate_view};

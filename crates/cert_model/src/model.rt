@@ -1,3 +1,4 @@
+//! Certificates that a system is confluent or that it is not, and steps that simplify a system.
 use crate::derivations::Derivation;
 use crate::evidence::{InfEvidence, PairEvidence};
 use term_core::{Head, Term};

@@ -1,3 +1,4 @@
+//! Laws of certificates' texts: a text is one certificate or has one refusal, and the reader finds which.
 ghost use Rattle.cert_laws.specs.FirstRefusalLaws.{ReaderIsExact, AnswersAreRead, OneOrTheOther};
 ghost use Rattle.cert_laws.specs.RefusalRows.{AreAnswered};
 ghost use Rattle.cert_laws.specs.MarkLaws.{IsDeterministic, OneRefusal, NeverBoth, PlacesAreWithin, CertificatesPass, PassingAreCertificates};

@@ -1,3 +1,4 @@
+//! The one text of a certificate is written, and it is read as that certificate wherever it can be spelt.
 ghost use Rattle.std.specs.Prelude.{◌≡◌, ◌++◌, OnOk, OnErr};
 ghost use Rattle.certificates.specs.Certificates as math;
 ghost use Rattle.cops_names.specs.NameTable.{NameTable};

@@ -1,3 +1,4 @@
+//! Why a text is no certificate, and at which byte.
 ghost use Rattle.std.specs.Prelude.{◌≡◌};
 ghost use Rattle.cert_words.specs.declared.error.CertError.TheVariants as refused;
 

@@ -1,3 +1,4 @@
+//! Sets of names that keep the order in which the names came.
 ghost use Rattle.std.specs.Prelude.{◌≡◌, [], Some, IfOk, OnOk, length, map};
 ghost use Rattle.cops_names.specs.NameLists.{name_index, is_among, with_name};
 ghost use Rattle.cops_names.specs.NamesView.{texts_of};

@@ -1,3 +1,4 @@
+//! The table of a system's names: its symbols with their arities, and the variables of each rule.
 ghost use Rattle.std.specs.Prelude.{◌≡◌, ◌<◌, ◌^◌, ◌++◌, ◌∷◌, [], ◌↔◌, None, IsTrue, IfOk, OnOk, OnErr, length, map, option_map, slice_get, string_bytes};
 ghost use Rattle.std.specs.Bool.{OnTrue, OnFalse};
 ghost use Rattle.cops_names.specs.NameTable.{number_of, name_at, arity_at, variable_at, all_of};

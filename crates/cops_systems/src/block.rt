@@ -1,3 +1,4 @@
+//! The names of the variables' block, with a table of first bytes and lengths by which most other names are told apart at once.
 ghost use Rattle.std.specs.Prelude.{◌≡◌, ◌<◌};
 ghost use Rattle.cops_names.specs.NameLists.{is_among};
 ghost use Rattle.cops_systems.specs.Shapes.{shape_of};

@@ -1,3 +1,4 @@
+//! What a file has a greatest number of, and why bytes are read to no system.
 ghost use Rattle.std.specs.Prelude.{◌≡◌};
 ghost use Rattle.cops_systems.specs.Counts.{most_of};
 ghost use Rattle.cops_systems.specs.declared.errors.ReadError.TheVariants.{NoMemory as no_memory};

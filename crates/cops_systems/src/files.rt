@@ -1,3 +1,4 @@
+//! The system of a whole syntax tree; rules with join conditions become oriented ones, with two symbols more.
 ghost use Rattle.std.specs.Prelude.{◌≡◌, ◌&&◌, [], IfOk, OnOk, map};
 ghost use Rattle.file_text.specs.Syntax as syntax;
 ghost use Rattle.cops_trees.specs.View.{IsFileText, names_view};

@@ -1,3 +1,4 @@
+//! The variable or symbol that an identifier of a term means: new names are numbered as they come, within the limits of a file.
 ghost use Rattle.std.specs.Prelude.{◌≡◌, ◌+◌, ◌<◌, ◌≤◌, ◌^◌, IfOk, OnOk, length};
 ghost use Rattle.cops_trees.specs.View.{node_view};
 ghost use Rattle.cops_systems.specs.Refusals.{limit_cause};

@@ -1,3 +1,4 @@
+//! Rules with their conditions, each with a numbering of variables of its own.
 ghost use Rattle.std.specs.Prelude.{◌≡◌, ◌+◌, ◌<◌, ◌≤◌, [], List, OnOk, length};
 ghost use Rattle.file_text.specs.Syntax as syntax;
 ghost use Rattle.cops_trees.specs.View.{IsTerm, IsCondition, AreConditions, IsRule, AreRules};

@@ -1,3 +1,4 @@
+//! Terms of rules from flat lists of identifiers: each symbol takes as many arguments as stand in its brackets.
 ghost use Rattle.std.specs.Prelude.{◌≡◌, ◌≤◌, ◌++◌, List, OnOk, drop, length};
 ghost use Rattle.file_text.specs.Syntax as syntax;
 ghost use Rattle.cops_trees.specs.View.{nodes_view};

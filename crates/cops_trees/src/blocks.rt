@@ -1,3 +1,4 @@
+//! The blocks of a file as an automaton over words: condition type, variables and rules, in any order, each at most once.
 ghost use Rattle.std.specs.Prelude.{◌≡◌, IfOk, option_map};
 ghost use Rattle.cops_trees.specs.Flat as flat;
 ghost use Rattle.cops_trees.specs.Flat.{CanStep};

@@ -1,3 +1,4 @@
+//! From bytes to the syntax tree of a file: the words are taken one by one, up to the first refusal.
 ghost use Rattle.std.specs.Prelude.{◌≡◌};
 ghost use Rattle.cops_trees.specs.Answers.{TreeAnswers, error_of};
 ghost use Rattle.cops_trees.specs.States.{cause_of, error_at};

@@ -1,3 +1,4 @@
+//! The rules of a file as an automaton over words, with a stack of open brackets.
 ghost use Rattle.std.specs.Prelude.{◌≡◌, IfOk, option_map, [], reverse};
 ghost use Rattle.cops_trees.specs.Flat as flat;
 ghost use Rattle.cops_trees.specs.Flat.{IsRaisable, CanRead};

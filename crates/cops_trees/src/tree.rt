@@ -1,3 +1,4 @@
+//! What the text of a file spells, while its identifiers are neither variables nor symbols yet; terms are flat lists of them.
 ghost use Rattle.std.specs.Prelude.{◌≡◌};
 ghost use Rattle.std.specs.Str.{bytes_eq};
 

@@ -1,3 +1,4 @@
+//! Tokens with the text that they stand for.
 ghost use Rattle.std.specs.Prelude.{◌≡◌, slice_range};
 ghost use Rattle.file_text.specs.Texts.{word_of};
 ghost use Rattle.cops_trees.specs.States.{word_view};

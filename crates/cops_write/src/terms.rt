@@ -1,3 +1,4 @@
+//! The text of a rule's term, with the names of its symbols and variables.
 ghost use Rattle.std.specs.Prelude.{◌≡◌, OnOk};
 ghost use Rattle.term_core.specs.View.{view, views};
 ghost use Rattle.cops_write.specs.Grows.{Grows};

@@ -1,3 +1,4 @@
+//! The text of a system: its condition type, the block of its variables, and its rules with their conditions.
 ghost use Rattle.std.specs.Prelude.{◌≡◌, ◌++◌, ◌<◌, ◌^◌, [], OnOk, OnErr, IfOk, map, length};
 ghost use Rattle.rewriting.specs.Terms.{Fits};
 ghost use Rattle.term_core.specs.View.{view};

@@ -1,3 +1,4 @@
+//! Shelves and sinks that give or take few bytes, fail at given calls, run full or never end: what is read and written over them.
 use cc_io::{
     CallCount, Failed, MemoryFile, MemoryShelf, MemorySink, ReadAllError, Shelf, Sink, WriteFault,
     read_all, write_all,

@@ -1,4 +1,4 @@
-// The assignments of values to open variables, one after the other.
+//! The assignments of values to open variables, tried one after the other until one answers.
 ghost use Rattle.std.specs.Prelude.{◌≡◌, map};
 ghost use Rattle.rewriting.specs.Rules.{sides};
 ghost use Rattle.certificates.specs.Sizes.{DoConditionsFit};

@@ -1,4 +1,4 @@
-// Values for the open variables, told by numbers that turn like those of an odometer: no assignment but one is in memory.
+//! Values for the open variables, told by numbers that turn like those of an odometer: no assignment but one is in memory.
 ghost use Rattle.std.specs.Prelude.{◌≡◌, List, ℕ, IfOk, length};
 ghost use Rattle.std.specs.FinMap.{empty};
 ghost use Rattle.rewriting.specs.Terms as math;

@@ -1,4 +1,4 @@
-// Evidence that the conditions are never met, up to the first that is valid.
+//! Evidence that the conditions are never met, tried in order up to the first that is valid.
 ghost use Rattle.std.specs.Prelude.{◌≤◌, ◌∷◌, [], length, map};
 ghost use Rattle.certificates.specs.Sizes.{DoConditionsFit};
 ghost use Rattle.term_core.specs.RuleView.{condition_view};

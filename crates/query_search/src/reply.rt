@@ -1,3 +1,4 @@
+//! How the search for the answer to a query ends.
 use cert_model::{Derivation, InfEvidence};
 use term_core::Term;
 

@@ -1,4 +1,4 @@
-// Values for open variables, under which the conditions are met in turn.
+//! One assignment of values to the open variables: derivations under it that meet the conditions in turn.
 ghost use Rattle.std.specs.Prelude.{◌≡◌, ◌∷◌, [], IfOk, map, option_map};
 ghost use Rattle.std.specs.List.{range_with_len};
 ghost use Rattle.rewriting.specs.Rules.{sides};

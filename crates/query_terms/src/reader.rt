@@ -1,3 +1,4 @@
+//! Queries of a system, read from bytes: conditions and the names of their variables, or why a text is none.
 ghost use Rattle.std.specs.Prelude.{◌≡◌};
 ghost use Rattle.query_terms.specs.Queries.{QueryAnswers, text_error, meaning_error};
 
