@@ -1,4 +1,4 @@
-// The limits on states and choices.
+//! The limits of growth: on the states of the automaton, and on the choices of states for a left side.
 ghost use Rattle.std.specs.Prelude.{◌<◌, ◌≤◌, ◌+◌, ◌^◌, ◌↔◌, IsTrue, IfOk, map, length};
 ghost use Rattle.rewriting.specs.Terms.{Fits};
 ghost use Rattle.term_core.specs.View.{view};

@@ -1,4 +1,4 @@
-// Transitions in order: where one stands, and adding one.
+//! Transitions in order by symbol, arguments and target: where one stands, and adding one that is not there yet.
 ghost use Rattle.std.specs.Prelude.{◌≡◌, ◌≤◌, map, length, Contains, OnOk};
 ghost use Rattle.std.specs.List.{insert};
 ghost use Rattle.rewriting.specs.Lists.{IsSorted};

@@ -1,4 +1,4 @@
-// The transitions that growth starts from, and one round of growth.
+//! The transitions that growth starts from, and one round, which adds what the rules ask for where their left sides arrive.
 ghost use Rattle.std.specs.Prelude.{◌≡◌, ◌<◌, ◌≤◌, ◌+◌, ◌^◌, map, length, Contains};
 ghost use Rattle.rewriting.specs.Terms.{Fits, size};
 ghost use Rattle.rewriting.specs.Systems.{IsSystem};

@@ -1,4 +1,4 @@
-// Terms in transitions: counts of subterms, states of variables, and what a term's subterms ask for.
+//! Terms as transitions: how many subterms have states of their own, and the transitions by which a term reaches a state.
 ghost use Rattle.std.specs.Prelude.{◌≡◌, ◌<◌, ◌+◌, ◌^◌, ◌++◌, map, IfOk, OnOk};
 ghost use Rattle.rewriting.specs.Terms.{size, size_all};
 ghost use Rattle.automata.specs.Closed as closed;

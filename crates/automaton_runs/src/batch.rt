@@ -1,3 +1,4 @@
+//! Choices of states that have one front, by their numbers, and the states that a variable has by them.
 ghost use Rattle.std.specs.Prelude.{◌≡◌, ◌↔◌, ℕ, length, IfOk};
 ghost use Rattle.automata.specs.Closed.{state_of};
 ghost use Rattle.rewriting.specs.Lists.{IsAmong};

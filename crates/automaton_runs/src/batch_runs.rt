@@ -1,3 +1,4 @@
+//! Runs on a term by all choices of a batch at once: the states that it reaches, each with the numbers of the choices.
 ghost use Rattle.std.specs.Prelude.{◌≡◌, ◌↔◌, ◌⊎◌, ℕ, length, IfOk, OnOk, IsTrue};
 ghost use Rattle.std.specs.List.{AllZip};
 ghost use Rattle.rewriting.specs.Terms as math;

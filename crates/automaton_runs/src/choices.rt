@@ -1,3 +1,4 @@
+//! Choices of states for the variable occurrences of a term: fronts, and tails that stand behind each of them.
 ghost use Rattle.std.specs.Prelude.{◌≡◌, ◌∷◌, [], replicate, IfOk};
 ghost use Rattle.rewriting.specs.Terms as math;
 ghost use Rattle.term_core.specs.View.{view};

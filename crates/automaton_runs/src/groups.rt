@@ -1,3 +1,4 @@
+//! Values grouped by a number, each group in the order in which they came.
 ghost use Rattle.std.specs.Prelude.{◌≡◌, ◌++◌, ◌∷◌, ℕ, [], OnOk, nat_eq, if◌then◌else◌};
 ghost use Rattle.automaton_runs.specs.Groups.{listed};
 

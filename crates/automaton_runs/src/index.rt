@@ -1,3 +1,4 @@
+//! The transitions of an automaton that count by some symbols, found by symbol, by first argument, by target or as a whole.
 ghost use Rattle.std.specs.Prelude.{◌≡◌, ◌++◌, ◌∷◌, ◌↔◌, ◌⊎◌, ℕ, true, [], IfOk, OnOk, IsTrue, map, filter, if◌then◌else◌};
 ghost use Rattle.certificates.specs.Evidence as math;
 ghost use Rattle.cert_model.specs.EvidenceView.{transition_view, automaton_view};

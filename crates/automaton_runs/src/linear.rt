@@ -1,3 +1,4 @@
+//! Terms made linear: their variable occurrences are numbered from 0, from left to right.
 ghost use Rattle.std.specs.Prelude.{◌≡◌, ◌+◌, ◌<◌, ◌^◌, length, IfOk, OnOk};
 ghost use Rattle.rewriting.specs.Terms as math;
 ghost use Rattle.rewriting.specs.Variables.{variable_occurrences};

@@ -1,4 +1,4 @@
-// Lists of the choices of a state of each pool.
+//! The choices of a state of each pool, in order: those of all pools, or of as many last ones as have few choices.
 ghost use Rattle.std.specs.Prelude.{◌≡◌, ◌++◌, ◌∷◌, ◌≤◌, [], IfOk, OnOk, drop, length, map};
 ghost use Rattle.automaton_runs.specs.Choices as choice_lists;
 ghost use Rattle.automaton_runs.specs.Choices.{as_lists, choices_of};

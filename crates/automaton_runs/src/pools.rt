@@ -1,4 +1,4 @@
-// The states that the variable occurrences of a term can have.
+//! The pool of each variable occurrence of a term: the states that stand at its place in transitions.
 ghost use Rattle.std.specs.Prelude.{◌≡◌, ◌++◌, IfOk, OnOk};
 ghost use Rattle.term_core.specs.View.{view, views};
 ghost use Rattle.automaton_runs.specs.Choices.{as_lists};

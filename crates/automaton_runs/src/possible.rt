@@ -1,3 +1,4 @@
+//! The fronts with which a term may arrive, where the occurrences behind them have any states of their pools.
 ghost use Rattle.std.specs.Prelude.{◌≡◌, ◌<◌, ◌≤◌, ◌^◌, ℕ, List, drop, length, take, IfOk, OnOk};
 ghost use Rattle.std.specs.List.{AllZip};
 ghost use Rattle.rewriting.specs.Terms as math;

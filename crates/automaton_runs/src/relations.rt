@@ -1,3 +1,4 @@
+//! The relation that a term is evaluated to: one that stands somewhere, or one that was made.
 ghost use Rattle.std.specs.Prelude.{◌≡◌};
 ghost use Rattle.automaton_runs.specs.Relations.{relation_of};
 

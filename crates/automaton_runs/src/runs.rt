@@ -1,3 +1,4 @@
+//! The arrivals of a term: its choices of states for variable occurrences, each with a state that the term reaches by it.
 ghost use Rattle.std.specs.Prelude.{◌≡◌, ◌≤◌, ◌^◌, ◌++◌, [], length, AllPairs, IfOk, OnOk, map};
 ghost use Rattle.rewriting.specs.Terms as math;
 ghost use Rattle.rewriting.specs.Positions.{IsBefore};

@@ -1,3 +1,4 @@
+//! The numbers that the relations of arguments share at some states, kept for all transitions in a row from these.
 ghost use Rattle.std.specs.Prelude.{◌≡◌, ◌↔◌, ◌⊎◌, ◌+◌, ◌∷◌, ℕ, [], length, IfOk, OnOk, IsTrue};
 ghost use Rattle.rewriting.specs.Lists.{IsAmong};
 ghost use Rattle.number_sets.specs.Sets.{members};

@@ -1,4 +1,4 @@
-// The ends of choices.
+//! The ends of choices: lists of states of one length, by their numbers, with the states at each place.
 ghost use Rattle.std.specs.Prelude.{◌≡◌, ◌↔◌, ◌<◌, ◌^◌, ℕ, [], List, length, get_or, IfOk, IsTrue};
 ghost use Rattle.rewriting.specs.Lists.{IsAmong};
 ghost use Rattle.number_sets.specs.Sets.{members};

@@ -1,3 +1,4 @@
+//! The texts of terms, derivations and evidence, put behind the bytes of a vector until memory is refused.
 ghost use Rattle.std.specs.Prelude.{◌≡◌, ◌++◌, false, OnOk, OnErr};
 ghost use Rattle.term_core.specs.View.{view};
 ghost use Rattle.cert_model.specs.DerivationView.{derivation_view};

@@ -1,3 +1,4 @@
+//! What takes the bytes of a text part by part: a writer, which puts them behind others, and a counter.
 ghost use Rattle.std.specs.Prelude.{◌++◌, List, ℕ, [], decimal};
 
 use itoa::Buffer;

@@ -1,3 +1,4 @@
+//! The text of a certificate with its measure, overlaps or peak, and how many bytes it has.
 ghost use Rattle.std.specs.Prelude.{◌≡◌, length, map, min};
 ghost use Rattle.term_core.specs.HeadView.{head_view};
 ghost use Rattle.cert_model.specs.CertificateView.{linear_entry_view, measure_view, redex_view, apart_view, peak_view, certificate_view};

@@ -1,3 +1,4 @@
+//! The text of evidence: of automata, of what shows that conditions are never met, and of the entries for overlaps.
 ghost use Rattle.std.specs.Prelude.{map};
 ghost use Rattle.cert_model.specs.EvidenceView.{transition_view, automaton_view, inf_evidence_view, pair_evidence_view};
 ghost use Rattle.cert_model.specs.CertificateView.{pair_entry_view};

@@ -1,3 +1,4 @@
+//! The text of derivations: a line for each step, with the derivations of its conditions behind it.
 ghost use Rattle.cert_model.specs.DerivationView.{derivation_view, step_view};
 ghost use Rattle.cert_grammar.specs.Steps as text;
 ghost use Rattle.cert_grammar.specs.Steps.{derivation_text, step_text};

@@ -1,3 +1,4 @@
+//! The text of symbols by name, of terms and of positions.
 ghost use Rattle.rewriting.specs.Terms as math;
 ghost use Rattle.term_core.specs.View.{view, views};
 ghost use Rattle.cert_grammar.specs.Words.{name_of, term_text, arguments_text, parts_text, position_text};

@@ -1,4 +1,4 @@
-// The first entries that rules need, and the rules by how many they need.
+//! How many of the first entries a rule needs for its symbols, and the rules by that number.
 ghost use Rattle.std.specs.Prelude.{◌≡◌, ◌<◌, ◌+◌, ◌++◌, ◌∷◌, ◌^◌, ℕ, [], IfOk, OnOk, if◌then◌else◌, nat_eq, map, length};
 ghost use Rattle.term_core.specs.View.{view};
 ghost use Rattle.term_core.specs.RuleView.{rule_view};

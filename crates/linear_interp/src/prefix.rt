@@ -1,4 +1,4 @@
-// The first entries of an interpretation, judged by the rules all of whose symbols have an entry.
+//! The first entries of an interpretation, judged by the rules all of whose symbols have an entry.
 ghost use Rattle.std.specs.Prelude.{◌≡◌, map};
 ghost use Rattle.rewriting.specs.Rules as math;
 ghost use Rattle.rewriting.specs.Systems.{IsSystem};

@@ -1,4 +1,4 @@
-// Whether the value falls from the left side to the right at each rule of the unraveled system.
+//! Whether the value falls from the left side to the right at each rule of the unraveled system.
 ghost use Rattle.std.specs.Prelude.{◌≡◌, ◌<◌, ◌+◌, ◌^◌, ◌↔◌, IsTrue, IfOk, length, map};
 ghost use Rattle.rewriting.specs.Rules as math;
 ghost use Rattle.interpretations.specs.Linear.{Falls};

@@ -1,4 +1,4 @@
-// Whether an interpretation has the right entries, and whether their numbers are good.
+//! Whether an interpretation has the right entry for each symbol, and whether the numbers in it are good.
 ghost use Rattle.std.specs.Prelude.{◌≡◌, ◌<◌, ◌+◌, ◌↔◌, IsTrue, map, length};
 ghost use Rattle.term_core.specs.HeadView.{head_view};
 ghost use Rattle.cert_model.specs.CertificateView.{linear_entry_view};

@@ -1,4 +1,4 @@
-// The constant and the coefficients of a term, as sums from left to right.
+//! The value of a term by its constant and coefficients: sums from left to right, up to a limit.
 ghost use Rattle.std.specs.Prelude.{◌≡◌, ◌≤◌, ◌<◌, ◌+◌, ◌*◌, ◌^◌, ℕ, map, length, min, slice_index, slice_set, IfOk, MatchBool, IsTrue};
 ghost use Rattle.term_core.specs.View.{view, views};
 ghost use Rattle.cert_model.specs.CertificateView.{linear_entry_view};

@@ -1,4 +1,4 @@
-// Two conditions that ask for two results of one term.
+//! Two conditions that ask for two results of one term: their left sides are equal, and the caps of their right sides clash.
 ghost use Rattle.std.specs.Prelude.{◌≤◌, length, map};
 ghost use Rattle.rewriting.specs.Terms as math;
 ghost use Rattle.certificates.specs.Sizes.{DoConditionsFit};

@@ -1,4 +1,4 @@
-// Derivations under the conditions of an overlap.
+//! Derivations under the conditions of an overlap: its sides derive one term, or a condition's left side two irreducible ones that do not unify.
 ghost use Rattle.std.specs.Prelude.{map};
 ghost use Rattle.rewriting.specs.Terms as math;
 ghost use Rattle.certificates.specs.Sizes.{DoConditionsFit, IsShort};

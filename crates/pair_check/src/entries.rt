@@ -1,4 +1,4 @@
-// One entry, beside the overlap that it should be for.
+//! One entry of a certificate, judged beside the overlap that it should be for.
 ghost use Rattle.std.specs.Prelude.{◌≡◌, ◌≤◌, ◌↔◌, IfOk, IsTrue, None, OnErr};
 ghost use Rattle.unifier_run.specs.Overlaps.{triple};
 ghost use Rattle.certificates.specs.Reasons.{pair_missing};

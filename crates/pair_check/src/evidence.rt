@@ -1,4 +1,4 @@
-// The evidence for an overlap, by its kind.
+//! The evidence for an overlap, judged by its kind.
 ghost use Rattle.unifier_run.specs.Overlaps.{IsOverlapOf};
 ghost use Rattle.cert_model.specs.EvidenceView.{pair_evidence_view};
 ghost use Rattle.critical_pairs.specs.View.{overlap_view};

@@ -1,4 +1,4 @@
-// The entries of a certificate, taken one after the other beside the overlaps of the system.
+//! The entries of a certificate, taken one after the other beside the overlaps of the system.
 ghost use Rattle.std.specs.Prelude.{◌≡◌, IfOk, List, OnErr, OnOk, Some};
 ghost use Rattle.unifier_run.specs.Overlaps as math;
 ghost use Rattle.certificates.specs.Certificates as entries;

@@ -1,3 +1,4 @@
+//! The conditions of a rule at a redex, where each variable without a value has a number of its own.
 ghost use Rattle.std.specs.Prelude.{◌≡◌, ◌<◌, ◌≤◌, ◌+◌, ◌^◌, ℕ, Some, OnOk, map};
 ghost use Rattle.std.specs.FinMap.{get};
 ghost use Rattle.rewriting.specs.Terms as math;

@@ -1,4 +1,4 @@
-// Caps with holes that are no variables of rules, so that left sides need no renaming.
+//! Caps with holes that are no variables of rules, so that left sides need no renaming.
 ghost use Rattle.std.specs.Prelude.{◌≡◌, ◌≤◌, ◌<◌, ◌+◌, ◌^◌, ℕ, IsTrue};
 ghost use Rattle.rewriting.specs.Terms as math;
 ghost use Rattle.rewriting.specs.Substitutions.{Substitution};

@@ -1,4 +1,4 @@
-// Two terms compared by their caps.
+//! Two terms compared by their caps: where these clash, the terms have no common reduct.
 ghost use Rattle.std.specs.Prelude.{◌≡◌, length};
 ghost use Rattle.rewriting.specs.Terms as math;
 ghost use Rattle.rewriting.specs.Rules.{System};

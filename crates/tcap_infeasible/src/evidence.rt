@@ -1,4 +1,4 @@
-// Conditions judged by the caps of their left sides.
+//! Evidence that conditions are never met: the caps of their left sides do not unify with their right sides.
 ghost use Rattle.std.specs.Prelude.{◌≤◌, IfOk, OnOk, length, map};
 ghost use Rattle.rewriting.specs.Rules.{right_sides};
 ghost use Rattle.rewriting.specs.Infeasibility.{IsInfeasible};

@@ -1,5 +1,5 @@
-// Terms with small numbers for their variables and for the symbols that a system lacks, so that constants in 32 bits are none
-// of these symbols.
+//! Terms with small numbers for their variables and for the symbols that a system lacks, so that constants in 32 bits are none
+//! of these symbols.
 ghost use Rattle.std.specs.Prelude.{◌≤◌, ◌<◌, ◌+◌, ◌^◌, IfOk, OnOk, length};
 ghost use Rattle.rewriting.specs.Terms as math;
 ghost use Rattle.rewriting.specs.Lists.{IsFront, AreDistinct};

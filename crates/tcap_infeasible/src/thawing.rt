@@ -1,4 +1,4 @@
-// Caps of terms, with holes counted from a number of the caller's.
+//! Caps and rigid caps of terms, with holes counted from a number of the caller's.
 ghost use Rattle.std.specs.Prelude.{◌≡◌, ◌≤◌, ◌<◌, ◌+◌, ◌^◌, ℕ, true, IfOk};
 ghost use Rattle.rewriting.specs.Terms as math;
 ghost use Rattle.rewriting.specs.Terms.{var};

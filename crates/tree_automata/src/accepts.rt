@@ -1,3 +1,4 @@
+//! Runs from state 0 for each variable: whether that state accepts all terms, and whether a term reaches an accepting state.
 ghost use Rattle.std.specs.Prelude.{◌≡◌, ◌↔◌, ◌<◌, ℕ, [], None, Some, length, replicate, IfOk, OnOk, IsTrue};
 ghost use Rattle.number_sets.specs.Relation.{Relates};
 ghost use Rattle.rewriting.specs.Terms as math;

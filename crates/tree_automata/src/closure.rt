@@ -1,3 +1,4 @@
+//! Closure of an automaton under the rules of a system: where a left side arrives at a state, the right side is kept there.
 ghost use Rattle.std.specs.Prelude.{◌≡◌, ◌↔◌, ◌+◌, ℕ, List, IfOk, IfSome, IsTrue, length, map};
 ghost use Rattle.rewriting.specs.Lists.{IsAmong};
 ghost use Rattle.rewriting.specs.Terms as math;

@@ -1,3 +1,4 @@
+//! Evidence that a condition is never met: an automaton, closed under the rules, that accepts its left side and excludes its right side.
 ghost use Rattle.rewriting.specs.Terms as math;
 ghost use Rattle.automata.specs.Evidence.{IsConditionJudged};
 ghost use Rattle.term_core.specs.View.{view};

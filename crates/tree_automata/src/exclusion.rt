@@ -1,3 +1,4 @@
+//! Exclusion of a term: no choice of states for its variable occurrences brings it to an accepting state.
 ghost use Rattle.std.specs.Prelude.{◌≡◌, ◌↔◌, None, IfOk, IsTrue};
 ghost use Rattle.rewriting.specs.Terms as math;
 ghost use Rattle.automata.specs.Evidence.{IsExclusionJudged};

@@ -1,3 +1,4 @@
+//! Where a right side is kept: at the states that it reaches or, if it is a variable, at those that include its state.
 ghost use Rattle.std.specs.Prelude.{◌≡◌, ◌↔◌, length, IfOk, IsTrue};
 ghost use Rattle.number_sets.specs.Sets.{members};
 ghost use Rattle.automata.specs.Closed.{Includes};

@@ -1,3 +1,4 @@
+//! The limit on the choices of states for a term, and the first rule whose left side passes it.
 ghost use Rattle.cert_model.specs.EvidenceView.{automaton_view};
 ghost use Rattle.refuter.specs.Answers.{RefutesAnswers};
 ghost use Rattle.tree_automata.specs.Open.{IsWidthJudged};
