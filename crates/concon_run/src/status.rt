@@ -1,3 +1,4 @@
+//! The ways in which a run of the program ends, and their exit codes.
 ghost use Rattle.std.specs.Prelude.{◌≡◌};
 ghost use Rattle.concon_run.specs.Status.{exit_code};
 

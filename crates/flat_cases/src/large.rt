@@ -1,4 +1,4 @@
-// Terms at the limits of size: each is made, read back, spliced and dropped.
+//! Terms at the limits of size: each is made, read back, spliced and dropped.
 use crate::samples::{constant, nested};
 use crate::splices::exchange_twice;
 use std::alloc::Global;

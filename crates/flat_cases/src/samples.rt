@@ -1,4 +1,4 @@
-// Terms of the cases, and their cells.
+//! Terms of the cases, and their cells.
 use flatterm::{Cell, Flat};
 use std::alloc::Global;
 use term_core::{NoMemory, Term};

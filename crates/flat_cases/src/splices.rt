@@ -1,3 +1,4 @@
+//! Cases of splices: a subterm, or the whole term, gives way to another term, and what was cut is put back.
 use crate::samples::{constant, go_to, nested};
 use flatterm::{Cell, Flat, Work};
 use std::alloc::Global;

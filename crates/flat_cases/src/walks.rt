@@ -1,3 +1,4 @@
+//! Cases of walks over a flat term: cell by cell up to the end, and from a place to behind its subterm.
 use crate::samples::{go_to, nested, nested_cells};
 use flatterm::Flat;
 use std::test::Fail;

@@ -1,4 +1,4 @@
-// The entries that are tried for one symbol, in order, of which only one stands in memory.
+//! The entries that are tried for one symbol, in order, of which only one stands in memory.
 ghost use Rattle.std.specs.Prelude.{ℕ, suc, ◌≡◌, ◌≤◌, ◌<◌, IfOk, length};
 ghost use Rattle.term_core.specs.HeadView.{head_view};
 ghost use Rattle.cert_model.specs.CertificateView.{linear_entry_view};

@@ -1,4 +1,4 @@
-// The walk through the grid, entry by entry.
+//! The grid searched symbol by symbol, with backtracking: entries with which no good interpretation begins are not built on.
 ghost use Rattle.std.specs.Prelude.{ℕ, ◌<◌, IfOk, OnOk, length, map};
 ghost use Rattle.rewriting.specs.Rules as math;
 ghost use Rattle.rewriting.specs.Unraveling.{heads};

@@ -1,3 +1,4 @@
+//! Evidence that the conditions of a rule are never met under the values of a match.
 ghost use Rattle.std.specs.Prelude.{◌≤◌, map};
 ghost use Rattle.rewriting.specs.Overlaps.{conditions_under};
 ghost use Rattle.term_core.specs.RuleView.{condition_view};

@@ -1,3 +1,4 @@
+//! Ends without a common reduct: they differ and the conditions at each redex are never met, or their rigid caps do not unify.
 ghost use Rattle.std.specs.Prelude.{◌<◌, ◌^◌, length, map};
 ghost use Rattle.rewriting.specs.Terms as math;
 ghost use Rattle.certificates.specs.Certificates.{by_normal_forms, by_rigid_caps};

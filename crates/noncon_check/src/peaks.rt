@@ -1,3 +1,4 @@
+//! Peaks: two derivations from one start whose ends are shown to have no common reduct, so that the system is not confluent.
 ghost use Rattle.std.specs.Prelude.{OnOk};
 ghost use Rattle.rewriting.specs.Terms as math;
 ghost use Rattle.rewriting.specs.Signatures.{IsOver};

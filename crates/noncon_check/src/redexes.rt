@@ -1,3 +1,4 @@
+//! The redexes of an end: wherever a rule matches, the next entry has to show that its conditions are never met there.
 ghost use Rattle.std.specs.Prelude.{◌≡◌, ◌≤◌, ◌∷◌, ◌↔◌, [], Some, IsTrue, MatchOption, IsSome, map, slice_get};
 ghost use Rattle.rewriting.specs.Terms.{size};
 ghost use Rattle.rewriting.specs.Rules.{rule_at};

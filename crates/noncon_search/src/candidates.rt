@@ -1,4 +1,4 @@
-// The certificate that two listed terms of a start make.
+//! The certificate that two listed terms of a start make, if they are apart: by evidence for each redex, else by their rigid caps.
 ghost use Rattle.std.specs.Prelude.{◌≡◌, ◌∷◌, [], ◌↔◌, IfOk, IsTrue};
 ghost use Rattle.rewriting.specs.Terms as math;
 ghost use Rattle.certificates.specs.Certificates.{by_rigid_caps};

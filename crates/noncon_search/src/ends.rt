@@ -1,4 +1,4 @@
-// The listed terms of a start, with what is asked of each once for all its pairs.
+//! The listed terms of a start, with what is asked of each once for all its pairs.
 ghost use Rattle.std.specs.Prelude.{◌≡◌, IfOk};
 ghost use Rattle.rewriting.specs.Terms as math;
 ghost use Rattle.reach_lists.specs.Laws.{EachOf};

@@ -1,4 +1,4 @@
-// The entries for the redexes of a term, one after the other.
+//! The entries for the redexes of a term, one after the other, each with evidence that the conditions of its rule are never met there.
 ghost use Rattle.std.specs.Prelude.{◌≡◌, ◌≤◌, ◌++◌, ◌∷◌, [], OnOk, IsSome, length, map};
 ghost use Rattle.rewriting.specs.Rules.{rule_at};
 ghost use Rattle.rewriting.specs.Overlaps.{conditions_under};

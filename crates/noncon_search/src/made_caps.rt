@@ -1,4 +1,4 @@
-// The rigid caps of listed terms, each made once for all pairs.
+//! The rigid caps of listed terms, each made once for all pairs.
 ghost use Rattle.std.specs.Prelude.{◌≡◌, ◌<◌, ℕ, true, IfOk, IfSome, IsTrue};
 ghost use Rattle.rewriting.specs.Terms as math;
 ghost use Rattle.rewriting.specs.Variables.{occurs};

@@ -1,4 +1,4 @@
-// Caps of which no two clash, laid one upon the other, so that one more is compared with all of them at once.
+//! Caps of which no two clash, laid one upon the other, so that one more is compared with all of them at once.
 ghost use Rattle.std.specs.Prelude.{◌≡◌, ◌^◌, ℕ, IfOk, OnOk};
 ghost use Rattle.rewriting.specs.Terms as math;
 ghost use Rattle.term_core.specs.View.{view, views};

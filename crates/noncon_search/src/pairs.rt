@@ -1,4 +1,4 @@
-// All pairs of the listed terms of a start.
+//! All pairs of the listed terms of a start, tried as the ends of a peak, for a unit each, up to the first certificate.
 ghost use Rattle.std.specs.Prelude.{◌∷◌, []};
 ghost use Rattle.term_core.specs.View.{view};
 ghost use Rattle.search_spaces.specs.PeakItems.{try_ends};

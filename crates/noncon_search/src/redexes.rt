@@ -1,4 +1,4 @@
-// For each redex of a term the first valid evidence that the conditions of its rule are never met there.
+//! For each redex of a term the first valid evidence that the conditions of its rule are never met there.
 ghost use Rattle.rewriting.specs.Terms as math;
 ghost use Rattle.term_core.specs.View.{view};
 ghost use Rattle.noncon_search.specs.Refuted.{RefutedAnswers};

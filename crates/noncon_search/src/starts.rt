@@ -1,4 +1,4 @@
-// One start after the other.
+//! The starts of peaks, one after the other: left sides of rules and sources of overlaps, each with the terms that it reaches.
 ghost use Rattle.std.specs.Prelude.{◌≡◌, [], map};
 ghost use Rattle.rewriting.specs.Terms as math;
 ghost use Rattle.reach_lists.specs.Laws.{EachOf};

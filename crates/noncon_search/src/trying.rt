@@ -1,4 +1,4 @@
-// What is tried for conditions, up to the first evidence that is valid.
+//! What is tried for conditions, up to the first evidence that is valid: caps, then the automata that grow from conditions.
 ghost use Rattle.std.specs.Prelude.{◌≤◌, length, map};
 ghost use Rattle.certificates.specs.Sizes.{DoConditionsFit};
 ghost use Rattle.term_core.specs.RuleView.{condition_view};

@@ -1,4 +1,4 @@
-// The classes that the system of the certificate is to be in.
+//! The classes that the system of the certificate is to be in: left-linear, of type 3, extended properly oriented and right-stable.
 ghost use Rattle.cert_model.specs.ReasonView.{class_view};
 ghost use Rattle.ortho_check.specs.Answers.{ClassAnswers, ClassesAnswer};
 

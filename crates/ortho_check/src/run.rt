@@ -1,4 +1,4 @@
-// The entries of a certificate of an almost orthogonal system, taken one after the other.
+//! The entries of a certificate of an almost orthogonal system, taken one after the other.
 ghost use Rattle.std.specs.Prelude.{◌≡◌, List, [], ◌∷◌, ◌++◌, IfOk, OnOk, OnErr};
 ghost use Rattle.rewriting.specs.Confluence.{IsConfluent};
 ghost use Rattle.certificates.specs.Certificates as math;

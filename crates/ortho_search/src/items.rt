@@ -1,4 +1,4 @@
-// The items of an overlap, in order.
+//! What may settle an overlap, in the order of trial: that it is trivial, caps, conflicts of two conditions, automata that grow.
 ghost use Rattle.std.specs.Prelude.{◌≡◌, ◌++◌, ◌+◌, ◌<◌, ◌^◌, IfOk, map};
 ghost use Rattle.search_spaces.specs.Refuting.{growths};
 ghost use Rattle.search_spaces.specs.PairItems.{try_refuting, conflicts_with, conflicts, ortho_items_of};

@@ -1,4 +1,4 @@
-// The items of one overlap, one after the other.
+//! The items of one overlap, tried one after the other for a unit each, up to the first that gives valid evidence.
 ghost use Rattle.std.specs.Prelude.{ℕ, map};
 ghost use Rattle.unifier_run.specs.Overlaps.{IsOverlapOf};
 ghost use Rattle.valid_certificates.specs.Kinds.{ortho};

@@ -1,4 +1,4 @@
-// Evidence for an overlap, where it is valid.
+//! Evidence for an overlap, given back where it is valid in a certificate of the kind.
 ghost use Rattle.unifier_run.specs.Overlaps.{IsOverlapOf};
 ghost use Rattle.valid_certificates.specs.Entries.{IsPairShort};
 ghost use Rattle.validity.specs.KindView.{kind_view};

@@ -1,4 +1,4 @@
-// How walks through the items of an overlap and over all overlaps end.
+//! How walks through the items of an overlap and over all overlaps end.
 ghost use Rattle.std.specs.Prelude.{◌≡◌, ◌++◌, ◌∷◌, [], OnOk, map};
 ghost use Rattle.cert_model.specs.CertificateView.{pair_entry_view};
 ghost use Rattle.cert_model.specs.EvidenceView.{pair_evidence_view};

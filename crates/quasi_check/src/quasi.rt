@@ -1,3 +1,4 @@
+//! Confluence by a measure: the system is deterministic, right sides of conditions absolutely irreducible, the measure good, overlaps settled.
 ghost use Rattle.std.specs.Prelude.{OnOk, map};
 ghost use Rattle.rewriting.specs.Confluence.{IsConfluent};
 ghost use Rattle.cert_model.specs.CertificateView.{pair_entry_view};

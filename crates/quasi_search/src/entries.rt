@@ -1,4 +1,4 @@
-// The entries for all overlaps.
+//! The entries of a certificate, one for each overlap with its first valid evidence; an overlap that has none ends the walk.
 ghost use Rattle.std.specs.Prelude.{ℕ, map};
 ghost use Rattle.critical_pairs.specs.View.{overlap_view};
 ghost use Rattle.pair_check.specs.Walk.{EachIsOverlap};

@@ -1,4 +1,4 @@
-// Terms that both sides of an overlap lead to.
+//! Joins of overlaps: the first term to which both sides lead under the conditions.
 ghost use Rattle.std.specs.Prelude.{ℕ, ◌≡◌, IfOk, List};
 ghost use Rattle.rewriting.specs.Terms as terms;
 ghost use Rattle.unifier_run.specs.Overlaps.{IsOverlapOf};

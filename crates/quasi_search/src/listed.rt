@@ -1,4 +1,4 @@
-// Listings under the conditions of an overlap.
+//! Terms that a term leads to under the conditions of an overlap, which are taken as hypotheses.
 ghost use Rattle.rewriting.specs.Terms as math;
 ghost use Rattle.unifier_run.specs.Overlaps.{IsOverlapOf};
 ghost use Rattle.term_core.specs.View.{view};

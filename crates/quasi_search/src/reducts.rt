@@ -1,4 +1,4 @@
-// Pairs of terms that the left side of a condition leads to.
+//! Unfeasible conditions: the left side of one leads to two absolutely irreducible terms that do not unify.
 ghost use Rattle.std.specs.Prelude.{ℕ, ◌≡◌, ◌∷◌, [], ◌↔◌, Some, IfOk, IsTrue, map};
 ghost use Rattle.rewriting.specs.Terms.{cons, nil};
 ghost use Rattle.unifier_run.specs.Run.{clash, IsOutcome};

@@ -1,4 +1,4 @@
-// That the conditions of an overlap are never met, tried in order.
+//! That the conditions of an overlap are never met, tried in order: by caps, then by the automata that grow from conditions.
 ghost use Rattle.std.specs.Prelude.{ℕ, ◌∷◌, [], length, map};
 ghost use Rattle.unifier_run.specs.Overlaps.{IsOverlapOf};
 ghost use Rattle.critical_pairs.specs.View.{overlap_view};

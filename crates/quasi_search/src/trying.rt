@@ -1,4 +1,4 @@
-// The items of one overlap, one after the other.
+//! What settles one overlap, in the order of trial: its conditions are never met, its sides join, or a condition is unfeasible.
 ghost use Rattle.std.specs.Prelude.{ℕ};
 ghost use Rattle.unifier_run.specs.Overlaps.{IsOverlapOf};
 ghost use Rattle.critical_pairs.specs.View.{overlap_view};
