@@ -74,7 +74,7 @@ pub enum ReadError {
     /// The title of an earlier block.
     #[error("repeated block at {at}")]
     RepeatedBlock { at: usize },
-    /// A condition type other than `ORIENTED`.
+    /// A condition type that is neither `ORIENTED` nor `JOIN`.
     #[error("condition type other at {at}")]
     ConditionTypeOther { at: usize },
     /// No block of rules: the length of the text.

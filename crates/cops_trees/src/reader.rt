@@ -32,7 +32,7 @@ pub enum SyntaxError {
     /// A block's title that an earlier block has.
     #[error("repeated block at {at}")]
     RepeatedBlock { at: usize },
-    /// A condition type that is not `ORIENTED`.
+    /// A condition type that is neither `ORIENTED` nor `JOIN`.
     #[error("condition type other at {at}")]
     ConditionTypeOther { at: usize },
     /// Whole blocks of which none has rules: the length of the text.
