@@ -23,6 +23,10 @@ pub record HasRead (r : Reading) (ts : List Token) : Type 0 where
 abbrev pub ReadsOn : Reading → Token → Reading → Type 0
 ReadsOn old t new = (ts : List Token) → HasRead old ts → HasRead new (ts ++ t ∷ [])
 
+-- no token follows what is read
+abbrev pub HasNoNext : Reading → Type 0
+HasNoNext r = (t : Token) (new : Reading) → new.bytes ≡ r.bytes → ReadsOn r t new → ⊥
+
 -- what is read is all
 abbrev pub IsAtEnd : Reading → Type 0
 IsAtEnd r = (ts : List Token) → HasRead r ts → Spells r.bytes ts
