@@ -1,7 +1,7 @@
 //! The tokens of a text, one after the other.
 
 ghost use Rattle.std.specs.Prelude.{◌≡◌, ◌<◌, [], IfOk, IfErr, IfSome};
-ghost use Rattle.cops_lex.specs.Reading.{HasRead, HasNoNext, left};
+ghost use Rattle.cops_lex.specs.Reading.{HasRead, HasNoNext, IsIdText, left};
 ghost use Rattle.cops_lex.specs.Answers.{FrontAnswers, NextAnswers, StaysWithout, FinishAnswers, TokensAnswers};
 
 use crate::scan::{is_comment_at, kind_of, len_of, open_after, skip_comment, skip_white};
@@ -73,6 +73,7 @@ impl<'a> Lexer<'a> {
     pub fn next(&mut self) -> Result<Option<Token>, LexError>
         ensures answer { NextAnswers self.old self.new result }
         ensures none_ready { IfErr result (λ _. HasNoNext self.old) }
+        ensures id_text { IfOk result (λ found. IfSome found (λ t. IsIdText self.old.bytes t)) }
         ensures nearer { IfOk result (λ found. IfSome found (λ _. left self.new < left self.old)) }
         ensures text { self.new.bytes ≡ self.old.bytes }
         ensures stays { StaysWithout self.old self.new result }

@@ -7,7 +7,7 @@ use file_text::ConditionType;
 #[derive(Clone, Copy, Debug)]
 pub struct Name<'a> {
     pub at: usize,
-    pub text: &'a [u8],
+    pub text: &'a str,
 }
 
 impl Name<'_> {
@@ -15,7 +15,7 @@ impl Name<'_> {
     pub(crate) fn is(&self, text: &[u8]) -> bool
         ensures { result ≡ bytes_eq self.now.text.now text.now }
     {
-        self.text == text
+        self.text.as_bytes() == text
     }
 }
 

@@ -2,6 +2,7 @@ use Rattle.std.proofs.Common.{sym, ◌∙◌, arith, rules}
 use Rattle.cops_lex.specs.ReadingView.{reading_view}
 use Rattle.cops_lex.proofs.Pieces.{token_read}
 use Rattle.cops_lex.proofs.Fronts.{front_of, at_end, bad_there, long_there, none_before_bad, none_before_long}
+use Rattle.cops_lex.proofs.Texts.{id_text}
 use Rattle.cops_lex.proofs.lexer.Lexer.next.Goals as goal
 
 pub returns-then-is_empty-clause-answer : goal.returns-then-is_empty-clause-answer
@@ -41,3 +42,6 @@ pub returns-clause-answer : goal.returns-clause-answer
 returns-clause-answer c ts h =
     token_read (reading_view c.self.inside) _ _ _ _ _ (front_of _ _ _ c.self.view_is c.in_ok-from.ensures.answer) c.split_at.ensures.back c.in-Some.ensures c.len_of-len.ensures.len c.if-len-gt-LONGEST.false
     c.open_after-self-inside.ensures.opened _ (rw c.self.view_is h)
+
+pub returns-clause-id_text : goal.returns-clause-id_text
+returns-clause-id_text c = rw (← c.self.view_is) (id_text (reading_view c.self.inside).bytes _ _ _ _ c.split_at.ensures.back c.len_of-len.ensures.len)
