@@ -95,7 +95,9 @@ fn print_evidence(rt: &HostRuntime, sys: &IndexedSystem, u: &Term, v: &Term) -> 
     let indexed = IndexedTcap { sys }.refutes(alloc, &conds);
     let alone = TcapEvidence.refutes(alloc, sys.system(), &conds);
     let by_kind = check_infeasible(alloc, sys.system(), &conds, &InfEvidence::Tcap);
-    println!(rt; "evidence by caps: {indexed:?}, with an index of its own: {alone:?}, by its kind: {by_kind:?}")
+    println!(rt;
+        "evidence by caps: {indexed:?}, with an index of its own: {alone:?}, by its kind: {by_kind:?}"
+    )
 }
 
 fn print_compared(rt: &HostRuntime, sys: &IndexedSystem, t: &Term, fresh: u32) -> io::Result<()> {
