@@ -1,11 +1,12 @@
 -- What stands at a front: what follows from the kind of a token, and that the text ends there, or why it has no tokens.
-use Rattle.std.proofs.Common.{◌≡◌, ℕ, ◌<◌, true, List, length, drop, Some, None, refl, sym, ap, subst, ◌∙◌, arith, length-drop}
+use Rattle.std.proofs.Common.{◌≡◌, ℕ, ◌<◌, true, List, [], ◌∷◌, ◌++◌, length, drop, Option, Some, None, refl, sym, ap, subst, ◌∙◌, arith, length-drop}
 use Rattle.file_text.specs.declared.Kind.{Kind}
 use Rattle.file_text.specs.declared.Kind.TheVariants.{Id, LeftParen, RightParen, Comma, Bar, Arrow, Equal}
 use Rattle.file_text.specs.declared.Token.{Token}
 use Rattle.file_text.specs.Bytes.{comment_len}
-use Rattle.file_text.specs.Tokens.{kind_at, len_at, longest, is_comment_at, behind_white, IsReached, IsBadByte, IsLongId, IsOpenComment}
-use Rattle.cops_lex.specs.Reading.{Reading, reading, HasRead, IsAtEnd, IsFront}
+use Rattle.file_text.specs.Tokens.{kind_at, len_at, longest, is_comment_at, behind_white, StandInTurn, IsReached, IsBadByte, IsLongId, IsOpenComment, TokenCause, bad_byte, long_id, open_comment}
+use Rattle.cops_lex.specs.Reading.{Reading, reading, HasRead, HasNoNext, IsAtEnd, IsFront}
+use Rattle.file_text.proofs.OneReading.{Last, no_more}
 pub use Rattle.file_text.proofs.Fronts.{kind_some, arrow_two, equal_two}
 pub use Rattle.file_text.proofs.Names.{id_runs}
 
@@ -29,20 +30,20 @@ bad_there r rest from ts f h is some none =
     (r.count, reached r from ts f h, inside, ap kind_at (sym is) ∙ sym none)
 
 -- an identifier alone is so long
-long_id : (k : Kind) (rest : List ℕ) → longest < len_at k rest → k ≡ Id
-long_id Id rest long = refl
-long_id LeftParen rest long = absurd (omega (arith, long))
-long_id RightParen rest long = absurd (omega (arith, long))
-long_id Comma rest long = absurd (omega (arith, long))
-long_id Bar rest long = absurd (omega (arith, long))
-long_id Arrow rest long = absurd (omega (arith, long))
-long_id Equal rest long = absurd (omega (arith, long))
+only_id : (k : Kind) (rest : List ℕ) → longest < len_at k rest → k ≡ Id
+only_id Id rest long = refl
+only_id LeftParen rest long = absurd (omega (arith, long))
+only_id RightParen rest long = absurd (omega (arith, long))
+only_id Comma rest long = absurd (omega (arith, long))
+only_id Bar rest long = absurd (omega (arith, long))
+only_id Arrow rest long = absurd (omega (arith, long))
+only_id Equal rest long = absurd (omega (arith, long))
 
 pub long_there : (r : Reading) (rest : List ℕ) (from len : ℕ) (k : Kind) (ts : List Token) → IsFront r from → HasRead r ts → rest ≡ drop from r.bytes → Some k ≡ kind_at rest → len ≡ len_at k rest
     → longest < len → IsLongId r.bytes from
 long_there r rest from len k ts f h is kind e long =
     let far : longest < len_at k rest = subst (λ n. longest < n) e long in
-    let id : k ≡ Id = long_id k rest far in (
+    let id : k ≡ Id = only_id k rest far in (
       r.count,
       reached r from ts f h,
       ap kind_at (sym is) ∙ sym kind ∙ ap (λ (q : Kind). Some q) id,
@@ -59,3 +60,20 @@ open_there bytes rest count at from ts h place is begins none = (
   ap comment_len (sym is) ∙ sym none,
   refl,
 )
+
+no_next : (r : Reading) (cause : Option TokenCause) (behind at : ℕ) (ts : List Token) → HasRead r ts → HasRead (reading r.bytes behind r.count) ts → Last r.bytes cause r.count (behind_white r.bytes behind) at → HasNoNext r
+no_next r cause behind at ts h front last t new text on =
+    let more = on ts h in
+    no_more r.bytes cause at behind new.place front.pieces more.pieces t front.leads (subst (λ n. Last r.bytes cause n (behind_white r.bytes behind) at) front.counted last)
+    (subst (λ (bytes : List ℕ). StandInTurn bytes 0 0 more.pieces new.place) text more.leads) (more.tokens ∙ ap (λ (us : List Token). us ++ t ∷ []) (sym front.tokens))
+
+pub none_before_bad : (r : Reading) (from : ℕ) (ts : List Token) → IsFront r from → HasRead r ts → IsBadByte r.bytes from → HasNoNext r
+none_before_bad r from ts f h bad = no_next r (Some bad_byte) f.behind from ts h (f.reads ts h) (subst (λ n. Last r.bytes (Some bad_byte) r.count n from) f.begins (bad.2, bad.3, refl))
+
+pub none_before_long : (r : Reading) (from : ℕ) (ts : List Token) → IsFront r from → HasRead r ts → IsLongId r.bytes from → HasNoNext r
+none_before_long r from ts f h long = no_next r (Some long_id) f.behind from ts h (f.reads ts h) (subst (λ n. Last r.bytes (Some long_id) r.count n from) f.begins (long.2, long.3, refl))
+
+pub none_before_open : (r : Reading) (rest : List ℕ) (at from : ℕ) (ts : List Token) → HasRead r ts → HasRead (reading r.bytes at r.count) ts → from ≡ behind_white r.bytes at → rest ≡ drop from r.bytes
+    → true ≡ is_comment_at r.count rest → None ≡ comment_len rest → HasNoNext r
+none_before_open r rest at from ts h front place is begins none = no_next r (Some open_comment) at (length r.bytes) ts h front
+    (subst (λ n. Last r.bytes (Some open_comment) r.count n (length r.bytes)) place (ap (is_comment_at r.count) (sym is) ∙ sym begins, ap comment_len (sym is) ∙ sym none, refl))

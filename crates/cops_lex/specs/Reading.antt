@@ -1,5 +1,7 @@
 -- A text that is read token by token.
-use Rattle.std.specs.Prelude.{◌≡◌, ◌-◌, ◌≤◌, ℕ, false, List, [], ◌∷◌, ◌++◌, length, drop}
+use Rattle.std.specs.Prelude.{◌≡◌, ◌-◌, ◌≤◌, ℕ, false, List, [], ◌∷◌, ◌++◌, length, drop, slice_range}
+use Rattle.std.specs.Str.{IsUtf8}
+use Rattle.file_text.specs.declared.Kind.TheVariants.{Id}
 use Rattle.file_text.specs.declared.Token.{Token}
 use Rattle.file_text.specs.Tokens.{is_comment_at, behind_white, Piece, tokens_of, StandInTurn, opened, Spells}
 
@@ -22,6 +24,14 @@ pub record HasRead (r : Reading) (ts : List Token) : Type 0 where
 -- one token more is read
 abbrev pub ReadsOn : Reading → Token → Reading → Type 0
 ReadsOn old t new = (ts : List Token) → HasRead old ts → HasRead new (ts ++ t ∷ [])
+
+-- no token follows what is read
+abbrev pub HasNoNext : Reading → Type 0
+HasNoNext r = (t : Token) (new : Reading) → new.bytes ≡ r.bytes → ReadsOn r t new → ⊥
+
+-- an identifier is text
+abbrev pub IsIdText : List ℕ → Token → Type 0
+IsIdText bytes t = t.kind ≡ Id → IsUtf8 (slice_range bytes t.from t.to)
 
 -- what is read is all
 abbrev pub IsAtEnd : Reading → Type 0

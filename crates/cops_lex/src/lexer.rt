@@ -1,7 +1,7 @@
 //! The tokens of a text, one after the other.
 
-ghost use Rattle.std.specs.Prelude.{◌≡◌, ◌<◌, [], IfOk, IfSome};
-ghost use Rattle.cops_lex.specs.Reading.{HasRead, left};
+ghost use Rattle.std.specs.Prelude.{◌≡◌, ◌<◌, [], IfOk, IfErr, IfSome};
+ghost use Rattle.cops_lex.specs.Reading.{HasRead, HasNoNext, IsIdText, left};
 ghost use Rattle.cops_lex.specs.Answers.{FrontAnswers, NextAnswers, StaysWithout, FinishAnswers, TokensAnswers};
 
 use crate::scan::{is_comment_at, kind_of, len_of, open_after, skip_comment, skip_white};
@@ -47,7 +47,8 @@ impl<'a> Lexer<'a> {
 
     // The place of the next token, or of the end of the text: comments are passed over.
     fn front(&self) -> Result<usize, LexError>
-        ensures { FrontAnswers self.now result }
+        ensures answer { FrontAnswers self.now result }
+        ensures none_ready { IfErr result (λ _. HasNoNext self.now) }
     {
         let mut at = self.at;
         'comments: loop {
@@ -71,6 +72,8 @@ impl<'a> Lexer<'a> {
     /// It takes no memory, so the error is never that there is none.
     pub fn next(&mut self) -> Result<Option<Token>, LexError>
         ensures answer { NextAnswers self.old self.new result }
+        ensures none_ready { IfErr result (λ _. HasNoNext self.old) }
+        ensures id_text { IfOk result (λ found. IfSome found (λ t. IsIdText self.old.bytes t)) }
         ensures nearer { IfOk result (λ found. IfSome found (λ _. left self.new < left self.old)) }
         ensures text { self.new.bytes ≡ self.old.bytes }
         ensures stays { StaysWithout self.old self.new result }

@@ -8,7 +8,7 @@ ghost use Rattle.cops_systems.specs.RuleSteps.{have_bars, ListAnswers, FileAnswe
 
 use crate::block::Block;
 use crate::errors::ReadError;
-use crate::heads::{Scope, text_of};
+use crate::heads::Scope;
 use crate::rules::read_rules;
 use cops_names::{NameSet, Names};
 use cops_trees::{ConditionType, FileText, Name, RuleText};
@@ -20,7 +20,7 @@ fn add_names<'a>(block: &mut NameSet<'a>, names: &[Name<'a>]) -> Result<(), NoMe
     ensures { OnOk result (block.new ≡ with_names block.old (map (λ n. n.text) (names_view names.now))) }
 {
     'names: for name in names {
-        block.add(text_of(name)?)?;
+        block.add(name.text)?;
     }
     Ok(())
 }

@@ -7,7 +7,7 @@ ghost use Rattle.cops_systems.specs.Heads.{used_at, WithinAnswers, RoomAnswers, 
 use crate::block::Block;
 use crate::errors::{Count, ReadError};
 use cops_names::{NameSet, Names};
-use cops_trees::{Name, Node};
+use cops_trees::Node;
 use std::alloc::Global;
 use term_core::NoMemory;
 
@@ -40,16 +40,6 @@ pub(crate) struct NodePlace {
 pub(crate) enum VariableOrSymbol {
     Variable(u32),
     Symbol(u32),
-}
-
-// The text of an identifier. Identifiers of a syntax tree are ASCII, so the second arm is never taken.
-pub(crate) fn text_of<'a>(name: &Name<'a>) -> Result<&'a str, NoMemory>
-    ensures { IfOk result (λ s. s.now ≡ name.now.text.now) }
-{
-    match std::str::from_utf8(name.text) {
-        Ok(text) => Ok(text),
-        Err(_) => Err(NoMemory),
-    }
 }
 
 // Refuses more parts than there may be.
@@ -169,7 +159,7 @@ pub(crate) fn read_head<'a>(
     ensures few { OnOk result (length scope.new.variables ≤ 100) }
 {
     within_limits(node, place)?;
-    let name = text_of(&node.name)?;
+    let name = node.name.text;
     if scope.block.has(name) {
         let number = read_variable(&mut scope.variables, node, place, name)?;
         return Ok(VariableOrSymbol::Variable(number));

@@ -8,7 +8,7 @@ use file_text::ConditionType;
 #[derive(Clone, Copy, Debug)]
 pub struct Name<'a> {
     pub at: usize,
-    pub text: &'a [u8],
+    pub text: &'a str,
 }
 
 impl Name<'_> {
@@ -16,7 +16,7 @@ impl Name<'_> {
     pub(crate) fn is(&self, text: &[u8]) -> bool
         ensures { result ≡ bytes_eq self.now.text.now text.now }
     {
-        self.text == text
+        self.text.as_bytes() == text
     }
 }
 

@@ -1,5 +1,7 @@
 //! Tokens with the text that they stand for.
 ghost use Rattle.std.specs.Prelude.{◌≡◌, slice_range};
+ghost use Rattle.std.specs.Str.{IsUtf8};
+ghost use Rattle.cops_lex.specs.Reading.{IsIdText};
 ghost use Rattle.file_text.specs.Texts.{word_of};
 ghost use Rattle.cops_trees.specs.States.{word_view};
 
@@ -27,14 +29,26 @@ fn part(bytes: &[u8], from: usize, to: usize) -> &[u8]
     front
 }
 
+// The bytes from a place to another, which are text.
+fn text_part(bytes: &[u8], from: usize, to: usize) -> &str
+    requires { IsUtf8 (slice_range bytes.now from to) }
+    ensures { result.now ≡ slice_range bytes.now from to }
+{
+    let Ok(text) = std::str::from_utf8(part(bytes, from, to)) else {
+        unreachable!();
+    };
+    text
+}
+
 /// What the token says in its text.
 pub fn word_at<'a>(bytes: &'a [u8], token: Token) -> Word<'a>
+    requires { IsIdText bytes.now token }
     ensures { word_view result ≡ word_of bytes.now token }
 {
     match token.kind {
         Kind::Id => Word::Id(Name {
             at: token.from,
-            text: part(bytes, token.from, token.to),
+            text: text_part(bytes, token.from, token.to),
         }),
         Kind::LeftParen => Word::LeftParen,
         Kind::RightParen => Word::RightParen,

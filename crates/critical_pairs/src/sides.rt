@@ -57,7 +57,7 @@ impl<'a> Sides<'a> {
         let outer = &self.outers[triple.outer as usize - 1];
         // The renamed left side has the positions of the rule's.
         let Some(part) = subterm(&outer.left, triple.pos) else {
-            return Ok(None);
+            unreachable!();
         };
         match unify_terms(alloc, &inner.left, part)? {
             Unified::Clash => Ok(None),
@@ -82,7 +82,8 @@ impl<'a> Sides<'a> {
         match pair(alloc, m, inner, outer, triple) {
             Ok(overlap) => Ok(overlap),
             Err(TermError::TooLarge) => Err(too_large(alloc, triple)),
-            Err(_) => Err(OverlapError::NoMemory),
+            Err(TermError::NoPosition) => unreachable!(),
+            Err(TermError::NoMemory) => Err(OverlapError::NoMemory),
         }
     }
 

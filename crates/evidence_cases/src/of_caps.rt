@@ -3,13 +3,15 @@ ghost use Rattle.std.specs.Prelude.{◌≡◌, ◌<◌, ℕ, true, IsTrue};
 ghost use Rattle.rewriting.specs.Variables.{occurs};
 ghost use Rattle.term_core.specs.View.{view};
 
+use cert_model::InfEvidence;
+use infeasible::check_infeasible;
 use refuter::Refuter;
 use rule_index::IndexedSystem;
 use std::alloc::Global;
 use std::io;
 use tcap_infeasible::{
     Cap, IndexedTcap, TcapEvidence, compare_caps, compare_rigid_caps, made_caps_clash, rigid_cap,
-    tcap,
+    rigid_cap_in, tcap,
 };
 use term_core::{Cond, System, Term, fits, size, try_clone};
 
@@ -38,14 +40,14 @@ pub fn print_caps(rt: &HostRuntime, title: &str, sys: &System, t: &Term) -> io::
     if !fits(t) || u64::from(fresh) + u64::from(size(t)) > 4294967296 {
         return println!(rt; "no numbers for holes");
     }
-    let Ok(sys) = IndexedSystem::new(rt.alloc(), sys) else {
+    println!(rt; "cap: {:?}", tcap(rt.alloc(), sys, t, fresh))?;
+    if is_below(t, fresh) {
+        println!(rt; "rigid cap: {:?}", rigid_cap(rt.alloc(), sys, t, fresh))?;
+    }
+    let Ok(indexed) = IndexedSystem::new(rt.alloc(), sys) else {
         return println!(rt; "no memory");
     };
-    println!(rt; "cap: {:?}", tcap(rt.alloc(), &sys, t, fresh))?;
-    if is_below(t, fresh) {
-        println!(rt; "rigid cap: {:?}", rigid_cap(rt.alloc(), &sys, t, fresh))?;
-    }
-    print_compared(rt, &sys, t, fresh)
+    print_compared(rt, &indexed, t, fresh)
 }
 
 // The rigid cap of a term with holes from a number on, where it can have them.
@@ -56,7 +58,7 @@ fn made_cap(alloc: Global, sys: &IndexedSystem, t: &Term, fresh: u32) -> Option<
     if !is_below(t, fresh) {
         return None;
     }
-    match rigid_cap(alloc, sys, t, fresh) {
+    match rigid_cap_in(alloc, sys, t, fresh) {
         Ok(Cap::Capped(cap)) => Some(cap),
         _ => None,
     }
@@ -80,7 +82,7 @@ fn print_made(
     println!(rt; "made rigid caps of the arguments clash: {clash}")
 }
 
-// What the evidence by caps is judged to be with the system's index, and with one of its own.
+// What the evidence by caps is judged to be with the system's index, with one of its own, and by its kind.
 fn print_evidence(rt: &HostRuntime, sys: &IndexedSystem, u: &Term, v: &Term) -> io::Result<()> {
     let alloc = rt.alloc();
     let (Ok(left), Ok(right)) = (try_clone(alloc, u), try_clone(alloc, v)) else {
@@ -92,7 +94,10 @@ fn print_evidence(rt: &HostRuntime, sys: &IndexedSystem, u: &Term, v: &Term) -> 
     let conds = [Cond { left, right }];
     let indexed = IndexedTcap { sys }.refutes(alloc, &conds);
     let alone = TcapEvidence.refutes(alloc, sys.system(), &conds);
-    println!(rt; "evidence by caps: {indexed:?}, with an index of its own: {alone:?}")
+    let by_kind = check_infeasible(alloc, sys.system(), &conds, &InfEvidence::Tcap);
+    println!(rt;
+        "evidence by caps: {indexed:?}, with an index of its own: {alone:?}, by its kind: {by_kind:?}"
+    )
 }
 
 fn print_compared(rt: &HostRuntime, sys: &IndexedSystem, t: &Term, fresh: u32) -> io::Result<()> {

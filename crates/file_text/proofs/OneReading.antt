@@ -1,5 +1,5 @@
 -- A text has one list of tokens, or one bad place.
-use Rattle.std.proofs.Common.{◌≡◌, ℕ, ◌+◌, ◌<◌, Bool, true, false, List, [], ◌∷◌, length, drop, Option, Some, None, ◌&&◌, eqb, refl, sym, ap, subst, ◌∙◌, arith}
+use Rattle.std.proofs.Common.{◌≡◌, ℕ, ◌+◌, ◌<◌, Bool, true, false, List, [], ◌∷◌, ◌++◌, length, drop, Option, Some, None, ◌&&◌, eqb, refl, sym, ap, subst, ◌∙◌, arith}
 use Rattle.std.proofs.Math.Seq.{drop-length}
 use Rattle.file_text.specs.declared.Kind.{Kind}
 use Rattle.file_text.specs.declared.Kind.TheVariants.{Id, LeftParen}
@@ -203,3 +203,29 @@ never_both bytes ts cause at p q =
     let same = one_outcome bytes None (Some cause) (length bytes) at p.pieces r.pieces (spelled_outcome bytes ts p) r.outcome in
     let both : None ≡ Some cause = same.1 in
     cc
+
+-- there is some item behind others
+not_empty : {A : Type 0} (xs : List A) (x : A) → xs ++ x ∷ [] ≡ [] → ⊥
+not_empty [] x e = absurd cc
+not_empty (y ∷ xs) x e = absurd cc
+
+same_tail : (t u : Token) (ts us : List Token) → t ∷ ts ≡ u ∷ us → ts ≡ us
+same_tail t u ts us e = cc
+
+stops_whole : (bytes : List ℕ) (at count : ℕ) (ps qs : List Piece) (m n : ℕ) (t : Token) → StandInTurn bytes at count ps m → Stops bytes m (opened count ps) → StandInTurn bytes at count qs n → tokens_of qs ≡ tokens_of ps ++ t ∷ [] → ⊥
+stops_whole bytes at count ps [] m n t l p r e = not_empty (tokens_of ps) t (sym e)
+stops_whole bytes at count [] (token u ∷ qs) m n t l p r e = (subst (λ (k : ℕ). Stops bytes k count) (sym l) p).tokens u r.0
+stops_whole bytes at count [] (comment to ∷ qs) m n t l p r e = (subst (λ (k : ℕ). Stops bytes k count) (sym l) p).comments to r.0
+stops_whole bytes at count (token v ∷ ps) (comment to ∷ qs) m n t l p r e = not_both bytes at count to v l.0 r.0
+stops_whole bytes at count (comment to ∷ ps) (token u ∷ qs) m n t l p r e = not_both bytes at count to u r.0 l.0
+stops_whole bytes at count (token v ∷ ps) (token u ∷ qs) m n t l p r e =
+    let same = same_token bytes at count v u l.0 r.0 in
+    stops_whole bytes v.to (open_after count v.kind) ps qs m n t l.1 p (subst (λ (w : Token). StandInTurn bytes w.to (open_after count w.kind) qs n) (sym same) r.1) (same_tail u v (tokens_of qs) (tokens_of ps ++ t ∷ []) e)
+stops_whole bytes at count (comment to ∷ ps) (comment other ∷ qs) m n t l p r e =
+    let same = same_comment bytes at count to other l.0 r.0 in
+    stops_whole bytes to count ps qs m n t l.1 p (subst (λ (k : ℕ). StandInTurn bytes k count qs n) (sym same) r.1) e
+
+-- where no piece follows, no token more is read
+pub no_more : (bytes : List ℕ) (cause : Option TokenCause) (at end to : ℕ) (ps qs : List Piece) (t : Token) → StandInTurn bytes 0 0 ps end → Last bytes cause (opened 0 ps) (behind_white bytes end) at
+    → StandInTurn bytes 0 0 qs to → tokens_of qs ≡ tokens_of ps ++ t ∷ [] → ⊥
+no_more bytes cause at end to ps qs t l last r e = stops_whole bytes 0 0 ps qs end to t l (last_stops bytes cause (opened 0 ps) end at last) r e

@@ -15,7 +15,7 @@ use refuter::Refuter;
 use rule_index::IndexedSystem;
 use std::alloc::Global;
 use tcap_infeasible::IndexedTcap;
-use term_core::Cond;
+use term_core::{Cond, System};
 use tree_automata::AutoEvidence;
 use validity::InfeasibilityJudge;
 
@@ -36,7 +36,7 @@ fn refuted<R: Refuter>(
 }
 
 /// Judges evidence for conditions of a system that has its index, by caps or by an automaton. Where it is valid, no level and no substitution meet all of them.
-pub fn check_infeasible(
+pub fn check_infeasible_in(
     alloc: Global,
     sys: &IndexedSystem,
     conds: &[Cond],
@@ -59,7 +59,23 @@ pub fn check_infeasible(
     }
 }
 
-/// Judges evidence by its kind, as [`check_infeasible`] does.
+/// Judges evidence for conditions of a system, with an index of its rules made for this one question.
+pub fn check_infeasible(
+    alloc: Global,
+    sys: &System,
+    conds: &[Cond],
+    evidence: &InfEvidence,
+) -> Result<(), Refusal>
+    requires few { length conds.now ≤ 200 }
+    requires fit { DoConditionsFit (map condition_view conds.now) }
+    ensures judged { RefutesAnswers (IsInfeasibilityJudged sys.now (map condition_view conds.now) (inf_evidence_view evidence.now)) result }
+    ensures sound { OnOk result (IsInfeasible sys.now (map condition_view conds.now)) }
+{
+    let indexed = IndexedSystem::new(alloc, sys)?;
+    check_infeasible_in(alloc, &indexed, conds, evidence)
+}
+
+/// Judges evidence by its kind, as [`check_infeasible_in`] does.
 #[derive(Clone, Copy, Debug)]
 pub struct JudgeByKind;
 
@@ -70,6 +86,6 @@ impl InfeasibilityJudge for JudgeByKind {
         conds: &[Cond],
         evidence: &InfEvidence,
     ) -> Result<(), Refusal> {
-        check_infeasible(alloc, sys, conds, evidence)
+        check_infeasible_in(alloc, sys, conds, evidence)
     }
 }

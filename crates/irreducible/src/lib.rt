@@ -16,8 +16,9 @@ mod left_sides;
 use crate::judging::judge;
 pub use left_sides::LeftSides;
 use renumbering::Numbering;
+use rule_index::IndexedSystem;
 use std::alloc::Global;
-use term_core::{NoMemory, Term, fits};
+use term_core::{NoMemory, System, Term, fits};
 use unification::renamed;
 
 /// What the test answers.
@@ -81,7 +82,7 @@ fn judge_any(alloc: Global, lefts: &LeftSides<'_>, t: &Term) -> Result<Irreducib
 /// Judges the subterms that are no variables in preorder, each with the rules in order; the first
 /// run that does not end in a clash decides (Avenhaus and Loria-Saenz 1994).
 #[tactic(auto, using(crate::proofs::Parts::judged_whole))]
-pub fn is_absolutely_irreducible(
+pub fn is_absolutely_irreducible_in(
     alloc: Global,
     lefts: &LeftSides<'_>,
     t: &Term,
@@ -91,11 +92,24 @@ pub fn is_absolutely_irreducible(
     judge_any(alloc, lefts, t)
 }
 
+/// Judges a term alike, where nothing is prepared: the left sides are renamed for this one question.
+pub fn is_absolutely_irreducible(
+    alloc: Global,
+    sys: &System,
+    t: &Term,
+) -> Result<Irreducible, NoMemory>
+    ensures { IrreducibleAnswers sys.now (view t.now) result }
+{
+    let indexed = IndexedSystem::new(alloc, sys)?;
+    let lefts = LeftSides::new(alloc, indexed)?;
+    is_absolutely_irreducible_in(alloc, &lefts, t)
+}
+
 /// Whether every run for the term ends in a clash; a run that passes the size does not.
 pub fn do_all_clash(alloc: Global, lefts: &LeftSides<'_>, t: &Term) -> Result<bool, NoMemory>
     ensures { IfOk result (λ b. IsTrue b ↔ DoAllClash lefts.now (view t.now)) }
 {
-    match is_absolutely_irreducible(alloc, lefts, t)? {
+    match is_absolutely_irreducible_in(alloc, lefts, t)? {
         Irreducible::Yes => Ok(true),
         Irreducible::No | Irreducible::TooLarge => Ok(false),
     }

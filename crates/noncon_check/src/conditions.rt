@@ -8,7 +8,7 @@ ghost use Rattle.refuter.specs.Answers.{RefutesAnswers};
 ghost use Rattle.redex_conditions.specs.Judged.{match_or_new, AreJudged};
 
 use cert_model::{EvidenceReason, InfEvidence};
-use infeasible::{Refusal, check_infeasible};
+use infeasible::{Refusal, check_infeasible_in};
 use redex_conditions::conditions_at;
 use rule_index::IndexedSystem;
 use std::alloc::Global;
@@ -28,7 +28,7 @@ pub(crate) fn judge_conditions(
     ensures { RefutesAnswers (AreJudged sys.now (conditions_under (match_or_new own values) (map condition_view rule.now.conds.items)) (inf_evidence_view evidence.now)) result }
 {
     match conditions_at(alloc, rule, values, own)? {
-        Some(conds) => check_infeasible(alloc, sys, &conds, evidence),
+        Some(conds) => check_infeasible_in(alloc, sys, &conds, evidence),
         None => Err(Refusal::Reason(EvidenceReason::TcapLarge)),
     }
 }

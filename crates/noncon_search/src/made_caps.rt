@@ -7,7 +7,7 @@ ghost use Rattle.noncon_search.specs.Ends.{StandsForCap};
 
 use rule_index::IndexedSystem;
 use std::alloc::Global;
-use tcap_infeasible::{Cap, rigid_cap};
+use tcap_infeasible::{Cap, rigid_cap_in};
 use term_core::{NoMemory, Term};
 
 /// The number of the first hole of a cap. The variables of listed terms are below, unless a rule has a thousand million of them.
@@ -39,7 +39,7 @@ pub fn cap_of(alloc: Global, sys: &IndexedSystem<'_>, t: &Term) -> Result<Option
     if !is_below(t, FIRST_HOLE) {
         return Ok(None);
     }
-    match rigid_cap(alloc, sys, t, FIRST_HOLE)? {
+    match rigid_cap_in(alloc, sys, t, FIRST_HOLE)? {
         Cap::Capped(cap) => Ok(Some(cap)),
         Cap::TooLarge => Ok(Some(Term::Var(FIRST_HOLE))),
     }

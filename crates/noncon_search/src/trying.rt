@@ -8,7 +8,7 @@ ghost use Rattle.noncon_search.specs.Trying.{ItemAnswers, FirstAnswers};
 
 use cert_model::InfEvidence;
 use evidence_offers::{Refuting, offer};
-use infeasible::{Refusal, check_infeasible};
+use infeasible::{Refusal, check_infeasible_in};
 use rule_index::IndexedSystem;
 use std::alloc::Global;
 use term_core::{Cond, NoMemory};
@@ -27,7 +27,7 @@ fn try_refuting(
     let Some(evidence) = offer(alloc, sys.system(), conds, refuting)? else {
         return Ok(None);
     };
-    match check_infeasible(alloc, sys, conds, &evidence) {
+    match check_infeasible_in(alloc, sys, conds, &evidence) {
         Ok(()) => Ok(Some(evidence)),
         Err(Refusal::Reason(_)) => Ok(None),
         Err(Refusal::NoMemory) => Err(NoMemory),

@@ -80,7 +80,7 @@ pub fn print_classes(rt: &HostRuntime, sys: &System) -> io::Result<()> {
 }
 
 fn print_judged(rt: &HostRuntime, lefts: &LeftSides<'_>, t: &Term) -> io::Result<()> {
-    let judged = is_absolutely_irreducible(rt.alloc(), lefts, t);
+    let judged = is_absolutely_irreducible(rt.alloc(), lefts.system(), t);
     let clash = do_all_clash(rt.alloc(), lefts, t);
     println!(rt; "{judged:?} {clash:?}")
 }

@@ -11,7 +11,7 @@ use crate::reply::Reply;
 use cc_count::Budget;
 use cert_model::InfEvidence;
 use evidence_offers::{Refuting, offer};
-use infeasible::{Refusal, check_infeasible};
+use infeasible::{Refusal, check_infeasible_in};
 use rule_index::IndexedSystem;
 use std::alloc::Global;
 use term_core::{Cond, NoMemory};
@@ -30,7 +30,7 @@ fn valid(
     let Some(evidence) = offer(alloc, sys.system(), conds, refuting)? else {
         return Ok(None);
     };
-    match check_infeasible(alloc, sys, conds, &evidence) {
+    match check_infeasible_in(alloc, sys, conds, &evidence) {
         Ok(()) => Ok(Some(evidence)),
         Err(Refusal::Reason(_)) => Ok(None),
         Err(Refusal::NoMemory) => Err(NoMemory),

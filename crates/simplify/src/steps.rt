@@ -11,7 +11,7 @@ use crate::copies::copied;
 use crate::inlining::inline;
 use crate::names::name;
 use cert_model::{InfEvidence, Simp, SimpReason};
-use infeasible::{Refusal, check_infeasible};
+use infeasible::{Refusal, check_infeasible_in};
 use rule_index::IndexedSystem;
 use std::alloc::Global;
 use term_core::{NoMemory, System, TermError};
@@ -65,7 +65,7 @@ pub fn drop_rule(
     let Some(place) = place_of(number, rules.len()) else {
         return Err(StepError::Refused(SimpReason::NoRule));
     };
-    match check_infeasible(alloc, sys, &rules[place].conds, evidence) {
+    match check_infeasible_in(alloc, sys, &rules[place].conds, evidence) {
         Ok(()) => Ok(Change { place, rule: None }),
         Err(Refusal::Reason(reason)) => Err(StepError::Refused(SimpReason::Evidence(reason))),
         Err(Refusal::NoMemory) => Err(StepError::NoMemory),
@@ -98,7 +98,8 @@ pub fn inline_condition(
             rule: Some(new),
         }),
         Err(TermError::TooLarge) => Err(StepError::Refused(SimpReason::TooLarge)),
-        Err(_) => Err(StepError::NoMemory),
+        Err(TermError::NoPosition) => unreachable!(),
+        Err(TermError::NoMemory) => Err(StepError::NoMemory),
     }
 }
 

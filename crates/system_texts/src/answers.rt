@@ -1,7 +1,7 @@
 //! What the readers and the writer tell of bytes, each on one line.
 use cops_lex::{Kind, tokens};
 use cops_read::{ReadError, read_system};
-use cops_syntax::{CondText, ConditionType, FileText, Name, Node, RuleText, parse};
+use cops_syntax::{CondText, ConditionType, FileText, Node, RuleText, parse};
 use cops_write::{write_system, write_term};
 use std::alloc::{AllocError, Global};
 use term_core::fits;
@@ -51,7 +51,7 @@ pub fn of_tree(alloc: Global, bytes: &[u8]) -> Result<String, AllocError> {
     out.push_str("; variables")?;
     for name in &file.variables {
         out.push_str(" ")?;
-        out.push_str(text_of(name))?;
+        out.push_str(name.text)?;
     }
     out.push_str(format!(in alloc; "; rules {}", file.rules.len())?.as_str())?;
     for rule in &file.rules {
@@ -67,10 +67,6 @@ fn type_name(condition_type: Option<ConditionType>) -> &'static str {
         Some(ConditionType::Join) => "join",
         None => "no type",
     }
-}
-
-fn text_of<'a>(name: &Name<'a>) -> &'a str {
-    std::str::from_utf8(name.text).unwrap_or("?")
 }
 
 fn put_rule(alloc: Global, out: &mut String, rule: &RuleText) -> Result<(), AllocError> {
@@ -101,7 +97,7 @@ fn put_term(alloc: Global, out: &mut String, nodes: &[Node]) -> Result<(), Alloc
         if i > 0 {
             out.push_str(" ")?;
         }
-        out.push_str(text_of(&node.name))?;
+        out.push_str(node.name.text)?;
         if node.brackets {
             out.push_str(format!(in alloc; "/{}", node.arguments)?.as_str())?;
         }

@@ -10,7 +10,7 @@ mod thawing;
 pub use comparing::{ComparedCaps, compare_caps, compare_rigid_caps, made_caps_clash};
 pub use evidence::{IndexedTcap, TcapEvidence};
 use term_core::Term;
-pub use thawing::{rigid_cap, tcap};
+pub use thawing::{rigid_cap, rigid_cap_in, tcap, tcap_in};
 
 /// The cap of a term.
 #[derive(Debug, Drop)]

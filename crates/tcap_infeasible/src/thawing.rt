@@ -19,7 +19,7 @@ use crate::keys::keyed;
 use renumbering::Numbering;
 use rule_index::IndexedSystem;
 use std::alloc::Global;
-use term_core::{NoMemory, Term};
+use term_core::{NoMemory, System, Term};
 
 // A frozen cap of a term, in the variables and symbols of the term, with holes from `fresh` on.
 fn thawed(alloc: Global, t: &Term, cap: &Term, fresh: u32) -> Result<Term, NoMemory>
@@ -41,7 +41,7 @@ fn thawed(alloc: Global, t: &Term, cap: &Term, fresh: u32) -> Result<Term, NoMem
 
 /// The cap of a term: each variable is a hole, and so is each symbol that, over capped arguments, unifies with a left side
 /// (after Giesl, Thiemann and Schneider-Kamp 2005). The holes are the variables from `fresh` on, in preorder.
-pub fn tcap(alloc: Global, sys: &IndexedSystem, t: &Term, fresh: u32) -> Result<Cap, NoMemory>
+pub fn tcap_in(alloc: Global, sys: &IndexedSystem, t: &Term, fresh: u32) -> Result<Cap, NoMemory>
     requires fit { math.Fits (view t.now) }
     requires room { fresh + math.size (view t.now) ≤ 2 ^ 32 }
     ensures answer { CapAnswers sys.now any var (view t.now) fresh result }
@@ -52,6 +52,17 @@ pub fn tcap(alloc: Global, sys: &IndexedSystem, t: &Term, fresh: u32) -> Result<
         Cap::Capped(u) => Ok(Cap::Capped(thawed(alloc, t, &u, fresh)?)),
         Cap::TooLarge => Ok(Cap::TooLarge),
     }
+}
+
+/// The cap of a term, as [`tcap_in`] gives it, with an index of the rules made for this one question.
+pub fn tcap(alloc: Global, sys: &System, t: &Term, fresh: u32) -> Result<Cap, NoMemory>
+    requires fit { math.Fits (view t.now) }
+    requires room { fresh + math.size (view t.now) ≤ 2 ^ 32 }
+    ensures answer { CapAnswers sys.now any var (view t.now) fresh result }
+    ensures reducts { KeepsReducts sys.now (view t.now) result }
+{
+    let indexed = IndexedSystem::new(alloc, sys)?;
+    tcap_in(alloc, &indexed, t, fresh)
 }
 
 // The rigid cap of the term with places of rows, which has constants from the base on.
@@ -77,7 +88,12 @@ fn thawed_rigid(
 }
 
 /// The same, but that the variables of the term stay.
-pub fn rigid_cap(alloc: Global, sys: &IndexedSystem, t: &Term, fresh: u32) -> Result<Cap, NoMemory>
+pub fn rigid_cap_in(
+    alloc: Global,
+    sys: &IndexedSystem,
+    t: &Term,
+    fresh: u32,
+) -> Result<Cap, NoMemory>
     requires fit { math.Fits (view t.now) }
     requires room { fresh + math.size (view t.now) ≤ 2 ^ 32 }
     requires below { (x : ℕ) → occurs x (view t.now) ≡ true → x < fresh }
@@ -90,4 +106,16 @@ pub fn rigid_cap(alloc: Global, sys: &IndexedSystem, t: &Term, fresh: u32) -> Re
     let places = keyed(alloc, symbols, &mut foreign, &mut variables, t)?;
     let base = symbols + foreign.len() as u32;
     thawed_rigid(alloc, sys, t, &places, base, fresh)
+}
+
+/// The rigid cap of a term, as [`rigid_cap_in`] gives it, with an index of the rules made for this one question.
+pub fn rigid_cap(alloc: Global, sys: &System, t: &Term, fresh: u32) -> Result<Cap, NoMemory>
+    requires fit { math.Fits (view t.now) }
+    requires room { fresh + math.size (view t.now) ≤ 2 ^ 32 }
+    requires below { (x : ℕ) → occurs x (view t.now) ≡ true → x < fresh }
+    ensures answer { CapAnswers sys.now kept var (view t.now) fresh result }
+    ensures reducts { KeepsOwnReducts sys.now (view t.now) fresh result }
+{
+    let indexed = IndexedSystem::new(alloc, sys)?;
+    rigid_cap_in(alloc, &indexed, t, fresh)
 }

@@ -2,4 +2,5 @@ pub mod Kept
 pub mod Appended
 pub mod Progress
 pub mod SymbolLists
+pub mod Sound
 pub mod Whole

@@ -7,7 +7,7 @@ use Rattle.rewriting.specs.Rules as rules
 use Rattle.rewriting.specs.Systems.{Each, terms_of_rule, condition_count, AreRules, DoSidesFit}
 use Rattle.rewriting.specs.Unraveling.{unraveled_rule, unraveled_rules}
 use Rattle.rewriting.specs.Signatures.{Signature}
-use Rattle.term_core.specs.RuleView.{rule_view, condition_view}
+use Rattle.term_core.specs.RuleView.{rule_view, condition_view, AreCounted}
 use Rattle.term_core.specs.declared.systems.Rule.{Rule}
 use Rattle.unravel.specs.declared.rules.RuleError.TheVariants as cause
 use Rattle.unravel.specs.RuleAnswers.{DoTermsFit, IsLargeAt, AppendAnswers, RulesAnswers}
@@ -70,9 +70,10 @@ pub record Progress (f : ℕ) (rs : List Rule) (i symbol : ℕ) (out : List Rule
   pub symbol_is : symbol ≡ f + condition_count (take i (map rule_view rs))
   pub out_is : map rule_view out ≡ unraveled_rules f (take i (map rule_view rs))
   pub fit : DoSidesFit (unraveled_rules f (take i (map rule_view rs)))
+  pub counted : AreCounted out
 
 pub begin : (f : ℕ) (rs out : List Rule) → out ≡ [] → Progress f rs 0 f out
-begin f rs out e = record { symbol_is = omega arith; out_is = ap (map rule_view) e; fit = tt }
+begin f rs out e = record { symbol_is = omega arith; out_is = ap (map rule_view) e; fit = tt; counted = subst AreCounted (sym e) tt }
 
 pub room : (f : ℕ) (rs : List Rule) (i symbol : ℕ) (out : List Rule) (r : Rule) → Progress f rs i symbol out → i < length rs → r ≡ get_or rs i r → symbol + length r.conds.items ≤ f + condition_count (map rule_view rs)
 room f rs i symbol out r p h is =
@@ -83,8 +84,8 @@ room f rs i symbol out r p h is =
     omega (arith, s, next, most, same)
 
 pub advance : (f : ℕ) (rs : List Rule) (i symbol : ℕ) (out after : List Rule) (r : Rule) (done : Unit {0}) → Progress f rs i symbol out → i < length rs → r ≡ get_or rs i r
-    → AppendAnswers (unraveled_rule symbol (rule_view r)) out after (Ok done) → Progress f rs (i + 1) (symbol + length r.conds.items) after
-advance f rs i symbol out after r done p h is a =
+    → AppendAnswers (unraveled_rule symbol (rule_view r)) out after (Ok done) → (AreCounted out → AreCounted after) → Progress f rs (i + 1) (symbol + length r.conds.items) after
+advance f rs i symbol out after r done p h is a counts =
     let there = at_place rs i r h is in
     let next = count_take (map rule_view rs) i (rule_view r) there in
     let same = length-map r.conds.items condition_view in
@@ -96,12 +97,16 @@ advance f rs i symbol out after r done p h is a =
       symbol_is = omega (arith, s, next, same);
       out_is = a.0 ∙ ap₂ (λ x y. x ++ y) p.out_is at ∙ sym rules_next;
       fit = subst DoSidesFit (sym rules_next) (sides_fit-append (unraveled_rules f (take i (map rule_view rs))) _ p.fit (subst DoSidesFit at a.1));
+      counted = counts p.counted;
     }
 
 pub finish : (f : ℕ) (rs : List Rule) (i symbol : ℕ) (v : Vec Rule Global) → Progress f rs i symbol v.items → length rs ≤ i → RulesAnswers f (map rule_view rs) (Ok v)
 finish f rs i symbol v p h =
     let all : take i (map rule_view rs) ≡ map rule_view rs = take_all (map rule_view rs) i (let same = length-map rs rule_view in omega (arith, same, h)) in
     (p.out_is ∙ ap (unraveled_rules f) all, subst (λ z. DoSidesFit (unraveled_rules f z)) all p.fit)
+
+pub finish_counted : (f : ℕ) (rs : List Rule) (i symbol : ℕ) (out : List Rule) → Progress f rs i symbol out → AreCounted out
+finish_counted f rs i symbol out p = p.counted
 
 pub fail : (f : ℕ) (rs : List Rule) (i symbol : ℕ) (out after : List Rule) (r : Rule) → Progress f rs i symbol out → i < length rs → r ≡ get_or rs i r
     → AppendAnswers (unraveled_rule symbol (rule_view r)) out after (Err cause.TooLarge) → IsLargeAt f (map rule_view rs) (i + 1)

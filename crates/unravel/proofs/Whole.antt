@@ -1,83 +1,17 @@
 -- The unraveled system as a whole.
-use Rattle.std.proofs.Common.{◌≡◌, ℕ, zero, suc, ◌+◌, ◌^◌, ◌<◌, refl, sym, ap, ap₂, ◌∙◌, subst, List, [], ◌∷◌, ◌++◌, map, length, take, arith, slice_get, Some, Result, Ok, Err, IfOk, Vec, Global}
-use Rattle.std.proofs.lemmas.List.{length-append, length-map}
+use Rattle.std.proofs.Common.{◌≡◌, ℕ, zero, suc, ◌+◌, ◌<◌, sym, ap₂, ◌∙◌, subst, List, [], ◌∷◌, map, length, take, arith, slice_get, Some}
 use Rattle.rewriting.specs.Rules as rules
 use Rattle.rewriting.specs.Rules.{rule_at, system_of}
-use Rattle.rewriting.specs.Systems.{condition_count, IsSystem, DoSidesFit}
-use Rattle.rewriting.specs.Terms.{Term}
-use Rattle.rewriting.specs.Variables.{with_variables, variables}
-use Rattle.rewriting.specs.Unraveling.{unraveled, heads, unraveled_from, unraveled_rule, unraveled_rules, keeper, keeper_arities, all_keeper_arities}
+use Rattle.rewriting.specs.Systems.{condition_count, DoSidesFit}
+use Rattle.rewriting.specs.Unraveling.{unraveled, heads, unraveled_rule, unraveled_rules}
 use Rattle.interpretations.specs.Size.{DoesRuleFit, DoesUnravelingFit, IsFirstTooLarge}
 use Rattle.term_core.specs.RuleView.{rule_view}
 use Rattle.term_core.specs.HeadView.{head_view}
 use Rattle.term_core.specs.declared.systems.Rule.{Rule}
 use Rattle.unravel.specs.declared.Unraveled.{Unraveled}
-use Rattle.unravel.specs.declared.UnravelError.{UnravelError}
 use Rattle.unravel.specs.Answers.{IsUnraveled}
-use Rattle.unravel.specs.RuleAnswers.{IsLargeAt, RulesAnswers}
+use Rattle.unravel.specs.RuleAnswers.{IsLargeAt}
 use Rattle.unravel.proofs.Progress.{sides_fit-first, sides_fit-second}
-
--- the unraveled rules have no conditions, and there are as many as rules and conditions
-count-append : (xs ys : List rules.Rule) → condition_count (xs ++ ys) ≡ condition_count xs + condition_count ys
-count-append [] ys = omega arith
-count-append (x ∷ xs) ys = let h = count-append xs ys in omega (arith, h)
-
-count-from : (f : ℕ) (xs : List ℕ) (head : Term) (cs : List rules.Condition) (r : Term) → condition_count (unraveled_from f xs head cs r) ≡ 0
-count-from f xs head [] r = omega arith
-count-from f xs head (c ∷ cs) r = let h = count-from (suc f) (with_variables xs c.right) (keeper f c.right xs) cs r in omega (arith, h)
-
-count-rules : (f : ℕ) (qs : List rules.Rule) → condition_count (unraveled_rules f qs) ≡ 0
-count-rules f [] = refl
-count-rules f (q ∷ qs) =
-    let a = count-append (unraveled_rule f q) (unraveled_rules (f + length q.conditions) qs) in
-    let b = count-from f (variables q.left) q.left q.conditions q.right in
-    let c = count-rules (f + length q.conditions) qs in
-    omega (arith, a, b, c)
-
-length-from : (f : ℕ) (xs : List ℕ) (head : Term) (cs : List rules.Condition) (r : Term) → length (unraveled_from f xs head cs r) ≡ suc (length cs)
-length-from f xs head [] r = refl
-length-from f xs head (c ∷ cs) r = ap suc (length-from (suc f) (with_variables xs c.right) (keeper f c.right xs) cs r)
-
-length-rules : (f : ℕ) (qs : List rules.Rule) → length (unraveled_rules f qs) ≡ length qs + condition_count qs
-length-rules f [] = refl
-length-rules f (q ∷ qs) =
-    let a = length-append (unraveled_rule f q) (unraveled_rules (f + length q.conditions) qs) in
-    let b = length-from f (variables q.left) q.left q.conditions q.right in
-    let c = length-rules (f + length q.conditions) qs in
-    omega (arith, a, b, c)
-
-length-keepers : (xs : List ℕ) (cs : List rules.Condition) → length (keeper_arities xs cs) ≡ length cs
-length-keepers xs [] = refl
-length-keepers xs (c ∷ cs) = ap suc (length-keepers (with_variables xs c.right) cs)
-
-length-all_keepers : (qs : List rules.Rule) → length (all_keeper_arities qs) ≡ condition_count qs
-length-all_keepers [] = refl
-length-all_keepers (q ∷ qs) =
-    let a = length-append (keeper_arities (variables q.left) q.conditions) (all_keeper_arities qs) in
-    let b = length-keepers (variables q.left) q.conditions in
-    let c = length-all_keepers qs in
-    omega (arith, a, b, c)
-
-pub few_symbols : (sys : rules.System) (v : List ℕ) → IsSystem sys → v ≡ (unraveled sys).arities → length v < 2 ^ 31
-few_symbols sys v h e =
-    let few = h.few_symbols in
-    let a = length-append sys.arities (all_keeper_arities sys.rules) in
-    let b = length-all_keepers sys.rules in
-    let same = ap length e in
-    omega (arith, few, a, b, same)
-
-pub no_conditions : (f : ℕ) (qs : List rules.Rule) (r : Result (Vec Rule Global) UnravelError) → RulesAnswers f qs r → IfOk r (λ v. condition_count (map rule_view v.items) ≡ 0)
-no_conditions f qs (Ok v) h = ap condition_count h.0 ∙ count-rules f qs
-no_conditions f qs (Err e) h = tt
-
-pub few_rules : (sys : rules.System) (f : ℕ) (r : Result (Vec Rule Global) UnravelError) → IsSystem sys → RulesAnswers f sys.rules r → IfOk r (λ v. length v.items < 2 ^ 31)
-few_rules sys f (Ok v) s h =
-    let few = s.few_rules in
-    let a = ap length h.0 in
-    let b = length-rules f sys.rules in
-    let c = length-map v.items rule_view in
-    omega (arith, few, a, b, c)
-few_rules sys f (Err e) s h = tt
 
 -- the sides that come from each rule fit
 fits_at : (f : ℕ) (qs : List rules.Rule) (j : ℕ) (q : rules.Rule) → DoSidesFit (unraveled_rules f qs) → slice_get qs j ≡ Some q → DoSidesFit (unraveled_rule (f + condition_count (take j qs)) q)

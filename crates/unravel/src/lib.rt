@@ -45,9 +45,7 @@ pub fn unravel(alloc: Global, sys: &System) -> Result<Unraveled, UnravelError>
     let rules = unraveled_rules(alloc, sys)?;
     let arities = unraveled_arities(alloc, sys)?;
     let heads = unraveled_heads(alloc, sys)?;
-    // The rules are over these symbols, their variables are numbered anew and their sides fit, so no fault is found.
-    match System::make(arities, rules) {
-        Ok(system) => Ok(Unraveled { system, heads }),
-        Err(_) => Err(UnravelError::NoMemory),
-    }
+    // The rules are over these symbols, their variables are numbered anew and their sides fit.
+    let system = System::of_sound(arities, rules);
+    Ok(Unraveled { system, heads })
 }

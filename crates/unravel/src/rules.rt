@@ -1,12 +1,12 @@
 //! The rules of an unraveled system: for a rule with n conditions n + 1 rules, chained by its auxiliary symbols.
-ghost use Rattle.std.specs.Prelude.{◌≡◌, ◌<◌, ◌≤◌, ◌+◌, ◌^◌, [], IfOk, map, length};
+ghost use Rattle.std.specs.Prelude.{◌≡◌, ◌<◌, ◌≤◌, ◌+◌, ◌^◌, [], IfOk, OnOk, map, length};
 ghost use Rattle.rewriting.specs.Terms as math;
 ghost use Rattle.rewriting.specs.Variables.{with_variables};
 ghost use Rattle.rewriting.specs.Rules.{sides};
-ghost use Rattle.rewriting.specs.Systems.{Each, terms_of_rule, condition_count};
-ghost use Rattle.rewriting.specs.Unraveling.{unraveled_from, unraveled_rule};
+ghost use Rattle.rewriting.specs.Systems.{Each, terms_of_rule, rule_variables, condition_count, IsSystem};
+ghost use Rattle.rewriting.specs.Unraveling.{unraveled, unraveled_from, unraveled_rule};
 ghost use Rattle.term_core.specs.View.{view};
-ghost use Rattle.term_core.specs.RuleView.{condition_view, rule_view};
+ghost use Rattle.term_core.specs.RuleView.{condition_view, rule_view, AreCounted};
 ghost use Rattle.unravel.specs.SideView.{side_view, DoesPartFit};
 ghost use Rattle.unravel.specs.RuleAnswers.{NumberedAnswers, PushAnswers, AppendAnswers, RulesAnswers, DoTermsFit};
 
@@ -51,7 +51,8 @@ fn variables(alloc: Global, left: &Side, right: &Side) -> Result<Vec<u32>, NoMem
 fn numbered_anew(alloc: Global, left: &Side, right: &Side) -> Result<Rule, NoMemory>
     requires left { math.Fits (side_view left.now) }
     requires right { math.Fits (side_view right.now) }
-    ensures { NumberedAnswers (side_view left.now) (side_view right.now) result }
+    ensures rule { NumberedAnswers (side_view left.now) (side_view right.now) result }
+    ensures counted { IfOk result (λ q. q.vars ≡ length (rule_variables (rule_view q))) }
 {
     let order = variables(alloc, left, right)?;
     let new_left = left.numbered(alloc, &order)?;
@@ -65,10 +66,12 @@ fn numbered_anew(alloc: Global, left: &Side, right: &Side) -> Result<Rule, NoMem
 }
 
 // Adds the rule of two sides.
+#[tactic(auto, using(crate::proofs::Sound::counted_more))]
 fn push(alloc: Global, left: &Side, right: &Side, out: &mut Vec<Rule>) -> Result<(), RuleError>
     requires left { DoesPartFit left.now }
     requires right { DoesPartFit right.now }
-    ensures { PushAnswers (side_view left.now) (side_view right.now) out.old.items out.new.items result }
+    ensures rule { PushAnswers (side_view left.now) (side_view right.now) out.old.items out.new.items result }
+    ensures counted { OnOk result (AreCounted out.old.items → AreCounted out.new.items) }
 {
     if !left.fits() || !right.fits() {
         return Err(RuleError::TooLarge);
@@ -105,7 +108,8 @@ fn push_from(
     requires conds { Each math.Fits (sides (map condition_view conds.now)) }
     requires right { math.Fits (view right.now) }
     requires symbols { symbol + length conds.now < 2 ^ 32 }
-    ensures { AppendAnswers (unraveled_from symbol known.now (side_view head.now) (map condition_view conds.now) (view right.now)) out.old.items out.new.items result }
+    ensures rules { AppendAnswers (unraveled_from symbol known.now (side_view head.now) (map condition_view conds.now) (view right.now)) out.old.items out.new.items result }
+    ensures counted { OnOk result (AreCounted out.old.items → AreCounted out.new.items) }
 {
     match conds {
         [] => push(alloc, head, &Side::Plain(right), out),
@@ -133,7 +137,8 @@ fn push_from(
 fn push_rules(alloc: Global, symbol: u32, rule: &Rule, out: &mut Vec<Rule>) -> Result<(), RuleError>
     requires fits { Each math.Fits (terms_of_rule (rule_view rule.now)) }
     requires symbols { symbol + length rule.now.conds.items < 2 ^ 32 }
-    ensures { AppendAnswers (unraveled_rule symbol (rule_view rule.now)) out.old.items out.new.items result }
+    ensures rules { AppendAnswers (unraveled_rule symbol (rule_view rule.now)) out.old.items out.new.items result }
+    ensures counted { OnOk result (AreCounted out.old.items → AreCounted out.new.items) }
 {
     let known = vars(alloc, &rule.left)?;
     let head = Side::Plain(&rule.left);
@@ -141,12 +146,13 @@ fn push_rules(alloc: Global, symbol: u32, rule: &Rule, out: &mut Vec<Rule>) -> R
 }
 
 // The rules that come from some rules, whose first auxiliary symbol has this number.
-#[tactic(auto, using(crate::proofs::Progress::begin, crate::proofs::Progress::room, crate::proofs::Progress::advance, crate::proofs::Progress::finish, crate::proofs::Progress::fail, crate::proofs::Progress::terms_fit_here))]
+#[tactic(auto, using(crate::proofs::Progress::begin, crate::proofs::Progress::room, crate::proofs::Progress::advance, crate::proofs::Progress::finish, crate::proofs::Progress::finish_counted, crate::proofs::Progress::fail, crate::proofs::Progress::terms_fit_here))]
 fn rules_of(alloc: Global, first: u32, rules: &[Rule]) -> Result<Vec<Rule>, UnravelError>
     requires fits { DoTermsFit (map rule_view rules.now) }
     requires symbols { first + condition_count (map rule_view rules.now) < 2 ^ 31 }
     requires few { length rules.now < 2 ^ 31 }
-    ensures { RulesAnswers first (map rule_view rules.now) result }
+    ensures rules { RulesAnswers first (map rule_view rules.now) result }
+    ensures counted { IfOk result (λ v. AreCounted v.items) }
 {
     let mut out = Vec::new(alloc);
     let mut symbol = first;
@@ -162,11 +168,11 @@ fn rules_of(alloc: Global, first: u32, rules: &[Rule]) -> Result<Vec<Rule>, Unra
 }
 
 /// The rules of the unraveled system.
-#[tactic(auto, using(crate::proofs::Progress::terms_fit, crate::proofs::Whole::no_conditions, crate::proofs::Whole::few_rules))]
+#[tactic(auto, using(crate::proofs::Progress::terms_fit, crate::proofs::Sound::sound_where_ok))]
 pub fn unraveled_rules(alloc: Global, sys: &System) -> Result<Vec<Rule>, UnravelError>
     ensures rules { RulesAnswers (length sys.now.arities) sys.now.rules result }
-    ensures plain { IfOk result (λ v. condition_count (map rule_view v.items) ≡ 0) }
-    ensures few { IfOk result (λ v. length v.items < 2 ^ 31) }
+    ensures counted { IfOk result (λ v. AreCounted v.items) }
+    ensures sound { IfOk result (λ _. IsSystem (unraveled sys.now)) }
 {
     let rules = sys.rules();
     rules_of(alloc, sys.arities().len() as u32, rules)

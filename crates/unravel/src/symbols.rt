@@ -58,10 +58,9 @@ fn push_all_arities(alloc: Global, rules: &[Rule], out: &mut Vec<u32>) -> Result
 }
 
 /// The arities of the unraveled system.
-#[tactic(auto, using(crate::proofs::SymbolLists::small_rules, crate::proofs::Whole::few_symbols))]
+#[tactic(auto, using(crate::proofs::SymbolLists::small_rules))]
 pub fn unraveled_arities(alloc: Global, sys: &System) -> Result<Vec<u32>, NoMemory>
-    ensures arities { IfOk result (λ v. v.items ≡ (unraveled sys.now).arities) }
-    ensures few { IfOk result (λ v. length v.items < 2 ^ 31) }
+    ensures { IfOk result (λ v. v.items ≡ (unraveled sys.now).arities) }
 {
     let rules = sys.rules();
     let mut out = sys.arities().to_vec(alloc)?;

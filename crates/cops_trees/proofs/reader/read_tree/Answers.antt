@@ -1,8 +1,13 @@
+use Rattle.std.proofs.Common.{ℕ, List, subst}
+use Rattle.cops_lex.specs.Reading.{IsIdText}
 use Rattle.cops_trees.proofs.Parsed.{follows_start, follows_can, follows_next, follows_refused, follows_file, follows_missing, refused_as}
 use Rattle.cops_trees.proofs.reader.read_tree.Goals as goal
 
 pub tokens-init : goal.tokens-init
 tokens-init c = follows_start _ _ c.new-blocks.result c.new-lexer.ensures.text c.new-lexer.ensures.none c.new-blocks.ensures
+
+pub word_at-requires : goal.word_at-requires
+word_at-requires c = subst (λ (bytes : List ℕ). IsIdText bytes c.in-Some.token) c.tokens.invariant.text (rw c.in-Some.is at c.in_ok-token.ensures.id_text)
 
 pub step-requires : goal.step-requires
 step-requires c = follows_can _ _ _ c.tokens.invariant

@@ -6,8 +6,8 @@ use Rattle.term_core.proofs.Views.{view-Var}
 use Rattle.tcap_infeasible.specs.Answers.{CapAnswers}
 use Rattle.noncon_search.proofs.made_caps.cap_of.Goals as goal
 
-pub rigid_cap-requires : goal.rigid_cap-requires
-rigid_cap-requires c = record { fit = c.requires; room = let few = c.requires.nodes in omega (arith, few); below = c.if-not-is_below.ensures refl }
+pub rigid_cap_in-requires : goal.rigid_cap_in-requires
+rigid_cap_in-requires c = record { fit = c.requires; room = let few = c.requires.nodes in omega (arith, few); below = c.if-not-is_below.ensures refl }
 
 pub returns-in-Capped : goal.returns-in-Capped
 returns-in-Capped c =

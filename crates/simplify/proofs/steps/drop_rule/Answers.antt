@@ -16,14 +16,14 @@ pub returns-in_default : goal.returns-in_default
 returns-in_default c =
     let s = c.rules-rules.ensures in no_drop c.args.sys.now s.sound c.rules-rules.result.now s.rules c.args.number (inf_evidence_view c.args.evidence.now) c.in_default.ensures.none
 
-pub check_infeasible-requires-clause-few : goal.check_infeasible-requires-clause-few
-check_infeasible-requires-clause-few c =
+pub check_infeasible_in-requires-clause-few : goal.check_infeasible_in-requires-clause-few
+check_infeasible_in-requires-clause-few c =
     let s = c.rules-rules.ensures in
     let few = few_here c.args.sys.now s.sound c.rules-rules.result.now s.rules c.in-Some.place c.index-rules-place.result c.in-Some.ensures.some.1 c.index-rules-place.is in
     let same = ap length (c.deref.ensures.value ∙ ap (λ (z : Rule). z.conds.items) (sym c.index-rules-place.is)) in omega (arith, few, same)
 
-pub check_infeasible-requires-clause-fit : goal.check_infeasible-requires-clause-fit
-check_infeasible-requires-clause-fit c =
+pub check_infeasible_in-requires-clause-fit : goal.check_infeasible_in-requires-clause-fit
+check_infeasible_in-requires-clause-fit c =
     let s = c.rules-rules.ensures in
     subst (λ z. DoConditionsFit (map condition_view z)) (sym (c.deref.ensures.value ∙ ap (λ (z : Rule). z.conds.items) (sym c.index-rules-place.is)))
     (conds_fit c.args.sys.now s.sound c.rules-rules.result.now s.rules c.in-Some.place c.index-rules-place.result c.in-Some.ensures.some.1 c.index-rules-place.is)

@@ -38,6 +38,9 @@ returns-in-Ok c =
     good_inline c.args.sys.now s.sound c.rules-rules.result.now s.rules c.args.number c.in-Some.place c.index-rules-place.result p.0 p.1 c.index-rules-place.is c.args.cond c.in-Some-place_of.k q.0
     (subst (λ n. c.in-Some-place_of.k < n) (c.len.ensures ∙ c.index-rules-place.result.conds.ok.0) q.1) c.in-Some-name.x c.in-Some-name.ensures.some c.in-Ok.new c.in-Ok.ensures
 
+pub unreachable-requires : goal.unreachable-requires
+unreachable-requires c = rw c.in-Err-NoPosition.field-0-is at c.in-Err-NoPosition.ensures
+
 pub returns-in-Err-TooLarge : goal.returns-in-Err-TooLarge
 returns-in-Err-TooLarge c =
     let s = c.rules-rules.ensures in

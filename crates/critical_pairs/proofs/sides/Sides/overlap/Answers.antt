@@ -40,6 +40,9 @@ returns-in-Ok c =
     let q = c.in-Ok.ensures in
     overlap_there c.args.self.now.sys.now _ _ _ c.args.m.now c.requires.unifier _ _ (low at) (high at) c.in-Ok.overlap q.0 q.1 q.2
 
+pub unreachable-requires : goal.unreachable-requires
+unreachable-requires c = rw c.in-Err-NoPosition.field-0-is at c.in-Err-NoPosition.ensures
+
 pub returns-in-Err-TooLarge : goal.returns-in-Err-TooLarge
 returns-in-Err-TooLarge c =
     let at = (goal.at.returns-in-Err-TooLarge c).After-index-outer in

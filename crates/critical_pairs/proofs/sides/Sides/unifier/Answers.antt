@@ -16,9 +16,9 @@ low c = ap (λ z. z.left) (low_renamed c.args.self.now c.requires.sides c.args.t
 part : (c : In-Some) → view c.in-Some.part.now ≡ apply odd c.requires.spot.part
 part c = part_renamed c.args.self.now c.requires.sides c.args.triple.now.inner c.args.triple.now.pos.now c.args.triple.now.outer c.requires.spot c.index-inner.result.now c.index-outer.result.now c.index-inner.ensures c.index-outer.ensures (view c.in-Some.part.now) c.in-Some.ensures
 
-pub returns-in_default : goal.returns-in_default
-returns-in_default c =
-    absurd (has_part c.args.self.now c.requires.sides c.args.triple.now.inner c.args.triple.now.pos.now c.args.triple.now.outer c.requires.spot c.index-inner.result.now c.index-outer.result.now c.index-inner.ensures c.index-outer.ensures c.in_default.ensures)
+pub unreachable-requires : goal.unreachable-requires
+unreachable-requires c =
+    has_part c.args.self.now c.requires.sides c.args.triple.now.inner c.args.triple.now.pos.now c.args.triple.now.outer c.requires.spot c.index-inner.result.now c.index-outer.result.now c.index-inner.ensures c.index-outer.ensures c.in_default.ensures
 
 pub returns-in-Clash : goal.returns-in-Clash
 returns-in-Clash c =

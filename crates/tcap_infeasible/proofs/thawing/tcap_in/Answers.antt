@@ -4,7 +4,7 @@ use Rattle.term_core.specs.View.{view}
 use Rattle.tcap_infeasible.specs.declared.Cap.TheVariants.{Capped}
 use Rattle.tcap_infeasible.specs.Frozen.{FrozenAnswers}
 use Rattle.tcap_infeasible.proofs.Thawed.{cap_thaws, cap_answers, keeps_reducts}
-use Rattle.tcap_infeasible.proofs.thawing.tcap.Goals as goal
+use Rattle.tcap_infeasible.proofs.thawing.tcap_in.Goals as goal
 
 pub thawed-requires : goal.thawed-requires
 thawed-requires c =

@@ -3,7 +3,7 @@ use Rattle.term_core.specs.View.{view}
 use Rattle.tcap_infeasible.specs.Keys.{IsKeyed}
 use Rattle.tcap_infeasible.proofs.Pairs.{none_distinct, short_row}
 use Rattle.tcap_infeasible.proofs.Thawed.{keeps_own_reducts}
-use Rattle.tcap_infeasible.proofs.thawing.rigid_cap.Goals as goal
+use Rattle.tcap_infeasible.proofs.thawing.rigid_cap_in.Goals as goal
 
 pub thawed_rigid-requires-clause-places : goal.thawed_rigid-requires-clause-places
 thawed_rigid-requires-clause-places c =
