@@ -2,3 +2,4 @@ pub mod NameTable
 pub mod NameLists
 pub mod NamesView
 pub mod NameSetView
+pub mod Arities

@@ -4,6 +4,7 @@ ghost use Rattle.std.specs.Bool.{OnTrue, OnFalse};
 ghost use Rattle.cops_names.specs.NameTable.{number_of, name_at, arity_at, variable_at, all_of};
 ghost use Rattle.cops_names.specs.NameLists.{with_names};
 ghost use Rattle.cops_names.specs.NamesView.{texts_of};
+ghost use Rattle.cops_names.specs.Arities.{AritiesAnswer};
 
 use crate::name_set::NameSet;
 use indexmap::IndexMap;
@@ -15,7 +16,7 @@ use term_core::NoMemory;
 /// variables. Symbols are numbered from 0, rules from 1, the variables of a rule from 0.
 #[derive(Drop)]
 pub struct Names {
-    symbols: IndexMap<String, u32>,
+    symbols: IndexMap<String, usize>,
     rules: Vec<Vec<String>>,
 }
 
@@ -45,7 +46,7 @@ impl Names {
 
     /// Puts a symbol last and answers true. Where its name is there already, the answer is false and
     /// nothing has changed.
-    pub fn add_symbol(&mut self, name: String, arity: u32) -> Result<bool, NoMemory>
+    pub fn add_symbol(&mut self, name: String, arity: usize) -> Result<bool, NoMemory>
         requires { length self.old.symbols < 2 ^ 31 }
         ensures absent { IfOk result (λ added. IsTrue added ↔ (number_of self.old.symbols (string_bytes name) ≡ None)) }
         ensures last { IfOk result (λ added. OnTrue added (self.new.symbols ≡ self.old.symbols ++ (string_bytes name, arity) ∷ [])) }
@@ -97,16 +98,16 @@ impl Names {
     }
 
     /// The arity of a symbol.
-    pub fn arity(&self, n: u32) -> Option<u32>
+    pub fn arity(&self, n: u32) -> Option<usize>
         ensures { result ≡ arity_at self.now n }
     {
         let (_, arity) = self.symbols.get_index(n as usize)?;
         Some(*arity)
     }
 
-    /// The arities of all symbols.
-    pub fn arities(&self, alloc: Global) -> Result<Vec<u32>, NoMemory>
-        ensures { IfOk result (λ v. v.items ≡ map (λ s. s.1) self.now.symbols) }
+    /// The arities of all symbols in 32 bits, or nothing where one of them has no room in these.
+    pub fn arities(&self, alloc: Global) -> Result<Option<Vec<u32>>, NoMemory>
+        ensures { IfOk result (λ arities. AritiesAnswer (map (λ s. s.1) self.now.symbols) arities) }
     {
         values_of(alloc, &self.symbols)
     }
@@ -130,11 +131,20 @@ impl Names {
     }
 }
 
-fn values_of(alloc: Global, symbols: &IndexMap<String, u32>) -> Result<Vec<u32>, NoMemory>
-    ensures { IfOk result (λ v. v.items ≡ map (λ e. e.1) symbols.now.entries) }
+fn values_of(
+    alloc: Global,
+    symbols: &IndexMap<String, usize>,
+) -> Result<Option<Vec<u32>>, NoMemory>
+    ensures { IfOk result (λ values. AritiesAnswer (map (λ e. e.1) symbols.now.entries) values) }
 {
-    let values = symbols.values().copied().collect(alloc)?;
-    Ok(values)
+    let mut values = Vec::with_capacity(alloc, symbols.len())?;
+    'values: for value in symbols.values() {
+        let Ok(value) = u32::try_from(*value) else {
+            return Ok(None);
+        };
+        values.push(value)?;
+    }
+    Ok(Some(values))
 }
 
 fn add_list<'a>(set: &mut NameSet<'a>, names: &'a [String]) -> Result<(), NoMemory>

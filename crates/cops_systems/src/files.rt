@@ -51,7 +51,10 @@ fn read_list<'a>(alloc: Global, file: FileText<'a>) -> Result<(System, Names), R
         variables: NameSet::new(alloc),
     };
     let rules = read_rules(alloc, &mut scope, has_type, rules)?;
-    let arities = scope.names.arities(alloc)?;
+    // Each argument was within the limits, so the arities have room in 32 bits.
+    let Some(arities) = scope.names.arities(alloc)? else {
+        unreachable!();
+    };
     let system = System::of_sound(arities, rules);
     Ok((system, scope.names))
 }

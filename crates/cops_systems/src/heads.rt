@@ -1,5 +1,5 @@
 //! The variable or symbol that an identifier of a term means: new names are numbered as they come, within the limits of a file.
-ghost use Rattle.std.specs.Prelude.{◌≡◌, ◌+◌, ◌<◌, ◌≤◌, ◌^◌, IfOk, OnOk, length};
+ghost use Rattle.std.specs.Prelude.{◌≡◌, ◌+◌, ◌<◌, ◌≤◌, ◌^◌, OnOk, length};
 ghost use Rattle.cops_trees.specs.View.{node_view};
 ghost use Rattle.cops_systems.specs.Refusals.{limit_cause};
 ghost use Rattle.cops_systems.specs.Heads.{used_at, WithinAnswers, RoomAnswers, CauseAnswers, VariableAnswers, SymbolAnswers, HeadAnswers};
@@ -9,7 +9,6 @@ use crate::errors::{Count, ReadError};
 use cops_names::{NameSet, Names};
 use cops_trees::Node;
 use std::alloc::Global;
-use term_core::NoMemory;
 
 /// No term of a file is deeper.
 pub const MOST_DEPTH: usize = 200;
@@ -62,17 +61,6 @@ fn check_room(what: Count, number: usize, at: usize) -> Result<(), ReadError>
         return Err(ReadError::TooMany { what, limit, at });
     }
     Ok(())
-}
-
-// The number as 32 bits. Only a text of more than 2^32 bytes has a greater one, which is told as want of
-// memory.
-fn small(number: usize) -> Result<u32, NoMemory>
-    ensures { IfOk result (λ n. n ≡ number) }
-{
-    match u32::try_from(number) {
-        Ok(n) => Ok(n),
-        Err(_) => Err(NoMemory),
-    }
 }
 
 // Refuses a place that is beyond the limits.
@@ -133,14 +121,13 @@ fn read_symbol(
     let at = node.name.at;
     if let Some(number) = names.symbol_number(name) {
         return match names.arity(number) {
-            Some(arity) if arity as usize == node.arguments => Ok(number),
+            Some(arity) if arity == node.arguments => Ok(number),
             _ => Err(ReadError::ArityDiffers { at }),
         };
     }
     let number = names.symbol_count();
     check_room(Count::Symbols, number as usize, at)?;
-    let arity = small(node.arguments)?;
-    names.add_symbol(String::from_str(alloc, name)?, arity)?;
+    names.add_symbol(String::from_str(alloc, name)?, node.arguments)?;
     Ok(number)
 }
 

@@ -80,7 +80,8 @@ module _ (sys here : System) (steps : List Simp) (start now end : Counts) (g : G
     λ ss last w h. within_standard sys here (map simp_view steps) g.tried g.paid n g.leads (steps_within here (after here m.change) (simp_view m.step) n first) ss last w h,
   )
 
--- memory was refused between two rounds
-pub fails_behind : (sys here : System) (steps : List Simp) (start now : Counts) → GoesOn sys steps here start now → (n : ℕ) × Spends start n now × AreWithinTries sys n
-fails_behind sys here steps start now g =
-    (g.paid, g.spent, λ ss last w h. (let most = within_standard sys here (map simp_view steps) g.tried g.paid 0 g.leads (omega arith) ss last w h in omega (arith, most)))
+-- a walk that gives a step has spent a unit
+pub walk_pays : (here : System) (now end : Counts) (m : Made) → WalkAnswers here (tries here) now end (Ok (walk.Given m)) → end.left < now.left
+walk_pays here now end m (change, (n, paid, first)) =
+    let least : n ≡ cost_of one first.before + 1 = first.up_to in
+    let all = paid.left in omega (arith, least, all)

@@ -24,8 +24,8 @@ pub fn find_steps(alloc: Global, sys: &System, budget: &mut Budget) -> Result<Si
 {
     let mut current = copied(alloc, sys)?;
     let mut steps = Vec::new(alloc);
-    // Each round but the last removes a rule or a condition, and there are fewer than 2^31 of these.
-    'rounds: for _ in 0..1_u32 << 31 {
+    // Each round but the last spends a unit.
+    'rounds: loop {
         match walk_through(alloc, &current, budget) {
             Ok(Walk::Given(made)) => {
                 let Made { step, change } = made;
@@ -39,5 +39,4 @@ pub fn find_steps(alloc: Global, sys: &System, budget: &mut Budget) -> Result<Si
             Err(e) => return Err(e),
         }
     }
-    Err(NoMemory)
 }

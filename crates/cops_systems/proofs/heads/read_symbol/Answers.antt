@@ -1,3 +1,4 @@
+use Rattle.std.proofs.Common.{refl}
 use Rattle.std.specs.Prelude.{string_bytes}
 use Rattle.cops_trees.specs.View.{node_view}
 use Rattle.cops_systems.specs.Heads.{used_at}
@@ -7,5 +8,5 @@ use Rattle.cops_systems.proofs.heads.read_symbol.Goals as goal
 pub returns-clause-symbol : goal.returns-clause-symbol
 returns-clause-symbol c =
     put c.args.names.now.symbols c.add_symbol.new.self.symbols (used_at c.args.place (node_view c.args.node.now)) c.args.name.now (string_bytes c.in_ok-from_str.field-0)
-    c.in_ok-arity.arity c.symbol_count-number.result c.in_ok-add_symbol.field-0 c.requires c.in_ok-arity.ensures
+    c.args.node.now.arguments c.symbol_count-number.result c.in_ok-add_symbol.field-0 c.requires refl
     c.in_default.ensures c.in_ok-from_str.ensures.ok (c.in_ok-add_symbol.ensures.absent.1) c.in_ok-add_symbol.ensures.last c.symbol_count-number.ensures c.in_ok-check_room.ensures

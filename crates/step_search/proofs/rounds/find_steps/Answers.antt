@@ -1,7 +1,7 @@
 use Rattle.std.proofs.Common.{Ok, Err, sym, subst}
 use Rattle.simplified_spaces.specs.Tries.{tries}
 use Rattle.step_search.specs.Answers.{WalkAnswers}
-use Rattle.step_search.proofs.Onward.{goes_on, finds, runs_out, fails, fails_behind, fails_found}
+use Rattle.step_search.proofs.Onward.{goes_on, finds, runs_out, fails, fails_found, walk_pays}
 use Rattle.step_search.proofs.rounds.find_steps.Goals as goal
 
 pub returns-in-Ok-Nothing : goal.returns-in-Ok-Nothing
@@ -23,5 +23,7 @@ returns-in_default c =
     fails_found c.args.sys.now c.rounds.current c.rounds.steps.items c.args.budget.now c.rounds.budget c.walk_through.new.budget c.rounds.invariant c.in-Ok-Given.made
     (subst (λ z. WalkAnswers c.rounds.current (tries c.rounds.current) c.rounds.budget c.walk_through.new.budget (Ok z)) c.in-Ok-Given.field-0-is c.in-Ok-Given.ensures)
 
-pub returns : goal.returns
-returns c = fails_behind c.args.sys.now c.rounds.current c.rounds.steps.items c.args.budget.now c.rounds.budget c.rounds.invariant
+pub rounds-decreases : goal.rounds-decreases
+rounds-decreases c =
+    walk_pays c.rounds.current c.rounds.budget c.walk_through.new.budget c.in-Ok-Given.made
+    (subst (λ z. WalkAnswers c.rounds.current (tries c.rounds.current) c.rounds.budget c.walk_through.new.budget (Ok z)) c.in-Ok-Given.field-0-is c.in-Ok-Given.ensures)
