@@ -105,7 +105,7 @@ module _ (names : NameTable) (bytes left : List ℕ) (count n : ℕ) (u : IsUpTo
   held_on {sb} p rest count_then plain e r =
       let run = longer p rest sb r in
       let plains = plain_more u.entries u.plain in
-      let there = run_read names bytes rest u.given u.opening (u.entries ++ p ∷ []) (pairs_from (suc n) ∷ []) (first_of u.opening u.entries u.read.spelt) plains run in
+      let there = run_read names bytes rest u.given u.opening (u.entries ++ p ∷ []) (pairs_from (suc n) ∷ []) (first_of names u.opening u.entries u.read.spelt) plains run in
       record {
         opening = u.opening;
         entries = u.entries ++ p ∷ [];

@@ -256,11 +256,11 @@ last_item (i ∷ j ∷ s) (inl o) p = absurd (two_items i j s p.0 o p.2)
 last_item (i ∷ []) (inr e) p = absurd (not_line p.0 (subst (λ (x : Item). Takes x end_mark p.0) (item_is i (between line) e) p.1))
 last_item (i ∷ j ∷ s) (inr e) p = absurd cc
 
-pub first_of : {names : NameTable} (o : Opening) (es : List PairEntry) → CanBeSpelt names (certificate_for o es) → IsFirst o
-first_of ortho_opening es h = tt
-first_of (quasi_opening (linear_measure entries)) es h = tt
-first_of (quasi_opening (precedence_measure order)) es h = absurd h.0
-first_of (simplified_opening steps o) es h = absurd h
+pub first_of : (names : NameTable) (o : Opening) (es : List PairEntry) → CanBeSpelt names (certificate_for o es) → IsFirst o
+first_of names ortho_opening es h = tt
+first_of names (quasi_opening (linear_measure entries)) es h = tt
+first_of names (quasi_opening (precedence_measure order)) es h = absurd h.0
+first_of names (simplified_opening steps o) es h = absurd h
 
 -- ---- what is read is gone along
 
@@ -293,7 +293,7 @@ along names bytes o es at r =
     let path = subst (λ (k : List Mark). Path k (opening ∷ []) []) (marks ∙ ap (λ (k : List Mark). k ++ closing) end.3 ∙ append_assoc end.0 (fixed last ∷ []) closing) (skeleton_path skeleton) in
     let moved = moves_along end.0 last closing (opening ∷ []) bytes r.rest path text in
     let moves = subst (λ (k : List Mark). Moves k (opening ∷ []) bytes moved.0 r.rest) (sym end.3) moved.1 in
-    let low = last_item moved.0 (read_path x given o es moved.0 (first_of o es r.spelt) (moves_path ms (opening ∷ []) moved.0 bytes r.rest moves)) moved.2 in
+    let low = last_item moved.0 (read_path x given o es moved.0 (first_of names o es r.spelt) (moves_path ms (opening ∷ []) moved.0 bytes r.rest moves)) moved.2 in
     record {
       naming = x;
       given = given;

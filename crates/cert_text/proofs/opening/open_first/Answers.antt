@@ -28,12 +28,12 @@ behind-requires-in-None-refused c =
     up_to_entries c.args.names.now c.args.bytes.now c.measure-measure.new.at.left.now c.heading-kind.result.0 (quasi_opening (measure_view c.measure-measure.result)) (entries_from (entries_of (measure_view c.measure-measure.result))) c.measure-measure.ensures.first
     (inr (entries_of (measure_view c.measure-measure.result), refl, refl, c.measure-measure.ensures.begins c.in-None-refused.is)) (ran refl c.in-None-refused.is (as_marks_where (λ none u. measured_marks_are u c.heading-kind.result.0 (measure_view c.measure-measure.result)) (then_where (kinded c.heading-kind.result.0 c.heading-kind.result.1 Quasi c.in-Quasi.is (c.heading-kind.ensures c.requires c.args.names.now)) c.measure-measure.ensures.read)))
 
-pub returns-in-None-clause-opened : goal.returns-in-None-clause-opened
-returns-in-None-clause-opened c =
+pub returns-in-Ortho-clause-opened : goal.returns-in-Ortho-clause-opened
+returns-in-Ortho-clause-opened c =
     read_up_to c.args.names.now c.args.bytes.now c.entries_begin.new.at.left.now ortho_opening c.behind.result c.behind.ensures (opened c.args.names.now c.args.bytes.now c.entries_begin.new.at.left.now c.heading-kind.result.0 ortho_opening (pairs_from 1) tt (c.entries_begin.ensures.begins c.in-None.is) (ran refl c.in-None.is (then_nothing_where (kinded c.heading-kind.result.0 c.heading-kind.result.1 Ortho c.in-Ortho.is (c.heading-kind.ensures c.requires c.args.names.now)) (c.entries_begin.ensures.read c.args.names.now))))
 
-pub returns-in-None-clause-late : goal.returns-in-None-clause-late
-returns-in-None-clause-late c =
+pub returns-in-Ortho-clause-late : goal.returns-in-Ortho-clause-late
+returns-in-Ortho-clause-late c =
     refused_late c.args.names.now c.args.bytes.now (opens.Ortho c.behind.result)
     (read_up_to c.args.names.now c.args.bytes.now c.entries_begin.new.at.left.now ortho_opening c.behind.result c.behind.ensures (opened c.args.names.now c.args.bytes.now c.entries_begin.new.at.left.now c.heading-kind.result.0 ortho_opening (pairs_from 1) tt (c.entries_begin.ensures.begins c.in-None.is) (ran refl c.in-None.is (then_nothing_where (kinded c.heading-kind.result.0 c.heading-kind.result.1 Ortho c.in-Ortho.is (c.heading-kind.ensures c.requires c.args.names.now)) (c.entries_begin.ensures.read c.args.names.now)))))
 
@@ -45,13 +45,13 @@ returns-in-Some-clause-early c =
     told_before c.args.names.now c.args.bytes.now c.in-Some.refused (none_opened c.args.names.now c.args.bytes.now c.in-Some.refused c.new-shares.ensures (stopped_where c.in-Some.refused refl c.in-Some.is (then_nothing_where (kinded c.heading-kind.result.0 c.heading-kind.result.1 Ortho c.in-Ortho.is (c.heading-kind.ensures c.requires c.args.names.now)) (c.entries_begin.ensures.read c.args.names.now))))
     (refused_as c.args.names.now c.args.bytes.now c.in-Some.refused c.requires c.new-shares.ensures (stopped_where c.in-Some.refused refl c.in-Some.is (anywhere (then_nothing_where (kinded c.heading-kind.result.0 c.heading-kind.result.1 Ortho c.in-Ortho.is (c.heading-kind.ensures c.requires c.args.names.now)) (c.entries_begin.ensures.read c.args.names.now)))))
 
-pub returns-in-None-refused-clause-opened : goal.returns-in-None-refused-clause-opened
-returns-in-None-refused-clause-opened c =
+pub returns-in-Quasi-clause-opened : goal.returns-in-Quasi-clause-opened
+returns-in-Quasi-clause-opened c =
     read_up_to c.args.names.now c.args.bytes.now c.measure-measure.new.at.left.now (quasi_opening (measure_view c.measure-measure.result)) c.behind-in-None-refused.result c.behind-in-None-refused.ensures
     (opened c.args.names.now c.args.bytes.now c.measure-measure.new.at.left.now c.heading-kind.result.0 (quasi_opening (measure_view c.measure-measure.result)) (entries_from (entries_of (measure_view c.measure-measure.result))) c.measure-measure.ensures.first (c.measure-measure.ensures.begins c.in-None-refused.is) (ran refl c.in-None-refused.is (as_marks_where (λ none u. measured_marks_are u c.heading-kind.result.0 (measure_view c.measure-measure.result)) (then_where (kinded c.heading-kind.result.0 c.heading-kind.result.1 Quasi c.in-Quasi.is (c.heading-kind.ensures c.requires c.args.names.now)) c.measure-measure.ensures.read))))
 
-pub returns-in-None-refused-clause-late : goal.returns-in-None-refused-clause-late
-returns-in-None-refused-clause-late c =
+pub returns-in-Quasi-clause-late : goal.returns-in-Quasi-clause-late
+returns-in-Quasi-clause-late c =
     refused_late c.args.names.now c.args.bytes.now (opens.Quasi c.measure-measure.result c.behind-in-None-refused.result)
     (read_up_to c.args.names.now c.args.bytes.now c.measure-measure.new.at.left.now (quasi_opening (measure_view c.measure-measure.result)) c.behind-in-None-refused.result c.behind-in-None-refused.ensures
     (opened c.args.names.now c.args.bytes.now c.measure-measure.new.at.left.now c.heading-kind.result.0 (quasi_opening (measure_view c.measure-measure.result)) (entries_from (entries_of (measure_view c.measure-measure.result))) c.measure-measure.ensures.first (c.measure-measure.ensures.begins c.in-None-refused.is) (ran refl c.in-None-refused.is (as_marks_where (λ none u. measured_marks_are u c.heading-kind.result.0 (measure_view c.measure-measure.result)) (then_where (kinded c.heading-kind.result.0 c.heading-kind.result.1 Quasi c.in-Quasi.is (c.heading-kind.ensures c.requires c.args.names.now)) c.measure-measure.ensures.read)))))
@@ -85,16 +85,16 @@ returns-then-not-is_empty-clause-early c =
     (λ t q o end i. no_end c.args.names.now c.args.bytes.now c.heading-kind.new.at.left.now c.heading-kind.result.0 _ (ran refl (open_before c.peak-peak.ensures.read c.in_default.is) (kinded c.heading-kind.result.0 c.heading-kind.result.1 Peak c.in-Peak.is (c.heading-kind.ensures c.requires c.args.names.now))) end (openings_end c.args.names.now c.args.bytes.now o end i))
     (refused_behind c.args.names.now c.args.bytes.now c.peak-peak.new.at.left.now _ c.saturating_sub.result c.requires c.new-shares.ensures (some_bytes c.peak-peak.new.at.left.now some) c.saturating_sub.ensures (ran refl c.in_default.is (as_marks_where (λ none u. append_assoc (answer_marks c.heading-kind.result.0) (fixed (codes "concon 1\n") ∷ kind_mark c.heading-kind.result.0 Peak ∷ fixed (codes "\n") ∷ []) (peak_marks u (peak_view c.peak-peak.result) ++ closing)) (then_where (anywhere (kinded c.heading-kind.result.0 c.heading-kind.result.1 Peak c.in-Peak.is (c.heading-kind.ensures c.requires c.args.names.now))) (reads_anywhere c.peak-peak.ensures.read)))))
 
-pub returns-else-not-is_empty-clause-opened : goal.returns-else-not-is_empty-clause-opened
-returns-else-not-is_empty-clause-opened c =
+pub returns-clause-opened : goal.returns-clause-opened
+returns-clause-opened c =
     let zero : length c.peak-peak.new.at.left.now ≡ 0 = search rules in
     whole_found c.args.names.now c.args.bytes.now c.heading-kind.result.0 (peak_certificate (peak_view c.peak-peak.result)) (c.peak-peak.ensures.plain c.in_default.is) (run_to c.args.names.now (length c.args.bytes.now) _ _ _ c.args.bytes.now _ (no_bytes c.peak-peak.new.at.left.now zero) (ran refl c.in_default.is (as_marks_where (λ none u. append_assoc (answer_marks c.heading-kind.result.0) (fixed (codes "concon 1\n") ∷ kind_mark c.heading-kind.result.0 Peak ∷ fixed (codes "\n") ∷ []) (peak_marks u (peak_view c.peak-peak.result) ++ closing)) (then_where (anywhere (kinded c.heading-kind.result.0 c.heading-kind.result.1 Peak c.in-Peak.is (c.heading-kind.ensures c.requires c.args.names.now))) (reads_anywhere c.peak-peak.ensures.read)))))
 
-pub returns-else-not-is_empty-clause-late : goal.returns-else-not-is_empty-clause-late
-returns-else-not-is_empty-clause-late c =
+pub returns-clause-late : goal.returns-clause-late
+returns-clause-late c =
     let zero : length c.peak-peak.new.at.left.now ≡ 0 = search rules in
     refused_late c.args.names.now c.args.bytes.now (opens.Peak c.peak-peak.result)
     (whole_found c.args.names.now c.args.bytes.now c.heading-kind.result.0 (peak_certificate (peak_view c.peak-peak.result)) (c.peak-peak.ensures.plain c.in_default.is) (run_to c.args.names.now (length c.args.bytes.now) _ _ _ c.args.bytes.now _ (no_bytes c.peak-peak.new.at.left.now zero) (ran refl c.in_default.is (as_marks_where (λ none u. append_assoc (answer_marks c.heading-kind.result.0) (fixed (codes "concon 1\n") ∷ kind_mark c.heading-kind.result.0 Peak ∷ fixed (codes "\n") ∷ []) (peak_marks u (peak_view c.peak-peak.result) ++ closing)) (then_where (anywhere (kinded c.heading-kind.result.0 c.heading-kind.result.1 Peak c.in-Peak.is (c.heading-kind.ensures c.requires c.args.names.now))) (reads_anywhere c.peak-peak.ensures.read))))))
 
-pub returns-else-not-is_empty-clause-peak : goal.returns-else-not-is_empty-clause-peak
-returns-else-not-is_empty-clause-peak c = no_end c.args.names.now c.args.bytes.now c.heading-kind.new.at.left.now c.heading-kind.result.0 _ (ran refl (open_before c.peak-peak.ensures.read c.in_default.is) (kinded c.heading-kind.result.0 c.heading-kind.result.1 Peak c.in-Peak.is (c.heading-kind.ensures c.requires c.args.names.now)))
+pub returns-clause-peak : goal.returns-clause-peak
+returns-clause-peak c = no_end c.args.names.now c.args.bytes.now c.heading-kind.new.at.left.now c.heading-kind.result.0 _ (ran refl (open_before c.peak-peak.ensures.read c.in_default.is) (kinded c.heading-kind.result.0 c.heading-kind.result.1 Peak c.in-Peak.is (c.heading-kind.ensures c.requires c.args.names.now)))

@@ -31,15 +31,15 @@ returns-in-None-clause-none c =
 pub returns-in-None-clause-ready : goal.returns-in-None-clause-ready
 returns-in-None-clause-ready c = no_entry c.self.inside.names.now c.self.inside.bytes.now c.self.inside.left.now c.self.inside.count (c.self.inside.count + 1) c.self.invariant (omega arith) c.new-shares.result c.new-shares.ensures c.args.self.now c.self.view_is c.next_pair-found.new.at.left.now _ (ran refl c.in_default.is c.in-None.ensures.last)
 
-pub returns-in-None-2-clause-none_exactly : goal.returns-in-None-2-clause-none_exactly
-returns-in-None-2-clause-none_exactly c = λ o es h k.
+pub returns-clause-none_exactly : goal.returns-clause-none_exactly
+returns-clause-none_exactly c = λ o es h k.
     let some : 0 < length c.next_pair-found.new.at.left.now = search rules in
     absurd (not_whole c.self.inside.names.now c.self.inside.bytes.now c.self.inside.left.now c.self.inside.count (c.self.inside.count + 1) c.self.invariant (omega arith) c.new-shares.result c.new-shares.ensures c.args.self.now c.self.view_is c.next_pair-found.new.at.left.now _ (ran refl c.in_default.is c.in-None-2.ensures.last) (some_bytes c.next_pair-found.new.at.left.now some) o es h k)
 
-pub returns-in-None-2-clause-ready : goal.returns-in-None-2-clause-ready
-returns-in-None-2-clause-ready c = λ o es e place h k. absurd (no_entry c.self.inside.names.now c.self.inside.bytes.now c.self.inside.left.now c.self.inside.count (c.self.inside.count + 1) c.self.invariant (omega arith) c.new-shares.result c.new-shares.ensures c.args.self.now c.self.view_is c.next_pair-found.new.at.left.now _ (ran refl c.in_default.is c.in-None-2.ensures.last) o es e place h k)
+pub returns-clause-ready : goal.returns-clause-ready
+returns-clause-ready c = λ o es e place h k. absurd (no_entry c.self.inside.names.now c.self.inside.bytes.now c.self.inside.left.now c.self.inside.count (c.self.inside.count + 1) c.self.invariant (omega arith) c.new-shares.result c.new-shares.ensures c.args.self.now c.self.view_is c.next_pair-found.new.at.left.now _ (ran refl c.in_default.is c.in-None-2.ensures.last) o es e place h k)
 
-pub returns-in-None-2-clause-refused : goal.returns-in-None-2-clause-refused
-returns-in-None-2-clause-refused c =
+pub returns-clause-refused : goal.returns-clause-refused
+returns-clause-refused c =
     let some : 0 < length c.next_pair-found.new.at.left.now = search rules in
     behind_refused c.self.inside.names.now c.self.inside.bytes.now c.self.inside.left.now c.self.inside.count (c.self.inside.count + 1) c.self.invariant (omega arith) c.new-shares.result c.new-shares.ensures c.args.self.now c.self.view_is c.next_pair-found.new.at.left.now _ (ran refl c.in_default.is c.in-None-2.ensures.last) c.saturating_sub.result (some_bytes c.next_pair-found.new.at.left.now some) c.saturating_sub.ensures
