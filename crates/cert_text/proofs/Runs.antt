@@ -1,5 +1,6 @@
 -- What a run along the marks of an opening and of entries has read, and where a run refuses a text.
-use Rattle.std.proofs.Common.{◌≡◌, ◌⊎◌, inl, inr, ◌+◌, ◌-◌, ◌<◌, ℕ, suc, Bool, List, [], ◌∷◌, ◌++◌, length, Option, Some, None, codes, refl, sym, ap, ◌∙◌, subst, arith, append_assoc, length-append}
+use Rattle.std.proofs.Common.{◌≡◌, ◌⊎◌, inl, inr, ◌+◌, ◌-◌, ◌<◌, ◌==◌, ℕ, suc, Bool, true, false, List, [], ◌∷◌, ◌++◌, length, Option, Some, None, codes, refl, sym, ap, ◌∙◌, subst, arith, append_assoc, length-append}
+use Rattle.std.proofs.lemmas.Bool.{eqb-true, false≢true}
 use Rattle.std.proofs.lemmas.List.{append-nil, append_cancel_right}
 use Rattle.certificates.specs.Certificates.{PairEntry, Certificate}
 use Rattle.cops_names.specs.NameTable.{NameTable}
@@ -144,6 +145,13 @@ no_bytes (x ∷ b) e = absurd (omega (arith, e))
 
 pub some_bytes : (b : List ℕ) → 0 < length b → b ≡ [] → ⊥
 some_bytes b h e = let none = ap length e in omega (arith, h, none)
+
+-- the same by the code's test
+pub left_none : (b : List ℕ) (e : Bool) → e ≡ (length b == 0) → e ≡ true → b ≡ []
+left_none b e is q = no_bytes b (eqb-true (length b) 0 (sym is ∙ q))
+
+pub left_some : (b : List ℕ) (e : Bool) → e ≡ (length b == 0) → e ≡ false → b ≡ [] → ⊥
+left_some b e is q none = false≢true (sym q ∙ is ∙ ap (λ (x : List ℕ). length x == 0) none)
 
 pub run_to : {s t : Shared} (names : NameTable) (end : ℕ) (from to : List Item) (f : Naming → List Mark) (b r : List ℕ) → r ≡ [] → Run names end from f to b r s t → Run names end from f to b [] s t
 run_to {s} {t} names end from to f b r e h = subst (λ (q : List ℕ). Run names end from f to b q s t) e h

@@ -15,7 +15,7 @@ use Rattle.cert_reading.specs.Stops.{ReadsWhere, IsUnopened}
 use Rattle.cert_reading.proofs.Stopping.{then_where, then_nothing_where, as_marks_where, anywhere, reads_anywhere, any_stop, open_before_where, ran, stopped_where}
 use Rattle.cert_words.proofs.Walking.{open_before}
 use Rattle.cert_text.specs.declared.opening.Opened.TheVariants as opens
-use Rattle.cert_text.proofs.Runs.{whole_found, refused_as, refused_behind, no_bytes, some_bytes, run_to}
+use Rattle.cert_text.proofs.Runs.{whole_found, refused_as, refused_behind, left_none, left_some, run_to}
 use Rattle.cert_text.proofs.Openings.{kinded, up_to_entries, opened, measured_marks_are, no_end, none_opened, none_at_peak}
 use Rattle.cert_text.proofs.Refusing.{read_up_to, refused_late, told_before}
 use Rattle.cert_text.proofs.opening.open_first.Goals as goal
@@ -75,26 +75,26 @@ returns-in-Some-refused-2-clause-early c =
 
 pub returns-then-not-is_empty-clause-refused : goal.returns-then-not-is_empty-clause-refused
 returns-then-not-is_empty-clause-refused c =
-    let some : 0 < length c.peak-peak.new.at.left.now = search rules in
-    refused_behind c.args.names.now c.args.bytes.now c.peak-peak.new.at.left.now _ c.saturating_sub.result c.requires c.new-shares.ensures (some_bytes c.peak-peak.new.at.left.now some) c.saturating_sub.ensures (ran refl c.in_default.is (as_marks_where (λ none u. append_assoc (answer_marks c.heading-kind.result.0) (fixed (codes "concon 1\n") ∷ kind_mark c.heading-kind.result.0 Peak ∷ fixed (codes "\n") ∷ []) (peak_marks u (peak_view c.peak-peak.result) ++ closing)) (then_where (anywhere (kinded c.heading-kind.result.0 c.heading-kind.result.1 Peak c.in-Peak.is (c.heading-kind.ensures c.requires c.args.names.now))) (reads_anywhere c.peak-peak.ensures.read))))
+    let some = left_some c.peak-peak.new.at.left.now c.is_empty.result c.is_empty.ensures c.if-not-is_empty.true in
+    refused_behind c.args.names.now c.args.bytes.now c.peak-peak.new.at.left.now _ c.saturating_sub.result c.requires c.new-shares.ensures some c.saturating_sub.ensures (ran refl c.in_default.is (as_marks_where (λ none u. append_assoc (answer_marks c.heading-kind.result.0) (fixed (codes "concon 1\n") ∷ kind_mark c.heading-kind.result.0 Peak ∷ fixed (codes "\n") ∷ []) (peak_marks u (peak_view c.peak-peak.result) ++ closing)) (then_where (anywhere (kinded c.heading-kind.result.0 c.heading-kind.result.1 Peak c.in-Peak.is (c.heading-kind.ensures c.requires c.args.names.now))) (reads_anywhere c.peak-peak.ensures.read))))
 
 pub returns-then-not-is_empty-clause-early : goal.returns-then-not-is_empty-clause-early
 returns-then-not-is_empty-clause-early c =
-    let some : 0 < length c.peak-peak.new.at.left.now = search rules in
+    let some = left_some c.peak-peak.new.at.left.now c.is_empty.result c.is_empty.ensures c.if-not-is_empty.true in
     told_before c.args.names.now c.args.bytes.now (CertSyntax c.saturating_sub.result)
     (λ t q o end i. no_end c.args.names.now c.args.bytes.now c.heading-kind.new.at.left.now c.heading-kind.result.0 _ (ran refl (open_before c.peak-peak.ensures.read c.in_default.is) (kinded c.heading-kind.result.0 c.heading-kind.result.1 Peak c.in-Peak.is (c.heading-kind.ensures c.requires c.args.names.now))) end (openings_end c.args.names.now c.args.bytes.now o end i))
-    (refused_behind c.args.names.now c.args.bytes.now c.peak-peak.new.at.left.now _ c.saturating_sub.result c.requires c.new-shares.ensures (some_bytes c.peak-peak.new.at.left.now some) c.saturating_sub.ensures (ran refl c.in_default.is (as_marks_where (λ none u. append_assoc (answer_marks c.heading-kind.result.0) (fixed (codes "concon 1\n") ∷ kind_mark c.heading-kind.result.0 Peak ∷ fixed (codes "\n") ∷ []) (peak_marks u (peak_view c.peak-peak.result) ++ closing)) (then_where (anywhere (kinded c.heading-kind.result.0 c.heading-kind.result.1 Peak c.in-Peak.is (c.heading-kind.ensures c.requires c.args.names.now))) (reads_anywhere c.peak-peak.ensures.read)))))
+    (refused_behind c.args.names.now c.args.bytes.now c.peak-peak.new.at.left.now _ c.saturating_sub.result c.requires c.new-shares.ensures some c.saturating_sub.ensures (ran refl c.in_default.is (as_marks_where (λ none u. append_assoc (answer_marks c.heading-kind.result.0) (fixed (codes "concon 1\n") ∷ kind_mark c.heading-kind.result.0 Peak ∷ fixed (codes "\n") ∷ []) (peak_marks u (peak_view c.peak-peak.result) ++ closing)) (then_where (anywhere (kinded c.heading-kind.result.0 c.heading-kind.result.1 Peak c.in-Peak.is (c.heading-kind.ensures c.requires c.args.names.now))) (reads_anywhere c.peak-peak.ensures.read)))))
 
 pub returns-clause-opened : goal.returns-clause-opened
 returns-clause-opened c =
-    let zero : length c.peak-peak.new.at.left.now ≡ 0 = search rules in
-    whole_found c.args.names.now c.args.bytes.now c.heading-kind.result.0 (peak_certificate (peak_view c.peak-peak.result)) (c.peak-peak.ensures.plain c.in_default.is) (run_to c.args.names.now (length c.args.bytes.now) _ _ _ c.args.bytes.now _ (no_bytes c.peak-peak.new.at.left.now zero) (ran refl c.in_default.is (as_marks_where (λ none u. append_assoc (answer_marks c.heading-kind.result.0) (fixed (codes "concon 1\n") ∷ kind_mark c.heading-kind.result.0 Peak ∷ fixed (codes "\n") ∷ []) (peak_marks u (peak_view c.peak-peak.result) ++ closing)) (then_where (anywhere (kinded c.heading-kind.result.0 c.heading-kind.result.1 Peak c.in-Peak.is (c.heading-kind.ensures c.requires c.args.names.now))) (reads_anywhere c.peak-peak.ensures.read)))))
+    let zero = left_none c.peak-peak.new.at.left.now c.is_empty.result c.is_empty.ensures c.if-not-is_empty.false in
+    whole_found c.args.names.now c.args.bytes.now c.heading-kind.result.0 (peak_certificate (peak_view c.peak-peak.result)) (c.peak-peak.ensures.plain c.in_default.is) (run_to c.args.names.now (length c.args.bytes.now) _ _ _ c.args.bytes.now _ zero (ran refl c.in_default.is (as_marks_where (λ none u. append_assoc (answer_marks c.heading-kind.result.0) (fixed (codes "concon 1\n") ∷ kind_mark c.heading-kind.result.0 Peak ∷ fixed (codes "\n") ∷ []) (peak_marks u (peak_view c.peak-peak.result) ++ closing)) (then_where (anywhere (kinded c.heading-kind.result.0 c.heading-kind.result.1 Peak c.in-Peak.is (c.heading-kind.ensures c.requires c.args.names.now))) (reads_anywhere c.peak-peak.ensures.read)))))
 
 pub returns-clause-late : goal.returns-clause-late
 returns-clause-late c =
-    let zero : length c.peak-peak.new.at.left.now ≡ 0 = search rules in
+    let zero = left_none c.peak-peak.new.at.left.now c.is_empty.result c.is_empty.ensures c.if-not-is_empty.false in
     refused_late c.args.names.now c.args.bytes.now (opens.Peak c.peak-peak.result)
-    (whole_found c.args.names.now c.args.bytes.now c.heading-kind.result.0 (peak_certificate (peak_view c.peak-peak.result)) (c.peak-peak.ensures.plain c.in_default.is) (run_to c.args.names.now (length c.args.bytes.now) _ _ _ c.args.bytes.now _ (no_bytes c.peak-peak.new.at.left.now zero) (ran refl c.in_default.is (as_marks_where (λ none u. append_assoc (answer_marks c.heading-kind.result.0) (fixed (codes "concon 1\n") ∷ kind_mark c.heading-kind.result.0 Peak ∷ fixed (codes "\n") ∷ []) (peak_marks u (peak_view c.peak-peak.result) ++ closing)) (then_where (anywhere (kinded c.heading-kind.result.0 c.heading-kind.result.1 Peak c.in-Peak.is (c.heading-kind.ensures c.requires c.args.names.now))) (reads_anywhere c.peak-peak.ensures.read))))))
+    (whole_found c.args.names.now c.args.bytes.now c.heading-kind.result.0 (peak_certificate (peak_view c.peak-peak.result)) (c.peak-peak.ensures.plain c.in_default.is) (run_to c.args.names.now (length c.args.bytes.now) _ _ _ c.args.bytes.now _ zero (ran refl c.in_default.is (as_marks_where (λ none u. append_assoc (answer_marks c.heading-kind.result.0) (fixed (codes "concon 1\n") ∷ kind_mark c.heading-kind.result.0 Peak ∷ fixed (codes "\n") ∷ []) (peak_marks u (peak_view c.peak-peak.result) ++ closing)) (then_where (anywhere (kinded c.heading-kind.result.0 c.heading-kind.result.1 Peak c.in-Peak.is (c.heading-kind.ensures c.requires c.args.names.now))) (reads_anywhere c.peak-peak.ensures.read))))))
 
 pub returns-clause-peak : goal.returns-clause-peak
 returns-clause-peak c = no_end c.args.names.now c.args.bytes.now c.heading-kind.new.at.left.now c.heading-kind.result.0 _ (ran refl (open_before c.peak-peak.ensures.read c.in_default.is) (kinded c.heading-kind.result.0 c.heading-kind.result.1 Peak c.in-Peak.is (c.heading-kind.ensures c.requires c.args.names.now)))
