@@ -117,7 +117,6 @@ body_more names ortho_opening es fs rest =
 body_more names (quasi_opening m) es fs rest =
     regroup_measured (codes "quasi\n") (measure_text names m) (pairs_text names es) (pairs_text names fs) rest
     ∙ ap (λ (w : List ℕ). (codes "quasi\n" ++ (measure_text names m ++ w)) ++ rest) (sym (pairs_append names es fs))
-
 body_more names (simplified_opening ss o) es fs rest =
     let k = codes "simplify " in
     let d = decimal (length ss) in

@@ -43,11 +43,7 @@ pub fn open_cert<'a>(
 }
 
 // The same of a text that is not of the second version.
-fn open_first<'a>(
-    alloc: Global,
-    names: &'a Names,
-    bytes: &'a [u8],
-) -> Result<Opened<'a>, CertError>
+fn open_first<'a>(alloc: Global, names: &'a Names, bytes: &'a [u8]) -> Result<Opened<'a>, CertError>
     requires { second_at bytes.now ≡ None }
     ensures opened { IfOk result (IsOpenedAs names.now bytes.now) }
     ensures refused { IfErr result (λ e. IsRefusedAs names.now bytes.now e) }
