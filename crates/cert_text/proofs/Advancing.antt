@@ -1,6 +1,6 @@
 -- What one call of `Pairs::next` reads, or refuses.
-use Rattle.std.proofs.Common.{◌≡◌, ◌⊎◌, inl, inr, ◌≤◌, ◌+◌, ℕ, suc, Bool, List, [], ◌∷◌, ◌++◌, length, Option, Some, None, Result, Ok, Err, IfSome, IfNone, codes, refl, sym, ap, ◌∙◌, subst, arith, length-append}
-use Rattle.std.proofs.lemmas.List.{append-nil, length_push}
+use Rattle.std.proofs.Common.{◌≡◌, inl, inr, ◌≤◌, ℕ, suc, List, [], ◌∷◌, ◌++◌, length, Option, Some, None, IfSome, IfNone, refl, sym, ap, ◌∙◌, subst, arith}
+use Rattle.std.proofs.lemmas.List.{length_push}
 use Rattle.certificates.specs.Certificates as math
 use Rattle.certificates.specs.Certificates.{Certificate}
 use Rattle.cops_names.specs.NameTable.{NameTable}
@@ -9,12 +9,12 @@ use Rattle.cert_model.specs.CertificateView.{pair_entry_view}
 use Rattle.cert_grammar.specs.Words.{name_of}
 use Rattle.cert_grammar.specs.CertificateMarks.{closing}
 use Rattle.cert_grammar.specs.FirstVersion.{second_at, pairs_text, IsCertificateText, pairs_marks, IsCertificateRefused, pairs_from, entries_from}
-use Rattle.cert_grammar.specs.Marks.{CertificateCause, syntax, Naming, Mark, fixed, marks_text}
+use Rattle.cert_grammar.specs.Marks.{CertificateCause, syntax, Naming, Mark}
 use Rattle.cert_grammar.specs.Items as Items
 use Rattle.cert_grammar.specs.Items.{Item}
 use Rattle.cert_openings.proofs.FirstVersion.{never_both}
 use Rattle.cert_openings.proofs.FirstEnds.{read_first}
-use Rattle.cert_openings.specs.Openings.{BeginsEntry, Opening, certificate_for}
+use Rattle.cert_openings.specs.Openings.{Opening, certificate_for}
 use Rattle.cert_openings.specs.FirstOpenings.{IsRead}
 use Rattle.cert_openings.proofs.Lines.{bytes_apart}
 use Rattle.cert_words.specs.declared.error.CertError.{CertError}

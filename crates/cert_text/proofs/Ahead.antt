@@ -1,12 +1,12 @@
 -- A reader goes along what stands there, and never stops before its end.
-use Rattle.std.proofs.Common.{◌≡◌, ◌⊎◌, inl, inr, ◌<◌, ◌+◌, ℕ, suc, List, [], ◌∷◌, ◌++◌, take, Option, Some, None, codes, refl, sym, ap, ◌∙◌, subst, arith, append_assoc}
-use Rattle.std.proofs.lemmas.List.{append-nil, append_cancel_left}
+use Rattle.std.proofs.Common.{◌≡◌, inl, inr, ◌<◌, ℕ, suc, List, [], ◌∷◌, ◌++◌, take, Option, Some, None, codes, refl, sym, ap, ◌∙◌, subst, arith, append_assoc}
+use Rattle.std.proofs.lemmas.List.{append_cancel_left}
 use Rattle.cops_names.specs.NameTable.{NameTable}
 use Rattle.cert_grammar.specs.Marks.{CertificateCause, Mark, fixed, mark_text, marks_text, demands_of, verdict}
 use Rattle.cert_grammar.specs.Refusals.{Pass}
 use Rattle.cert_grammar.specs.Scans.{Scan, scan}
 use Rattle.cert_grammar.specs.Items.{Item, between, line, Lead, text, check, at_once, keyword, numeral_lead, position_lead, variable_lead, name_lead, leads}
-use Rattle.cert_grammar.specs.FirstVersion.{pair_or_end, pairs_from, entries_from, measure}
+use Rattle.cert_grammar.specs.FirstVersion.{pairs_from, entries_from}
 use Rattle.cert_grammar.specs.FirstRefusal as machine
 use Rattle.cert_grammar.specs.FirstRefusal.{mode_of, first_there, taken, mark_of, items_of, Left, behind_lead, judged, step_lead}
 use Rattle.cert_grammar.specs.FirstRefusal.{Reading as Answer}
@@ -18,13 +18,13 @@ use Rattle.cert_laws.proofs.OneRefusal.{passed_anywhere}
 use Rattle.cert_laws.proofs.PassTerms.{pass_append}
 use Rattle.cert_laws.proofs.Paths.{Takes, Path, text_is, lead_scan, first_complete, take_front}
 use Rattle.cert_laws.proofs.Moves.{There, takes_along}
-use Rattle.cert_laws.proofs.Reached.{Move, Moves, SameTaken, same_taken}
+use Rattle.cert_laws.proofs.Reached.{Move, Moves, same_taken}
 use Rattle.cert_openings.specs.Openings.{BeginsEntry}
 use Rattle.cert_openings.proofs.Lines.{apart}
 use Rattle.cert_sharing.proofs.UseMarks.{pass_split}
 use Rattle.cert_words.specs.Walks.{left_at, RefusesAt}
 use Rattle.cert_words.proofs.Walking.{step_on}
-use Rattle.cert_reading.specs.Stops.{lowest, IsLater, AreLater, IsList}
+use Rattle.cert_reading.specs.Stops.{lowest, IsLater, AreLater}
 
 -- ---- from a path to moves
 

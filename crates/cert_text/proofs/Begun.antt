@@ -1,11 +1,11 @@
 -- Where an opening, or an entry, stands, no reader stops within it.
-use Rattle.std.proofs.Common.{◌≡◌, ◌⊎◌, inl, inr, ◌<◌, ◌≤◌, ◌+◌, ℕ, suc, Bool, true, false, List, [], ◌∷◌, ◌++◌, length, Option, Some, None, codes, refl, sym, ap, ◌∙◌, subst, arith, append_assoc, length-append}
+use Rattle.std.proofs.Common.{◌≡◌, ◌⊎◌, inl, inr, ◌<◌, ◌≤◌, ℕ, suc, Bool, true, false, List, [], ◌∷◌, ◌++◌, length, Option, Some, None, codes, refl, sym, ap, ◌∙◌, subst, arith, append_assoc, length-append}
 use Rattle.std.proofs.lemmas.Bool.{cases_lt}
 use Rattle.std.proofs.lemmas.List.{append-nil, append_cancel_left, append_cancel_right}
-use Rattle.certificates.specs.Certificates.{PairEntry, Certificate, linear_measure, precedence_measure}
+use Rattle.certificates.specs.Certificates.{PairEntry, linear_measure, precedence_measure}
 use Rattle.cops_names.specs.NameTable.{NameTable}
 use Rattle.cert_grammar.specs.Words.{name_of}
-use Rattle.cert_grammar.specs.FirstVersion.{CanBeSpelt, pairs_text, body_text, pairs_marks, body_marks, certificate_marks, body, measure, entries_from, pairs_from}
+use Rattle.cert_grammar.specs.FirstVersion.{CanBeSpelt, pairs_text, pairs_marks, body_marks, certificate_marks, body, measure, entries_from, pairs_from}
 use Rattle.cert_grammar.specs.Versions.{in_full}
 use Rattle.cert_grammar.specs.Marks.{all_used, Demand, shares, CertificateCause, Naming, Mark, fixed, word, fits_answer, mark_text, marks_text}
 use Rattle.cert_grammar.specs.CertificateMarks.{answer_marks, measure_marks, closing}
@@ -25,7 +25,7 @@ use Rattle.cert_openings.proofs.Lines.{bytes_apart}
 use Rattle.cert_grammar.specs.Sharing.{Shared, nothing_shared, behind_marks, PassShares}
 use Rattle.cert_shares.specs.SharesView.{with_begun}
 use Rattle.cert_sharing.proofs.ExactShared.{At}
-use Rattle.cert_words.specs.Walks.{left_at, Walks, Run, RefusesAt}
+use Rattle.cert_words.specs.Walks.{left_at, RefusesAt}
 use Rattle.cert_words.proofs.Walking.{same_begun}
 use Rattle.cert_words.proofs.Whole.{walks_at, start_at}
 use Rattle.cert_text.proofs.Unshared.{front_passes}

@@ -1,12 +1,11 @@
 -- What is read of a certificate's text, up to a place.
-use Rattle.std.proofs.Common.{◌≡◌, ◌⊎◌, inl, inr, ℕ, suc, ◌+◌, ◌<◌, ◌≤◌, List, [], ◌∷◌, ◌++◌, length, Option, None, Some, refl, sym, ap, ◌∙◌, subst, decimal, codes, arith, append_assoc}
+use Rattle.std.proofs.Common.{◌≡◌, ◌⊎◌, inl, inr, ℕ, suc, List, [], ◌∷◌, ◌++◌, length, refl, sym, ap, ◌∙◌, subst, decimal, codes, arith, append_assoc}
 use Rattle.std.proofs.lemmas.List.{append_cancel_left, length-append}
-use Rattle.certificates.specs.Certificates.{PairEntry, Simplification, Certificate}
+use Rattle.certificates.specs.Certificates.{PairEntry, Simplification}
 use Rattle.cert_grammar.specs.Versions.{in_full}
 use Rattle.cops_names.specs.NameTable.{NameTable}
 use Rattle.cert_grammar.specs.Words.{position_text}
-use Rattle.cert_grammar.specs.EvidenceText.{ArePairs}
-use Rattle.cert_grammar.specs.FirstVersion.{evidence_text, pairs_text, body_text, certificate_text, CanBeSpelt, IsCertificateText}
+use Rattle.cert_grammar.specs.FirstVersion.{evidence_text, pairs_text, body_text, certificate_text, IsCertificateText}
 use Rattle.cert_grammar.specs.CertificateText.{measure_text, simplifications_text, answer_line}
 use Rattle.cert_openings.specs.Openings.{Opening, ortho_opening, quasi_opening, simplified_opening, certificate_for}
 use Rattle.cert_openings.specs.FirstOpenings.{IsRead}

@@ -1,15 +1,14 @@
 -- A text that is read up to its entries.
-use Rattle.std.proofs.Common.{◌≡◌, inl, inr, ◌≤◌, ℕ, Bool, true, false, List, [], ◌∷◌, ◌++◌, length, Option, Some, None, codes, refl, sym, ap, ◌∙◌, subst, arith, append_assoc}
+use Rattle.std.proofs.Common.{◌≡◌, ℕ, Bool, true, false, List, [], ◌∷◌, ◌++◌, length, Option, Some, None, codes, refl, sym, ap, ◌∙◌, subst, arith, append_assoc}
 use Rattle.std.proofs.lemmas.List.{append-nil}
-use Rattle.certificates.specs.Certificates.{MeasureCertificate, Peak, peak_certificate}
+use Rattle.certificates.specs.Certificates.{MeasureCertificate}
 use Rattle.cops_names.specs.NameTable.{NameTable}
-use Rattle.cert_grammar.specs.Words.{name_of}
-use Rattle.cert_grammar.specs.FirstVersion.{IsCertificateText, peak_marks, pairs_from, entries_from, start_line}
+use Rattle.cert_grammar.specs.FirstVersion.{start_line}
 use Rattle.cert_grammar.specs.Marks.{CertificateCause, Naming, Mark, fixed, marks_text}
 use Rattle.cert_grammar.specs.CertificateMarks.{answer_marks, measure_marks}
 use Rattle.cert_grammar.specs.Items as Items
 use Rattle.cert_grammar.specs.Items.{Item}
-use Rattle.cert_openings.specs.Openings.{BeginsEntry, Opening, ortho_opening, quasi_opening}
+use Rattle.cert_openings.specs.Openings.{BeginsEntry, Opening, quasi_opening}
 use Rattle.cert_openings.specs.FirstOpenings.{IsOpened, IsOpeningEnd}
 use Rattle.cert_openings.proofs.Lines.{bytes_apart}
 use Rattle.cert_openings.proofs.OneEnd.{answer_text, first_line, Kind, plain, measured, kind_text, lexed, same_answer}
@@ -26,7 +25,6 @@ use Rattle.cert_reading.specs.declared.headings.Kind.TheVariants as kinds
 use Rattle.cert_reading.specs.Stops.{Place, ReadsWhere, ReadsOnWhere, IsStoppedWhere, IsUnopened}
 use Rattle.cert_text.specs.ReadingView.{place_of, IsNext, read_marks, IsFirst, IsUpTo}
 use Rattle.cert_text.proofs.Runs.{run_read}
-use Rattle.cert_text.proofs.Advancing.{run_as}
 use Rattle.cert_text.proofs.Unshared.{unshared}
 use Rattle.cert_text.proofs.Begun.{unopened}
 

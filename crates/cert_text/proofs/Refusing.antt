@@ -1,10 +1,9 @@
 -- Where the refusal of a text stands that is opened, or is not.
-use Rattle.std.proofs.Common.{◌≡◌, ℕ, List, Option, Some, None, refl, sym, subst}
+use Rattle.std.proofs.Common.{◌≡◌, ℕ, List, Some, refl, sym, subst}
 use Rattle.certificates.specs.Certificates.{peak_certificate}
 use Rattle.cops_names.specs.NameTable.{NameTable}
 use Rattle.cert_model.specs.CertificateView.{measure_view, peak_view}
 use Rattle.cert_grammar.specs.Marks.{CertificateCause}
-use Rattle.cert_grammar.specs.FirstVersion.{IsCertificateRefused}
 use Rattle.cert_openings.proofs.FirstVersion.{never_both}
 use Rattle.cert_openings.specs.Openings.{Opening, ortho_opening, quasi_opening}
 use Rattle.cert_openings.specs.FirstOpenings.{IsOpened}

@@ -1,5 +1,5 @@
 -- What a run along the marks of an opening and of entries has read, and where a run refuses a text.
-use Rattle.std.proofs.Common.{◌≡◌, ◌⊎◌, inl, inr, ◌+◌, ◌-◌, ◌<◌, ◌==◌, ℕ, suc, Bool, true, false, List, [], ◌∷◌, ◌++◌, length, Option, Some, None, codes, refl, sym, ap, ◌∙◌, subst, arith, append_assoc, length-append}
+use Rattle.std.proofs.Common.{◌≡◌, ◌⊎◌, inl, inr, ◌+◌, ◌-◌, ◌<◌, ◌==◌, ℕ, Bool, true, false, List, [], ◌∷◌, ◌++◌, length, Option, Some, None, codes, refl, sym, ap, ◌∙◌, subst, arith, append_assoc, length-append}
 use Rattle.std.proofs.lemmas.Bool.{eqb-true, false≢true}
 use Rattle.std.proofs.lemmas.List.{append-nil, append_cancel_right}
 use Rattle.certificates.specs.Certificates.{PairEntry, Certificate}
@@ -21,7 +21,7 @@ use Rattle.cert_words.specs.declared.error.CertError.{CertError}
 use Rattle.cert_words.specs.declared.error.CertError.TheVariants.{CertSyntax, UnknownName, WrongArity, BadNumber, BadShare, CertTooDeep, TooMany, NoMemory}
 use Rattle.cert_words.specs.Words.{told}
 use Rattle.cert_words.specs.CertRefusals.{IsRefusedAs}
-use Rattle.cert_words.specs.Walks.{left_at, Walks, tagged, AreFound, Run}
+use Rattle.cert_words.specs.Walks.{left_at, tagged, AreFound, Run}
 use Rattle.cert_words.proofs.Walking.{found_then}
 use Rattle.cert_words.proofs.Whole.{walks_text, walks_pass, walks_at, start_at, refused_at}
 use Rattle.cert_reading.specs.Plain.{ArePlainPairs, IsPlain}

@@ -1,10 +1,10 @@
 -- A text of the first version has no shared automata: nothing is known of any before, within or behind it.
-use Rattle.std.proofs.Common.{ℕ, Bool, true, false, List, [], ◌∷◌, ◌++◌, Option, Some, None, codes, ap}
+use Rattle.std.proofs.Common.{ℕ, Bool, true, false, List, [], ◌∷◌, Option, Some, None, codes, ap}
 use Rattle.certificates.specs.Certificates.{PairEntry}
 use Rattle.cops_names.specs.NameTable.{NameTable}
 use Rattle.cert_grammar.specs.Words.{name_of}
 use Rattle.cert_grammar.specs.Versions.{in_full}
-use Rattle.cert_grammar.specs.Marks.{Naming, Mark, fixed}
+use Rattle.cert_grammar.specs.Marks.{Naming, fixed}
 use Rattle.cert_grammar.specs.CertificateMarks.{answer_marks}
 use Rattle.cert_grammar.specs.FirstVersion.{body_marks}
 use Rattle.cert_grammar.specs.Items.{Item}

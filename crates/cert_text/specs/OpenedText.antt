@@ -1,6 +1,6 @@
 -- What is said of a text that is read up to its entries.
-use Rattle.std.specs.Prelude.{◌≡◌, ◌≤◌, ◌<◌, ℕ, List, Some, Result, Ok, Err}
-use Rattle.certificates.specs.Certificates.{Certificate, peak_certificate}
+use Rattle.std.specs.Prelude.{◌≡◌, ◌≤◌, ◌<◌, ℕ, List, Some}
+use Rattle.certificates.specs.Certificates.{peak_certificate}
 use Rattle.cops_names.specs.NameTable.{NameTable}
 use Rattle.cert_model.specs.CertificateView.{measure_view, peak_view}
 use Rattle.cert_grammar.specs.FirstVersion.{IsCertificateText, IsCertificateRefused}

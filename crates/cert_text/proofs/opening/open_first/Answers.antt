@@ -1,18 +1,15 @@
-use Rattle.std.proofs.Common.{rules, ◌≡◌, ◌<◌, inl, inr, refl, subst, length, [], ◌∷◌, ◌++◌, codes, append_assoc}
+use Rattle.std.proofs.Common.{inl, inr, refl, length, [], ◌∷◌, ◌++◌, codes, append_assoc}
 use Rattle.cert_model.specs.CertificateView.{measure_view, peak_view}
 use Rattle.certificates.specs.Certificates.{peak_certificate}
 use Rattle.cert_grammar.specs.Marks.{fixed}
 use Rattle.cert_grammar.specs.CertificateMarks.{answer_marks, closing}
 use Rattle.cert_grammar.specs.FirstVersion.{peak_marks, pairs_from, entries_from}
-use Rattle.cert_grammar.specs.Items.{opening}
 use Rattle.cert_openings.specs.Openings.{ortho_opening, quasi_opening}
 use Rattle.cert_openings.proofs.FirstEnds.{openings_end}
 use Rattle.cert_words.specs.declared.error.CertError.TheVariants.{CertSyntax}
-use Rattle.cert_reading.specs.declared.headings.Kind.{Kind}
 use Rattle.cert_reading.specs.declared.headings.Kind.TheVariants.{Ortho, Quasi, Peak}
-use Rattle.cert_reading.specs.Headings.{kind_mark, item_of, heading_marks, entries_of}
-use Rattle.cert_reading.specs.Stops.{ReadsWhere, IsUnopened}
-use Rattle.cert_reading.proofs.Stopping.{then_where, then_nothing_where, as_marks_where, anywhere, reads_anywhere, any_stop, open_before_where, ran, stopped_where}
+use Rattle.cert_reading.specs.Headings.{kind_mark, entries_of}
+use Rattle.cert_reading.proofs.Stopping.{then_where, then_nothing_where, as_marks_where, anywhere, reads_anywhere, ran, stopped_where}
 use Rattle.cert_words.proofs.Walking.{open_before}
 use Rattle.cert_text.specs.declared.opening.Opened.TheVariants as opens
 use Rattle.cert_text.proofs.Runs.{whole_found, refused_as, refused_behind, left_none, left_some, run_to}

@@ -1,4 +1,4 @@
-use Rattle.std.proofs.Common.{rules, ◌≡◌, ◌<◌, ℕ, List, [], length, refl, arith, subst}
+use Rattle.std.proofs.Common.{rules, ◌≡◌, ◌<◌, length, refl}
 use Rattle.cert_model.specs.CertificateView.{certificate_view}
 use Rattle.cert_reading.proofs.Stopping.{ran, stopped_where}
 use Rattle.cert_text.proofs.Runs.{whole_found, refused_as, refused_behind, no_bytes, some_bytes, run_to}
