@@ -7,17 +7,18 @@ use Rattle.rewriting.specs.Signatures.{IsOver, AreOver}
 use Rattle.rewriting.specs.Rules.{System}
 use Rattle.certificates.specs.Derivations.{Derivation, no_steps, first_step, Step, by_rule, by_hypothesis, Derivations, no_derivations, first_derivation}
 use Rattle.certificates.specs.Evidence.{PairEvidence, trivial_pair, infeasible_pair, conflicting_pair, joined_pair, unfeasible_pair}
-use Rattle.certificates.specs.Certificates.{PairEntry, Apartness, by_normal_forms, by_rigid_caps, Peak, peak_certificate}
+use Rattle.certificates.specs.Certificates.{PairEntry, Apartness, by_normal_forms, by_rigid_caps, Peak, Certificate, ortho_certificate, quasi_certificate, peak_certificate, simplified_certificate}
 use Rattle.certificates.specs.Sizes.{IsShort, AreStepsShort, IsStepShort, AreShort}
-use Rattle.valid_certificates.specs.Entries.{IsPairShort}
+use Rattle.valid_certificates.specs.Entries.{IsPairShort, ArePairsShort}
 use Rattle.noncon_check.specs.Judges.{AreFew}
-use Rattle.cert_check.specs.Kinds.{CanPeakBeJudged}
-use Rattle.cert_openings.specs.Openings.{Opening, ortho_opening, quasi_opening, certificate_for}
+use Rattle.cert_check.specs.Kinds.{CanPeakBeJudged, CanBeJudged}
+use Rattle.cert_openings.specs.Openings.{Opening, ortho_opening, quasi_opening, simplified_opening, certificate_for}
 use Rattle.cops_names.specs.NameTable.{NameTable}
 use Rattle.cert_grammar.specs.Words.{IsSpelt, AreSpelt}
 use Rattle.cert_grammar.specs.Limits.{AreSteps, IsStep, AreDerivations, IsDerivation}
 use Rattle.cert_grammar.specs.EvidenceText.{IsEvidence, ArePairs}
-use Rattle.cert_grammar.specs.CertificateText.{IsApart, CanBeSpelt}
+use Rattle.cert_grammar.specs.CertificateText.{IsApart}
+use Rattle.cert_grammar.specs.FirstVersion.{CanBeSpelt}
 
 -- terms that the names spell are over the arities of the names
 mutual
@@ -65,6 +66,7 @@ last_pair_short names (f ∷ es) e h = last_pair_short names es e h.4
 pub last_short : (names : NameTable) (o : Opening) (es : List PairEntry) (e : PairEntry) → CanBeSpelt names (certificate_for o (es ++ e ∷ [])) → IsPairShort e.evidence
 last_short names ortho_opening es e h = last_pair_short names es e h.1
 last_short names (quasi_opening measure) es e h = last_pair_short names es e h.2
+last_short names (simplified_opening steps o) es e h = absurd h
 
 pub peak_can_be_judged : (sys : System) (names : NameTable) (peak : Peak) → sys.arities ≡ map (λ s. s.1) names.symbols → CanBeSpelt names (peak_certificate peak) → CanPeakBeJudged sys peak
 peak_can_be_judged sys names peak same h = record {
@@ -74,3 +76,14 @@ peak_can_be_judged sys names peak same h = record {
   second_short = short peak.second h.3;
   few = few names peak.apart h.4;
 }
+
+pairs_short : (names : NameTable) (es : List PairEntry) → ArePairs names es → ArePairsShort es
+pairs_short names [] h = tt
+pairs_short names (e ∷ es) h = (evidence_short names e.evidence h.3, pairs_short names es h.4)
+
+-- a certificate that can be spelt can be judged in each system of the names' symbols
+pub spelt_can_be_judged : (sys : System) (names : NameTable) (c : Certificate) → sys.arities ≡ map (λ s. s.1) names.symbols → CanBeSpelt names c → CanBeJudged sys c
+spelt_can_be_judged sys names (ortho_certificate pairs) same h = pairs_short names pairs h.1
+spelt_can_be_judged sys names (quasi_certificate measure pairs) same h = pairs_short names pairs h.2
+spelt_can_be_judged sys names (peak_certificate peak) same h = peak_can_be_judged sys names peak same h
+spelt_can_be_judged sys names (simplified_certificate steps c) same h = absurd h

@@ -7,9 +7,11 @@ use Rattle.cert_model.specs.CertificateView.{pair_entry_view}
 use Rattle.valid_certificates.specs.Entries.{IsPairShort}
 use Rattle.cops_names.specs.NameTable.{NameTable}
 use Rattle.cert_grammar.specs.Words.{position_text}
-use Rattle.cert_grammar.specs.EvidenceText.{evidence_text, pairs_text}
-use Rattle.cert_grammar.specs.CertificateText.{measure_text, body_text, IsCertificateText}
-use Rattle.cert_openings.specs.Openings.{Opening, ortho_opening, quasi_opening, certificate_for, IsRead}
+use Rattle.cert_grammar.specs.FirstVersion.{evidence_text, pairs_text, body_text, IsCertificateText}
+use Rattle.cert_grammar.specs.CertificateText.{measure_text, simplifications_text}
+use Rattle.cert_grammar.specs.Versions.{in_full}
+use Rattle.cert_openings.specs.Openings.{Opening, ortho_opening, quasi_opening, simplified_opening, certificate_for}
+use Rattle.cert_openings.specs.FirstOpenings.{IsRead}
 use Rattle.cert_text.specs.Reading.{Reading, HasRead, ReadsOn, IsAtEnd, HasTextOf}
 use Rattle.cert_check.proofs.Bounds.{last_short}
 
@@ -37,6 +39,8 @@ body_grows names ortho_opening es e = longer (codes "ortho\n") (pairs_text names
 body_grows names (quasi_opening m) es e =
     longer (codes "quasi\n") (measure_text names m ++ pairs_text names es) (measure_text names m ++ pairs_text names (es ++ e ∷ []))
     (longer (measure_text names m) (pairs_text names es) (pairs_text names (es ++ e ∷ [])) (pairs_grow names es e))
+body_grows names (simplified_opening ss o) es e =
+    longer (codes "simplify ") _ _ (longer (decimal (length ss)) _ _ (longer (codes "\n") _ _ (longer (simplifications_text names in_full ss) (body_text names (certificate_for o es)) (body_text names (certificate_for o (es ++ e ∷ []))) (body_grows names o es e))))
 
 apart : (xs ys : List ℕ) → codes "concon 1\n" ++ xs ≡ codes "YES\n" ++ ys → ⊥
 apart xs ys e =

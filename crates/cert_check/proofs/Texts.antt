@@ -9,9 +9,9 @@ use Rattle.cert_model.specs.CertificateView.{peak_view}
 use Rattle.cert_model.specs.ReasonView.{rejected_view}
 use Rattle.cert_model.specs.declared.model.Peak as model
 use Rattle.cert_model.specs.declared.reasons.Rejected as reasons
-use Rattle.cert_grammar.specs.CertificateText.{IsCertificateText}
-use Rattle.cert_laws.specs.MarkLaws.{NeverBoth}
-use Rattle.cert_grammar.specs.Marks.{syntax, unknown_name, wrong_arity, bad_number, too_many, too_deep}
+use Rattle.cert_grammar.specs.FirstVersion.{IsCertificateText}
+use Rattle.cert_openings.specs.FirstLaws.{NeverBoth}
+use Rattle.cert_grammar.specs.Marks.{syntax, unknown_name, wrong_arity, bad_number, bad_share, too_many, too_deep}
 use Rattle.cert_words.specs.CertRefusals.{IsRefusedAs}
 use Rattle.cert_words.specs.Words.{counted_view}
 use Rattle.cert_words.specs.declared.error.CertError.{CertError}
@@ -54,6 +54,7 @@ told_never never names bytes c text (refused.CertSyntax at) h = never names byte
 told_never never names bytes c text (refused.UnknownName at) h = never names bytes c unknown_name at text h
 told_never never names bytes c text (refused.WrongArity at) h = never names bytes c wrong_arity at text h
 told_never never names bytes c text (refused.BadNumber at) h = never names bytes c bad_number at text h
+told_never never names bytes c text (refused.BadShare at) h = never names bytes c bad_share at text h
 told_never never names bytes c text (refused.CertTooDeep at) h = never names bytes c too_deep at text h
 told_never never names bytes c text (refused.TooMany what at) h = never names bytes c (too_many (counted_view what)) at text h
 told_never never names bytes c text refused.NoMemory h = tt
@@ -75,6 +76,7 @@ module _ (sys : System) (names : NameTable) (bytes : List ℕ) (o : Opening) (r 
       untold (refused.UnknownName at) h i = i
       untold (refused.WrongArity at) h i = i
       untold (refused.BadNumber at) h i = i
+      untold (refused.BadShare at) h i = i
       untold (refused.CertTooDeep at) h i = i
       untold (refused.TooMany what at) h i = i
       untold refused.NoMemory h i = h.0 refl

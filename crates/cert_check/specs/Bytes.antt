@@ -6,7 +6,7 @@ use Rattle.valid_certificates.specs.Certificates.{IsValid, IsRejected}
 use Rattle.valid_certificates.specs.Peaks.{IsValidPeak, IsPeakRejected}
 use Rattle.cops_names.specs.NameTable.{NameTable}
 use Rattle.cert_model.specs.ReasonView.{rejected_view}
-use Rattle.cert_grammar.specs.CertificateText.{IsCertificateText}
+use Rattle.cert_grammar.specs.FirstVersion.{IsCertificateText}
 use Rattle.cert_openings.specs.Openings.{Opening, certificate_for}
 use Rattle.cert_words.specs.CertRefusals.{IsRefusedAs}
 use Rattle.cert_words.specs.declared.error.CertError.{CertError}

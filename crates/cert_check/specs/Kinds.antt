@@ -2,19 +2,20 @@
 use Rattle.rewriting.specs.Terms.{Fits}
 use Rattle.rewriting.specs.Signatures.{IsOver}
 use Rattle.rewriting.specs.Rules.{System}
-use Rattle.certificates.specs.Certificates.{Peak, Certificate, ortho_certificate, quasi_certificate, peak_certificate}
+use Rattle.certificates.specs.Certificates.{Peak, Certificate, ortho_certificate, quasi_certificate, peak_certificate, simplified_certificate}
 use Rattle.certificates.specs.Sizes.{IsShort}
+use Rattle.simplifications.specs.Simplifying.{AllSimplify}
 use Rattle.valid_certificates.specs.Entries.{ArePairsShort}
-use Rattle.valid_certificates.specs.Laws.{ReachesApart}
 use Rattle.noncon_check.specs.Judges.{AreFew}
 use Rattle.cert_check.specs.declared.Verdict.{Verdict}
 use Rattle.cert_check.specs.declared.Verdict.TheVariants.{Yes, No}
 
--- a peak shows that the system is not confluent, the other kinds that it is
+-- a peak shows that the system is not confluent, the other kinds that it is; behind steps the same
 abbrev pub verdict_of : Certificate → Verdict
 verdict_of (ortho_certificate pairs) = Yes
 verdict_of (quasi_certificate measure pairs) = Yes
 verdict_of (peak_certificate peak) = No
+verdict_of (simplified_certificate steps c) = verdict_of c
 
 -- the peak's start fits and is over the symbols, its derivations are short, and its entries are few
 pub record CanPeakBeJudged (sys : System) (peak : Peak) : Type 0 where
@@ -24,14 +25,16 @@ pub record CanPeakBeJudged (sys : System) (peak : Peak) : Type 0 where
   pub second_short : IsShort peak.second
   pub few : AreFew peak.apart
 
--- numbers of 32 bits tell the steps of derivations and the entries
+-- numbers of 32 bits tell the steps of derivations and the entries; of a body in the system that its steps leave
 abbrev pub CanBeJudged : System → Certificate → Type 0
 CanBeJudged sys (ortho_certificate pairs) = ArePairsShort pairs
 CanBeJudged sys (quasi_certificate measure pairs) = ArePairsShort pairs
 CanBeJudged sys (peak_certificate peak) = CanPeakBeJudged sys peak
+CanBeJudged sys (simplified_certificate steps c) = (last : System) → AllSimplify sys steps last → CanBeJudged last c
 
--- the certificate is a peak, whose start reaches its two ends, and they have no common reduct
-abbrev pub IsPeakApart : System → Certificate → Type 0
-IsPeakApart sys (ortho_certificate pairs) = ⊥
-IsPeakApart sys (quasi_certificate measure pairs) = ⊥
-IsPeakApart sys (peak_certificate peak) = ReachesApart sys peak
+-- no steps stand before the body
+abbrev pub HasNoSteps : Certificate → Type 0
+HasNoSteps (ortho_certificate pairs) = Unit {0}
+HasNoSteps (quasi_certificate measure pairs) = Unit {0}
+HasNoSteps (peak_certificate peak) = Unit {0}
+HasNoSteps (simplified_certificate steps c) = ⊥

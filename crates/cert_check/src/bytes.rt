@@ -5,22 +5,22 @@ ghost use Rattle.join_systems.specs.FileRelation.{IsFromFile, IsFileConfluent};
 ghost use Rattle.certificates.specs.Certificates as math;
 ghost use Rattle.cert_model.specs.CertificateView.{pair_entry_view, measure_view, peak_view};
 ghost use Rattle.valid_certificates.specs.Entries.{IsPairShort};
-ghost use Rattle.valid_certificates.specs.Laws.{ReachesApart};
-ghost use Rattle.cert_grammar.specs.CertificateText.{IsCertificateText};
-ghost use Rattle.cert_openings.specs.Openings.{ortho_opening, quasi_opening, IsRead};
+ghost use Rattle.valid_certificates.specs.CarriedBack.{IsPeakApart};
+ghost use Rattle.cert_grammar.specs.FirstVersion.{IsCertificateText};
+ghost use Rattle.cert_openings.specs.Openings.{ortho_opening, quasi_opening};
+ghost use Rattle.cert_openings.specs.FirstOpenings.{IsRead};
 ghost use Rattle.tallies.specs.Tally.{IsOrthoTally, IsQuasiTally};
 ghost use Rattle.cert_check.specs.Kinds.{CanPeakBeJudged};
 ghost use Rattle.cert_check.specs.Answers.{OnYes, OnNo};
 ghost use Rattle.cert_check.specs.Bytes.{BytesAnswers, EntriesAnswer, IsNoRefusal, PeakAnswers};
 
-use crate::Verdict;
 use crate::measures::NamedMeasure;
+use crate::{Verdict, check_apart};
 use cert_model::{MeasureCert, PairEntry, Peak, Rejected};
 use cert_text::{CertError, Opened, Pairs, one_answer, open_cert};
 use cops_names::Names;
 use join_systems::join_systems_keep_their_rules;
 use measure::Measure;
-use noncon_check::check_peak;
 use ortho_check::OrthoRun;
 use quasi_check::QuasiRun;
 use std::alloc::Global;
@@ -149,9 +149,9 @@ fn judge_quasi(
 fn judge_peak(alloc: Global, sys: &System, peak: &Peak) -> Result<(), BytesError>
     requires { CanPeakBeJudged sys.now (peak_view peak.now) }
     ensures answers { PeakAnswers sys.now (peak_view peak.now) result }
-    ensures apart { OnOk result (ReachesApart sys.now (peak_view peak.now)) }
+    ensures apart { OnOk result (IsPeakApart sys.now (math.peak_certificate (peak_view peak.now))) }
 {
-    check_peak(alloc, sys, peak)?;
+    check_apart(alloc, sys, peak)?;
     Ok(())
 }
 
@@ -166,7 +166,7 @@ fn judge_bytes(
     ensures answers { BytesAnswers sys.now names.now bytes.now result }
     ensures exact_refusal { (c : math.Certificate) → IsCertificateText names.now bytes.now c → IsNoRefusal result }
     ensures yes { OnYes result (IsConfluent sys.now) }
-    ensures no { OnNo result ((p : math.Peak) × IsCertificateText names.now bytes.now (math.peak_certificate p) × ReachesApart sys.now p) }
+    ensures no { OnNo result ((c : math.Certificate) × IsCertificateText names.now bytes.now c × IsPeakApart sys.now c) }
 {
     one_answer();
     match open_cert(alloc, names, bytes)? {
@@ -198,7 +198,7 @@ pub fn check_bytes(
     ensures exact_refusal { (c : math.Certificate) → IsCertificateText names.now bytes.now c → IsNoRefusal result }
     ensures yes { OnYes result (IsConfluent sys.now) }
     ensures file { OnYes result (IsFromFile sys.now → IsFileConfluent sys.now) }
-    ensures no { OnNo result ((p : math.Peak) × IsCertificateText names.now bytes.now (math.peak_certificate p) × ReachesApart sys.now p) }
+    ensures no { OnNo result ((c : math.Certificate) × IsCertificateText names.now bytes.now c × IsPeakApart sys.now c) }
 {
     join_systems_keep_their_rules();
     judge_bytes(alloc, sys, names, bytes)

@@ -1,22 +1,26 @@
 //! The check of a certificate, by its kind.
 #![tactic(auto)]
 
+mod behind;
 mod bytes;
 mod measures;
 
 ghost use Rattle.std.specs.Prelude.{OnOk, map};
 ghost use Rattle.rewriting.specs.Confluence.{IsConfluent};
 ghost use Rattle.join_systems.specs.FileRelation.{IsFromFile, IsFileConfluent};
-ghost use Rattle.cert_model.specs.CertificateView.{pair_entry_view, measure_view, certificate_view};
+ghost use Rattle.certificates.specs.Certificates.{peak_certificate};
+ghost use Rattle.cert_model.specs.CertificateView.{pair_entry_view, measure_view, peak_view, certificate_view};
 ghost use Rattle.valid_certificates.specs.Entries.{ArePairsShort};
 ghost use Rattle.valid_certificates.specs.Certificates.{IsMeasureJudged};
-ghost use Rattle.validity.specs.Answers.{QuasiAnswers};
-ghost use Rattle.cert_check.specs.Kinds.{CanBeJudged, IsPeakApart};
+ghost use Rattle.validity.specs.Answers.{PeakAnswers, QuasiAnswers};
+ghost use Rattle.valid_certificates.specs.CarriedBack.{IsPeakApart};
+ghost use Rattle.cert_check.specs.Kinds.{CanPeakBeJudged, CanBeJudged, HasNoSteps};
 ghost use Rattle.cert_check.specs.Answers.{VerdictAnswers, OnYes, OnNo};
 
+use crate::behind::judge_behind;
 use crate::measures::NamedMeasure;
 pub use bytes::{BytesError, check_bytes};
-use cert_model::{Certificate, MeasureCert, PairEntry};
+use cert_model::{Certificate, MeasureCert, PairEntry, Peak};
 use join_systems::join_systems_keep_their_rules;
 use noncon_check::check_peak;
 use ortho_check::check_ortho;
@@ -48,9 +52,20 @@ fn check_measured(
     check_quasi(alloc, sys, &NamedMeasure { measure }, pairs)
 }
 
-// What a valid certificate shows of the system itself.
-fn judge(alloc: Global, sys: &System, cert: &Certificate) -> Result<Verdict, CheckError>
-    requires { CanBeJudged sys.now (certificate_view cert.now) }
+// A peak, and what it shows.
+fn check_apart(alloc: Global, sys: &System, peak: &Peak) -> Result<(), CheckError>
+    requires { CanPeakBeJudged sys.now (peak_view peak.now) }
+    ensures judged { PeakAnswers sys.now (peak_view peak.now) result }
+    ensures apart { OnOk result (IsPeakApart sys.now (peak_certificate (peak_view peak.now))) }
+{
+    check_peak(alloc, sys, peak)
+}
+
+// What a valid certificate shows of the system itself, where no steps stand before its body.
+#[tactic(auto, using(cert_model::proofs::CertificateViews::ortho_shown, cert_model::proofs::CertificateViews::quasi_shown, cert_model::proofs::CertificateViews::peak_shown, cert_model::proofs::CertificateViews::simplified_shown))]
+fn judge_body(alloc: Global, sys: &System, cert: &Certificate) -> Result<Verdict, CheckError>
+    requires plain { HasNoSteps (certificate_view cert.now) }
+    requires judged { CanBeJudged sys.now (certificate_view cert.now) }
     ensures judged { VerdictAnswers sys.now (certificate_view cert.now) result }
     ensures yes { OnYes result (IsConfluent sys.now) }
     ensures no { OnNo result (IsPeakApart sys.now (certificate_view cert.now)) }
@@ -65,14 +80,30 @@ fn judge(alloc: Global, sys: &System, cert: &Certificate) -> Result<Verdict, Che
             Ok(Verdict::Yes)
         }
         Certificate::Peak(peak) => {
-            check_peak(alloc, sys, peak)?;
+            check_apart(alloc, sys, peak)?;
             Ok(Verdict::No)
         }
+        Certificate::Simplified { .. } => unreachable!(),
+    }
+}
+
+// What a valid certificate shows of the system itself.
+#[tactic(auto, using(cert_model::proofs::CertificateViews::ortho_shown, cert_model::proofs::CertificateViews::quasi_shown, cert_model::proofs::CertificateViews::peak_shown))]
+fn judge(alloc: Global, sys: &System, cert: &Certificate) -> Result<Verdict, CheckError>
+    requires { CanBeJudged sys.now (certificate_view cert.now) }
+    ensures judged { VerdictAnswers sys.now (certificate_view cert.now) result }
+    ensures yes { OnYes result (IsConfluent sys.now) }
+    ensures no { OnNo result (IsPeakApart sys.now (certificate_view cert.now)) }
+{
+    match cert {
+        Certificate::Simplified { .. } => judge_behind(alloc, sys, cert),
+        _ => judge_body(alloc, sys, cert),
     }
 }
 
 /// Judges a certificate: one that is valid shows that the system is confluent, or,
-/// where it is a peak, that it is not; and the same of the relation of its file.
+/// where it is a peak, that it is not; and the same of the relation of its file. Steps
+/// are judged before the body that stands behind them.
 pub fn check(alloc: Global, sys: &System, cert: &Certificate) -> Result<Verdict, CheckError>
     requires { CanBeJudged sys.now (certificate_view cert.now) }
     ensures judged { VerdictAnswers sys.now (certificate_view cert.now) result }

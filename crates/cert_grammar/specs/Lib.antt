@@ -1,7 +1,10 @@
 pub mod Words
+pub mod Versions
+pub mod Sharing
 pub mod Steps
 pub mod Limits
 pub mod EvidenceText
+pub mod SharedText
 pub mod CertificateText
 pub mod Reading
 pub mod ReadingTerms
@@ -12,3 +15,5 @@ pub mod Refusals
 pub mod Scans
 pub mod Items
 pub mod FirstRefusal
+pub mod SharedReader
+pub mod FirstVersion

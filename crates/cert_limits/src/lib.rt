@@ -4,7 +4,7 @@
 
 ghost use Rattle.std.specs.Prelude.{◌≤◌, ◌↔◌, IsTrue, length};
 ghost use Rattle.cert_model.specs.CertificateView.{certificate_view};
-ghost use Rattle.cert_grammar.specs.CertificateText.{certificate_text, CanBeSpelt};
+ghost use Rattle.cert_grammar.specs.FirstVersion.{certificate_text, CanBeSpelt};
 
 mod evidence_limits;
 mod step_limits;

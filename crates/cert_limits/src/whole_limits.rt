@@ -3,7 +3,8 @@ ghost use Rattle.std.specs.Prelude.{◌↔◌, ◌∷◌, [], IsTrue, map};
 ghost use Rattle.term_core.specs.HeadView.{head_view};
 ghost use Rattle.cert_model.specs.CertificateView.{pair_entry_view, linear_entry_view, measure_view, redex_view, apart_view, peak_view, certificate_view};
 ghost use Rattle.certificates.specs.Certificates.{ortho_certificate, peak_certificate};
-ghost use Rattle.cert_grammar.specs.CertificateText.{IsMeasured, AreEntries, IsMeasure, AreRedexEntries, IsApart, CanBeSpelt};
+ghost use Rattle.cert_grammar.specs.CertificateText.{IsMeasured, AreEntries, AreRedexEntries, IsApart};
+ghost use Rattle.cert_grammar.specs.FirstVersion.{IsMeasure, CanBeSpelt};
 
 use crate::evidence_limits::{are_pairs, is_infeasibility};
 use crate::step_limits::is_derivation;
@@ -101,6 +102,7 @@ fn are_few_pairs(names: &Names, pairs: &[PairEntry]) -> bool
 }
 
 /// Whether the certificate can be spelt with the names.
+#[tactic(auto, using(cert_model::proofs::CertificateViews::ortho_shown, cert_model::proofs::CertificateViews::quasi_shown, cert_model::proofs::CertificateViews::peak_shown, cert_model::proofs::CertificateViews::simplified_shown))]
 pub fn can_be_spelt(names: &Names, cert: &Certificate) -> bool
     ensures { IsTrue result ↔ CanBeSpelt names.now (certificate_view cert.now) }
 {
@@ -110,5 +112,6 @@ pub fn can_be_spelt(names: &Names, cert: &Certificate) -> bool
             is_measure(names, measure) && are_few_pairs(names, pairs)
         }
         Certificate::Peak(peak) => is_peak(names, peak),
+        Certificate::Simplified { .. } => false,
     }
 }

@@ -79,4 +79,9 @@ pub enum Certificate {
     Quasi(MeasureCert, Vec<PairEntry>),
     /// Of a system that is not confluent.
     Peak(Peak),
+    /// Of the system that the steps leave.
+    Simplified {
+        steps: Vec<Simp>,
+        body: Box<Certificate>,
+    },
 }

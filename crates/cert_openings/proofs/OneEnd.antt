@@ -1,7 +1,8 @@
--- A text has one opening's end.
+-- A text of the first version has one opening's end.
 use Rattle.std.proofs.Common.{◌≡◌, ◌⊎◌, inl, inr, ℕ, ◌+◌, Bool, true, false, List, [], ◌++◌, length, Option, Some, None, refl, sym, ap, ◌∙◌, codes, arith}
 use Rattle.std.proofs.lemmas.List.{append_cancel_left}
-use Rattle.cert_openings.specs.Openings.{BeginsEntry, AreOpeningLines, lines_text, IsOpeningEnd}
+use Rattle.cert_openings.specs.Openings.{BeginsEntry, AreOpeningLines, lines_text}
+use Rattle.cert_openings.specs.FirstOpenings.{IsOpeningEnd}
 use Rattle.cert_openings.proofs.Lines.{bytes_apart, lines_end}
 
 -- the line before a text with this answer

@@ -3,7 +3,8 @@
 //! The calls are laws: their clauses are the theorems, and the calls do nothing.
 #![tactic(auto)]
 
-ghost use Rattle.cert_openings.specs.Laws.{OpeningsPass, BadOpeningsAreRefused, OpeningsEnd, OneOpeningEnd};
+ghost use Rattle.cert_openings.specs.FirstLaws as first;
+ghost use Rattle.cert_openings.specs.Laws.{OpeningsPass, BadOpeningsAreRefused, OpeningsEnd, OneOpeningEnd, PeaksHaveNoEnd, WholeIsText, TextIsWhole, EntryIsTaken, OneReading, NumbersTell};
 
 /// A text whose opening is read is refused behind it, if it is.
 pub fn openings_pass()
@@ -20,7 +21,38 @@ pub fn openings_end()
     ensures { OpeningsEnd }
 {}
 
-/// A text has one opening's end.
+/// A text has one opening's end, and that of a peak has none.
 pub fn one_opening_end()
-    ensures { OneOpeningEnd }
+    ensures one { OneOpeningEnd }
+    ensures none { PeaksHaveNoEnd }
+{}
+
+/// What is read up to the last line, with no automaton left, is the text of a certificate, and so is nothing else.
+pub fn whole_texts()
+    ensures whole { WholeIsText }
+    ensures conversely { TextIsWhole }
+{}
+
+/// Entries are read one by one, and what is read up to a place is one; each use has an automaton of before or the next one.
+pub fn entries_are_taken()
+    ensures taken { EntryIsTaken }
+    ensures one { OneReading }
+    ensures told { NumbersTell }
+{}
+
+/// What the code reads: all bytes are the text of one certificate of the first version, or have one refusal.
+pub fn first_version_alone()
+    ensures some { first.TextOrRefused }
+    ensures never_both { first.NeverBoth }
+    ensures refusal { first.OneRefusal }
+    ensures within { first.PlacesAreWithin }
+    ensures certificate { first.OneCertificate }
+{}
+
+/// Its openings.
+pub fn first_openings()
+    ensures pass { first.OpeningsPass }
+    ensures bad { first.BadOpeningsAreRefused }
+    ensures end { first.OpeningsEnd }
+    ensures one { first.OneOpeningEnd }
 {}

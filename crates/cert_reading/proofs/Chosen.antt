@@ -1,5 +1,5 @@
 -- What is chosen past the last text, and of one text.
-use Rattle.std.proofs.Common.{◌≤◌, ℕ, zero, suc, List, [], ◌∷◌, length, arith}
+use Rattle.std.proofs.Common.{◌≤◌, ℕ, zero, suc, List, [], ◌∷◌, length, codes, arith}
 use Rattle.cops_names.specs.NameTable.{NameTable}
 use Rattle.cert_grammar.specs.Marks.{Naming, Mark, fixed}
 use Rattle.cert_grammar.specs.Items.{Item}
@@ -16,3 +16,7 @@ past names end i (c ∷ cs) (suc r) s t to marks h x = past names end i cs r s t
 pub one_choice : (names : NameTable) (end : ℕ) (i : Item) (c : Choice) (r : ℕ) (s t : Reading) → Chosen names end i (c ∷ []) r s t → Reads names end (i ∷ []) (λ u. fixed c.bytes ∷ []) c.items s t
 one_choice names end i c zero s t x = x
 one_choice names end i c (suc r) s t x = already x.0 x.1 x.2
+
+-- the end of a line
+abbrev pub line_end : Choice
+line_end = record { bytes = codes "\n"; items = [] }

@@ -5,11 +5,11 @@ use Rattle.certificates.specs.Evidence.{Transition, Automaton}
 use Rattle.cops_names.specs.NameTable.{NameTable}
 use Rattle.cert_grammar.specs.Words.{largest, name_of, IsSpelt, AreSpelt}
 use Rattle.cert_grammar.specs.EvidenceText.{AreStates, IsHead, AreTransitions, IsAutomaton}
-use Rattle.cert_grammar.specs.Marks.{Counted, has_arity, is_few, Mark, fixed, word, symbol, behind}
+use Rattle.cert_grammar.specs.Marks.{Counted, has_arity, is_few, Mark, fixed, word, symbol, behind, closed}
 use Rattle.cert_grammar.specs.WordMarks.{is_node, number_for, term_marks, arguments_marks, further_marks}
 use Rattle.cert_grammar.specs.CertificateMarks.{state, accepting_marks, further_states_marks, states_marks, head_marks, transitions_marks, automaton_marks}
 use Rattle.cert_grammar.specs.Refusals.{HaveNames, Pass}
-use Rattle.cert_grammar.specs.Items.{Lead, text, check, keyword, numeral_lead, position_lead, variable_lead, name_lead, leads}
+use Rattle.cert_grammar.specs.Items.{Lead, text, check, at_once, keyword, numeral_lead, position_lead, variable_lead, name_lead, leads}
 use Rattle.cert_grammar.specs.FirstRefusal.{is_there, mark_of, taken, Left}
 use Rattle.cert_grammar.proofs.Names.{found_is_named}
 use Rattle.cert_grammar.proofs.ScanWords.{name_is}
@@ -23,6 +23,7 @@ use Rattle.cert_words.specs.Walks.{Walks, tagged, AreFound, HasNoStates, AreWith
 named_lead : (a : Lead) (bytes : List ℕ) (ms : List Mark) → is_there a bytes ≡ true → HaveNames ms → HaveNames (mark_of a (take (taken a bytes) bytes) ∷ ms)
 named_lead (text bs items) bytes ms e h = h
 named_lead (check demand b items) bytes ms e h = h
+named_lead (at_once demand items) bytes ms e h = h
 named_lead (keyword bs demands items) bytes ms e h = h
 named_lead (numeral_lead demands items) bytes ms e h = h
 named_lead (position_lead items) bytes ms e h = h
@@ -41,6 +42,7 @@ found_append names (fixed bytes ∷ a) b h = found_append names a b h
 found_append names (word bytes demands ∷ a) b h = found_append names a b h
 found_append names (symbol name demands ∷ a) b h = let r = found_append names a b h.1 in ((h.0, r.0), r.1)
 found_append names (behind demand ∷ a) b h = found_append names a b h
+found_append names (closed demand ∷ a) b h = found_append names a b h
 
 -- ---- terms
 
@@ -139,9 +141,9 @@ transitions_within (t ∷ ts) names bound e i h f =
 
 pub automaton_within : (a : Automaton) (names : NameTable) → AreWithoutStates a.transitions → HaveNames (automaton_marks (name_of names) a) → Pass names (automaton_marks (name_of names) a) → AreFound names (automaton_marks tagged a) → IsAutomaton names a
 automaton_within a names e i h f =
-    let bounds = range_met names 0 1 (suc largest) a.states (is_few Counted.states a.states ∷ []) h.1.0 in
+    let bounds = range_met names 0 1 (suc largest) a.states (is_few Counted.states a.states ∷ []) h.1.1.0 in
     let back = λ (u : ℕ → List ℕ). fixed (codes "\ntransitions ") ∷ number_for Counted.transitions (length a.transitions) ∷ fixed (codes "\n") ∷ transitions_marks u a.states a.transitions in
-    let parts = pass_append names (accepting_marks a.states a.accepting) (back (name_of names)) h.1.1.1 in
+    let parts = pass_append names (accepting_marks a.states a.accepting) (back (name_of names)) h.1.1.1.1 in
     let names_in = have_append (accepting_marks a.states a.accepting) (back (name_of names)) i in
     let known = found_append names (accepting_marks a.states a.accepting) (back tagged) f in
     record {

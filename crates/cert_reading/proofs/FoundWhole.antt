@@ -3,23 +3,24 @@ use Rattle.std.proofs.Common.{◌≡◌, ◌⊎◌, inl, inr, ◌≤◌, ◌+◌
 use Rattle.rewriting.specs.Terms.{Fits}
 use Rattle.rewriting.specs.Unraveling.{Head, file, auxiliary}
 use Rattle.certificates.specs.Evidence.{InfeasibilityEvidence, by_caps, by_automaton, PairEvidence, trivial_pair, infeasible_pair, conflicting_pair, joined_pair, unfeasible_pair}
-use Rattle.certificates.specs.Certificates.{PairEntry, LinearEntry, linear_measure, precedence_measure, Redex, Apartness, by_normal_forms, by_rigid_caps, Certificate, ortho_certificate, quasi_certificate, peak_certificate}
+use Rattle.certificates.specs.Certificates.{PairEntry, LinearEntry, linear_measure, precedence_measure, Redex, Apartness, by_normal_forms, by_rigid_caps, Certificate, ortho_certificate, quasi_certificate, peak_certificate, simplified_certificate}
 use Rattle.cops_names.specs.NameTable.{NameTable}
 use Rattle.cert_grammar.specs.Words.{largest, name_of}
 use Rattle.cert_grammar.specs.EvidenceText.{AreAtMost, IsInfeasibility, IsEvidence, ArePairs}
-use Rattle.cert_grammar.specs.CertificateText.{IsMeasured, AreEntries, AreRedexEntries, IsApart, CanBeSpelt, IsCertificateText}
+use Rattle.cert_grammar.specs.CertificateText.{IsMeasured, AreEntries, AreRedexEntries, IsApart}
+use Rattle.cert_grammar.specs.FirstVersion.{CanBeSpelt, IsCertificateText, infeasibility_marks, evidence_marks, pairs_marks, redexes_marks, apart_marks, peak_marks, body_marks, certificate_marks}
 use Rattle.cert_grammar.specs.Marks as marks
 use Rattle.cert_grammar.specs.Marks.{Naming, is_few, fits_answer, is_answer, Mark, fixed, word, symbol, behind, marks_text}
 use Rattle.cert_grammar.specs.WordMarks.{number, position, are_places, term_marks, derivation_marks}
-use Rattle.cert_grammar.specs.CertificateMarks.{infeasibility_marks, evidence_marks, pairs_marks, coefficients_marks, measured_marks, entries_marks, measure_marks, redexes_marks, apart_marks, peak_marks, body_marks, certificate_marks}
+use Rattle.cert_grammar.specs.CertificateMarks.{coefficients_marks, measured_marks, entries_marks, measure_marks, closing}
 use Rattle.cert_grammar.specs.Refusals.{HaveNames, Pass}
 use Rattle.cert_grammar.proofs.Names.{found_is_named}
-use Rattle.cert_grammar.proofs.Runs.{no_name}
-use Rattle.cert_laws.proofs.AlikeWhole.{closing}
 use Rattle.cert_laws.proofs.Along.{have_append}
 use Rattle.cert_laws.proofs.PassTerms.{first_met, range_met, few_met, number_met, places_met, pass_append}
 use Rattle.cert_laws.proofs.PassSteps.{derivation_met}
 use Rattle.cert_laws.proofs.SpeltWhole.{answer_of, spelt_alone, spelt_answered}
+use Rattle.cert_grammar.specs.Versions.{in_full}
+use Rattle.cert_openings.proofs.FirstVersion.{spelt_there}
 use Rattle.cert_words.specs.Walks.{tagged, AreFound}
 use Rattle.cert_reading.specs.Plain.{IsPlainInfeasibility, IsPlainEvidence, ArePlainPairs, ArePlainRedexes, IsPlainApart, IsPlain}
 use Rattle.cert_reading.proofs.ListMarks.{pair_line, redex_line}
@@ -145,11 +146,12 @@ body_within (ortho_certificate ps) names given p h =
 body_within (quasi_certificate (linear_measure es) ps) names given p h =
     let parts = split (λ u. entries_marks u 1 es) (λ u. pairs_marks u 1 ps) (record { named = h.named; passed = h.passed.1.1.1; found = h.found }) in
     let m = entries_within es names 1 (omega arith) parts.0 in
-    let k = pairs_within ps names 1 (omega arith) p parts.1 in
+    let k = pairs_within ps names 1 (omega arith) p.1 parts.1 in
     let few = k.few in
     let short = m.few in
     (((let q : length es ≤ 25000 = omega (arith, short) in q), m.are), (let q : length ps ≤ 20000 = omega (arith, few) in q), k.are)
-body_within (quasi_certificate (precedence_measure order) ps) names given p h = absurd (no_name h.named.0)
+body_within (quasi_certificate (precedence_measure order) ps) names given p h = absurd p.0
+body_within (simplified_certificate steps c) names given p h = absurd p
 body_within (peak_certificate x) names given p h =
     let a = split {names = names} (λ u. term_marks u 1 1 x.start) (λ u. fixed (codes "\n") ∷ (derivation_marks x.first ++ (derivation_marks x.second ++ apart_marks u x.apart))) (record { named = h.named; passed = h.passed.1.1.1; found = h.found }) in
     let b = split {names = names} (λ u. derivation_marks x.first) (λ u. derivation_marks x.second ++ apart_marks u x.apart) (record { named = a.1.named; passed = a.1.passed.1; found = a.1.found }) in
@@ -160,18 +162,19 @@ body_within (peak_certificate x) names given p h =
     (t.spelt, record { nodes = omega (arith, few, low); levels = omega (arith, few, low) }, derivation_met x.first names b.0.passed, derivation_met x.second names d.0.passed, apart_within x.apart names p d.1)
 
 -- the answer before it is the one that it is for
-answered : (c : Certificate) (names : NameTable) (given : Bool) → Pass names (body_marks (name_of names) (Some given) c) → given ≡ answer_of c
-answered (ortho_certificate ps) names given h = by given (first_met names (fits_answer true (Some given)) [] h.0).0
+answered : (c : Certificate) (names : NameTable) (given : Bool) → IsPlain c → Pass names (body_marks (name_of names) (Some given) c) → given ≡ answer_of c
+answered (ortho_certificate ps) names given p h = by given (first_met names (fits_answer true (Some given)) [] h.0).0
   where
     by : (g : Bool) → is_answer true (Some g) ≡ true → g ≡ true
     by true e = refl
     by false e = absurd cc
-answered (quasi_certificate m ps) names given h = by given (first_met names (fits_answer true (Some given)) [] h.0).0
+answered (quasi_certificate m ps) names given p h = by given (first_met names (fits_answer true (Some given)) [] h.0).0
   where
     by : (g : Bool) → is_answer true (Some g) ≡ true → g ≡ true
     by true e = refl
     by false e = absurd cc
-answered (peak_certificate p) names given h = by given (first_met names (fits_answer false (Some given)) [] h.0).0
+answered (simplified_certificate steps c) names given p h = absurd p
+answered (peak_certificate x) names given p h = by given (first_met names (fits_answer false (Some given)) [] h.0).0
   where
     by : (g : Bool) → is_answer false (Some g) ≡ true → g ≡ false
     by true e = absurd cc
@@ -182,12 +185,12 @@ pub certificate_found : (c : Certificate) (names : NameTable) (given : Option Bo
     → bytes ≡ marks_text (certificate_marks (name_of names) given c) → IsCertificateText names bytes c
 certificate_found c names None bytes p n h f e =
     let s = body_within c names None p (split (λ u. body_marks u None c) (λ u. closing) (record { named = n; passed = h.1; found = f })).0 in
-    record { spelt = s; text = inl (e ∙ (spelt_alone c names s).text) }
+    record { spelt = s; text = inl (e ∙ (spelt_alone c names in_full [] tt tt (spelt_there names c s).1).text) }
 certificate_found c names (Some true) bytes p n h f e =
     let a = (split (λ u. body_marks u (Some true) c) (λ u. closing) (record { named = n; passed = h.1.1; found = f })).0 in
     let s = body_within c names (Some true) p a in
-    record { spelt = s; text = inr (e ∙ ap (λ (b : Bool). marks_text (certificate_marks (name_of names) (Some b) c)) (answered c names true a.passed) ∙ (spelt_answered c names s).text) }
+    record { spelt = s; text = inr (e ∙ ap (λ (b : Bool). marks_text (certificate_marks (name_of names) (Some b) c)) (answered c names true p a.passed) ∙ (spelt_answered c names in_full [] tt tt (spelt_there names c s).1).text) }
 certificate_found c names (Some false) bytes p n h f e =
     let a = (split (λ u. body_marks u (Some false) c) (λ u. closing) (record { named = n; passed = h.1.1; found = f })).0 in
     let s = body_within c names (Some false) p a in
-    record { spelt = s; text = inr (e ∙ ap (λ (b : Bool). marks_text (certificate_marks (name_of names) (Some b) c)) (answered c names false a.passed) ∙ (spelt_answered c names s).text) }
+    record { spelt = s; text = inr (e ∙ ap (λ (b : Bool). marks_text (certificate_marks (name_of names) (Some b) c)) (answered c names false p a.passed) ∙ (spelt_answered c names in_full [] tt tt (spelt_there names c s).1).text) }

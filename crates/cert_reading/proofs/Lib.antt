@@ -1,5 +1,6 @@
 pub mod Stopping
 pub mod Opening
+pub mod SecondVersion
 pub mod EntryItems
 pub mod Chosen
 pub mod AutomatonMarks

@@ -6,7 +6,8 @@ use Rattle.cert_grammar.specs.Words.{largest}
 use Rattle.cert_reading.specs.Plain.{IsPlainInfeasibility, IsPlainEvidence, ArePlainPairs, ArePlainRedexes}
 use Rattle.cert_grammar.specs.Marks.{Naming, Mark, fixed, word, numbers, pairs, redexes, in_range, is_few}
 use Rattle.cert_grammar.specs.WordMarks.{numeral, number, position}
-use Rattle.cert_grammar.specs.CertificateMarks.{infeasibility_marks, evidence_marks, coefficients_marks, entries_marks, pairs_marks, redexes_marks}
+use Rattle.cert_grammar.specs.CertificateMarks.{coefficients_marks, entries_marks}
+use Rattle.cert_grammar.specs.FirstVersion.{infeasibility_marks, evidence_marks, pairs_marks, redexes_marks}
 
 abbrev pub coefficient_marks : ℕ → ℕ → List Mark
 coefficient_marks n k = fixed (codes " ") ∷ word (numeral k) (in_range 0 0 (suc largest) k ∷ is_few numbers n ∷ []) ∷ []

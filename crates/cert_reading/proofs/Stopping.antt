@@ -1,15 +1,17 @@
 -- Parts one behind another, with the places where they are refused.
-use Rattle.std.proofs.Common.{◌≡◌, ◌≤◌, ◌-◌, ◌<◌, ℕ, suc, List, [], ◌∷◌, ◌++◌, length, Option, Some, None, IfSome, refl, sym, ap, ◌∙◌, subst, arith}
+use Rattle.std.proofs.Common.{inl, inr, codes, ◌≡◌, ◌≤◌, ◌-◌, ◌<◌, ℕ, suc, List, [], ◌∷◌, ◌++◌, length, Option, Some, None, IfSome, refl, sym, ap, ◌∙◌, subst, arith}
 use Rattle.std.proofs.lemmas.List.{append-nil}
 use Rattle.cops_names.specs.NameTable.{NameTable}
 use Rattle.cert_grammar.specs.Words.{name_of}
 use Rattle.cert_grammar.specs.Marks.{CertificateCause, Naming, Mark}
-use Rattle.cert_grammar.specs.Items.{Item, pairs_from}
+use Rattle.cert_grammar.specs.Items.{Item, between, line}
+use Rattle.cert_grammar.specs.FirstVersion.{pairs_from}
 use Rattle.cert_words.specs.declared.error.CertError.{CertError}
 use Rattle.cert_words.specs.declared.reading.Reading.{Reading}
 use Rattle.cert_words.specs.Words.{told}
-use Rattle.cert_words.specs.Walks.{left_at, Walks, tagged, AreFound, Run, IsStuckAt, IsStopped, ReadsOn, Reads}
-use Rattle.cert_words.proofs.Walking.{walks_then, walks_shorter, run_then, framed_on}
+use Rattle.cert_grammar.specs.Sharing.{Shared}
+use Rattle.cert_words.specs.Walks.{left_at, Walks, tagged, AreFound, Keeps, Run, IsStuckAt, IsStopped, ReadsOn, Reads}
+use Rattle.cert_words.proofs.Walking.{walks_then, walks_shorter, stops_then, run_then, framed_on}
 use Rattle.cert_reading.specs.Stops.{Place, StopsWhere, IsStoppedWhere, ReadsOnWhere, ReadsWhere, Anywhere, lowest, IsLater, AreLater, IsList, IsUnopened, IsInEntry}
 
 module _ (P : Place) (names : NameTable) (end : ℕ) where
@@ -17,84 +19,91 @@ module _ (P : Place) (names : NameTable) (end : ℕ) where
   alone : (ms : List Mark) (from mid : List Item) (b r : List ℕ) → Walks names ms (left_at end (from ++ []) b) (left_at end (mid ++ []) r) → Walks names ms (left_at end from b) (left_at end mid r)
   alone ms from mid b r w = subst (λ (x : List Item). Walks names ms (left_at end x b) (left_at end mid r)) (append-nil from) (subst (λ (x : List Item). Walks names ms (left_at end (from ++ []) b) (left_at end x r)) (append-nil mid) w)
 
-  pub stop_behind : (from mid : List Item) (f : Naming → List Mark) (b r : List ℕ) (t : Option (CertificateCause × ℕ)) → Run names end from f mid b r → IsStoppedWhere P names end mid r t → IsStoppedWhere P names end from b t
-  stop_behind from mid f b r None x y = tt
-  stop_behind from mid f b r (Some e) x y = λ le.
+  pub stop_behind : (from mid : List Item) (f : Naming → List Mark) (b r : List ℕ) (sa sb : Shared) (t : Option (CertificateCause × ℕ)) → Run names end from f mid b r sa sb → IsStoppedWhere P names end mid r sb t → IsStoppedWhere P names end from b sa t
+  stop_behind from mid f b r sa sb None x y = tt
+  stop_behind from mid f b r sa sb (Some e) x y = λ le.
       let first = alone (f (name_of names)) from mid b r (x.walks le []) in
       let less = walks_shorter names (f (name_of names)) (left_at end from b) (left_at end mid r) first in
       let there = y (omega (arith, le, less)) in
-      record { marks = f (name_of names) ++ there.marks; item = there.item; more = there.more; rest = there.rest; walks = walks_then names (f (name_of names)) there.marks _ _ _ first there.walks; refused = there.refused; place = there.place }
+      record { marks = f (name_of names) ++ there.marks; item = there.item; more = there.more; rest = there.rest; walks = walks_then names (f (name_of names)) there.marks _ _ _ first there.walks; stops = stops_then names sa sb (f (name_of names)) there.marks (left_at end (there.item ∷ there.more) there.rest) e (x.shares le) there.stops; place = there.place }
 
-  on_behind : (from mid to : List Item) (f g : Naming → List Mark) (b r q : List ℕ) (s t u : Option CertError) → ReadsOnWhere P names end from f mid b r s t → ReadsOnWhere P names end mid g to r q t u → ReadsOnWhere P names end from (λ v. f v ++ g v) to b q s u
-  on_behind from mid to f g b r q None None None x y = run_then names end from mid to f g b r q x y
-  on_behind from mid to f g b r q None None (Some e) x y = stop_behind from mid f b r (told e) x y
-  on_behind from mid to f g b r q None (Some d) None x y = absurd y
-  on_behind from mid to f g b r q None (Some d) (Some e) x y = subst (IsStoppedWhere P names end from b) (sym y) x
-  on_behind from mid to f g b r q (Some c) None u x y = absurd x
-  on_behind from mid to f g b r q (Some c) (Some d) None x y = absurd y
-  on_behind from mid to f g b r q (Some c) (Some d) (Some e) x y = y ∙ x
+  on_behind : (from mid to : List Item) (f g : Naming → List Mark) (b r q : List ℕ) (sa sb sc : Shared) (s t u : Option CertError) → ReadsOnWhere P names end from f mid b r sa sb s t → ReadsOnWhere P names end mid g to r q sb sc t u → ReadsOnWhere P names end from (λ v. f v ++ g v) to b q sa sc s u
+  on_behind from mid to f g b r q sa sb sc None None None x y = run_then names end from mid to f g b r q sa sb sc x y
+  on_behind from mid to f g b r q sa sb sc None None (Some e) x y = stop_behind from mid f b r sa sb (told e) x y
+  on_behind from mid to f g b r q sa sb sc None (Some d) None x y = absurd y
+  on_behind from mid to f g b r q sa sb sc None (Some d) (Some e) x y = subst (IsStoppedWhere P names end from b sa) (sym y) x
+  on_behind from mid to f g b r q sa sb sc (Some c) None u x y = absurd x
+  on_behind from mid to f g b r q sa sb sc (Some c) (Some d) None x y = absurd y
+  on_behind from mid to f g b r q sa sb sc (Some c) (Some d) (Some e) x y = y ∙ x
 
-  as_on : (from to other : List Item) (f g : Naming → List Mark) (b r : List ℕ) (s t : Option CertError) → ((t ≡ None) → (to ≡ other) × ((u : Naming) → f u ≡ g u)) → ReadsOnWhere P names end from f to b r s t → ReadsOnWhere P names end from g other b r s t
-  as_on from to other f g b r None None e x =
+  as_on : (from to other : List Item) (f g : Naming → List Mark) (b r : List ℕ) (sa sb : Shared) (s t : Option CertError) → ((t ≡ None) → (to ≡ other) × ((u : Naming) → f u ≡ g u)) → ReadsOnWhere P names end from f to b r sa sb s t → ReadsOnWhere P names end from g other b r sa sb s t
+  as_on from to other f g b r sa sb None None e x =
       let same = e refl in
       record {
         walks = λ le items. subst (λ (y : List Item). Walks names (g (name_of names)) (left_at end (from ++ items) b) (left_at end (y ++ items) r)) same.0 (subst (λ (ms : List Mark). Walks names ms (left_at end (from ++ items) b) (left_at end (to ++ items) r)) (same.1 (name_of names)) (x.walks le items));
         found = subst (AreFound names) (same.1 tagged) x.found;
+        shares = λ le. subst (λ (ms : List Mark). Keeps sa ms sb) (same.1 (name_of names)) (x.shares le);
       }
-  as_on from to other f g b r (Some d) None e x = absurd x
-  as_on from to other f g b r None (Some d) e x = x
-  as_on from to other f g b r (Some c) (Some d) e x = x
+  as_on from to other f g b r sa sb (Some d) None e x = absurd x
+  as_on from to other f g b r sa sb None (Some d) e x = x
+  as_on from to other f g b r sa sb (Some c) (Some d) e x = x
 
-  any_on : (from to other : List Item) (f g : Naming → List Mark) (b r : List ℕ) (s t : Option CertError) (e : CertError) → t ≡ Some e → ReadsOnWhere P names end from f to b r s t → ReadsOnWhere P names end from g other b r s t
-  any_on from to other f g b r None None e q x = absurd cc
-  any_on from to other f g b r (Some d) None e q x = absurd x
-  any_on from to other f g b r None (Some d) e q x = x
-  any_on from to other f g b r (Some c) (Some d) e q x = x
+  any_on : (from to other : List Item) (f g : Naming → List Mark) (b r : List ℕ) (sa sb : Shared) (s t : Option CertError) (e : CertError) → t ≡ Some e → ReadsOnWhere P names end from f to b r sa sb s t → ReadsOnWhere P names end from g other b r sa sb s t
+  any_on from to other f g b r sa sb None None e q x = absurd cc
+  any_on from to other f g b r sa sb (Some d) None e q x = absurd x
+  any_on from to other f g b r sa sb None (Some d) e q x = x
+  any_on from to other f g b r sa sb (Some c) (Some d) e q x = x
 
-  none_before : (from to : List Item) (f : Naming → List Mark) (b r : List ℕ) (s t : Option CertError) → t ≡ None → ReadsOnWhere P names end from f to b r s t → s ≡ None
-  none_before from to f b r None t e x = refl
-  none_before from to f b r (Some d) None e x = absurd x
-  none_before from to f b r (Some d) (Some c) e x = absurd cc
+  none_before : (from to : List Item) (f : Naming → List Mark) (b r : List ℕ) (sa sb : Shared) (s t : Option CertError) → t ≡ None → ReadsOnWhere P names end from f to b r sa sb s t → s ≡ None
+  none_before from to f b r sa sb None t e x = refl
+  none_before from to f b r sa sb (Some d) None e x = absurd x
+  none_before from to f b r sa sb (Some d) (Some c) e x = absurd cc
 
   -- a word, which is refused where it stands
-  stuck_where : (i : Item) (b : List ℕ) (t : Option (CertificateCause × ℕ)) → P (i ∷ []) b → IsStuckAt names end i b t → IsStoppedWhere P names end (i ∷ []) b t
-  stuck_where i b None p h = tt
-  stuck_where i b (Some e) p h = λ le. record { marks = []; item = i; more = []; rest = b; walks = refl; refused = h []; place = p }
+  stuck_where : (i : Item) (b : List ℕ) (sa : Shared) (t : Option (CertificateCause × ℕ)) → P (i ∷ []) b → IsStuckAt names end i b sa t → IsStoppedWhere P names end (i ∷ []) b sa t
+  stuck_where i b sa None p h = tt
+  stuck_where i b sa (Some e) p h = λ le. record { marks = []; item = i; more = []; rest = b; walks = refl; stops = λ k. (tt, h [] k); place = p }
 
-  word_on : (i : Item) (to : List Item) (f : Naming → List Mark) (b r : List ℕ) (s t : Option CertError) → ((t ≡ None → ⊥) → P (i ∷ []) b) → (s ≡ None → IfSome t (λ e. IsStuckAt names end i b (told e))) → ReadsOn names end (i ∷ []) f to b r s t → ReadsOnWhere P names end (i ∷ []) f to b r s t
-  word_on i to f b r None None p h x = x
-  word_on i to f b r None (Some e) p h x = stuck_where i b (told e) (p (λ q. cc)) (h refl)
-  word_on i to f b r (Some d) None p h x = absurd x
-  word_on i to f b r (Some d) (Some e) p h x = x
+  word_on : (i : Item) (to : List Item) (f : Naming → List Mark) (b r : List ℕ) (sa sb : Shared) (s t : Option CertError) → ((t ≡ None → ⊥) → P (i ∷ []) b) → (s ≡ None → IfSome t (λ e. IsStuckAt names end i b sa (told e))) → ReadsOn names end (i ∷ []) f to b r sa sb s t → ReadsOnWhere P names end (i ∷ []) f to b r sa sb s t
+  word_on i to f b r sa sb None None p h x = x
+  word_on i to f b r sa sb None (Some e) p h x = stuck_where i b sa (told e) (p (λ q. cc)) (h refl)
+  word_on i to f b r sa sb (Some d) None p h x = absurd x
+  word_on i to f b r sa sb (Some d) (Some e) p h x = x
+
+  behind_on : (i : Item) (to : List Item) (f : Naming → List Mark) (b r : List ℕ) (sa sb : Shared) (s t : Option CertError) → (s ≡ None → P (i ∷ []) b) → (s ≡ None → IfSome t (λ e. IsStuckAt names end i b sa (told e))) → ReadsOn names end (i ∷ []) f to b r sa sb s t → ReadsOnWhere P names end (i ∷ []) f to b r sa sb s t
+  behind_on i to f b r sa sb None None p h x = x
+  behind_on i to f b r sa sb None (Some e) p h x = stuck_where i b sa (told e) (p refl) (h refl)
+  behind_on i to f b r sa sb (Some d) None p h x = absurd x
+  behind_on i to f b r sa sb (Some d) (Some e) p h x = x
 
   -- a part with an item below it
-  framed_stop : (from : List Item) (low : Item) (b : List ℕ) (t : Option (CertificateCause × ℕ)) → ((i : Item) (m : List Item) (r : List ℕ) → P (i ∷ (m ++ low ∷ [])) r) → IsStopped names end from b t → IsStoppedWhere P names end (from ++ low ∷ []) b t
-  framed_stop from low b None p x = tt
-  framed_stop from low b (Some e) p x = λ le.
+  framed_stop : (from : List Item) (low : Item) (b : List ℕ) (sa : Shared) (t : Option (CertificateCause × ℕ)) → ((i : Item) (m : List Item) (r : List ℕ) → P (i ∷ (m ++ low ∷ [])) r) → IsStopped names end from b sa t → IsStoppedWhere P names end (from ++ low ∷ []) b sa t
+  framed_stop from low b sa None p x = tt
+  framed_stop from low b sa (Some e) p x = λ le.
       let there = x le (low ∷ []) in
-      record { marks = there.marks; item = there.item; more = there.more ++ low ∷ []; rest = there.rest; walks = there.walks; refused = there.refused; place = p there.item there.more there.rest }
+      record { marks = there.marks; item = there.item; more = there.more ++ low ∷ []; rest = there.rest; walks = there.walks; stops = there.stops; place = p there.item there.more there.rest }
 
-  low_on : (from to : List Item) (low : Item) (f : Naming → List Mark) (b r : List ℕ) (s t : Option CertError) → ((i : Item) (m : List Item) (q : List ℕ) → P (i ∷ (m ++ low ∷ [])) q) → ReadsOn names end from f to b r s t → ReadsOnWhere P names end (from ++ low ∷ []) f (to ++ low ∷ []) b r s t
-  low_on from to low f b r None None p x = framed_on names end from to (low ∷ []) f b r None None x
-  low_on from to low f b r None (Some e) p x = framed_stop from low b (told e) p x
-  low_on from to low f b r (Some d) None p x = absurd x
-  low_on from to low f b r (Some d) (Some e) p x = x
+  low_on : (from to : List Item) (low : Item) (f : Naming → List Mark) (b r : List ℕ) (sa sb : Shared) (s t : Option CertError) → ((i : Item) (m : List Item) (q : List ℕ) → P (i ∷ (m ++ low ∷ [])) q) → ReadsOn names end from f to b r sa sb s t → ReadsOnWhere P names end (from ++ low ∷ []) f (to ++ low ∷ []) b r sa sb s t
+  low_on from to low f b r sa sb None None p x = framed_on names end from to (low ∷ []) f b r sa sb None None x
+  low_on from to low f b r sa sb None (Some e) p x = framed_stop from low b sa (told e) p x
+  low_on from to low f b r sa sb (Some d) None p x = absurd x
+  low_on from to low f b r sa sb (Some d) (Some e) p x = x
 
-  nothing_on : (from : List Item) (b : List ℕ) (r : Option CertError) → ReadsOnWhere P names end from (λ u. []) from b b r r
-  nothing_on from b None = record { walks = λ le items. refl; found = tt }
-  nothing_on from b (Some e) = refl
+  nothing_on : (from : List Item) (b : List ℕ) (sa : Shared) (r : Option CertError) → ReadsOnWhere P names end from (λ u. []) from b b sa sa r r
+  nothing_on from b sa None = record { walks = λ le items. refl; found = tt; shares = λ le k. (tt, refl) }
+  nothing_on from b sa (Some e) = refl
 
-  stays_on : (from to : List Item) (f : Naming → List Mark) (b : List ℕ) (r : Option CertError) (e : CertError) → r ≡ Some e → ReadsOnWhere P names end from f to b b r r
-  stays_on from to f b None e q = absurd cc
-  stays_on from to f b (Some d) e q = refl
+  stays_on : (from to : List Item) (f : Naming → List Mark) (b : List ℕ) (sa : Shared) (r : Option CertError) (e : CertError) → r ≡ Some e → ReadsOnWhere P names end from f to b b sa sa r r
+  stays_on from to f b sa None e q = absurd cc
+  stays_on from to f b sa (Some d) e q = refl
 
 -- a part behind another
 pub then_where : {P : Place} {names : NameTable} {end : ℕ} {from mid to : List Item} {f g : Naming → List Mark} {s t u : Reading} → ReadsWhere P names end from f mid s t → ReadsWhere P names end mid g to t u → ReadsWhere P names end from (λ v. f v ++ g v) to s u
-then_where {P} {names} {end} {from} {mid} {to} {f} {g} {s} {t} {u} x y = record { on = on_behind P names end from mid to f g s.left.now t.left.now u.left.now s.refused t.refused u.refused x.on y.on }
+then_where {P} {names} {end} {from} {mid} {to} {f} {g} {s} {t} {u} x y = record { on = on_behind P names end from mid to f g s.left.now t.left.now u.left.now s.shares t.shares u.shares s.refused t.refused u.refused x.on y.on }
 
 -- other marks and items, where they are the same if nothing is refused
 pub as_where : {P : Place} {names : NameTable} {end : ℕ} {from to other : List Item} {f g : Naming → List Mark} {s t : Reading} → ((t.refused ≡ None) → (to ≡ other) × ((u : Naming) → f u ≡ g u)) → ReadsWhere P names end from f to s t → ReadsWhere P names end from g other s t
-as_where {P} {names} {end} {from} {to} {other} {f} {g} {s} {t} e x = record { on = as_on P names end from to other f g s.left.now t.left.now s.refused t.refused e x.on }
+as_where {P} {names} {end} {from} {to} {other} {f} {g} {s} {t} e x = record { on = as_on P names end from to other f g s.left.now t.left.now s.shares t.shares s.refused t.refused e x.on }
 
 pub as_marks_where : {P : Place} {names : NameTable} {end : ℕ} {from to : List Item} {f g : Naming → List Mark} {s t : Reading} → ((t.refused ≡ None) → (u : Naming) → f u ≡ g u) → ReadsWhere P names end from f to s t → ReadsWhere P names end from g to s t
 as_marks_where e x = as_where (λ none. (refl, e none)) x
@@ -105,55 +114,59 @@ then_nothing_where {f = f} x y = as_marks_where (λ none v. append-nil (f v)) (t
 
 -- where the text is refused nothing is said of a value
 pub already_where : {P : Place} {names : NameTable} {end : ℕ} {from to other : List Item} {f g : Naming → List Mark} {s t : Reading} (e : CertError) → t.refused ≡ Some e → ReadsWhere P names end from f to s t → ReadsWhere P names end from g other s t
-already_where {P} {names} {end} {from} {to} {other} {f} {g} {s} {t} e q x = record { on = any_on P names end from to other f g s.left.now t.left.now s.refused t.refused e q x.on }
+already_where {P} {names} {end} {from} {to} {other} {f} {g} {s} {t} e q x = record { on = any_on P names end from to other f g s.left.now t.left.now s.shares t.shares s.refused t.refused e q x.on }
 
 -- where nothing is refused nothing was
 pub open_before_where : {P : Place} {names : NameTable} {end : ℕ} {from to : List Item} {f : Naming → List Mark} {s t : Reading} → ReadsWhere P names end from f to s t → t.refused ≡ None → s.refused ≡ None
-open_before_where {P} {names} {end} {from} {to} {f} {s} {t} x e = none_before P names end from to f s.left.now t.left.now s.refused t.refused e x.on
+open_before_where {P} {names} {end} {from} {to} {f} {s} {t} x e = none_before P names end from to f s.left.now t.left.now s.shares t.shares s.refused t.refused e x.on
 
 -- a word
-pub word_where : {P : Place} {names : NameTable} {end : ℕ} {i : Item} {to : List Item} {f : Naming → List Mark} {s t : Reading} → ((t.refused ≡ None → ⊥) → P (i ∷ []) s.left.now) → (s.refused ≡ None → IfSome t.refused (λ e. IsStuckAt names end i s.left.now (told e))) → Reads names end (i ∷ []) f to s t → ReadsWhere P names end (i ∷ []) f to s t
-word_where {P} {names} {end} {i} {to} {f} {s} {t} p h x = record { on = word_on P names end i to f s.left.now t.left.now s.refused t.refused p h x.on }
+pub word_where : {P : Place} {names : NameTable} {end : ℕ} {i : Item} {to : List Item} {f : Naming → List Mark} {s t : Reading} → ((t.refused ≡ None → ⊥) → P (i ∷ []) s.left.now) → (s.refused ≡ None → IfSome t.refused (λ e. IsStuckAt names end i s.left.now s.shares (told e))) → Reads names end (i ∷ []) f to s t → ReadsWhere P names end (i ∷ []) f to s t
+word_where {P} {names} {end} {i} {to} {f} {s} {t} p h x = record { on = word_on P names end i to f s.left.now t.left.now s.shares t.shares s.refused t.refused p h x.on }
+
+-- a word behind what is not refused
+pub word_behind : {P : Place} {names : NameTable} {end : ℕ} {i : Item} {to : List Item} {f : Naming → List Mark} {s t : Reading} → (s.refused ≡ None → P (i ∷ []) s.left.now) → (s.refused ≡ None → IfSome t.refused (λ e. IsStuckAt names end i s.left.now s.shares (told e))) → Reads names end (i ∷ []) f to s t → ReadsWhere P names end (i ∷ []) f to s t
+word_behind {P} {names} {end} {i} {to} {f} {s} {t} p h x = record { on = behind_on P names end i to f s.left.now t.left.now s.shares t.shares s.refused t.refused p h x.on }
 
 -- a part with an item below it
 pub low_where : {P : Place} {names : NameTable} {end : ℕ} {from to : List Item} {f : Naming → List Mark} {s t : Reading} (low : Item) → ((i : Item) (m : List Item) (q : List ℕ) → P (i ∷ (m ++ low ∷ [])) q) → Reads names end from f to s t → ReadsWhere P names end (from ++ low ∷ []) f (to ++ low ∷ []) s t
-low_where {P} {names} {end} {from} {to} {f} {s} {t} low p x = record { on = low_on P names end from to low f s.left.now t.left.now s.refused t.refused p x.on }
+low_where {P} {names} {end} {from} {to} {f} {s} {t} low p x = record { on = low_on P names end from to low f s.left.now t.left.now s.shares t.shares s.refused t.refused p x.on }
 
 pub nothing_where : {P : Place} {names : NameTable} {end : ℕ} {from : List Item} {s : Reading} → ReadsWhere P names end from (λ u. []) from s s
-nothing_where {P} {names} {end} {from} {s} = record { on = nothing_on P names end from s.left.now s.refused }
+nothing_where {P} {names} {end} {from} {s} = record { on = nothing_on P names end from s.left.now s.shares s.refused }
 
 pub stays_where : {P : Place} {names : NameTable} {end : ℕ} {from to : List Item} {f : Naming → List Mark} {s : Reading} (e : CertError) → s.refused ≡ Some e → ReadsWhere P names end from f to s s
-stays_where {P} {names} {end} {from} {to} {f} {s} e q = record { on = stays_on P names end from to f s.left.now s.refused e q }
+stays_where {P} {names} {end} {from} {to} {f} {s} e q = record { on = stays_on P names end from to f s.left.now s.shares s.refused e q }
 
 -- ---- anywhere
 
-pub any_stop : (P : Place) (names : NameTable) (end : ℕ) (from : List Item) (b : List ℕ) (t : Option (CertificateCause × ℕ)) → IsStoppedWhere P names end from b t → IsStoppedWhere Anywhere names end from b t
-any_stop P names end from b None x = tt
-any_stop P names end from b (Some e) x = λ le. let there = x le in record { marks = there.marks; item = there.item; more = there.more; rest = there.rest; walks = there.walks; refused = there.refused; place = tt }
+pub any_stop : (P : Place) (names : NameTable) (end : ℕ) (from : List Item) (b : List ℕ) (sa : Shared) (t : Option (CertificateCause × ℕ)) → IsStoppedWhere P names end from b sa t → IsStoppedWhere Anywhere names end from b sa t
+any_stop P names end from b sa None x = tt
+any_stop P names end from b sa (Some e) x = λ le. let there = x le in record { marks = there.marks; item = there.item; more = there.more; rest = there.rest; walks = there.walks; stops = there.stops; place = tt }
 
-any_place : (P : Place) (names : NameTable) (end : ℕ) (from to : List Item) (f : Naming → List Mark) (b r : List ℕ) (s t : Option CertError) → ReadsOnWhere P names end from f to b r s t → ReadsOnWhere Anywhere names end from f to b r s t
-any_place P names end from to f b r None None x = x
-any_place P names end from to f b r None (Some e) x = any_stop P names end from b (told e) x
-any_place P names end from to f b r (Some d) None x = absurd x
-any_place P names end from to f b r (Some d) (Some e) x = x
+any_place : (P : Place) (names : NameTable) (end : ℕ) (from to : List Item) (f : Naming → List Mark) (b r : List ℕ) (sa sb : Shared) (s t : Option CertError) → ReadsOnWhere P names end from f to b r sa sb s t → ReadsOnWhere Anywhere names end from f to b r sa sb s t
+any_place P names end from to f b r sa sb None None x = x
+any_place P names end from to f b r sa sb None (Some e) x = any_stop P names end from b sa (told e) x
+any_place P names end from to f b r sa sb (Some d) None x = absurd x
+any_place P names end from to f b r sa sb (Some d) (Some e) x = x
 
 pub anywhere : {P : Place} {names : NameTable} {end : ℕ} {from to : List Item} {f : Naming → List Mark} {s t : Reading} → ReadsWhere P names end from f to s t → ReadsWhere Anywhere names end from f to s t
-anywhere {P} {names} {end} {from} {to} {f} {s} {t} x = record { on = any_place P names end from to f s.left.now t.left.now s.refused t.refused x.on }
+anywhere {P} {names} {end} {from} {to} {f} {s} {t} x = record { on = any_place P names end from to f s.left.now t.left.now s.shares t.shares s.refused t.refused x.on }
 
-stop_anywhere : (names : NameTable) (end : ℕ) (from : List Item) (b : List ℕ) (t : Option (CertificateCause × ℕ)) → IsStopped names end from b t → IsStoppedWhere Anywhere names end from b t
-stop_anywhere names end from b None x = tt
-stop_anywhere names end from b (Some e) x = λ le.
+stop_anywhere : (names : NameTable) (end : ℕ) (from : List Item) (b : List ℕ) (sa : Shared) (t : Option (CertificateCause × ℕ)) → IsStopped names end from b sa t → IsStoppedWhere Anywhere names end from b sa t
+stop_anywhere names end from b sa None x = tt
+stop_anywhere names end from b sa (Some e) x = λ le.
     let there = x le [] in
-    record { marks = there.marks; item = there.item; more = there.more ++ []; rest = there.rest; walks = subst (λ (z : List Item). Walks names there.marks (left_at end z b) (left_at end (there.item ∷ (there.more ++ [])) there.rest)) (append-nil from) there.walks; refused = there.refused; place = tt }
+    record { marks = there.marks; item = there.item; more = there.more ++ []; rest = there.rest; walks = subst (λ (z : List Item). Walks names there.marks (left_at end z b) (left_at end (there.item ∷ (there.more ++ [])) there.rest)) (append-nil from) there.walks; stops = there.stops; place = tt }
 
-reads_place : (names : NameTable) (end : ℕ) (from to : List Item) (f : Naming → List Mark) (b r : List ℕ) (s t : Option CertError) → ReadsOn names end from f to b r s t → ReadsOnWhere Anywhere names end from f to b r s t
-reads_place names end from to f b r None None x = x
-reads_place names end from to f b r None (Some e) x = stop_anywhere names end from b (told e) x
-reads_place names end from to f b r (Some d) None x = absurd x
-reads_place names end from to f b r (Some d) (Some e) x = x
+reads_place : (names : NameTable) (end : ℕ) (from to : List Item) (f : Naming → List Mark) (b r : List ℕ) (sa sb : Shared) (s t : Option CertError) → ReadsOn names end from f to b r sa sb s t → ReadsOnWhere Anywhere names end from f to b r sa sb s t
+reads_place names end from to f b r sa sb None None x = x
+reads_place names end from to f b r sa sb None (Some e) x = stop_anywhere names end from b sa (told e) x
+reads_place names end from to f b r sa sb (Some d) None x = absurd x
+reads_place names end from to f b r sa sb (Some d) (Some e) x = x
 
 pub reads_anywhere : {names : NameTable} {end : ℕ} {from to : List Item} {f : Naming → List Mark} {s t : Reading} → Reads names end from f to s t → ReadsWhere Anywhere names end from f to s t
-reads_anywhere {names} {end} {from} {to} {f} {s} {t} x = record { on = reads_place names end from to f s.left.now t.left.now s.refused t.refused x.on }
+reads_anywhere {names} {end} {from} {to} {f} {s} {t} x = record { on = reads_place names end from to f s.left.now t.left.now s.shares t.shares s.refused t.refused x.on }
 
 -- ---- the places
 
@@ -165,11 +178,15 @@ behind_some : (i j : Item) (m : List Item) (low : Item) → i ∷ (m ++ low ∷ 
 behind_some i j [] low e = cc
 behind_some i j (k ∷ m) low e = cc
 
-pub low_unopened : (low : Item) → (IsLater 1 low → ⊥) → (i : Item) (m : List Item) (q : List ℕ) → IsUnopened (i ∷ (m ++ low ∷ [])) q
-low_unopened low e i m q = record { early = λ h. e (subst (IsLater 1) (lowest_is i m low) h); closed = λ j s h b. behind_some i j m low s }
+low_early : (n : ℕ) (low : Item) → (IsLater n low → ⊥) → (i : Item) (m : List Item) → AreLater n (i ∷ (m ++ low ∷ [])) → ⊥
+low_early n low e i m (inl h) = e (subst (IsLater n) (lowest_is i m low) h)
+low_early n low e i m (inr s) = behind_some i (between line) m low s
 
-pub low_entry : (n : ℕ) (low : Item) → (IsLater (suc n) low → ⊥) → (i : Item) (m : List Item) (q : List ℕ) → IsInEntry n (i ∷ (m ++ low ∷ [])) q
-low_entry n low e i m q = record { early = λ h. e (subst (IsLater (suc n)) (lowest_is i m low) h); going = λ s. behind_some i (pairs_from (suc n)) m low s }
+pub low_unopened : (low : Item) → (IsLater 1 low → ⊥) → (i : Item) (m : List Item) (q : List ℕ) → IsUnopened (i ∷ (m ++ low ∷ [])) q
+low_unopened low e i m q = record { early = λ h. low_early 1 low e i m h; closed = λ j s h b. behind_some i j m low s }
+
+pub low_entry : (n : ℕ) (b : List ℕ) (low : Item) → (IsLater (suc n) low → ⊥) → (i : Item) (m : List Item) (q : List ℕ) → IsInEntry n b (i ∷ (m ++ low ∷ [])) q
+low_entry n b low e i m q = record { early = λ h. absurd (low_early (suc n) low e i m h); going = λ s. behind_some i (pairs_from (suc n)) m low s }
 
 same_number : (n m : ℕ) → pairs_from n ≡ pairs_from m → n ≡ m
 same_number n m e = cc
@@ -177,26 +194,34 @@ same_number n m e = cc
 pub pair_later : (n m : ℕ) → n ≤ m → IsLater m (pairs_from n) → ⊥
 pair_later n m le h = let same : n ≡ h.0 = same_number n h.0 h.1 in let less = h.2 in omega (arith, le, same, less)
 
-pub first_entry : (n : ℕ) (q : List ℕ) → IsInEntry n (pairs_from n ∷ []) q
-first_entry n q = record { early = λ h. pair_later n (suc n) (omega arith) h; going = λ e. let same : n ≡ suc n = cc in absurd (omega (arith, same)) }
+-- behind the word of the last line
+pub line_entry : (n : ℕ) (b q : List ℕ) → b ≡ codes "end" ++ q → IsInEntry n b (between line ∷ []) q
+line_entry n b q text = record { early = λ h. text; going = λ e. cc }
+
+first_early : (n : ℕ) → AreLater (suc n) (pairs_from n ∷ []) → ⊥
+first_early n (inl h) = pair_later n (suc n) (omega arith) h
+first_early n (inr s) = cc
+
+pub first_entry : (n : ℕ) (b q : List ℕ) → IsInEntry n b (pairs_from n ∷ []) q
+first_entry n b q = record { early = λ h. absurd (first_early n h); going = λ e. let same : n ≡ suc n = cc in absurd (omega (arith, same)) }
 
 -- ---- what is known of a reading that began with nothing refused
 
-ran_on : (P : Place) (names : NameTable) (end : ℕ) (from to : List Item) (f : Naming → List Mark) (b r : List ℕ) (s t : Option CertError) → s ≡ None → t ≡ None → ReadsOnWhere P names end from f to b r s t → Run names end from f to b r
-ran_on P names end from to f b r None None p q x = x
-ran_on P names end from to f b r (Some d) t p q x = absurd cc
-ran_on P names end from to f b r None (Some e) p q x = absurd cc
+ran_on : (P : Place) (names : NameTable) (end : ℕ) (from to : List Item) (f : Naming → List Mark) (b r : List ℕ) (sa sb : Shared) (s t : Option CertError) → s ≡ None → t ≡ None → ReadsOnWhere P names end from f to b r sa sb s t → Run names end from f to b r sa sb
+ran_on P names end from to f b r sa sb None None p q x = x
+ran_on P names end from to f b r sa sb (Some d) t p q x = absurd cc
+ran_on P names end from to f b r sa sb None (Some e) p q x = absurd cc
 
-pub ran : {P : Place} {names : NameTable} {end : ℕ} {from to : List Item} {f : Naming → List Mark} {s t : Reading} → s.refused ≡ None → t.refused ≡ None → ReadsWhere P names end from f to s t → Run names end from f to s.left.now t.left.now
-ran {P} {names} {end} {from} {to} {f} {s} {t} p q x = ran_on P names end from to f s.left.now t.left.now s.refused t.refused p q x.on
+pub ran : {P : Place} {names : NameTable} {end : ℕ} {from to : List Item} {f : Naming → List Mark} {s t : Reading} → s.refused ≡ None → t.refused ≡ None → ReadsWhere P names end from f to s t → Run names end from f to s.left.now t.left.now s.shares t.shares
+ran {P} {names} {end} {from} {to} {f} {s} {t} p q x = ran_on P names end from to f s.left.now t.left.now s.shares t.shares s.refused t.refused p q x.on
 
 same_some : (d e : CertError) → ◌≡◌ {A = Option CertError} (Some d) (Some e) → d ≡ e
 same_some d e q = cc
 
-stopped_on : (P : Place) (names : NameTable) (end : ℕ) (from to : List Item) (f : Naming → List Mark) (b r : List ℕ) (s t : Option CertError) (e : CertError) → s ≡ None → t ≡ Some e → ReadsOnWhere P names end from f to b r s t → IsStoppedWhere P names end from b (told e)
-stopped_on P names end from to f b r None None e p q x = absurd cc
-stopped_on P names end from to f b r (Some d) t e p q x = absurd cc
-stopped_on P names end from to f b r None (Some d) e p q x = subst (λ (y : CertError). IsStoppedWhere P names end from b (told y)) (same_some d e q) x
+stopped_on : (P : Place) (names : NameTable) (end : ℕ) (from to : List Item) (f : Naming → List Mark) (b r : List ℕ) (sa sb : Shared) (s t : Option CertError) (e : CertError) → s ≡ None → t ≡ Some e → ReadsOnWhere P names end from f to b r sa sb s t → IsStoppedWhere P names end from b sa (told e)
+stopped_on P names end from to f b r sa sb None None e p q x = absurd cc
+stopped_on P names end from to f b r sa sb (Some d) t e p q x = absurd cc
+stopped_on P names end from to f b r sa sb None (Some d) e p q x = subst (λ (y : CertError). IsStoppedWhere P names end from b sa (told y)) (same_some d e q) x
 
-pub stopped_where : {P : Place} {names : NameTable} {end : ℕ} {from to : List Item} {f : Naming → List Mark} {s t : Reading} (e : CertError) → s.refused ≡ None → t.refused ≡ Some e → ReadsWhere P names end from f to s t → IsStoppedWhere P names end from s.left.now (told e)
-stopped_where {P} {names} {end} {from} {to} {f} {s} {t} e p q x = stopped_on P names end from to f s.left.now t.left.now s.refused t.refused e p q x.on
+pub stopped_where : {P : Place} {names : NameTable} {end : ℕ} {from to : List Item} {f : Naming → List Mark} {s t : Reading} (e : CertError) → s.refused ≡ None → t.refused ≡ Some e → ReadsWhere P names end from f to s t → IsStoppedWhere P names end from s.left.now s.shares (told e)
+stopped_where {P} {names} {end} {from} {to} {f} {s} {t} e p q x = stopped_on P names end from to f s.left.now t.left.now s.shares t.shares s.refused t.refused e p q x.on

@@ -3,7 +3,8 @@ use Rattle.std.specs.Prelude.{ℕ, suc, length, Bool, true, false, Option, List,
 use Rattle.certificates.specs.Certificates.{MeasureCertificate, linear_measure, precedence_measure}
 use Rattle.cert_grammar.specs.Marks.{Mark, fixed, word, fits_answer}
 use Rattle.cert_grammar.specs.CertificateMarks.{answer_marks}
-use Rattle.cert_grammar.specs.Items.{Item, between, line, pairs_from, measure, start_line}
+use Rattle.cert_grammar.specs.Items.{Item, between, line}
+use Rattle.cert_grammar.specs.FirstVersion.{pairs_from, measure, start_line}
 use Rattle.cert_reading.specs.declared.headings.Kind.{Kind}
 use Rattle.cert_reading.specs.declared.headings.Kind.TheVariants.{Ortho, Quasi, Peak}
 

@@ -1,7 +1,8 @@
--- Values whose transitions from variables have no states, which their marks do not show.
+-- Values of the first version whose transitions from variables have no states, which their marks do not show.
 use Rattle.std.specs.Prelude.{List, [], ◌∷◌}
 use Rattle.certificates.specs.Evidence.{InfeasibilityEvidence, by_caps, by_automaton, PairEvidence, trivial_pair, infeasible_pair, conflicting_pair, joined_pair, unfeasible_pair}
-use Rattle.certificates.specs.Certificates.{PairEntry, Redex, Apartness, by_normal_forms, by_rigid_caps, Certificate, ortho_certificate, quasi_certificate, peak_certificate}
+use Rattle.certificates.specs.Certificates.{PairEntry, Redex, Apartness, by_normal_forms, by_rigid_caps, Certificate, ortho_certificate, quasi_certificate, peak_certificate, simplified_certificate}
+use Rattle.cert_grammar.specs.Versions.{HasMeasure, first_version}
 use Rattle.cert_words.specs.Walks.{AreWithoutStates}
 
 abbrev pub IsPlainInfeasibility : InfeasibilityEvidence → Type 0
@@ -26,5 +27,6 @@ IsPlainApart by_rigid_caps = Unit {0}
 
 abbrev pub IsPlain : Certificate → Type 0
 IsPlain (ortho_certificate ps) = ArePlainPairs ps
-IsPlain (quasi_certificate m ps) = ArePlainPairs ps
+IsPlain (quasi_certificate m ps) = HasMeasure first_version m × ArePlainPairs ps
 IsPlain (peak_certificate p) = IsPlainApart p.apart
+IsPlain (simplified_certificate steps c) = ⊥

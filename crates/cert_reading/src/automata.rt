@@ -11,7 +11,8 @@ ghost use Rattle.cert_words.specs.Walks.{Reads, HasNoStates, AreWithoutStates};
 
 use cert_model::{Automaton, Transition};
 use cert_words::{
-    CertCount, Reading, checked, counted, either, has_so_many, name_or, number, opened, put, text,
+    CertCount, Reading, begins, checked, counted, either, has_so_many, name_or, number, opened, put,
+    text,
 };
 use cops_names::Names;
 use std::alloc::Global;
@@ -114,7 +115,8 @@ pub fn automaton(alloc: Global, names: &Names, end: usize, at: &mut Reading) -> 
     ensures plain { at.new.refused ≡ None → AreWithoutStates (automaton_view result).transitions }
     ensures read { Reads names.now end (spec.states_line ∷ []) (λ u. marks.automaton_marks u (automaton_view result)) [] at.old at.new }
 {
-    text(end, at, b"states ");
+    begins(end, at, b"states");
+    text(end, at, b" ");
     let states = counted(end, at, 1, CertCount::States);
     text(end, at, b"\naccepting");
     let accepting = accepting(alloc, end, at, states);

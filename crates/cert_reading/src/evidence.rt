@@ -2,8 +2,8 @@
 
 ghost use Rattle.std.specs.Prelude.{◌≡◌, [], ◌∷◌, None};
 ghost use Rattle.cert_model.specs.EvidenceView.{inf_evidence_view, pair_evidence_view};
-ghost use Rattle.cert_grammar.specs.CertificateMarks.{infeasibility_marks, evidence_marks};
-ghost use Rattle.cert_grammar.specs.Items as spec;
+ghost use Rattle.cert_grammar.specs.FirstVersion.{infeasibility_marks, evidence_marks};
+ghost use Rattle.cert_grammar.specs.FirstVersion as first;
 ghost use Rattle.cert_words.specs.Walks.{Reads};
 ghost use Rattle.cert_reading.specs.Plain.{IsPlainInfeasibility, IsPlainEvidence};
 
@@ -19,7 +19,7 @@ const BOUND: u64 = 4_294_967_296;
 /// The evidence that conditions are never met.
 pub fn infeasibility(alloc: Global, names: &Names, end: usize, at: &mut Reading) -> InfEvidence
     ensures plain { at.new.refused ≡ None → IsPlainInfeasibility (inf_evidence_view result) }
-    ensures read { Reads names.now end (spec.infeasibility ∷ []) (λ u. infeasibility_marks u (inf_evidence_view result)) [] at.old at.new }
+    ensures read { Reads names.now end (first.infeasibility ∷ []) (λ u. infeasibility_marks u (inf_evidence_view result)) [] at.old at.new }
 {
     if either(end, at, b"tcap\n", b"auto ") {
         return InfEvidence::Tcap;
@@ -33,7 +33,7 @@ pub fn infeasibility(alloc: Global, names: &Names, end: usize, at: &mut Reading)
 /// The evidence for an overlap.
 pub fn evidence(alloc: Global, names: &Names, end: usize, at: &mut Reading) -> PairEvidence
     ensures plain { at.new.refused ≡ None → IsPlainEvidence (pair_evidence_view result) }
-    ensures read { Reads names.now end (spec.evidence ∷ []) (λ u. evidence_marks u (pair_evidence_view result)) [] at.old at.new }
+    ensures read { Reads names.now end (first.evidence ∷ []) (λ u. evidence_marks u (pair_evidence_view result)) [] at.old at.new }
 {
     let kinds = [
         Lead::Text(b"trivial\n"),

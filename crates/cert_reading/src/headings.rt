@@ -6,6 +6,8 @@ ghost use Rattle.cert_openings.specs.Openings.{BeginsEntry};
 ghost use Rattle.cert_grammar.specs.Marks.{is_answer, fixed};
 ghost use Rattle.cert_grammar.specs.CertificateMarks.{answer_marks};
 ghost use Rattle.cert_grammar.specs.Items as spec;
+ghost use Rattle.cert_grammar.specs.FirstVersion as first;
+ghost use Rattle.cert_grammar.specs.FirstVersion.{second_at};
 ghost use Rattle.cert_words.specs.declared.error.CertError.TheVariants as refused;
 ghost use Rattle.cert_reading.specs.Stops.{ReadsWhere, IsUnopened};
 ghost use Rattle.cert_reading.specs.Headings.{kind_mark, item_of, heading_marks};
@@ -23,22 +25,42 @@ pub enum Kind {
     Peak,
 }
 
+// The first lines of both versions.
+const FIRST_LINES: [Lead; 2] = [Lead::Text(b"concon 1\n"), Lead::Text(b"concon 2\n")];
+
+/// Where the number of the second version stands, which is not read yet.
+pub fn second_version(bytes: &[u8]) -> Option<usize>
+    ensures { result ≡ second_at bytes.now }
+{
+    if front(Lead::Text(b"concon 2\n"), bytes).is_some() {
+        return Some(7);
+    }
+    if front(Lead::Text(b"YES\nconcon 2\n"), bytes).is_some() {
+        return Some(11);
+    }
+    if front(Lead::Text(b"NO\nconcon 2\n"), bytes).is_some() {
+        return Some(10);
+    }
+    None
+}
+
 // The answer before the first line, if there is one, and that line.
 fn answer(end: usize, at: &mut Reading) -> Option<bool>
-    ensures { (names : NameTable) → ReadsWhere IsUnopened names end (spec.opening ∷ []) (λ u. answer_marks result ++ (fixed (codes "concon 1\n") ∷ [])) (spec.body result ∷ []) at.old at.new }
+    ensures { second_at at.old.left.now ≡ None → (names : NameTable) → ReadsWhere IsUnopened names end (spec.opening ∷ []) (λ u. answer_marks result ++ (fixed (codes "concon 1\n") ∷ [])) (first.body result ∷ []) at.old at.new }
 {
     let lines = [
         Lead::Text(b"YES\n"),
         Lead::Text(b"NO\n"),
         Lead::Text(b"concon 1\n"),
+        Lead::Text(b"concon 2\n"),
     ];
     match choose(end, at, &lines) {
         0 => {
-            choose(end, at, &[Lead::Text(b"concon 1\n")]);
+            choose(end, at, &FIRST_LINES);
             Some(true)
         }
         1 => {
-            choose(end, at, &[Lead::Text(b"concon 1\n")]);
+            choose(end, at, &FIRST_LINES);
             Some(false)
         }
         2 => None,
@@ -58,7 +80,7 @@ fn fits(told: bool, given: Option<bool>) -> bool
 
 // Goes on behind the word, or refuses the answer before it, at its first byte.
 fn judged<'a>(at: &mut Reading<'a>, rest: &'a [u8], met: bool)
-    ensures goes { met ≡ true → (at.new.left.now ≡ rest.now) × (at.new.refused ≡ at.old.refused) }
+    ensures goes { met ≡ true → (at.new.left.now ≡ rest.now) × (at.new.refused ≡ at.old.refused) × (at.new.shares ≡ at.old.shares) }
     ensures refused { met ≡ false → (at.new.left.now ≡ at.old.left.now) × (at.new.refused ≡ Some (refused.CertSyntax 0)) }
 {
     if met {
@@ -70,7 +92,7 @@ fn judged<'a>(at: &mut Reading<'a>, rest: &'a [u8], met: bool)
 
 // The kind of the certificate, behind this answer.
 fn kind_word(end: usize, at: &mut Reading, given: Option<bool>) -> Kind
-    ensures { (names : NameTable) → ReadsWhere IsUnopened names end (spec.body given ∷ []) (λ u. kind_mark given result ∷ []) (spec.between spec.line ∷ item_of result ∷ []) at.old at.new }
+    ensures { (names : NameTable) → ReadsWhere IsUnopened names end (first.body given ∷ []) (λ u. kind_mark given result ∷ []) (spec.between spec.line ∷ item_of result ∷ []) at.old at.new }
 {
     if at.refused.is_some() {
         return Kind::Ortho;
@@ -98,7 +120,7 @@ fn kind_word(end: usize, at: &mut Reading, given: Option<bool>) -> Kind
 
 /// The lines before the body: the answer, if it is there, and the kind.
 pub fn heading(end: usize, at: &mut Reading) -> (Option<bool>, Kind)
-    ensures { (names : NameTable) → ReadsWhere IsUnopened names end (spec.opening ∷ []) (λ u. heading_marks result.0 result.1) (item_of result.1 ∷ []) at.old at.new }
+    ensures { second_at at.old.left.now ≡ None → (names : NameTable) → ReadsWhere IsUnopened names end (spec.opening ∷ []) (λ u. heading_marks result.0 result.1) (item_of result.1 ∷ []) at.old at.new }
 {
     let given = answer(end, at);
     let kind = kind_word(end, at, given);
@@ -115,7 +137,7 @@ pub fn begins_entry(bytes: &[u8]) -> bool
 
 /// Nothing, where an overlap or the last line may begin; else the text is refused.
 pub fn entries_begin(end: usize, at: &mut Reading)
-    ensures read { (names : NameTable) → ReadsWhere IsUnopened names end (spec.pairs_from 1 ∷ []) (λ u. []) (spec.pairs_from 1 ∷ []) at.old at.new }
+    ensures read { (names : NameTable) → ReadsWhere IsUnopened names end (first.pairs_from 1 ∷ []) (λ u. []) (first.pairs_from 1 ∷ []) at.old at.new }
     ensures begins { at.new.refused ≡ None → BeginsEntry at.new.left.now }
 {
     if at.refused.is_some() {
@@ -124,6 +146,6 @@ pub fn entries_begin(end: usize, at: &mut Reading)
     if begins_entry(at.left) {
         return;
     }
-    let leads = [Lead::Keyword(b"pair"), Lead::Text(b"end\n")];
+    let leads = [Lead::Keyword(b"pair"), Lead::Keyword(b"end")];
     at.refused = Some(stuck(&leads, at.left, end));
 }

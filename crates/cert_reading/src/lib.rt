@@ -11,7 +11,7 @@ mod peaks;
 mod terms;
 mod whole;
 
-pub use headings::{Kind, entries_begin, heading};
+pub use headings::{Kind, entries_begin, heading, second_version};
 pub use measures::measure;
 pub use pairs::{all_pairs, next_pair};
 pub use peaks::peak;

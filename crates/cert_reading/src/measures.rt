@@ -6,7 +6,9 @@ ghost use Rattle.cert_model.specs.CertificateView.{head_view, linear_entry_view,
 ghost use Rattle.cert_openings.specs.Openings.{BeginsEntry};
 ghost use Rattle.cert_grammar.specs.Marks.{is_few, entries, fixed, word};
 ghost use Rattle.cert_grammar.specs.CertificateMarks.{coefficients_marks, measured_marks, entries_marks, measure_marks};
+ghost use Rattle.cert_grammar.specs.Versions.{HasMeasure, first_version};
 ghost use Rattle.cert_grammar.specs.Items as spec;
+ghost use Rattle.cert_grammar.specs.FirstVersion as first;
 ghost use Rattle.cert_words.specs.Walks.{Reads};
 ghost use Rattle.cert_reading.specs.Stops.{ReadsWhere, IsUnopened};
 ghost use Rattle.cert_reading.specs.Headings.{entries_of};
@@ -34,9 +36,9 @@ enum Measured {
 
 // The first word of the entry with this number; nothing, where an overlap or the last line may begin.
 fn entry_word(end: usize, at: &mut Reading, n: usize) -> Measured
-    ensures symbol { result ≡ measured.Symbol → (names : NameTable) → ReadsWhere IsUnopened names end (spec.entries_from n ∷ []) (λ u. word (codes "fun") (is_few entries n ∷ []) ∷ []) (spec.between spec.space ∷ spec.measured_name ∷ spec.entries_from (suc n) ∷ []) at.old at.new }
-    ensures condition { result ≡ measured.Condition → (names : NameTable) → ReadsWhere IsUnopened names end (spec.entries_from n ∷ []) (λ u. word (codes "aux") (is_few entries n ∷ []) ∷ []) (spec.between spec.space ∷ spec.any_number spec.space ∷ spec.measured_condition ∷ spec.entries_from (suc n) ∷ []) at.old at.new }
-    ensures nothing { result ≡ measured.Nothing → (names : NameTable) → ReadsWhere IsUnopened names end (spec.entries_from n ∷ []) (λ u. []) (spec.entries_from n ∷ []) at.old at.new }
+    ensures symbol { result ≡ measured.Symbol → (names : NameTable) → ReadsWhere IsUnopened names end (first.entries_from n ∷ []) (λ u. word (codes "fun") (is_few entries n ∷ []) ∷ []) (spec.between spec.space ∷ spec.measured_name ∷ first.entries_from (suc n) ∷ []) at.old at.new }
+    ensures condition { result ≡ measured.Condition → (names : NameTable) → ReadsWhere IsUnopened names end (first.entries_from n ∷ []) (λ u. word (codes "aux") (is_few entries n ∷ []) ∷ []) (spec.between spec.space ∷ spec.any_number spec.space ∷ spec.measured_condition ∷ first.entries_from (suc n) ∷ []) at.old at.new }
+    ensures nothing { result ≡ measured.Nothing → (names : NameTable) → ReadsWhere IsUnopened names end (first.entries_from n ∷ []) (λ u. []) (first.entries_from n ∷ []) at.old at.new }
     ensures begins { result ≡ measured.Nothing → at.new.refused ≡ None → BeginsEntry at.new.left.now }
     ensures few { (result ≡ measured.Nothing → ⊥) → at.new.refused ≡ None → n ≤ 25000 }
 {
@@ -72,7 +74,7 @@ fn entry_word(end: usize, at: &mut Reading, n: usize) -> Measured
         Lead::Keyword(b"fun"),
         Lead::Keyword(b"aux"),
         Lead::Keyword(b"pair"),
-        Lead::Text(b"end\n"),
+        Lead::Keyword(b"end"),
     ];
     at.refused = Some(stuck(&leads, at.left, end));
     Measured::Nothing
@@ -80,8 +82,8 @@ fn entry_word(end: usize, at: &mut Reading, n: usize) -> Measured
 
 // What the entry with this number is for, up to its numbers; none, where an overlap or the last line may begin.
 fn head(names: &Names, end: usize, at: &mut Reading, n: usize) -> Option<Head>
-    ensures head { IfSome result (λ h. ReadsWhere IsUnopened names.now end (spec.entries_from n ∷ []) (λ u. measured_marks u n (head_view h)) (spec.coefficients_behind 0 ∷ spec.entries_from (suc n) ∷ []) at.old at.new) }
-    ensures none { IfNone result (ReadsWhere IsUnopened names.now end (spec.entries_from n ∷ []) (λ u. []) (spec.entries_from n ∷ []) at.old at.new) }
+    ensures head { IfSome result (λ h. ReadsWhere IsUnopened names.now end (first.entries_from n ∷ []) (λ u. measured_marks u n (head_view h)) (spec.coefficients_behind 0 ∷ first.entries_from (suc n) ∷ []) at.old at.new) }
+    ensures none { IfNone result (ReadsWhere IsUnopened names.now end (first.entries_from n ∷ []) (λ u. []) (first.entries_from n ∷ []) at.old at.new) }
     ensures begins { IfNone result (at.new.refused ≡ None → BeginsEntry at.new.left.now) }
     ensures few { IfSome result (λ h. at.new.refused ≡ None → n ≤ 25000) }
 {
@@ -122,8 +124,8 @@ fn next_entry(
     at: &mut Reading,
     n: usize,
 ) -> Option<LinearEntry>
-    ensures entry { IfSome result (λ e. ReadsWhere IsUnopened names.now end (spec.entries_from n ∷ []) (λ u. entries_marks u n (linear_entry_view e ∷ [])) (spec.entries_from (suc n) ∷ []) at.old at.new) }
-    ensures none { IfNone result (ReadsWhere IsUnopened names.now end (spec.entries_from n ∷ []) (λ u. []) (spec.entries_from n ∷ []) at.old at.new) }
+    ensures entry { IfSome result (λ e. ReadsWhere IsUnopened names.now end (first.entries_from n ∷ []) (λ u. entries_marks u n (linear_entry_view e ∷ [])) (first.entries_from (suc n) ∷ []) at.old at.new) }
+    ensures none { IfNone result (ReadsWhere IsUnopened names.now end (first.entries_from n ∷ []) (λ u. []) (first.entries_from n ∷ []) at.old at.new) }
     ensures begins { IfNone result (at.new.refused ≡ None → BeginsEntry at.new.left.now) }
     ensures few { IfSome result (λ e. at.new.refused ≡ None → n ≤ 25000) }
 {
@@ -136,7 +138,7 @@ fn next_entry(
 
 // The entries, up to an overlap or the last line.
 fn entries(alloc: Global, names: &Names, end: usize, at: &mut Reading) -> Vec<LinearEntry>
-    ensures read { ReadsWhere IsUnopened names.now end (spec.entries_from 1 ∷ []) (λ u. entries_marks u 1 (map linear_entry_view result.items)) (spec.entries_from (suc (length (map linear_entry_view result.items))) ∷ []) at.old at.new }
+    ensures read { ReadsWhere IsUnopened names.now end (first.entries_from 1 ∷ []) (λ u. entries_marks u 1 (map linear_entry_view result.items)) (first.entries_from (suc (length (map linear_entry_view result.items))) ∷ []) at.old at.new }
     ensures begins { at.new.refused ≡ None → BeginsEntry at.new.left.now }
 {
     let mut entries = Vec::new(alloc);
@@ -151,8 +153,9 @@ fn entries(alloc: Global, names: &Names, end: usize, at: &mut Reading) -> Vec<Li
 
 /// The measure, up to an overlap or the last line.
 pub fn measure(alloc: Global, names: &Names, end: usize, at: &mut Reading) -> MeasureCert
-    ensures read { ReadsWhere IsUnopened names.now end (spec.measure ∷ []) (λ u. measure_marks u (measure_view result)) (spec.entries_from (entries_of (measure_view result)) ∷ []) at.old at.new }
+    ensures read { ReadsWhere IsUnopened names.now end (first.measure ∷ []) (λ u. measure_marks u (measure_view result)) (first.entries_from (entries_of (measure_view result)) ∷ []) at.old at.new }
     ensures begins { at.new.refused ≡ None → BeginsEntry at.new.left.now }
+    ensures first { HasMeasure first_version (measure_view result) }
 {
     choose(end, at, &[Lead::Text(b"linear\n")]);
     let entries = entries(alloc, names, end, at);

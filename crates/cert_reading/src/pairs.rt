@@ -2,16 +2,16 @@
 
 ghost use Rattle.std.specs.Prelude.{◌≡◌, ◌≤◌, ◌++◌, ℕ, suc, [], ◌∷◌, None, map, length, codes, IfSome, IfNone};
 ghost use Rattle.cert_model.specs.CertificateView.{pair_entry_view};
-ghost use Rattle.cert_grammar.specs.Marks.{fixed};
-ghost use Rattle.cert_grammar.specs.CertificateMarks.{pairs_marks};
-ghost use Rattle.cert_grammar.specs.Items as spec;
+ghost use Rattle.cert_grammar.specs.CertificateMarks.{closing};
+ghost use Rattle.cert_grammar.specs.FirstVersion.{pairs_marks};
+ghost use Rattle.cert_grammar.specs.FirstVersion as first;
 ghost use Rattle.cert_words.specs.Walks.{Reads};
 ghost use Rattle.cert_reading.specs.Plain.{IsPlainEvidence, ArePlainPairs};
 ghost use Rattle.cert_reading.specs.Stops.{ReadsWhere, Anywhere, IsInEntry};
 
 use crate::evidence::evidence;
 use cert_model::PairEntry;
-use cert_words::{CertCount, Reading, counted_or, number, position, put, text};
+use cert_words::{CertCount, Lead, Reading, choose, counted_or, number, position, put, text};
 use cops_names::Names;
 use std::alloc::Global;
 
@@ -25,12 +25,13 @@ pub fn next_pair(
     at: &mut Reading,
     n: usize,
 ) -> Option<PairEntry>
-    ensures pair { IfSome result (λ p. ReadsWhere (IsInEntry n) names.now end (spec.pairs_from n ∷ []) (λ u. pairs_marks u n (pair_entry_view p ∷ [])) (spec.pairs_from (suc n) ∷ []) at.old at.new) }
-    ensures last { IfNone result (ReadsWhere (IsInEntry n) names.now end (spec.pairs_from n ∷ []) (λ u. fixed (codes "end\n") ∷ []) [] at.old at.new) }
+    ensures pair { IfSome result (λ p. ReadsWhere (IsInEntry n at.old.left.now) names.now end (first.pairs_from n ∷ []) (λ u. pairs_marks u n (pair_entry_view p ∷ [])) (first.pairs_from (suc n) ∷ []) at.old at.new) }
+    ensures last { IfNone result (ReadsWhere (IsInEntry n at.old.left.now) names.now end (first.pairs_from n ∷ []) (λ u. closing) [] at.old at.new) }
     ensures plain { IfSome result (λ p. at.new.refused ≡ None → IsPlainEvidence (pair_entry_view p).evidence) }
     ensures few { IfSome result (λ p. at.new.refused ≡ None → n ≤ 20000) }
 {
-    if !counted_or(end, at, b"pair", CertCount::Pairs, n, b"end\n") {
+    if !counted_or(end, at, b"pair", CertCount::Pairs, n, b"end") {
+        choose(end, at, &[Lead::Text(b"\n")]);
         return None;
     }
     text(end, at, b" ");
@@ -51,7 +52,7 @@ pub fn next_pair(
 
 /// The overlaps up to the last line, which is read too.
 pub fn all_pairs(alloc: Global, names: &Names, end: usize, at: &mut Reading) -> Vec<PairEntry>
-    ensures read { ReadsWhere Anywhere names.now end (spec.pairs_from 1 ∷ []) (λ u. pairs_marks u 1 (map pair_entry_view result.items) ++ (fixed (codes "end\n") ∷ [])) [] at.old at.new }
+    ensures read { ReadsWhere Anywhere names.now end (first.pairs_from 1 ∷ []) (λ u. pairs_marks u 1 (map pair_entry_view result.items) ++ closing) [] at.old at.new }
     ensures plain { at.new.refused ≡ None → ArePlainPairs (map pair_entry_view result.items) }
 {
     let mut pairs = Vec::new(alloc);

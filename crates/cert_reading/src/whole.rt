@@ -2,7 +2,7 @@
 
 ghost use Rattle.std.specs.Prelude.{◌≡◌, [], ◌∷◌, None, Option, Bool};
 ghost use Rattle.cert_model.specs.CertificateView.{certificate_view};
-ghost use Rattle.cert_grammar.specs.CertificateMarks.{certificate_marks};
+ghost use Rattle.cert_grammar.specs.FirstVersion.{certificate_marks, second_at};
 ghost use Rattle.cert_grammar.specs.Items as spec;
 ghost use Rattle.cert_reading.specs.Plain.{IsPlain};
 ghost use Rattle.cert_reading.specs.Stops.{ReadsWhere, Anywhere};
@@ -18,7 +18,7 @@ use std::alloc::Global;
 
 /// A certificate of any kind, up to the end of its last line.
 pub fn certificate(alloc: Global, names: &Names, end: usize, at: &mut Reading) -> Certificate
-    ensures read { (given : Option Bool) × ReadsWhere Anywhere names.now end (spec.opening ∷ []) (λ u. certificate_marks u given (certificate_view result)) [] at.old at.new }
+    ensures read { second_at at.old.left.now ≡ None → (given : Option Bool) × ReadsWhere Anywhere names.now end (spec.opening ∷ []) (λ u. certificate_marks u given (certificate_view result)) [] at.old at.new }
     ensures plain { at.new.refused ≡ None → IsPlain (certificate_view result) }
 {
     let (_, kind) = heading(end, at);

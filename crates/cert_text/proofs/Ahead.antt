@@ -1,23 +1,30 @@
 -- A reader goes along what stands there, and never stops before its end.
-use Rattle.std.proofs.Common.{◌≡◌, ◌⊎◌, inl, inr, ◌<◌, ◌+◌, ℕ, suc, List, [], ◌∷◌, ◌++◌, take, Option, Some, None, codes, refl, sym, ap, ◌∙◌, subst, arith, append_assoc}
-use Rattle.std.proofs.lemmas.List.{append-nil, append_cancel_left}
+use Rattle.std.proofs.Common.{◌≡◌, inl, inr, ◌<◌, ℕ, suc, List, [], ◌∷◌, ◌++◌, take, Option, Some, None, codes, refl, sym, ap, ◌∙◌, subst, arith, append_assoc}
+use Rattle.std.proofs.lemmas.List.{append_cancel_left}
 use Rattle.cops_names.specs.NameTable.{NameTable}
 use Rattle.cert_grammar.specs.Marks.{CertificateCause, Mark, fixed, mark_text, marks_text, demands_of, verdict}
 use Rattle.cert_grammar.specs.Refusals.{Pass}
 use Rattle.cert_grammar.specs.Scans.{Scan, scan}
-use Rattle.cert_grammar.specs.Items.{Item, Lead, text, check, keyword, numeral_lead, position_lead, variable_lead, name_lead, leads, pair_or_end, pairs_from, entries_from, measure}
-use Rattle.cert_grammar.specs.FirstRefusal.{mode_of, first_there, taken, mark_of, items_of, Left, Step, goes_on, refuses, behind_lead, judged, step, step_lead}
+use Rattle.cert_grammar.specs.Items.{Item, between, line, Lead, text, check, at_once, keyword, numeral_lead, position_lead, variable_lead, name_lead, leads}
+use Rattle.cert_grammar.specs.FirstVersion.{pairs_from, entries_from}
+use Rattle.cert_grammar.specs.FirstRefusal as machine
+use Rattle.cert_grammar.specs.FirstRefusal.{mode_of, first_there, taken, mark_of, items_of, Left, behind_lead, judged, step_lead}
+use Rattle.cert_grammar.specs.FirstRefusal.{Reading as Answer}
+use Rattle.cert_grammar.specs.Sharing.{Shared, share_verdict, behind_mark, behind_marks, PassShares}
+use Rattle.cert_grammar.specs.SharedReader.{ends, further}
 use Rattle.cert_grammar.proofs.ScanLaws.{IsWordOf}
 use Rattle.cert_laws.proofs.LeadTables.{In}
 use Rattle.cert_laws.proofs.OneRefusal.{passed_anywhere}
 use Rattle.cert_laws.proofs.PassTerms.{pass_append}
 use Rattle.cert_laws.proofs.Paths.{Takes, Path, text_is, lead_scan, first_complete, take_front}
 use Rattle.cert_laws.proofs.Moves.{There, takes_along}
-use Rattle.cert_laws.proofs.Reached.{Move, Moves, SameTaken, same_taken}
+use Rattle.cert_laws.proofs.Reached.{Move, Moves, same_taken}
 use Rattle.cert_openings.specs.Openings.{BeginsEntry}
 use Rattle.cert_openings.proofs.Lines.{apart}
-use Rattle.cert_words.specs.Walks.{left_at}
-use Rattle.cert_reading.specs.Stops.{lowest, IsLater, AreLater, IsList}
+use Rattle.cert_sharing.proofs.UseMarks.{pass_split}
+use Rattle.cert_words.specs.Walks.{left_at, RefusesAt}
+use Rattle.cert_words.proofs.Walking.{step_on}
+use Rattle.cert_reading.specs.Stops.{lowest, IsLater, AreLater}
 
 -- ---- from a path to moves
 
@@ -64,34 +71,38 @@ read_size a w b h t = ap (λ (x : List ℕ). take (scan (mode_of a) x).size x) t
 mark_read : (a : Lead) (w b : List ℕ) → IsWordOf (mode_of a) w → There a w b → mark_of a (take (taken a b) b) ≡ mark_of a w
 mark_read (text bytes items) w b h t = refl
 mark_read (check demand byte items) w b h t = refl
+mark_read (at_once demand items) w b h t = refl
 mark_read (keyword bytes demands items) w b h t = refl
 mark_read (numeral_lead demands items) w b h t = ap (mark_of (numeral_lead demands items)) (read_size (numeral_lead demands items) w b h t)
 mark_read (position_lead items) w b h t = ap (mark_of (position_lead items)) (read_size (position_lead items) w b h t)
 mark_read (variable_lead demands items) w b h t = ap (mark_of (variable_lead demands items)) (read_size (variable_lead demands items) w b h t)
 mark_read (name_lead demands items) w b h t = ap (mark_of (name_lead demands items)) (read_size (name_lead demands items) w b h t)
 
-goes_or_refuses : (l : Left) (e : CertificateCause) (at : ℕ) → goes_on l ≡ refuses e at → ⊥
-goes_or_refuses l e at q = cc
+ends_or_further : (r : Answer) (k : Left) (z : Shared) → further k z ≡ ends r → ⊥
+ends_or_further r k z e = cc
 
 -- where a mark is read that passes nothing is refused
-never_refused : (names : NameTable) (end : ℕ) (i : Item) (s : List Item) (m : Mark) (b behind : List ℕ) (new : List Item) (e : CertificateCause) (at : ℕ) → Move i m b behind new → verdict names 0 (demands_of m) ≡ None → step names (left_at end (i ∷ s) b) ≡ refuses e at → ⊥
-never_refused names end i s m b behind new e at h v r =
+never_refused : (names : NameTable) (end : ℕ) (i : Item) (s : List Item) (m : Mark) (b behind : List ℕ) (new : List Item) (z : Shared) (e : CertificateCause × ℕ) → Move i m b behind new → verdict names 0 (demands_of m) ≡ None → share_verdict z 0 (demands_of m) ≡ None → RefusesAt names (left_at end (i ∷ s) b) z e → ⊥
+never_refused names end i s m b behind new z e h v w r =
     let k = h.takes in
     let t = h.there in
     let l = left_at end (i ∷ s) b in
     let first : first_there (leads i) b ≡ Some k.lead = ap (first_there (leads i)) t.parts ∙ first_complete i k.lead k.word_of t.rest k.among k.spelt t.ends in
     let mark : mark_of k.lead (take (taken k.lead b) b) ≡ m = mark_read k.lead k.word_of b k.spelt t ∙ sym k.mark in
     let passed : verdict names l.at (demands_of (mark_of k.lead (take (taken k.lead b) b))) ≡ None = ap (λ (x : Mark). verdict names l.at (demands_of x)) mark ∙ passed_anywhere names 0 l.at (demands_of m) v in
-    goes_or_refuses (behind_lead l k.lead s) e at
-    (sym (ap (λ (x : Option Lead). step_lead names l x i s) first ∙ ap (λ (x : Option (CertificateCause × ℕ)). judged x (behind_lead l k.lead s)) passed) ∙ r)
+    let goes = ap (λ (x : Option Lead). step_lead names l x i s) first ∙ ap (λ (x : Option (CertificateCause × ℕ)). judged x (behind_lead l k.lead s)) passed in
+    let on = step_on names l (behind_lead l k.lead s) m z (record { item = i; others = s; items = refl; lead = k.lead; first = first; mark = sym mark; goes = goes }) w in
+    ends_or_further (machine.refused e.0 e.1) (behind_lead l k.lead s) (behind_mark m z) (sym on ∙ r)
 
 -- a reader that stops has gone along what passes
-pub stops_ahead : (names : NameTable) (end : ℕ) (f g : List Mark) (s t : List Item) (b r : List ℕ) (i : Item) (more : List Item) (q : List ℕ) (e : CertificateCause) (at : ℕ) → Moves f s b t r → Pass names f → Moves g s b (i ∷ more) q → step names (left_at end (i ∷ more) q) ≡ refuses e at → (ms : List Mark) × Moves ms t r (i ∷ more) q
-stops_ahead names end f g s t b r i more q e at h p k z = by (meet f g s t (i ∷ more) b r q h k)
+pub stops_ahead : (names : NameTable) (end : ℕ) (f g : List Mark) (s t : List Item) (b r : List ℕ) (i : Item) (more : List Item) (q : List ℕ) (a z : Shared) (e : CertificateCause × ℕ) → Moves f s b t r → Pass names f → PassShares a f → Moves g s b (i ∷ more) q → z ≡ behind_marks g a → RefusesAt names (left_at end (i ∷ more) q) z e → (ms : List Mark) × Moves ms t r (i ∷ more) q
+stops_ahead names end f g s t b r i more q a z e h p w k is x = by (meet f g s t (i ∷ more) b r q h k)
   where
     by : Meet f g t r (i ∷ more) q → (ms : List Mark) × Moves ms t r (i ∷ more) q
     by (ahead ms y) = (ms, y)
-    by (behind_it m ms w y) = absurd (never_refused names end i more m q y.1 y.0 e at y.2 (pass_append names g (m ∷ ms) (subst (Pass names) w p)).1.0 z)
+    by (behind_it m ms v y) =
+        let there = (pass_split g (m ∷ ms) a (subst (PassShares a) v w)).1.0 in
+        absurd (never_refused names end i more m q y.1 y.0 (behind_marks g a) e y.2 (pass_append names g (m ∷ ms) (subst (Pass names) v p)).1.0 there (subst (λ (c : Shared). RefusesAt names (left_at end (i ∷ more) q) c e) is x))
 
 -- ---- what stands below
 
@@ -104,14 +115,27 @@ pub pair_step : (n k : ℕ) (m : Mark) (new : List Item) → n < suc k → Takes
 pair_step n k m new less h = by h.among
   where
     by : In h.lead (leads (pairs_from k)) → AreLater n (new ++ [])
-    by (inl e) = subst (λ (x : List Item). AreLater n (x ++ [])) (sym (h.items ∙ ap (λ (a : Lead). items_of a h.word_of) e)) (suc k, refl, less)
-    by (inr (inl e)) = subst (λ (x : List Item). AreLater n (x ++ [])) (sym (h.items ∙ ap (λ (a : Lead). items_of a h.word_of) e)) tt
+    by (inl e) = subst (λ (x : List Item). AreLater n (x ++ [])) (sym (h.items ∙ ap (λ (a : Lead). items_of a h.word_of) e)) (inl (suc k, refl, less))
+    by (inr (inl e)) = subst (λ (x : List Item). AreLater n (x ++ [])) (sym (h.items ∙ ap (λ (a : Lead). items_of a h.word_of) e)) (inr refl)
     by (inr (inr x)) = absurd x
 
+-- behind the end of the last line nothing is left
+line_step : (n : ℕ) (m : Mark) (new : List Item) → Takes (between line) m new → AreLater n (new ++ [])
+line_step n m new h = by h.among
+  where
+    by : In h.lead (leads (between line)) → AreLater n (new ++ [])
+    by (inl e) = subst (λ (x : List Item). AreLater n (x ++ [])) (sym (h.items ∙ ap (λ (a : Lead). items_of a h.word_of) e)) tt
+    by (inr x) = absurd x
+
+first_is : (i j : Item) → i ∷ [] ≡ j ∷ [] → i ≡ j
+first_is i j e = cc
+
 later_step : (n : ℕ) (i : Item) (s : List Item) (m : Mark) (new : List Item) → Takes i m new → AreLater n (i ∷ s) → AreLater n (new ++ s)
-later_step n i [] m new h x = let less = x.2 in pair_step n x.0 m new (omega (arith, less)) (subst (λ (j : Item). Takes j m new) x.1 h)
-later_step n i (j ∷ s) m [] h x = x
-later_step n i (j ∷ s) m (k ∷ ks) h x = subst (IsLater n) (sym (lowest_behind k ks j s)) x
+later_step n i [] m new h (inl x) = let less = x.2 in pair_step n x.0 m new (omega (arith, less)) (subst (λ (j : Item). Takes j m new) x.1 h)
+later_step n i [] m new h (inr x) = line_step n m new (subst (λ (j : Item). Takes j m new) (first_is i (between line) x) h)
+later_step n i (j ∷ s) m [] h (inl x) = inl x
+later_step n i (j ∷ s) m (k ∷ ks) h (inl x) = inl (subst (IsLater n) (sym (lowest_behind k ks j s)) x)
+later_step n i (j ∷ s) m new h (inr x) = absurd cc
 
 pub later_moves : (n : ℕ) (ms : List Mark) (s t : List Item) (b r : List ℕ) → Moves ms s b t r → AreLater n s → AreLater n t
 later_moves n [] s t b r h x = subst (AreLater n) h.0 x
@@ -132,6 +156,6 @@ entry_step k m b behind new begins h = by h.takes.among
     by : In h.takes.lead (leads (entries_from k)) → AreLater 1 (new ++ [])
     by (inl e) = absurd (no_entry 102 (codes "un") b h.there.rest begins (h.there.parts ∙ ap (λ (w : List ℕ). w ++ h.there.rest) (text_is (codes "fun") h.takes.word_of (subst (λ (a : Lead). IsWordOf (mode_of a) h.takes.word_of) e h.takes.spelt))) (apart 102 112 refl) (apart 102 101 refl))
     by (inr (inl e)) = absurd (no_entry 97 (codes "ux") b h.there.rest begins (h.there.parts ∙ ap (λ (w : List ℕ). w ++ h.there.rest) (text_is (codes "aux") h.takes.word_of (subst (λ (a : Lead). IsWordOf (mode_of a) h.takes.word_of) e h.takes.spelt))) (apart 97 112 refl) (apart 97 101 refl))
-    by (inr (inr (inl e))) = subst (λ (x : List Item). AreLater 1 (x ++ [])) (sym (h.takes.items ∙ ap (λ (a : Lead). items_of a h.takes.word_of) e)) (2, refl, omega arith)
-    by (inr (inr (inr (inl e)))) = subst (λ (x : List Item). AreLater 1 (x ++ [])) (sym (h.takes.items ∙ ap (λ (a : Lead). items_of a h.takes.word_of) e)) tt
+    by (inr (inr (inl e))) = subst (λ (x : List Item). AreLater 1 (x ++ [])) (sym (h.takes.items ∙ ap (λ (a : Lead). items_of a h.takes.word_of) e)) (inl (2, refl, omega arith))
+    by (inr (inr (inr (inl e)))) = subst (λ (x : List Item). AreLater 1 (x ++ [])) (sym (h.takes.items ∙ ap (λ (a : Lead). items_of a h.takes.word_of) e)) (inr refl)
     by (inr (inr (inr (inr x)))) = absurd x

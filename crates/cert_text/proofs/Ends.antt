@@ -1,17 +1,19 @@
 -- The marks of an opening and of entries end in bytes.
-use Rattle.std.proofs.Common.{◌≡◌, ◌+◌, arith, ℕ, suc, Bool, true, List, [], ◌∷◌, ◌++◌, length, Option, Some, None, codes, refl, sym, ap, ◌∙◌, subst, append_assoc}
+use Rattle.std.proofs.Common.{◌≡◌, ◌+◌, arith, ℕ, suc, Bool, true, List, [], ◌∷◌, ◌++◌, length, Option, codes, refl, sym, ap, ◌∙◌, subst, append_assoc}
 use Rattle.std.proofs.lemmas.List.{append-nil}
 use Rattle.certificates.specs.Derivations.{Derivation, no_steps, first_step, Step, by_rule, by_hypothesis, Derivations, no_derivations, first_derivation}
 use Rattle.certificates.specs.Judging.{derivation_count}
 use Rattle.certificates.specs.Sizes.{step_count}
 use Rattle.certificates.specs.Evidence.{Transition, Automaton, InfeasibilityEvidence, by_caps, by_automaton, PairEvidence, trivial_pair, infeasible_pair, conflicting_pair, joined_pair, unfeasible_pair}
-use Rattle.certificates.specs.Certificates.{PairEntry, MeasureCertificate}
+use Rattle.certificates.specs.Certificates.{PairEntry}
 use Rattle.cert_grammar.specs.Words.{largest}
-use Rattle.cert_grammar.specs.Marks.{Naming, steps, states, transitions, fits_answer, in_range, is_few, is_shallow, Mark, fixed, word}
+use Rattle.cert_grammar.specs.Marks.{Naming, steps, states, transitions, fits_answer, in_range, is_few, is_shallow, simplifications, automaton_begins, shares, Mark, fixed, word}
 use Rattle.cert_grammar.specs.Marks as marks
-use Rattle.cert_grammar.specs.WordMarks.{numeral, number, number_for, position, steps_mark, rule_mark, hypothesis_mark, steps_marks, step_marks, derivations_marks, derivation_marks}
-use Rattle.cert_grammar.specs.CertificateMarks.{state, accepting_marks, head_marks, transitions_marks, automaton_marks, infeasibility_marks, evidence_marks, pairs_marks, measure_marks, answer_marks}
-use Rattle.cert_openings.specs.Openings.{Opening, ortho_opening, quasi_opening}
+use Rattle.cert_grammar.specs.WordMarks.{numeral, number, number_for, position, steps_mark, rule_mark, steps_marks, step_marks, derivations_marks, derivation_marks}
+use Rattle.cert_grammar.specs.CertificateMarks.{state, accepting_marks, head_marks, transitions_marks, automaton_marks, measure_marks, simplifications_marks, answer_marks}
+use Rattle.cert_grammar.specs.FirstVersion.{body_marks, infeasibility_marks, evidence_marks, pairs_marks}
+use Rattle.cert_grammar.specs.Versions.{in_full}
+use Rattle.cert_openings.specs.Openings.{Opening, ortho_opening, quasi_opening, simplified_opening, certificate_for}
 use Rattle.cert_openings.proofs.OpeningMarks.{opening_marks, EndsInBytes, ends_behind, opening_ends}
 use Rattle.cert_reading.proofs.ListMarks.{pair_line}
 use Rattle.cert_text.specs.ReadingView.{read_marks}
@@ -44,7 +46,7 @@ transitions_end (t ∷ ts) x bound a h =
 
 automaton_end : (a : Automaton) (x : Naming) → EndsInBytes (automaton_marks x a)
 automaton_end a x =
-    ends_behind (fixed (codes "states ") ∷ word (numeral a.states) (in_range 0 1 (suc largest) a.states ∷ is_few states a.states ∷ []) ∷ fixed (codes "\naccepting") ∷ []) _
+    ends_behind (word (codes "states") (shares automaton_begins ∷ []) ∷ fixed (codes " ") ∷ word (numeral a.states) (in_range 0 1 (suc largest) a.states ∷ is_few states a.states ∷ []) ∷ fixed (codes "\naccepting") ∷ []) _
     (ends_behind (accepting_marks a.states a.accepting) _
     (transitions_end a.transitions x a.states (fixed (codes "\ntransitions ") ∷ number_for transitions (length a.transitions) ∷ fixed (codes "\n") ∷ []) (fixed (codes "\ntransitions ") ∷ number_for transitions (length a.transitions) ∷ [], 10, [], refl)))
 
@@ -66,16 +68,22 @@ pairs_end (p ∷ ps) x n a h =
     ends_behind a _ (pairs_end ps x (suc n) (line ++ evidence_marks x p.evidence) (ends_behind line (evidence_marks x p.evidence) (evidence_end p.evidence x)))
 
 -- an opening, and entries behind it
-pub read_parts : (x : Naming) (g : Option Bool) (o : Opening) (es : List PairEntry) → read_marks x g o es ≡ opening_marks x g o ++ pairs_marks x 1 es
-read_parts x g ortho_opening es = sym (append_assoc (answer_marks g) (fixed (codes "concon 1\n") ∷ word (codes "ortho") (fits_answer true g ∷ []) ∷ fixed (codes "\n") ∷ []) (pairs_marks x 1 es))
-read_parts x g (quasi_opening m) es =
-    let head = fixed (codes "concon 1\n") ∷ word (codes "quasi") (fits_answer true g ∷ []) ∷ fixed (codes "\n") ∷ [] in
-    ap (λ (ms : List Mark). answer_marks g ++ (head ++ (ms ++ pairs_marks x 1 es))) (sym (append-nil (measure_marks x m)))
-    ∙ ap (λ (ms : List Mark). answer_marks g ++ ms) (sym (append_assoc head (measure_marks x m ++ []) (pairs_marks x 1 es)))
-    ∙ sym (append_assoc (answer_marks g) (head ++ (measure_marks x m ++ [])) (pairs_marks x 1 es))
+body_parts : (o : Opening) (x : Naming) (g : Option Bool) (es : List PairEntry) → body_marks x g (certificate_for o es) ≡ body_marks x g (certificate_for o []) ++ pairs_marks x 1 es
+body_parts ortho_opening x g es = refl
+body_parts (quasi_opening m) x g es = ap (λ (ms : List Mark). word (codes "quasi") (fits_answer true g ∷ []) ∷ fixed (codes "\n") ∷ (ms ++ pairs_marks x 1 es)) (sym (append-nil (measure_marks x m)))
+body_parts (simplified_opening ss o) x g es =
+    let steps = simplifications_marks x in_full ss in
+    let body = body_marks x g (certificate_for o []) in
+    ap (λ (ms : List Mark). fixed (codes "simplify ") ∷ word (numeral (length ss)) (in_range 0 1 (suc largest) (length ss) ∷ is_few simplifications (length ss) ∷ []) ∷ fixed (codes "\n") ∷ ms)
+    (ap (λ (ms : List Mark). steps ++ ms) (body_parts o x g es) ∙ sym (append_assoc steps body (pairs_marks x 1 es)))
+
+pub read_parts : (x : Naming) (g : Option Bool) (o : Opening) (es : List PairEntry) → read_marks x g o es ≡ opening_marks x in_full [] g o ++ pairs_marks x 1 es
+read_parts x g o es =
+    let body = body_marks x g (certificate_for o []) in
+    ap (λ (ms : List Mark). answer_marks g ++ (fixed (codes "concon 1\n") ∷ ms)) (body_parts o x g es) ∙ sym (append_assoc (answer_marks g) (fixed (codes "concon 1\n") ∷ body) (pairs_marks x 1 es))
 
 pub read_end : (x : Naming) (g : Option Bool) (o : Opening) (es : List PairEntry) → EndsInBytes (read_marks x g o es)
-read_end x g o es = subst EndsInBytes (sym (read_parts x g o es)) (pairs_end es x 1 (opening_marks x g o) (opening_ends x g o))
+read_end x g o es = subst EndsInBytes (sym (read_parts x g o es)) (pairs_end es x 1 (opening_marks x in_full [] g o) (opening_ends x in_full [] g o))
 
 pairs_more : (x : Naming) (n m : ℕ) (ps : List PairEntry) (p : PairEntry) → m ≡ n + length ps → pairs_marks x n ps ++ pairs_marks x m (p ∷ []) ≡ pairs_marks x n (ps ++ p ∷ [])
 pairs_more x n m [] p e = let q : m ≡ n = omega (arith, e) in ap (λ (k : ℕ). pairs_marks x k (p ∷ [])) q
@@ -86,6 +94,6 @@ pairs_more x n m (q ∷ ps) p e =
 pub read_more : (x : Naming) (g : Option Bool) (o : Opening) (es : List PairEntry) (p : PairEntry) → read_marks x g o es ++ pairs_marks x (suc (length es)) (p ∷ []) ≡ read_marks x g o (es ++ p ∷ [])
 read_more x g o es p =
     ap (λ (ms : List Mark). ms ++ pairs_marks x (suc (length es)) (p ∷ [])) (read_parts x g o es)
-    ∙ append_assoc (opening_marks x g o) (pairs_marks x 1 es) (pairs_marks x (suc (length es)) (p ∷ []))
-    ∙ ap (λ (ms : List Mark). opening_marks x g o ++ ms) (pairs_more x 1 (suc (length es)) es p (omega arith))
+    ∙ append_assoc (opening_marks x in_full [] g o) (pairs_marks x 1 es) (pairs_marks x (suc (length es)) (p ∷ []))
+    ∙ ap (λ (ms : List Mark). opening_marks x in_full [] g o ++ ms) (pairs_more x 1 (suc (length es)) es p (omega arith))
     ∙ sym (read_parts x g o (es ++ p ∷ []))

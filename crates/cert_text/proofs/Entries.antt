@@ -1,15 +1,17 @@
 -- What is read of a certificate's text, up to a place.
-use Rattle.std.proofs.Common.{◌≡◌, ◌⊎◌, inl, inr, ℕ, suc, ◌+◌, ◌<◌, ◌≤◌, List, [], ◌∷◌, ◌++◌, length, Option, None, Some, refl, sym, ap, ◌∙◌, subst, decimal, codes, arith, append_assoc}
+use Rattle.std.proofs.Common.{◌≡◌, ◌⊎◌, inl, inr, ℕ, suc, List, [], ◌∷◌, ◌++◌, length, refl, sym, ap, ◌∙◌, subst, decimal, codes, arith, append_assoc}
 use Rattle.std.proofs.lemmas.List.{append_cancel_left, length-append}
-use Rattle.certificates.specs.Certificates.{PairEntry, Certificate}
+use Rattle.certificates.specs.Certificates.{PairEntry, Simplification}
+use Rattle.cert_grammar.specs.Versions.{in_full}
 use Rattle.cops_names.specs.NameTable.{NameTable}
 use Rattle.cert_grammar.specs.Words.{position_text}
-use Rattle.cert_grammar.specs.EvidenceText.{evidence_text, pairs_text, ArePairs}
-use Rattle.cert_grammar.specs.CertificateText.{measure_text, body_text, certificate_text, answer_line, CanBeSpelt, IsCertificateText}
-use Rattle.cert_openings.specs.Openings.{Opening, ortho_opening, quasi_opening, certificate_for, IsRead}
+use Rattle.cert_grammar.specs.FirstVersion.{evidence_text, pairs_text, body_text, certificate_text, IsCertificateText}
+use Rattle.cert_grammar.specs.CertificateText.{measure_text, simplifications_text, answer_line}
+use Rattle.cert_openings.specs.Openings.{Opening, ortho_opening, quasi_opening, simplified_opening, certificate_for}
+use Rattle.cert_openings.specs.FirstOpenings.{IsRead}
 use Rattle.cert_openings.proofs.Lines.{bytes_apart}
 use Rattle.cert_openings.proofs.OneEnd.{first_line}
-use Rattle.cert_text.proofs.OneCertificate.{same_certificate}
+use Rattle.cert_openings.proofs.FirstVersion.{one_certificate}
 
 abbrev pub last_line : List ℕ
 last_line = codes "end\n"
@@ -39,6 +41,7 @@ front_there names bytes o es at r = r.text ∙ regroup r.answer first_line (body
 pub yes_line : (o : Opening) (es : List PairEntry) → codes "YES\n" ≡ answer_line (certificate_for o es)
 yes_line ortho_opening es = refl
 yes_line (quasi_opening m) es = refl
+yes_line (simplified_opening steps o) es = yes_line o es
 
 -- with the last line behind it, what is read is the text of a certificate
 pub read_alone : (names : NameTable) (bytes : List ℕ) (o : Opening) (es : List PairEntry) (at : ℕ) (r : IsRead names bytes o es at) → IsCertificateText names (front names r.answer o es ++ last_line) (certificate_for o es)
@@ -53,6 +56,15 @@ openings_same ortho_opening ortho_opening es fs e = (refl, cc)
 openings_same ortho_opening (quasi_opening n) es fs e = absurd cc
 openings_same (quasi_opening m) ortho_opening es fs e = absurd cc
 openings_same (quasi_opening m) (quasi_opening n) es fs e = let same : m ≡ n = cc in (ap quasi_opening same, cc)
+openings_same ortho_opening (simplified_opening ts p) es fs e = absurd cc
+openings_same (quasi_opening m) (simplified_opening ts p) es fs e = absurd cc
+openings_same (simplified_opening ss o) ortho_opening es fs e = absurd cc
+openings_same (simplified_opening ss o) (quasi_opening n) es fs e = absurd cc
+openings_same (simplified_opening ss o) (simplified_opening ts p) es fs e =
+    let steps : ss ≡ ts = cc in
+    let inner : certificate_for o es ≡ certificate_for p fs = cc in
+    let same = openings_same o p es fs inner in
+    (ap (λ (x : List Simplification). simplified_opening x o) steps ∙ ap (simplified_opening ts) same.0, same.1)
 
 -- one opening and one list of entries are read up to a place
 pub read_same : (names : NameTable) (bytes : List ℕ) (o p : Opening) (es fs : List PairEntry) (at : ℕ) (r : IsRead names bytes o es at) (s : IsRead names bytes p fs at) → (o ≡ p) × (es ≡ fs) × (r.rest ≡ s.rest)
@@ -61,7 +73,7 @@ read_same names bytes o p es fs at r s =
     let cut = same_cut (front names r.answer o es) (front names s.answer p fs) r.rest s.rest (sym (front_there names bytes o es at r) ∙ front_there names bytes p fs at s) lengths in
     let other : IsCertificateText names (front names r.answer o es ++ last_line) (certificate_for p fs) =
     subst (λ (w : List ℕ). IsCertificateText names (w ++ last_line) (certificate_for p fs)) (sym cut.0) (read_alone names bytes p fs at s) in
-    let same = openings_same o p es fs (same_certificate names (front names r.answer o es ++ last_line) (certificate_for o es) (certificate_for p fs) (read_alone names bytes o es at r) other) in
+    let same = openings_same o p es fs (one_certificate names (front names r.answer o es ++ last_line) (certificate_for o es) (certificate_for p fs) (read_alone names bytes o es at r) other) in
     (same.0, same.1, cut.1)
 
 -- where the last line is left, the text is that of a certificate; and only there
@@ -95,12 +107,23 @@ regroup_more k p q r = simp append_assoc
 regroup_measured : (k m p q r : List ℕ) → (k ++ (m ++ p)) ++ (q ++ r) ≡ (k ++ (m ++ (p ++ q))) ++ r
 regroup_measured k m p q r = simp append_assoc
 
+regroup_steps : (k d l s b x : List ℕ) → (k ++ (d ++ (l ++ (s ++ b)))) ++ x ≡ k ++ (d ++ (l ++ (s ++ (b ++ x))))
+regroup_steps k d l s b x = simp append_assoc
+
 body_more : (names : NameTable) (o : Opening) (es fs : List PairEntry) (rest : List ℕ) → body_text names (certificate_for o es) ++ (pairs_text names fs ++ rest) ≡ body_text names (certificate_for o (es ++ fs)) ++ rest
 body_more names ortho_opening es fs rest =
     regroup_more (codes "ortho\n") (pairs_text names es) (pairs_text names fs) rest ∙ ap (λ (w : List ℕ). (codes "ortho\n" ++ w) ++ rest) (sym (pairs_append names es fs))
 body_more names (quasi_opening m) es fs rest =
     regroup_measured (codes "quasi\n") (measure_text names m) (pairs_text names es) (pairs_text names fs) rest
     ∙ ap (λ (w : List ℕ). (codes "quasi\n" ++ (measure_text names m ++ w)) ++ rest) (sym (pairs_append names es fs))
+body_more names (simplified_opening ss o) es fs rest =
+    let k = codes "simplify " in
+    let d = decimal (length ss) in
+    let l = codes "\n" in
+    let s = simplifications_text names in_full ss in
+    regroup_steps k d l s (body_text names (certificate_for o es)) (pairs_text names fs ++ rest)
+    ∙ ap (λ (w : List ℕ). k ++ (d ++ (l ++ (s ++ w)))) (body_more names o es fs rest)
+    ∙ sym (regroup_steps k d l s (body_text names (certificate_for o (es ++ fs))) rest)
 
 same_answers : (a b x y : List ℕ) → (a ≡ []) ⊎ (a ≡ codes "YES\n") → (b ≡ []) ⊎ (b ≡ codes "YES\n") → a ++ (first_line ++ x) ≡ b ++ (first_line ++ y) → x ≡ y
 same_answers a b x y (inl p) (inl q) e = append_cancel_left first_line x y (ap (λ (w : List ℕ). w ++ (first_line ++ x)) (sym p) ∙ e ∙ ap (λ (w : List ℕ). w ++ (first_line ++ y)) q)

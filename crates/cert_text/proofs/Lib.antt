@@ -1,7 +1,7 @@
-pub mod OneCertificate
 pub mod Entries
 pub mod Runs
 pub mod Ends
+pub mod Unshared
 pub mod Ahead
 pub mod Begun
 pub mod Advancing

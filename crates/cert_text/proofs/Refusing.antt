@@ -1,14 +1,13 @@
 -- Where the refusal of a text stands that is opened, or is not.
-use Rattle.std.proofs.Common.{◌≡◌, ℕ, List, Option, Some, None, refl, sym, subst}
+use Rattle.std.proofs.Common.{◌≡◌, ℕ, List, Some, refl, sym, subst}
 use Rattle.certificates.specs.Certificates.{peak_certificate}
 use Rattle.cops_names.specs.NameTable.{NameTable}
 use Rattle.cert_model.specs.CertificateView.{measure_view, peak_view}
 use Rattle.cert_grammar.specs.Marks.{CertificateCause}
-use Rattle.cert_grammar.specs.Refusals.{IsCertificateRefused}
-use Rattle.cert_laws.proofs.OneAnswer.{never_both}
-use Rattle.cert_openings.specs.Openings.{Opening, ortho_opening, quasi_opening, IsOpened}
-use Rattle.cert_openings.proofs.Passes.{openings_pass}
-use Rattle.cert_openings.proofs.Refused.{bad_openings_are_refused}
+use Rattle.cert_openings.proofs.FirstVersion.{never_both}
+use Rattle.cert_openings.specs.Openings.{Opening, ortho_opening, quasi_opening}
+use Rattle.cert_openings.specs.FirstOpenings.{IsOpened}
+use Rattle.cert_openings.proofs.FirstEnds.{openings_pass, bad_openings_are_refused}
 use Rattle.cert_words.specs.declared.error.CertError.{CertError}
 use Rattle.cert_words.specs.Words.{told}
 use Rattle.cert_words.specs.CertRefusals.{IsRefusedAs}

@@ -1,12 +1,12 @@
 -- What is said of a text that is read up to its entries.
-use Rattle.std.specs.Prelude.{◌≡◌, ◌≤◌, ◌<◌, ℕ, List, Some, Result, Ok, Err}
-use Rattle.certificates.specs.Certificates.{Certificate, peak_certificate}
+use Rattle.std.specs.Prelude.{◌≡◌, ◌≤◌, ◌<◌, ℕ, List, Some}
+use Rattle.certificates.specs.Certificates.{peak_certificate}
 use Rattle.cops_names.specs.NameTable.{NameTable}
 use Rattle.cert_model.specs.CertificateView.{measure_view, peak_view}
-use Rattle.cert_grammar.specs.CertificateText.{IsCertificateText}
+use Rattle.cert_grammar.specs.FirstVersion.{IsCertificateText, IsCertificateRefused}
 use Rattle.cert_grammar.specs.Marks.{CertificateCause}
-use Rattle.cert_grammar.specs.Refusals.{IsCertificateRefused}
-use Rattle.cert_openings.specs.Openings.{Opening, ortho_opening, quasi_opening, IsOpeningEnd, IsOpened}
+use Rattle.cert_openings.specs.Openings.{Opening, ortho_opening, quasi_opening}
+use Rattle.cert_openings.specs.FirstOpenings.{IsOpeningEnd, IsOpened}
 use Rattle.cert_words.specs.declared.error.CertError.{CertError}
 use Rattle.cert_words.specs.Words.{told}
 use Rattle.cert_text.specs.Reading.{Reading}

@@ -3,10 +3,14 @@ use Rattle.std.specs.Prelude.{◌≡◌, ◌⊎◌, ◌-◌, ℕ, suc, Bool, Lis
 use Rattle.certificates.specs.Certificates.{PairEntry}
 use Rattle.cops_names.specs.NameTable.{NameTable}
 use Rattle.cert_grammar.specs.Marks.{Naming, Mark, fixed}
-use Rattle.cert_grammar.specs.CertificateMarks.{answer_marks, body_marks}
+use Rattle.cert_grammar.specs.CertificateMarks.{answer_marks}
+use Rattle.cert_grammar.specs.FirstVersion.{body_marks, pairs_from, entries_from}
 use Rattle.cert_grammar.specs.Items as Items
-use Rattle.cert_grammar.specs.Items.{Item, pairs_from, entries_from}
-use Rattle.cert_openings.specs.Openings.{Opening, certificate_for, IsRead, BeginsEntry}
+use Rattle.cert_grammar.specs.Items.{Item}
+use Rattle.cert_grammar.specs.Versions.{first_version, HasMeasure}
+use Rattle.cert_grammar.specs.Sharing.{nothing_shared}
+use Rattle.cert_openings.specs.Openings.{Opening, ortho_opening, quasi_opening, simplified_opening, certificate_for, BeginsEntry}
+use Rattle.cert_openings.specs.FirstOpenings.{IsRead}
 use Rattle.cert_words.specs.Walks.{Run}
 use Rattle.cert_reading.specs.Plain.{ArePlainPairs}
 use Rattle.cert_text.specs.Reading.{Reading}
@@ -27,6 +31,12 @@ IsNext item n left = (item ≡ pairs_from n) ⊎ ((k : ℕ) × (item ≡ entries
 abbrev pub read_marks : Naming → Option Bool → Opening → List PairEntry → List Mark
 read_marks names given o es = answer_marks given ++ (fixed (codes "concon 1\n") ∷ body_marks names given (certificate_for o es))
 
+-- an opening of the first version
+abbrev pub IsFirst : Opening → Type 0
+IsFirst ortho_opening = Unit {0}
+IsFirst (quasi_opening m) = HasMeasure first_version m
+IsFirst (simplified_opening steps o) = ⊥
+
 -- an opening and so many entries are read up to the bytes that are left, along their marks
 pub record IsUpTo (names : NameTable) (bytes left : List ℕ) (count : ℕ) : Type 0 where
   pub opening : Opening
@@ -37,7 +47,7 @@ pub record IsUpTo (names : NameTable) (bytes left : List ℕ) (count : ℕ) : Ty
   pub rest : read.rest ≡ left
   pub counted : length entries ≡ count
   pub plain : ArePlainPairs entries
-  pub run : Run names (length bytes) (Items.opening ∷ []) (λ u. read_marks u given opening entries) (item ∷ []) bytes left
+  pub run : Run names (length bytes) (Items.opening ∷ []) (λ u. read_marks u given opening entries) (item ∷ []) bytes left nothing_shared nothing_shared
   pub next : IsNext item (suc count) left
 
 abbrev pub IsHeld : Inside → Type 0

@@ -31,9 +31,7 @@ mod writer;
 
 pub use cert_words::{CertCount, CertError};
 pub use cert_writing::text_len;
-pub use laws::{
-    demands_are_met, grammar_is_deterministic, one_answer, reader_stops_at_refusals, worked_texts,
-};
+pub use laws::{grammar_is_deterministic, one_answer};
 pub use opening::{Opened, open_cert};
 pub use pairs::Pairs;
 pub use reader::{one_certificate, read_cert};

@@ -1,12 +1,14 @@
 //! Reads the text of a certificate up to its entries.
 
-ghost use Rattle.std.specs.Prelude.{IfOk, IfErr};
+ghost use Rattle.std.specs.Prelude.{◌≡◌, None, IfOk, IfErr};
+ghost use Rattle.cert_grammar.specs.FirstVersion.{second_at};
 ghost use Rattle.cert_words.specs.CertRefusals.{IsRefusedAs};
 ghost use Rattle.cert_text.specs.OpenedText.{IsOpenedAs, IsRefusedBehind, IsToldBefore, HasNoEndAtPeak};
 
 use crate::pairs::Pairs;
 use cert_model::{MeasureCert, Peak};
-use cert_reading::{Kind, entries_begin, heading, measure, peak};
+use cert_reading::{Kind, entries_begin, heading, measure, peak, second_version};
+use cert_shares::Shares;
 use cert_words::{CertError, Reading};
 use cops_names::Names;
 use std::alloc::Global;
@@ -34,10 +36,27 @@ pub fn open_cert<'a>(
     ensures early { IfErr result (IsToldBefore bytes.now) }
     ensures peak { IfOk result (HasNoEndAtPeak bytes.now) }
 {
+    match second_version(bytes) {
+        Some(at) => Err(CertError::CertSyntax { at }),
+        None => open_first(alloc, names, bytes),
+    }
+}
+
+// The same of a text that is not of the second version.
+fn open_first<'a>(alloc: Global, names: &'a Names, bytes: &'a [u8]) -> Result<Opened<'a>, CertError>
+    requires { second_at bytes.now ≡ None }
+    ensures opened { IfOk result (IsOpenedAs names.now bytes.now) }
+    ensures refused { IfErr result (λ e. IsRefusedAs names.now bytes.now e) }
+    ensures late { IfOk result (IsRefusedBehind names.now bytes.now) }
+    ensures early { IfErr result (IsToldBefore bytes.now) }
+    ensures peak { IfOk result (HasNoEndAtPeak bytes.now) }
+{
     let end = bytes.len();
+    let shares = Shares::new(alloc);
     let mut at = Reading {
         left: bytes,
         refused: None,
+        shares,
     };
     let (_, kind) = heading(end, &mut at);
     match kind {

@@ -3,13 +3,15 @@
 ghost use Rattle.std.specs.Prelude.{◌≡◌, ◌++◌, ℕ, List, [], ◌∷◌, IfOk, IfErr, IfSome, IfNone};
 ghost use Rattle.certificates.specs.Certificates as math;
 ghost use Rattle.cert_model.specs.CertificateView.{pair_entry_view};
-ghost use Rattle.cert_openings.specs.Openings.{Opening, IsRead};
+ghost use Rattle.cert_openings.specs.Openings.{Opening};
+ghost use Rattle.cert_openings.specs.FirstOpenings.{IsRead};
 ghost use Rattle.cert_words.specs.CertRefusals.{IsRefusedAs};
 ghost use Rattle.cert_text.specs.Reading.{Reading, HasRead, IsAll, ReadsOn, IsAtEnd, HasTextOf, GivesNone, GivesSome, StaysWithout};
 ghost use Rattle.cert_text.specs.ReadingView.{place_of, IsUpTo};
 
 use cert_model::PairEntry;
 use cert_reading::next_pair;
+use cert_shares::Shares;
 use cert_words::CertError;
 use cops_names::Names;
 use std::alloc::Global;
@@ -64,9 +66,11 @@ impl<'a> Pairs<'a> {
         ensures text { HasTextOf self.old self.new }
     {
         let end = self.bytes.len();
+        let shares = Shares::new(alloc);
         let mut at = cert_words::Reading {
             left: self.left,
             refused: None,
+            shares,
         };
         let found = next_pair(alloc, self.names, end, &mut at, self.count as usize + 1);
         if let Some(refused) = at.refused {

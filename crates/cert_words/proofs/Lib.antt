@@ -6,5 +6,5 @@ pub mod Walking
 pub mod Stepping
 pub mod NodeReads
 pub mod Choosing
-pub mod Exact
 pub mod Whole
+pub mod Sharings

@@ -3,13 +3,18 @@ use Rattle.std.proofs.Common.{◌≡◌, ◌≤◌, ◌-◌, ℕ, List, [], ◌�
 use Rattle.std.proofs.lemmas.List.{append-nil}
 use Rattle.cops_names.specs.NameTable.{NameTable}
 use Rattle.cert_grammar.specs.Words.{name_of}
-use Rattle.cert_grammar.specs.Marks.{CertificateCause, Naming, Mark, fixed, word, symbol, behind}
+use Rattle.cert_grammar.specs.Marks.{CertificateCause, Naming, Mark, fixed, word, symbol, behind, closed, demands_of}
 use Rattle.cert_grammar.specs.Items.{Item, Lead}
-use Rattle.cert_grammar.specs.FirstRefusal.{taken, Left, refuses, goes_on, behind_lead, judged, step, step_lead, step_items}
+use Rattle.cert_grammar.specs.FirstRefusal.{taken, Left, goes_on, behind_lead, judged, step, step_lead, step_items}
+use Rattle.cert_grammar.specs.Sharing.{Shared, share_verdict, behind_mark, behind_marks, PassShares}
+use Rattle.cert_grammar.specs.SharedReader.{next_lead, further, shared_judged, behind_lead_shared, after_step, shared_step}
+use Rattle.cert_shares.specs.SharesView.{with_begun}
+use Rattle.cert_sharing.proofs.UseMarks.{behind_both, pass_join}
+use Rattle.cert_sharing.proofs.OneShared.{shares_anywhere}
 use Rattle.cert_words.specs.declared.error.CertError.{CertError}
 use Rattle.cert_words.specs.declared.reading.Reading.{Reading}
 use Rattle.cert_words.specs.Words.{told}
-use Rattle.cert_words.specs.Walks.{left_at, StepsOver, Walks, tagged, AreFound, Run, IsStopped, ReadsOn, Reads}
+use Rattle.cert_words.specs.Walks.{left_at, StepsOver, Walks, tagged, AreFound, Keeps, Run, RefusesAt, IsStopped, ReadsOn, Reads}
 
 pub walks_then : (names : NameTable) (ms ns : List Mark) (l k j : Left) → Walks names ms l k → Walks names ns k j → Walks names (ms ++ ns) l j
 walks_then names [] ns l k j w v = subst (λ (x : Left). Walks names ns x j) (sym w) v
@@ -21,6 +26,15 @@ same_left l k e = cc
 judged_on : (v : Option (CertificateCause × ℕ)) (l k : Left) → judged v l ≡ goes_on k → l ≡ k
 judged_on None l k e = same_left l k e
 judged_on (Some x) l k e = absurd cc
+
+-- a step behind which nothing is refused on shared automata
+pub step_on : (names : NameTable) (l k : Left) (m : Mark) (z : Shared) → StepsOver names l m k → share_verdict z 0 (demands_of m) ≡ None → shared_step names l z ≡ further k (behind_mark m z)
+step_on names l k m z s v =
+    let next : next_lead l.items l.bytes ≡ Some s.lead = ap (λ (x : List Item). next_lead x l.bytes) s.items ∙ s.first in
+    let there = shares_anywhere z 0 l.at (demands_of m) v in
+    ap (after_step l z (next_lead l.items l.bytes)) s.goes ∙ ap (λ (x : Option Lead). behind_lead_shared l z x k) next
+    ∙ ap (λ (n : Mark). shared_judged (share_verdict z l.at (demands_of n)) k (behind_mark n z)) (sym s.mark)
+    ∙ ap (λ (o : Option (CertificateCause × ℕ)). shared_judged o k (behind_mark m z)) there
 
 -- where a step goes
 pub goes_where : (names : NameTable) (l k : Left) (m : Mark) → (s : StepsOver names l m k) → k ≡ behind_lead l s.lead s.others
@@ -42,47 +56,75 @@ found_then names (fixed bytes ∷ ms) ns h k = found_then names ms ns h k
 found_then names (word bytes demands ∷ ms) ns h k = found_then names ms ns h k
 found_then names (symbol name demands ∷ ms) ns h k = (h.0, found_then names ms ns h.1 k)
 found_then names (behind demand ∷ ms) ns h k = found_then names ms ns h k
+found_then names (closed demand ∷ ms) ns h k = found_then names ms ns h k
+
+-- what is known of shared automata but for what was begun
+pub same_begun : (z t : Shared) → with_begun [] z ≡ with_begun [] t → z ≡ with_begun z.begun t
+same_begun z t e = ap (with_begun z.begun) e
+
+pub keeps_then : (s t v : Shared) (ms ns : List Mark) → Keeps s ms t → Keeps t ns v → Keeps s (ms ++ ns) v
+keeps_then s t v ms ns h k b =
+    let z = behind_marks ms (with_begun b s) in
+    let there : z ≡ with_begun z.begun t = same_begun z t (h b).1 in
+    let on = k z.begun in (
+      pass_join ms ns (with_begun b s) (h b).0 (subst (λ (x : Shared). PassShares x ns) (sym there) on.0),
+      ap (with_begun []) (behind_both ms ns (with_begun b s)) ∙ ap (λ (x : Shared). with_begun [] (behind_marks ns x)) there ∙ on.1,
+    )
+
+-- the same up to a refusal
+pub stops_then : (names : NameTable) (s t : Shared) (ms ns : List Mark) (l : Left) (e : CertificateCause × ℕ) → Keeps s ms t → ((b : List ℕ) → PassShares (with_begun b t) ns × RefusesAt names l (behind_marks ns (with_begun b t)) e) → (b : List ℕ) → PassShares (with_begun b s) (ms ++ ns) × RefusesAt names l (behind_marks (ms ++ ns) (with_begun b s)) e
+stops_then names s t ms ns l e h k b =
+    let z = behind_marks ms (with_begun b s) in
+    let there : z ≡ with_begun z.begun t = same_begun z t (h b).1 in
+    let on = k z.begun in (
+      pass_join ms ns (with_begun b s) (h b).0 (subst (λ (x : Shared). PassShares x ns) (sym there) on.0),
+      subst (λ (x : Shared). RefusesAt names l x e) (ap (behind_marks ns) (sym there) ∙ sym (behind_both ms ns (with_begun b s))) on.1,
+    )
 
 module _ (names : NameTable) (end : ℕ) where
-  pub run_then : (from mid to : List Item) (f g : Naming → List Mark) (b r q : List ℕ) → Run names end from f mid b r → Run names end mid g to r q → Run names end from (λ u. f u ++ g u) to b q
-  run_then from mid to f g b r q x y = record {
+  pub run_then : (from mid to : List Item) (f g : Naming → List Mark) (b r q : List ℕ) (s t v : Shared) → Run names end from f mid b r s t → Run names end mid g to r q t v → Run names end from (λ u. f u ++ g u) to b q s v
+  run_then from mid to f g b r q s t v x y = record {
     walks = λ le items.
         let first = x.walks le items in
         let less = walks_shorter names (f (name_of names)) (left_at end (from ++ items) b) (left_at end (mid ++ items) r) first in
         walks_then names (f (name_of names)) (g (name_of names)) _ _ _ first (y.walks (omega (arith, le, less)) items);
     found = found_then names (f tagged) (g tagged) x.found y.found;
+    shares = λ le.
+        let less = walks_shorter names (f (name_of names)) (left_at end (from ++ []) b) (left_at end (mid ++ []) r) (x.walks le []) in
+        keeps_then s t v (f (name_of names)) (g (name_of names)) (x.shares le) (y.shares (omega (arith, le, less)));
   }
 
-  pub stop_then : (from mid : List Item) (f : Naming → List Mark) (b r : List ℕ) (t : Option (CertificateCause × ℕ)) → Run names end from f mid b r → IsStopped names end mid r t → IsStopped names end from b t
-  stop_then from mid f b r None x y = tt
-  stop_then from mid f b r (Some e) x y = λ le items.
+  pub stop_then : (from mid : List Item) (f : Naming → List Mark) (b r : List ℕ) (s t : Shared) (o : Option (CertificateCause × ℕ)) → Run names end from f mid b r s t → IsStopped names end mid r t o → IsStopped names end from b s o
+  stop_then from mid f b r s t None x y = tt
+  stop_then from mid f b r s t (Some e) x y = λ le items.
       let first = x.walks le items in
       let less = walks_shorter names (f (name_of names)) (left_at end (from ++ items) b) (left_at end (mid ++ items) r) first in
       let there = y (omega (arith, le, less)) items in
-      record { marks = f (name_of names) ++ there.marks; item = there.item; more = there.more; rest = there.rest; walks = walks_then names (f (name_of names)) there.marks _ _ _ first there.walks; refused = there.refused }
+      record { marks = f (name_of names) ++ there.marks; item = there.item; more = there.more; rest = there.rest; walks = walks_then names (f (name_of names)) there.marks _ _ _ first there.walks; stops = stops_then names s t (f (name_of names)) there.marks (left_at end (there.item ∷ (there.more ++ items)) there.rest) e (x.shares le) there.stops }
 
-  pub reads_on : (from mid to : List Item) (f g : Naming → List Mark) (b r q : List ℕ) (s t u : Option CertError) → ReadsOn names end from f mid b r s t → ReadsOn names end mid g to r q t u → ReadsOn names end from (λ v. f v ++ g v) to b q s u
-  reads_on from mid to f g b r q None None None x y = run_then from mid to f g b r q x y
-  reads_on from mid to f g b r q None None (Some e) x y = stop_then from mid f b r (told e) x y
-  reads_on from mid to f g b r q None (Some d) None x y = absurd y
-  reads_on from mid to f g b r q None (Some d) (Some e) x y = subst (IsStopped names end from b) (sym y) x
-  reads_on from mid to f g b r q (Some c) None u x y = absurd x
-  reads_on from mid to f g b r q (Some c) (Some d) None x y = absurd y
-  reads_on from mid to f g b r q (Some c) (Some d) (Some e) x y = y ∙ x
+  pub reads_on : (from mid to : List Item) (f g : Naming → List Mark) (b r q : List ℕ) (x y z : Shared) (s t u : Option CertError) → ReadsOn names end from f mid b r x y s t → ReadsOn names end mid g to r q y z t u → ReadsOn names end from (λ v. f v ++ g v) to b q x z s u
+  reads_on from mid to f g b r q x y z None None None h k = run_then from mid to f g b r q x y z h k
+  reads_on from mid to f g b r q x y z None None (Some e) h k = stop_then from mid f b r x y (told e) h k
+  reads_on from mid to f g b r q x y z None (Some d) None h k = absurd k
+  reads_on from mid to f g b r q x y z None (Some d) (Some e) h k = subst (IsStopped names end from b x) (sym k) h
+  reads_on from mid to f g b r q x y z (Some c) None u h k = absurd h
+  reads_on from mid to f g b r q x y z (Some c) (Some d) None h k = absurd k
+  reads_on from mid to f g b r q x y z (Some c) (Some d) (Some e) h k = k ∙ h
 
   -- items that stand behind all that is read
   framed_walk : (a more items : List Item) (b : List ℕ) → left_at end (a ++ (more ++ items)) b ≡ left_at end ((a ++ more) ++ items) b
   framed_walk a more items b = ap (λ (x : List Item). left_at end x b) (sym (append_assoc a more items))
 
-  framed_run : (from to more : List Item) (f : Naming → List Mark) (b r : List ℕ) → Run names end from f to b r → Run names end (from ++ more) f (to ++ more) b r
-  framed_run from to more f b r x = record {
+  framed_run : (from to more : List Item) (f : Naming → List Mark) (b r : List ℕ) (s t : Shared) → Run names end from f to b r s t → Run names end (from ++ more) f (to ++ more) b r s t
+  framed_run from to more f b r s t x = record {
     walks = λ le items. subst (λ (l : Left). Walks names (f (name_of names)) l (left_at end ((to ++ more) ++ items) r)) (framed_walk from more items b) (subst (Walks names (f (name_of names)) (left_at end (from ++ (more ++ items)) b)) (framed_walk to more items r) (x.walks le (more ++ items)));
     found = x.found;
+    shares = x.shares;
   }
 
-  framed_stop : (from more : List Item) (b : List ℕ) (t : Option (CertificateCause × ℕ)) → IsStopped names end from b t → IsStopped names end (from ++ more) b t
-  framed_stop from more b None x = tt
-  framed_stop from more b (Some e) x = λ le items.
+  framed_stop : (from more : List Item) (b : List ℕ) (s : Shared) (t : Option (CertificateCause × ℕ)) → IsStopped names end from b s t → IsStopped names end (from ++ more) b s t
+  framed_stop from more b s None x = tt
+  framed_stop from more b s (Some e) x = λ le items.
       let there = x le (more ++ items) in
       let same = ap (λ (y : List Item). there.item ∷ y) (sym (append_assoc there.more more items)) in
       record {
@@ -91,84 +133,94 @@ module _ (names : NameTable) (end : ℕ) where
         more = there.more ++ more;
         rest = there.rest;
         walks = subst (λ (l : Left). Walks names there.marks l (left_at end (there.item ∷ ((there.more ++ more) ++ items)) there.rest)) (framed_walk from more items b) (subst (λ (y : List Item). Walks names there.marks (left_at end (from ++ (more ++ items)) b) (left_at end y there.rest)) same there.walks);
-        refused = subst (λ (y : List Item). step names (left_at end y there.rest) ≡ refuses e.0 e.1) same there.refused;
+        stops = λ k. ((there.stops k).0, subst (λ (y : List Item). RefusesAt names (left_at end y there.rest) (behind_marks there.marks (with_begun k s)) e) same (there.stops k).1);
       }
 
-  pub framed_on : (from to more : List Item) (f : Naming → List Mark) (b r : List ℕ) (s t : Option CertError) → ReadsOn names end from f to b r s t → ReadsOn names end (from ++ more) f (to ++ more) b r s t
-  framed_on from to more f b r None None x = framed_run from to more f b r x
-  framed_on from to more f b r None (Some e) x = framed_stop from more b (told e) x
-  framed_on from to more f b r (Some d) None x = absurd x
-  framed_on from to more f b r (Some d) (Some e) x = x
+  pub framed_on : (from to more : List Item) (f : Naming → List Mark) (b r : List ℕ) (x y : Shared) (s t : Option CertError) → ReadsOn names end from f to b r x y s t → ReadsOn names end (from ++ more) f (to ++ more) b r x y s t
+  framed_on from to more f b r x y None None h = framed_run from to more f b r x y h
+  framed_on from to more f b r x y None (Some e) h = framed_stop from more b x (told e) h
+  framed_on from to more f b r x y (Some d) None h = absurd h
+  framed_on from to more f b r x y (Some d) (Some e) h = h
 
   -- where the text is refused nothing is said of a value
-  pub any_on : (from to other : List Item) (f g : Naming → List Mark) (b r : List ℕ) (s t : Option CertError) (e : CertError) → t ≡ Some e → ReadsOn names end from f to b r s t → ReadsOn names end from g other b r s t
-  any_on from to other f g b r None None e q x = absurd cc
-  any_on from to other f g b r (Some d) None e q x = absurd x
-  any_on from to other f g b r None (Some d) e q x = x
-  any_on from to other f g b r (Some c) (Some d) e q x = x
+  pub any_on : (from to other : List Item) (f g : Naming → List Mark) (b r : List ℕ) (x y : Shared) (s t : Option CertError) (e : CertError) → t ≡ Some e → ReadsOn names end from f to b r x y s t → ReadsOn names end from g other b r x y s t
+  any_on from to other f g b r x y None None e q h = absurd cc
+  any_on from to other f g b r x y (Some d) None e q h = absurd h
+  any_on from to other f g b r x y None (Some d) e q h = h
+  any_on from to other f g b r x y (Some c) (Some d) e q h = h
 
-  pub stays_on : (from to : List Item) (f : Naming → List Mark) (b : List ℕ) (r : Option CertError) (e : CertError) → r ≡ Some e → ReadsOn names end from f to b b r r
-  stays_on from to f b None e q = absurd cc
-  stays_on from to f b (Some d) e q = refl
+  pub stays_on : (from to : List Item) (f : Naming → List Mark) (b : List ℕ) (x : Shared) (r : Option CertError) (e : CertError) → r ≡ Some e → ReadsOn names end from f to b b x x r r
+  stays_on from to f b x None e q = absurd cc
+  stays_on from to f b x (Some d) e q = refl
 
 -- a part behind another
 pub then_reads : {names : NameTable} {end : ℕ} {from mid to : List Item} {f g : Naming → List Mark} {s t u : Reading} → Reads names end from f mid s t → Reads names end mid g to t u → Reads names end from (λ v. f v ++ g v) to s u
-then_reads {names} {end} {from} {mid} {to} {f} {g} {s} {t} {u} x y = record { on = reads_on names end from mid to f g s.left.now t.left.now u.left.now s.refused t.refused u.refused x.on y.on }
+then_reads {names} {end} {from} {mid} {to} {f} {g} {s} {t} {u} x y = record { on = reads_on names end from mid to f g s.left.now t.left.now u.left.now s.shares t.shares u.shares s.refused t.refused u.refused x.on y.on }
 
 -- items that stand behind all that is read
 pub framed : {names : NameTable} {end : ℕ} {from to : List Item} {f : Naming → List Mark} {s t : Reading} (more : List Item) → Reads names end from f to s t → Reads names end (from ++ more) f (to ++ more) s t
-framed {names} {end} {from} {to} {f} {s} {t} more x = record { on = framed_on names end from to more f s.left.now t.left.now s.refused t.refused x.on }
+framed {names} {end} {from} {to} {f} {s} {t} more x = record { on = framed_on names end from to more f s.left.now t.left.now s.shares t.shares s.refused t.refused x.on }
 
 -- where the text is refused nothing is said of a value
 pub already : {names : NameTable} {end : ℕ} {from to other : List Item} {f g : Naming → List Mark} {s t : Reading} (e : CertError) → t.refused ≡ Some e → Reads names end from f to s t → Reads names end from g other s t
-already {names} {end} {from} {to} {other} {f} {g} {s} {t} e q x = record { on = any_on names end from to other f g s.left.now t.left.now s.refused t.refused e q x.on }
+already {names} {end} {from} {to} {other} {f} {g} {s} {t} e q x = record { on = any_on names end from to other f g s.left.now t.left.now s.shares t.shares s.refused t.refused e q x.on }
 
-nothing_on : (names : NameTable) (end : ℕ) (from : List Item) (b : List ℕ) (r : Option CertError) → ReadsOn names end from (λ u. []) from b b r r
-nothing_on names end from b None = record { walks = λ le items. refl; found = tt }
-nothing_on names end from b (Some e) = refl
+nothing_on : (names : NameTable) (end : ℕ) (from : List Item) (b : List ℕ) (x : Shared) (r : Option CertError) → ReadsOn names end from (λ u. []) from b b x x r r
+nothing_on names end from b x None = record { walks = λ le items. refl; found = tt; shares = λ le k. (tt, refl) }
+nothing_on names end from b x (Some e) = refl
 
 pub reads_nothing : {names : NameTable} {end : ℕ} {from : List Item} {s : Reading} → Reads names end from (λ u. []) from s s
-reads_nothing {names} {end} {from} {s} = record { on = nothing_on names end from s.left.now s.refused }
+reads_nothing {names} {end} {from} {s} = record { on = nothing_on names end from s.left.now s.shares s.refused }
 
 -- what is refused stays so
 pub stays : {names : NameTable} {end : ℕ} {from to : List Item} {f : Naming → List Mark} {s : Reading} (e : CertError) → s.refused ≡ Some e → Reads names end from f to s s
-stays {names} {end} {from} {to} {f} {s} e q = record { on = stays_on names end from to f s.left.now s.refused e q }
+stays {names} {end} {from} {to} {f} {s} e q = record { on = stays_on names end from to f s.left.now s.shares s.refused e q }
 
 -- what is read, or refused, where nothing was refused
-pub went : {names : NameTable} {end : ℕ} {from to : List Item} {f : Naming → List Mark} {s t : Reading} → s.refused ≡ None → t.refused ≡ None → Run names end from f to s.left.now t.left.now → Reads names end from f to s t
-went {names} {end} {from} {to} {f} {s} {t} e g r = record { on = subst (λ (x : Option CertError). ReadsOn names end from f to s.left.now t.left.now x t.refused) (sym e) (subst (ReadsOn names end from f to s.left.now t.left.now None) (sym g) r) }
+pub went : {names : NameTable} {end : ℕ} {from to : List Item} {f : Naming → List Mark} {s t : Reading} → s.refused ≡ None → t.refused ≡ None → Run names end from f to s.left.now t.left.now s.shares t.shares → Reads names end from f to s t
+went {names} {end} {from} {to} {f} {s} {t} e g r = record { on = subst (λ (x : Option CertError). ReadsOn names end from f to s.left.now t.left.now s.shares t.shares x t.refused) (sym e) (subst (ReadsOn names end from f to s.left.now t.left.now s.shares t.shares None) (sym g) r) }
 
-pub stopped : {names : NameTable} {end : ℕ} {from to : List Item} {f : Naming → List Mark} {s t : Reading} (e : CertError) → s.refused ≡ None → t.refused ≡ Some e → IsStopped names end from s.left.now (told e) → Reads names end from f to s t
-stopped {names} {end} {from} {to} {f} {s} {t} e g h r = record { on = subst (λ (x : Option CertError). ReadsOn names end from f to s.left.now t.left.now x t.refused) (sym g) (subst (ReadsOn names end from f to s.left.now t.left.now None) (sym h) r) }
+pub stopped : {names : NameTable} {end : ℕ} {from to : List Item} {f : Naming → List Mark} {s t : Reading} (e : CertError) → s.refused ≡ None → t.refused ≡ Some e → IsStopped names end from s.left.now s.shares (told e) → Reads names end from f to s t
+stopped {names} {end} {from} {to} {f} {s} {t} e g h r = record { on = subst (λ (x : Option CertError). ReadsOn names end from f to s.left.now t.left.now s.shares t.shares x t.refused) (sym g) (subst (ReadsOn names end from f to s.left.now t.left.now s.shares t.shares None) (sym h) r) }
 
-as_on : (names : NameTable) (end : ℕ) (from to other : List Item) (f g : Naming → List Mark) (b r : List ℕ) (s t : Option CertError) → ((t ≡ None) → (to ≡ other) × ((u : Naming) → f u ≡ g u)) → ReadsOn names end from f to b r s t → ReadsOn names end from g other b r s t
-as_on names end from to other f g b r None None e x =
+as_on : (names : NameTable) (end : ℕ) (from to other : List Item) (f g : Naming → List Mark) (b r : List ℕ) (x y : Shared) (s t : Option CertError) → ((t ≡ None) → (to ≡ other) × ((u : Naming) → f u ≡ g u)) → ReadsOn names end from f to b r x y s t → ReadsOn names end from g other b r x y s t
+as_on names end from to other f g b r x y None None e h =
     let same = e refl in
     record {
-      walks = λ le items. subst (λ (y : List Item). Walks names (g (name_of names)) (left_at end (from ++ items) b) (left_at end (y ++ items) r)) same.0 (subst (λ (ms : List Mark). Walks names ms (left_at end (from ++ items) b) (left_at end (to ++ items) r)) (same.1 (name_of names)) (x.walks le items));
-      found = subst (AreFound names) (same.1 tagged) x.found;
+      walks = λ le items. subst (λ (o : List Item). Walks names (g (name_of names)) (left_at end (from ++ items) b) (left_at end (o ++ items) r)) same.0 (subst (λ (ms : List Mark). Walks names ms (left_at end (from ++ items) b) (left_at end (to ++ items) r)) (same.1 (name_of names)) (h.walks le items));
+      found = subst (AreFound names) (same.1 tagged) h.found;
+      shares = λ le. subst (λ (ms : List Mark). Keeps x ms y) (same.1 (name_of names)) (h.shares le);
     }
-as_on names end from to other f g b r (Some d) None e x = absurd x
-as_on names end from to other f g b r None (Some d) e x = x
-as_on names end from to other f g b r (Some c) (Some d) e x = x
+as_on names end from to other f g b r x y (Some d) None e h = absurd h
+as_on names end from to other f g b r x y None (Some d) e h = h
+as_on names end from to other f g b r x y (Some c) (Some d) e h = h
 
 -- other marks and items, where they are the same if nothing is refused
 pub as_reads : {names : NameTable} {end : ℕ} {from to other : List Item} {f g : Naming → List Mark} {s t : Reading} → ((t.refused ≡ None) → (to ≡ other) × ((u : Naming) → f u ≡ g u)) → Reads names end from f to s t → Reads names end from g other s t
-as_reads {names} {end} {from} {to} {other} {f} {g} {s} {t} e x = record { on = as_on names end from to other f g s.left.now t.left.now s.refused t.refused e x.on }
+as_reads {names} {end} {from} {to} {other} {f} {g} {s} {t} e x = record { on = as_on names end from to other f g s.left.now t.left.now s.shares t.shares s.refused t.refused e x.on }
 
 -- other marks
 pub as_marks : {names : NameTable} {end : ℕ} {from to : List Item} {f g : Naming → List Mark} {s t : Reading} → ((t.refused ≡ None) → (u : Naming) → f u ≡ g u) → Reads names end from f to s t → Reads names end from g to s t
 as_marks e x = as_reads (λ none. (refl, e none)) x
 
-none_before : (names : NameTable) (end : ℕ) (from to : List Item) (f : Naming → List Mark) (b r : List ℕ) (s t : Option CertError) → t ≡ None → ReadsOn names end from f to b r s t → s ≡ None
-none_before names end from to f b r None t e x = refl
-none_before names end from to f b r (Some d) None e x = absurd x
-none_before names end from to f b r (Some d) (Some c) e x = absurd cc
+none_before : (names : NameTable) (end : ℕ) (from to : List Item) (f : Naming → List Mark) (b r : List ℕ) (x y : Shared) (s t : Option CertError) → t ≡ None → ReadsOn names end from f to b r x y s t → s ≡ None
+none_before names end from to f b r x y None t e h = refl
+none_before names end from to f b r x y (Some d) None e h = absurd h
+none_before names end from to f b r x y (Some d) (Some c) e h = absurd cc
 
 -- where nothing is refused nothing was
 pub open_before : {names : NameTable} {end : ℕ} {from to : List Item} {f : Naming → List Mark} {s t : Reading} → Reads names end from f to s t → t.refused ≡ None → s.refused ≡ None
-open_before {names} {end} {from} {to} {f} {s} {t} x e = none_before names end from to f s.left.now t.left.now s.refused t.refused e x.on
+open_before {names} {end} {from} {to} {f} {s} {t} x e = none_before names end from to f s.left.now t.left.now s.shares t.shares s.refused t.refused e x.on
 
 -- no marks behind others
 pub then_nothing : {names : NameTable} {end : ℕ} {from mid to : List Item} {f : Naming → List Mark} {s t u : Reading} → Reads names end from f mid s t → Reads names end mid (λ v. []) to t u → Reads names end from f to s u
 then_nothing {f = f} x y = as_marks (λ none v. append-nil (f v)) (then_reads x y)
+
+-- what is read where nothing is refused
+run_on : (names : NameTable) (end : ℕ) (from to : List Item) (f : Naming → List Mark) (b r : List ℕ) (x y : Shared) (s t : Option CertError) → t ≡ None → ReadsOn names end from f to b r x y s t → Run names end from f to b r x y
+run_on names end from to f b r x y None None e h = h
+run_on names end from to f b r x y (Some d) None e h = absurd h
+run_on names end from to f b r x y s (Some d) e h = absurd cc
+
+pub read_run : {names : NameTable} {end : ℕ} {from to : List Item} {f : Naming → List Mark} {s t : Reading} → t.refused ≡ None → Reads names end from f to s t → Run names end from f to s.left.now t.left.now s.shares t.shares
+read_run {names} {end} {from} {to} {f} {s} {t} e x = run_on names end from to f s.left.now t.left.now s.shares t.shares s.refused t.refused e x.on

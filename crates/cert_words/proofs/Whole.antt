@@ -2,21 +2,17 @@
 use Rattle.std.proofs.Common.{◌≡◌, ◌-◌, ℕ, List, [], ◌∷◌, ◌++◌, length, drop, Option, Some, None, refl, sym, ap, ◌∙◌, subst, arith, append_assoc}
 use Rattle.std.proofs.lemmas.List.{append-nil}
 use Rattle.cops_names.specs.NameTable.{NameTable}
-use Rattle.cert_grammar.specs.Words.{name_of}
-use Rattle.cert_grammar.specs.Marks.{CertificateCause, Naming, Mark, mark_text, marks_text, demands_of, verdict}
+use Rattle.cert_grammar.specs.Marks.{CertificateCause, Mark, mark_text, marks_text, demands_of, verdict}
 use Rattle.cert_grammar.specs.Refusals.{Pass, IsCertificateRefused}
 use Rattle.cert_grammar.specs.Items.{Item, opening, Lead, leads}
 use Rattle.cert_grammar.specs.FirstRefusal.{taken, Left, goes_on, behind_lead, judged, step_lead, step_items}
 use Rattle.cert_laws.proofs.OneRefusal.{passed_anywhere}
 use Rattle.cert_laws.proofs.Paths.{first_sound}
-use Rattle.cert_laws.proofs.FirstRefusals.{Reached, reached_start, move_text}
-use Rattle.cert_laws.proofs.ExactReader.{goes_nearer, refuses_rightly}
-use Rattle.cert_words.specs.Walks.{left_at, StepsOver, Walks, Run, IsStopped}
-use Rattle.cert_words.proofs.Walking.{goes_where}
-
-pub walks_reached : (names : NameTable) (bytes : List ℕ) (ms : List Mark) (l k : Left) → Reached names bytes l → Walks names ms l k → Reached names bytes k
-walks_reached names bytes [] l k r w = subst (Reached names bytes) w r
-walks_reached names bytes (m ∷ ms) l k r w = walks_reached names bytes ms w.0 k (goes_nearer names bytes l w.0 r w.1.goes).0 w.2
+use Rattle.cert_laws.proofs.FirstRefusals.{move_text}
+use Rattle.cert_sharing.proofs.ExactShared.{At, IsSharedStepOf, shared_step_is}
+use Rattle.cert_grammar.specs.Sharing.{Shared, nothing_shared, behind_mark, behind_marks, PassShares}
+use Rattle.cert_words.specs.Walks.{left_at, StepsOver, Walks, Run, RefusesAt}
+use Rattle.cert_words.proofs.Walking.{goes_where, step_on}
 
 -- what the marks spell
 step_text : (names : NameTable) (l k : Left) (m : Mark) → StepsOver names l m k → l.bytes ≡ mark_text m ++ k.bytes
@@ -43,18 +39,19 @@ pub walks_pass : (names : NameTable) (ms : List Mark) (l k : Left) → Walks nam
 walks_pass names [] l k w = tt
 walks_pass names (m ∷ ms) l k w = (step_passes names l w.0 m w.1, walks_pass names ms w.0 k w.2)
 
--- all bytes are the text of a value, which passes
-pub read_whole : (names : NameTable) (bytes : List ℕ) (marks : Naming → List Mark) → Run names (length bytes) (opening ∷ []) marks [] bytes [] → (bytes ≡ marks_text (marks (name_of names))) × Pass names (marks (name_of names))
-read_whole names bytes marks r =
-    let w = r.walks (omega arith) [] in
-    (walks_text names (marks (name_of names)) _ _ w ∙ append-nil (marks_text (marks (name_of names))), walks_pass names (marks (name_of names)) _ _ w)
-
 -- where a reader begins
-pub start_reached : (names : NameTable) (bytes : List ℕ) → Reached names bytes (left_at (length bytes) (opening ∷ []) bytes)
-start_reached names bytes = let none : 0 ≡ length bytes - length bytes = omega arith in subst (λ (n : ℕ). Reached names bytes (record { at = n; items = opening ∷ []; bytes = bytes })) none (reached_start names bytes)
+pub start_at : (names : NameTable) (bytes : List ℕ) → At names bytes (left_at (length bytes) (opening ∷ []) bytes) nothing_shared
+start_at names bytes =
+    let none : 0 ≡ length bytes - length bytes = omega arith in
+    subst (λ (n : ℕ). At names bytes (record { at = n; items = opening ∷ []; bytes = bytes }) nothing_shared) none (record { reached = record { front = []; moves = (refl, refl); place = refl; passed = tt }; passed = tt; is = refl })
 
--- the refusal of a part of the text, read from its first item on, is that of the text
-pub refused_whole : (names : NameTable) (bytes : List ℕ) (e : CertificateCause × ℕ) → IsStopped names (length bytes) (opening ∷ []) bytes (Some e) → IsCertificateRefused names bytes e.0 e.1
-refused_whole names bytes e h =
-    let s = h (omega arith) [] in
-    refuses_rightly names bytes (left_at (length bytes) (s.item ∷ (s.more ++ [])) s.rest) e.0 e.1 (walks_reached names bytes s.marks _ _ (start_reached names bytes) s.walks) s.refused
+-- along marks that pass
+pub walks_at : (names : NameTable) (bytes : List ℕ) (ms : List Mark) (l k : Left) (z : Shared) → At names bytes l z → Walks names ms l k → PassShares z ms → At names bytes k (behind_marks ms z)
+walks_at names bytes [] l k z p w h = subst (λ (x : Left). At names bytes x z) w p
+walks_at names bytes (m ∷ ms) l k z p w h =
+    let on = subst (IsSharedStepOf names bytes l) (step_on names l w.0 m z w.1 h.0) (shared_step_is names bytes l.at l.items l.bytes z p) in
+    walks_at names bytes ms w.0 k (behind_mark m z) on.0 w.2 h.1
+
+-- a refusal where a reader has come
+pub refused_at : (names : NameTable) (bytes : List ℕ) (l : Left) (z : Shared) (e : CertificateCause × ℕ) → At names bytes l z → RefusesAt names l z e → IsCertificateRefused names bytes e.0 e.1
+refused_at names bytes l z e p r = subst (IsSharedStepOf names bytes l) r (shared_step_is names bytes l.at l.items l.bytes z p)

@@ -2,9 +2,9 @@
 use Rattle.std.specs.Prelude.{ℕ, List}
 use Rattle.cops_names.specs.NameTable.{NameTable}
 use Rattle.cert_words.specs.declared.error.CertError.{CertError}
-use Rattle.cert_words.specs.declared.error.CertError.TheVariants.{CertSyntax, UnknownName, WrongArity, BadNumber, CertTooDeep, TooMany, NoMemory}
-use Rattle.cert_grammar.specs.Marks.{syntax, unknown_name, wrong_arity, bad_number, too_many, too_deep}
-use Rattle.cert_grammar.specs.Refusals.{IsCertificateRefused}
+use Rattle.cert_words.specs.declared.error.CertError.TheVariants.{CertSyntax, UnknownName, WrongArity, BadNumber, BadShare, CertTooDeep, TooMany, NoMemory}
+use Rattle.cert_grammar.specs.Marks.{syntax, unknown_name, wrong_arity, bad_number, bad_share, too_many, too_deep}
+use Rattle.cert_grammar.specs.FirstVersion.{IsCertificateRefused}
 use Rattle.cert_words.specs.Words.{counted_view}
 
 -- the refusal of the bytes, and its place; memory may be refused at any text
@@ -13,6 +13,7 @@ IsRefusedAs names bytes (CertSyntax at) = IsCertificateRefused names bytes synta
 IsRefusedAs names bytes (UnknownName at) = IsCertificateRefused names bytes unknown_name at
 IsRefusedAs names bytes (WrongArity at) = IsCertificateRefused names bytes wrong_arity at
 IsRefusedAs names bytes (BadNumber at) = IsCertificateRefused names bytes bad_number at
+IsRefusedAs names bytes (BadShare at) = IsCertificateRefused names bytes bad_share at
 IsRefusedAs names bytes (CertTooDeep at) = IsCertificateRefused names bytes too_deep at
 IsRefusedAs names bytes (TooMany what at) = IsCertificateRefused names bytes (too_many (counted_view what)) at
 IsRefusedAs names bytes NoMemory = Unit {0}

@@ -4,11 +4,15 @@ use Rattle.std.specs.Global.{Global}
 use Rattle.certificates.specs.Evidence.{Transition}
 use Rattle.cops_names.specs.NameTable.{NameTable, number_of}
 use Rattle.cert_grammar.specs.Words.{name_of}
-use Rattle.cert_grammar.specs.Marks.{CertificateCause, Naming, Mark, fixed, word, symbol, behind, verdict}
+use Rattle.cert_grammar.specs.Marks.{CertificateCause, Naming, Mark, fixed, word, symbol, behind, closed, marks_text, verdict}
 use Rattle.cert_grammar.specs.WordMarks.{are_places}
 use Rattle.cert_grammar.specs.Scans.{value}
 use Rattle.cert_grammar.specs.Items.{Item, Lead, leads}
-use Rattle.cert_grammar.specs.FirstRefusal.{first_there, taken, mark_of, Left, refuses, goes_on, step}
+use Rattle.cert_grammar.specs.FirstRefusal as machine
+use Rattle.cert_grammar.specs.FirstRefusal.{first_there, taken, mark_of, Left, goes_on, step}
+use Rattle.cert_grammar.specs.Sharing.{Shared, behind_marks, PassShares}
+use Rattle.cert_grammar.specs.SharedReader.{ends, shared_step}
+use Rattle.cert_shares.specs.SharesView.{with_begun}
 use Rattle.cert_words.specs.declared.error.CertError.{CertError}
 use Rattle.cert_words.specs.declared.reading.Reading.{Reading}
 use Rattle.cert_words.specs.Words.{told, IsTold}
@@ -45,40 +49,54 @@ AreFound names (fixed bytes ∷ ms) = AreFound names ms
 AreFound names (word bytes demands ∷ ms) = AreFound names ms
 AreFound names (symbol name demands ∷ ms) = IsFound names name × AreFound names ms
 AreFound names (behind demand ∷ ms) = AreFound names ms
+AreFound names (closed demand ∷ ms) = AreFound names ms
+
+-- what is known of shared automata before marks and behind them, where they pass, whatever was begun of an automaton
+abbrev pub Keeps : Shared → List Mark → Shared → Type 0
+Keeps s ms t = (b : List ℕ) → PassShares (with_begun b s) ms × (with_begun [] (behind_marks ms (with_begun b s)) ≡ with_begun [] t)
+
+-- with these marks an automaton begins, and nothing else of shared automata: what is begun is their text
+abbrev pub BeginsAnew : List Mark → Type 0
+BeginsAnew ms = (b : List ℕ) (s : Shared) → (behind_marks ms (with_begun b s)).begun ≡ marks_text ms
 
 -- from these items on to those, along the marks of a value, whatever items are behind them
-pub record Run (names : NameTable) (end : ℕ) (from : List Item) (marks : Naming → List Mark) (to : List Item) (bytes rest : List ℕ) : Type 0 where
+pub record Run (names : NameTable) (end : ℕ) (from : List Item) (marks : Naming → List Mark) (to : List Item) (bytes rest : List ℕ) (s t : Shared) : Type 0 where
   pub walks : length bytes ≤ end → (items : List Item) → Walks names (marks (name_of names)) (left_at end (from ++ items) bytes) (left_at end (to ++ items) rest)
   pub found : AreFound names (marks tagged)
+  pub shares : length bytes ≤ end → Keeps s (marks (name_of names)) t
+
+-- a refusal at the next word
+abbrev pub RefusesAt : NameTable → Left → Shared → CertificateCause × ℕ → Type 0
+RefusesAt names l s e = shared_step names l s ≡ ends (machine.refused e.0 e.1)
 
 -- what is told is the refusal at this item, whatever items are behind it; wanting memory tells nothing
-abbrev pub IsStuckAt : NameTable → ℕ → Item → List ℕ → Option (CertificateCause × ℕ) → Type 0
-IsStuckAt names end i bytes None = Unit {0}
-IsStuckAt names end i bytes (Some e) = (items : List Item) → step names (left_at end (i ∷ items) bytes) ≡ refuses e.0 e.1
+abbrev pub IsStuckAt : NameTable → ℕ → Item → List ℕ → Shared → Option (CertificateCause × ℕ) → Type 0
+IsStuckAt names end i bytes s None = Unit {0}
+IsStuckAt names end i bytes s (Some e) = (items : List Item) (b : List ℕ) → RefusesAt names (left_at end (i ∷ items) bytes) (with_begun b s) e
 
 -- a refusal before the items behind these
-pub record StopsAt (names : NameTable) (end : ℕ) (from items : List Item) (bytes : List ℕ) (e : CertificateCause × ℕ) : Type 0 where
+pub record StopsAt (names : NameTable) (end : ℕ) (from items : List Item) (bytes : List ℕ) (s : Shared) (e : CertificateCause × ℕ) : Type 0 where
   pub marks : List Mark
   pub item : Item
   pub more : List Item
   pub rest : List ℕ
   pub walks : Walks names marks (left_at end (from ++ items) bytes) (left_at end (item ∷ (more ++ items)) rest)
-  pub refused : step names (left_at end (item ∷ (more ++ items)) rest) ≡ refuses e.0 e.1
+  pub stops : (b : List ℕ) → PassShares (with_begun b s) marks × RefusesAt names (left_at end (item ∷ (more ++ items)) rest) (behind_marks marks (with_begun b s)) e
 
 -- the same of what is told; wanting memory tells nothing
-abbrev pub IsStopped : NameTable → ℕ → List Item → List ℕ → Option (CertificateCause × ℕ) → Type 0
-IsStopped names end from bytes None = Unit {0}
-IsStopped names end from bytes (Some e) = length bytes ≤ end → (items : List Item) → StopsAt names end from items bytes e
+abbrev pub IsStopped : NameTable → ℕ → List Item → List ℕ → Shared → Option (CertificateCause × ℕ) → Type 0
+IsStopped names end from bytes s None = Unit {0}
+IsStopped names end from bytes s (Some e) = length bytes ≤ end → (items : List Item) → StopsAt names end from items bytes s e
 
 -- what was refused stays so; else the part is read, or refused
-abbrev pub ReadsOn : NameTable → ℕ → List Item → (Naming → List Mark) → List Item → List ℕ → List ℕ → Option CertError → Option CertError → Type 0
-ReadsOn names end from marks to bytes rest None None = Run names end from marks to bytes rest
-ReadsOn names end from marks to bytes rest (Some d) None = ⊥
-ReadsOn names end from marks to bytes rest None (Some e) = IsStopped names end from bytes (told e)
-ReadsOn names end from marks to bytes rest (Some d) (Some e) = told e ≡ told d
+abbrev pub ReadsOn : NameTable → ℕ → List Item → (Naming → List Mark) → List Item → List ℕ → List ℕ → Shared → Shared → Option CertError → Option CertError → Type 0
+ReadsOn names end from marks to bytes rest s t None None = Run names end from marks to bytes rest s t
+ReadsOn names end from marks to bytes rest s t (Some d) None = ⊥
+ReadsOn names end from marks to bytes rest s t None (Some e) = IsStopped names end from bytes s (told e)
+ReadsOn names end from marks to bytes rest s t (Some d) (Some e) = told e ≡ told d
 
 pub record Reads (names : NameTable) (end : ℕ) (from : List Item) (marks : Naming → List Mark) (to : List Item) (old new : Reading) : Type 0 where
-  pub on : ReadsOn names end from marks to old.left.now new.left.now old.refused new.refused
+  pub on : ReadsOn names end from marks to old.left.now new.left.now old.shares new.shares old.refused new.refused
 
 -- the number that digits spell, where it is in a range
 abbrev pub IsWithin : ℕ → ℕ → List ℕ → Option ℕ → Type 0

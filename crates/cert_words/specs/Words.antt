@@ -9,7 +9,7 @@ use Rattle.cert_words.specs.declared.error.CertCount.TheVariants as counting
 use Rattle.cert_words.specs.declared.error.CertError as errors
 use Rattle.cert_words.specs.declared.error.CertError.TheVariants as refusing
 use Rattle.cops_names.specs.NameTable.{NameTable}
-use Rattle.cert_grammar.specs.Marks.{Counted, pairs, entries, numbers, steps, redexes, states, transitions, nodes, CertificateCause, syntax, unknown_name, wrong_arity, bad_number, too_many, too_deep, Demand, verdict}
+use Rattle.cert_grammar.specs.Marks.{Counted, pairs, entries, numbers, steps, redexes, states, transitions, nodes, shared_automata, unfolded, CertificateCause, syntax, unknown_name, wrong_arity, bad_number, bad_share, too_many, too_deep, Demand, verdict}
 use Rattle.cert_grammar.specs.Items.{Lead, text, check, keyword, numeral_lead, position_lead, variable_lead, name_lead, is_short}
 use Rattle.cert_grammar.specs.FirstRefusal.{is_there, taken}
 use Rattle.cert_grammar.specs.Scans.{Mode, spelling, bar_begins, number_begins, number_zero, number_more, place_begins, place_root, place_number, place_zero, place_more, name_begins, name_dash, name_equals, name_more}
@@ -57,6 +57,8 @@ counted_view counting.Redexes = redexes
 counted_view counting.States = states
 counted_view counting.Transitions = transitions
 counted_view counting.Nodes = nodes
+counted_view counting.Shared = shared_automata
+counted_view counting.Unfolded = unfolded
 
 -- the refusal that an error tells, and its place; wanting memory tells none
 abbrev pub told : errors.CertError → Option (CertificateCause × ℕ)
@@ -64,6 +66,7 @@ told (refusing.CertSyntax at) = Some (syntax, at)
 told (refusing.UnknownName at) = Some (unknown_name, at)
 told (refusing.WrongArity at) = Some (wrong_arity, at)
 told (refusing.BadNumber at) = Some (bad_number, at)
+told (refusing.BadShare at) = Some (bad_share, at)
 told (refusing.CertTooDeep at) = Some (too_deep, at)
 told (refusing.TooMany what at) = Some (too_many (counted_view what), at)
 told refusing.NoMemory = None

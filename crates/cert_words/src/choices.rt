@@ -25,7 +25,7 @@ fn which<'a>(texts: &[Lead], left: &'a [u8]) -> Option<(usize, &'a [u8])>
 /// Which of the texts comes next, by its place among them.
 pub fn choose(end: usize, at: &mut Reading, texts: &[Lead]) -> usize
     ensures chosen { (names : NameTable) (i : Item) (choices : List Choice) → leads i ≡ map lead_of choices → map bare texts.now ≡ map bare_of choices → Chosen names end i choices result at.old at.new }
-    ensures here { at.old.refused ≡ None → (names : NameTable) (i : Item) (choices : List Choice) → leads i ≡ map lead_of choices → map bare texts.now ≡ map bare_of choices → IfSome at.new.refused (λ e. IsStuckAt names end i at.old.left.now (told e)) }
+    ensures here { at.old.refused ≡ None → (names : NameTable) (i : Item) (choices : List Choice) → leads i ≡ map lead_of choices → map bare texts.now ≡ map bare_of choices → IfSome at.new.refused (λ e. IsStuckAt names end i at.old.left.now at.old.shares (told e)) }
 {
     if at.refused.is_some() {
         return texts.len();

@@ -9,7 +9,8 @@ ghost use Rattle.cert_words.specs.Words.{counted_view};
 
 use crate::error::CertCount;
 use cert_grammar::{
-    MOST_ENTRIES, MOST_NUMBERS, MOST_PAIRS, MOST_REDEXES, MOST_STATES, MOST_STEPS, MOST_TRANSITIONS,
+    MOST_ENTRIES, MOST_NUMBERS, MOST_PAIRS, MOST_REDEXES, MOST_SHARED, MOST_STATES, MOST_STEPS,
+    MOST_TRANSITIONS, MOST_UNFOLDED,
 };
 use cops_names::Names;
 use std::str;
@@ -30,6 +31,8 @@ pub fn limit(what: CertCount) -> usize
         CertCount::States => MOST_STATES as usize,
         CertCount::Transitions => MOST_TRANSITIONS as usize,
         CertCount::Nodes => MAX_NODES as usize,
+        CertCount::Shared => MOST_SHARED as usize,
+        CertCount::Unfolded => MOST_UNFOLDED as usize,
     }
 }
 

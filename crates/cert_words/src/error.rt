@@ -16,6 +16,10 @@ pub enum CertCount {
     States,
     Transitions,
     Nodes,
+    /// The automata before the body.
+    Shared,
+    /// The bytes of the automata that are used, at each use.
+    Unfolded,
 }
 
 /// Why a text is no certificate. A place is a byte number from 0.
@@ -33,6 +37,9 @@ pub enum CertError {
     /// A number that is too great, no state of the automaton, or no part of a position.
     #[error("bad number at {at}")]
     BadNumber { at: usize },
+    /// An automaton that equals an earlier one, is used out of turn or is not there, or is never used.
+    #[error("bad share at {at}")]
+    BadShare { at: usize },
     /// A node of a term, or derivations, at too great a depth.
     #[error("too deep at {at}")]
     CertTooDeep { at: usize },

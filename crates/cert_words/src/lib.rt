@@ -9,6 +9,7 @@ mod nodes;
 mod places;
 mod reading;
 mod scans;
+mod shared;
 mod words;
 
 pub use choices::choose;
@@ -18,7 +19,8 @@ pub use leads::{Lead, front, stuck};
 pub use nodes::{Next, Node, closed_or, next_node, opened_or};
 pub use places::position;
 pub use reading::Reading;
+pub use shared::{begins, ended, last_word, used};
 pub use words::{
-    checked, counted, counted_or, either, has_so_many, name, name_or, nested, number, numbered,
+    checked, counted, counted_or, counted_steps, either, has_so_many, name, name_or, nested, number, numbered,
     opened, put, text,
 };

@@ -3,8 +3,8 @@
 ghost use Rattle.std.specs.Prelude.{◌≡◌, ◌≤◌, ◌<◌, ◌++◌, ◌-◌, ℕ, suc, true, false, List, [], ◌∷◌, None, Some, length, IfSome, IfNone};
 ghost use Rattle.cops_names.specs.NameTable.{NameTable, number_of, arity_at};
 ghost use Rattle.cert_grammar.specs.Words.{largest, name_of};
-ghost use Rattle.cert_grammar.specs.Marks.{is_number, meets, has_arity, in_range, is_few, is_shallow, fixed, word, symbol, behind};
-ghost use Rattle.cert_grammar.specs.Marks.{limit as most};
+ghost use Rattle.cert_grammar.specs.Marks.{is_number, meets, has_arity, in_range, is_few, is_shallow, all_used, shares, Counted, counted_as, simplifications, fixed, word, symbol, behind};
+ghost use Rattle.cert_grammar.specs.Marks.{limit as most_of};
 ghost use Rattle.cert_grammar.specs.WordMarks.{numeral, position};
 ghost use Rattle.cert_grammar.specs.Items.{Item, leads};
 ghost use Rattle.cert_grammar.specs.Items as spec;
@@ -15,11 +15,11 @@ use crate::demands::{limit, symbol, value};
 use crate::error::{CertCount, CertError};
 use crate::leads::{Lead, front, stuck};
 use crate::reading::Reading;
-use cert_grammar::MOST_NESTING;
+use cert_grammar::{MOST_NESTING, MOST_SIMPLIFICATIONS};
 use cops_names::Names;
 
 // The place of what is left.
-fn place(end: usize, left: &[u8]) -> usize
+pub(crate) fn place(end: usize, left: &[u8]) -> usize
     ensures { result ≡ end - length left.now }
 {
     end.saturating_sub(left.len())
@@ -62,7 +62,7 @@ pub fn either(end: usize, at: &mut Reading, one: &'static [u8], other: &'static 
 }
 
 // the number that the digits spell, where it is at least the one and below the other
-fn within(digits: &[u8], least: u32, bound: u64) -> Option<u32>
+pub(crate) fn within(digits: &[u8], least: u32, bound: u64) -> Option<u32>
     requires { bound ≤ suc largest }
     ensures { IsWithin least bound digits.now result }
 {
@@ -103,6 +103,20 @@ pub fn number(end: usize, at: &mut Reading, least: u32, bound: u64) -> u32
 pub fn counted(end: usize, at: &mut Reading, least: u32, what: CertCount) -> u32
     ensures { (names : NameTable) (i : Item) (new : ℕ → List Item) → leads i ≡ spec.numeral_lead (λ n. in_range 0 least (suc largest) n ∷ is_few (counted_view what) n ∷ []) new ∷ [] → Reads names end (i ∷ []) (λ u. word (numeral result) (in_range 0 least (suc largest) result ∷ is_few (counted_view what) result ∷ []) ∷ []) (new result) at.old at.new }
 {
+    few(end, at, least, what, limit(what))
+}
+
+/// A number that tells how many steps before the body follow; they are counted as entries.
+pub fn counted_steps(end: usize, at: &mut Reading) -> u32
+    ensures { (names : NameTable) (i : Item) (new : ℕ → List Item) → leads i ≡ spec.numeral_lead (λ n. in_range 0 1 (suc largest) n ∷ is_few simplifications n ∷ []) new ∷ [] → Reads names end (i ∷ []) (λ u. word (numeral result) (in_range 0 1 (suc largest) result ∷ is_few simplifications result ∷ []) ∷ []) (new result) at.old at.new }
+{
+    few(end, at, 1, CertCount::Entries, MOST_SIMPLIFICATIONS as usize)
+}
+
+// The same of what has this limit, and is told as that.
+fn few(end: usize, at: &mut Reading, least: u32, what: CertCount, most: usize) -> u32
+    ensures { (names : NameTable) (i : Item) (new : ℕ → List Item) (c : Counted) → counted_as c ≡ counted_view what → most_of c ≡ most → leads i ≡ spec.numeral_lead (λ n. in_range 0 least (suc largest) n ∷ is_few c n ∷ []) new ∷ [] → Reads names end (i ∷ []) (λ u. word (numeral result) (in_range 0 least (suc largest) result ∷ is_few c result ∷ []) ∷ []) (new result) at.old at.new }
+{
     if at.refused.is_some() {
         return 0;
     }
@@ -116,7 +130,7 @@ pub fn counted(end: usize, at: &mut Reading, least: u32, what: CertCount) -> u32
         });
         return 0;
     };
-    if n as usize > limit(what) {
+    if n as usize > most {
         at.refused = Some(CertError::TooMany {
             what,
             at: place(end, at.left),
@@ -300,7 +314,7 @@ pub fn put<T: Drop>(at: &mut Reading, list: &mut Vec<T>, x: T)
     }
 }
 
-/// This word, which is counted, or those bytes.
+/// This word, which is counted, or that one, at which each shared automaton is used.
 pub fn counted_or(
     end: usize,
     at: &mut Reading,
@@ -309,10 +323,11 @@ pub fn counted_or(
     n: usize,
     other: &'static [u8],
 ) -> bool
-    ensures word { result ≡ true → (names : NameTable) (i : Item) (new new_other : List Item) → leads i ≡ spec.keyword bytes.now (is_few (counted_view what) n ∷ []) new ∷ spec.text other.now new_other ∷ [] → Reads names end (i ∷ []) (λ u. word bytes.now (is_few (counted_view what) n ∷ []) ∷ []) new at.old at.new }
-    ensures other { result ≡ false → (names : NameTable) (i : Item) (new new_other : List Item) → leads i ≡ spec.keyword bytes.now (is_few (counted_view what) n ∷ []) new ∷ spec.text other.now new_other ∷ [] → Reads names end (i ∷ []) (λ u. fixed other.now ∷ []) new_other at.old at.new }
-    ensures few { result ≡ true → at.new.refused ≡ None → n ≤ most (counted_view what) }
-    ensures here { at.old.refused ≡ None → (names : NameTable) (i : Item) (new new_other : List Item) → leads i ≡ spec.keyword bytes.now (is_few (counted_view what) n ∷ []) new ∷ spec.text other.now new_other ∷ [] → IfSome at.new.refused (λ e. IsStuckAt names end i at.old.left.now (told e)) }
+    ensures word { result ≡ true → (names : NameTable) (i : Item) (new new_other : List Item) → leads i ≡ spec.keyword bytes.now (is_few (counted_view what) n ∷ []) new ∷ spec.keyword other.now (shares all_used ∷ []) new_other ∷ [] → Reads names end (i ∷ []) (λ u. word bytes.now (is_few (counted_view what) n ∷ []) ∷ []) new at.old at.new }
+    ensures other { result ≡ false → (names : NameTable) (i : Item) (new new_other : List Item) → leads i ≡ spec.keyword bytes.now (is_few (counted_view what) n ∷ []) new ∷ spec.keyword other.now (shares all_used ∷ []) new_other ∷ [] → Reads names end (i ∷ []) (λ u. word other.now (shares all_used ∷ []) ∷ []) new_other at.old at.new }
+    ensures text { result ≡ false → at.old.refused ≡ None → at.new.refused ≡ None → at.old.left.now ≡ other.now ++ at.new.left.now }
+    ensures few { result ≡ true → at.new.refused ≡ None → n ≤ most_of (counted_view what) }
+    ensures here { at.old.refused ≡ None → (names : NameTable) (i : Item) (new new_other : List Item) → leads i ≡ spec.keyword bytes.now (is_few (counted_view what) n ∷ []) new ∷ spec.keyword other.now (shares all_used ∷ []) new_other ∷ [] → IfSome at.new.refused (λ e. IsStuckAt names end i at.old.left.now at.old.shares (told e)) }
 {
     if at.refused.is_some() {
         return false;
@@ -328,11 +343,16 @@ pub fn counted_or(
         at.left = rest;
         return true;
     }
-    match front(Lead::Text(other), at.left) {
-        Some((_, rest)) => at.left = rest,
-        None => {
-            at.refused = Some(stuck(&[Lead::Keyword(bytes), Lead::Text(other)], at.left, end));
-        }
+    let Some((_, rest)) = front(Lead::Keyword(other), at.left) else {
+        at.refused = Some(stuck(&[Lead::Keyword(bytes), Lead::Keyword(other)], at.left, end));
+        return false;
+    };
+    if !at.shares.all_used() {
+        at.refused = Some(CertError::BadShare {
+            at: place(end, at.left),
+        });
+        return false;
     }
+    at.left = rest;
     false
 }

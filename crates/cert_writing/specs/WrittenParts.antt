@@ -1,10 +1,12 @@
 -- The texts of the members of a certificate's lists.
 use Rattle.std.specs.Prelude.{ℕ, List, ◌++◌, decimal, codes}
 use Rattle.certificates.specs.Evidence.{Transition}
-use Rattle.certificates.specs.Certificates.{PairEntry, LinearEntry, Redex}
+use Rattle.certificates.specs.Certificates.{PairEntry, LinearEntry, Redex, Simplification, dropped, inlined}
+use Rattle.rewriting.specs.Unraveling.{Head}
 use Rattle.cops_names.specs.NameTable.{NameTable}
 use Rattle.cert_grammar.specs.Words.{position_text}
-use Rattle.cert_grammar.specs.EvidenceText.{numbers_text, head_text, infeasibility_text, evidence_text}
+use Rattle.cert_grammar.specs.EvidenceText.{numbers_text, head_text}
+use Rattle.cert_grammar.specs.FirstVersion.{infeasibility_text, evidence_text}
 use Rattle.cert_grammar.specs.CertificateText.{measured_text}
 
 abbrev pub transition_text : NameTable → Transition → List ℕ
@@ -18,3 +20,10 @@ entry_text names e = measured_text names e.head ++ (numbers_text e.coefficients 
 
 abbrev pub redex_text : NameTable → Redex → List ℕ
 redex_text names r = codes "redex " ++ (decimal r.which ++ (codes " " ++ (position_text r.position ++ (codes " " ++ (decimal r.rule ++ (codes " " ++ infeasibility_text names r.evidence))))))
+
+abbrev pub head_line_text : NameTable → Head → List ℕ
+head_line_text names h = measured_text names h ++ codes "\n"
+
+abbrev pub step_text : NameTable → Simplification → List ℕ
+step_text names (dropped rule e) = codes "drop " ++ (decimal rule ++ (codes " " ++ infeasibility_text names e))
+step_text names (inlined rule condition) = codes "inline " ++ (decimal rule ++ (codes " " ++ (decimal condition ++ codes "\n")))

@@ -5,7 +5,7 @@ ghost use Rattle.cert_model.specs.DerivationView.{derivation_view};
 ghost use Rattle.cert_model.specs.EvidenceView.{inf_evidence_view};
 ghost use Rattle.cert_grammar.specs.Words.{term_text};
 ghost use Rattle.cert_grammar.specs.Steps.{derivation_text};
-ghost use Rattle.cert_grammar.specs.EvidenceText.{infeasibility_text};
+ghost use Rattle.cert_grammar.specs.FirstVersion.{infeasibility_text};
 ghost use Rattle.cert_writing.specs.Written.{GrewByFront};
 
 use crate::output::Writer;

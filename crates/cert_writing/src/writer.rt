@@ -1,16 +1,18 @@
 //! The text of a certificate with its measure, overlaps or peak, and how many bytes it has.
 ghost use Rattle.std.specs.Prelude.{◌≡◌, length, map, min};
 ghost use Rattle.term_core.specs.HeadView.{head_view};
-ghost use Rattle.cert_model.specs.CertificateView.{linear_entry_view, measure_view, redex_view, apart_view, peak_view, certificate_view};
+ghost use Rattle.cert_model.specs.CertificateView.{linear_entry_view, measure_view, redex_view, apart_view, peak_view, simp_view, certificate_view};
 ghost use Rattle.cert_writing.specs.Written.{greatest};
-ghost use Rattle.cert_writing.specs.WrittenParts.{entry_text, redex_text};
-ghost use Rattle.cert_grammar.specs.CertificateText.{measured_text, entries_text, measure_text, redexes_text, apart_text, peak_text, body_text, certificate_text};
+ghost use Rattle.cert_writing.specs.WrittenParts.{entry_text, head_line_text, redex_text, step_text};
+ghost use Rattle.cert_grammar.specs.CertificateText.{measured_text, entries_text, heads_text, measure_text, simplifications_text};
+ghost use Rattle.cert_grammar.specs.Versions.{in_full};
+ghost use Rattle.cert_grammar.specs.FirstVersion.{redexes_text, apart_text, peak_text, body_text, certificate_text};
 
 use crate::output::{Counter, Output, put_number};
 use crate::written_evidence::{put_infeasibility, put_numbers, put_pairs};
 use crate::written_steps::put_derivation;
 use crate::written_terms::{put_name, put_position, put_term};
-use cert_model::{Certificate, Head, LinearEntry, MeasureCert, NonJoin, Peak, Redex};
+use cert_model::{Certificate, Head, LinearEntry, MeasureCert, NonJoin, Peak, Redex, Simp};
 use cops_names::Names;
 
 // A symbol of the file, or the symbol that a rule has for one of its conditions.
@@ -47,6 +49,21 @@ fn put_entries<O: Output>(to: &mut O, names: &Names, entries: &[LinearEntry])
     }
 }
 
+fn put_head_line<O: Output>(to: &mut O, names: &Names, head: &Head)
+    ensures { O.took to.old (head_line_text names.now (head_view head.now)) to.new }
+{
+    put_measured(to, names, head);
+    to.put(b"\n");
+}
+
+fn put_heads<O: Output>(to: &mut O, names: &Names, heads: &[Head])
+    ensures { O.took to.old (heads_text names.now (map head_view heads.now)) to.new }
+{
+    'heads: for head in heads {
+        put_head_line(to, names, head);
+    }
+}
+
 fn put_measure<O: Output>(to: &mut O, names: &Names, measure: &MeasureCert)
     ensures { O.took to.old (measure_text names.now (measure_view measure.now)) to.new }
 {
@@ -55,8 +72,10 @@ fn put_measure<O: Output>(to: &mut O, names: &Names, measure: &MeasureCert)
             to.put(b"linear\n");
             put_entries(to, names, &linear.entries);
         }
-        // A precedence has no text.
-        MeasureCert::Lpo(_) => to.put(b""),
+        MeasureCert::Lpo(order) => {
+            to.put(b"lpo\n");
+            put_heads(to, names, order);
+        }
     }
 }
 
@@ -104,6 +123,35 @@ fn put_peak<O: Output>(to: &mut O, names: &Names, peak: &Peak)
     put_apart(to, names, &peak.apart);
 }
 
+fn put_step<O: Output>(to: &mut O, names: &Names, step: &Simp)
+    ensures { O.took to.old (step_text names.now (simp_view step.now)) to.new }
+{
+    match step {
+        Simp::Drop { rule, evidence } => {
+            to.put(b"drop ");
+            put_number(to, *rule as usize);
+            to.put(b" ");
+            put_infeasibility(to, names, evidence);
+        }
+        Simp::Inline { rule, cond } => {
+            to.put(b"inline ");
+            put_number(to, *rule as usize);
+            to.put(b" ");
+            put_number(to, *cond as usize);
+            to.put(b"\n");
+        }
+    }
+}
+
+fn put_steps<O: Output>(to: &mut O, names: &Names, steps: &[Simp])
+    ensures { O.took to.old (simplifications_text names.now in_full (map simp_view steps.now)) to.new }
+{
+    'steps: for step in steps {
+        put_step(to, names, step);
+    }
+}
+
+#[cycle(put_body)]
 fn put_body<O: Output>(to: &mut O, names: &Names, cert: &Certificate)
     ensures { O.took to.old (body_text names.now (certificate_view cert.now)) to.new }
 {
@@ -120,6 +168,13 @@ fn put_body<O: Output>(to: &mut O, names: &Names, cert: &Certificate)
         Certificate::Peak(peak) => {
             to.put(b"peak\n");
             put_peak(to, names, peak);
+        }
+        Certificate::Simplified { steps, body } => {
+            to.put(b"simplify ");
+            put_number(to, steps.len());
+            to.put(b"\n");
+            put_steps(to, names, steps);
+            put_body(to, names, body);
         }
     }
 }

@@ -3,7 +3,8 @@ ghost use Rattle.std.specs.Prelude.{map};
 ghost use Rattle.cert_model.specs.EvidenceView.{transition_view, automaton_view, inf_evidence_view, pair_evidence_view};
 ghost use Rattle.cert_model.specs.CertificateView.{pair_entry_view};
 ghost use Rattle.cert_writing.specs.WrittenParts.{transition_text, pair_text};
-ghost use Rattle.cert_grammar.specs.EvidenceText.{numbers_text, further_states_text, states_text, head_text, transitions_text, automaton_text, infeasibility_text, evidence_text, pairs_text};
+ghost use Rattle.cert_grammar.specs.EvidenceText.{numbers_text, further_states_text, states_text, head_text, transitions_text, automaton_text};
+ghost use Rattle.cert_grammar.specs.FirstVersion.{infeasibility_text, evidence_text, pairs_text};
 
 use crate::output::{Output, put_number};
 use crate::written_steps::put_derivation;

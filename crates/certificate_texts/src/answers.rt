@@ -111,6 +111,7 @@ fn place(error: &CertError) -> usize {
         | CertError::UnknownName { at }
         | CertError::WrongArity { at }
         | CertError::BadNumber { at }
+        | CertError::BadShare { at }
         | CertError::CertTooDeep { at }
         | CertError::TooMany { what: _, at } => *at,
         CertError::NoMemory => 0,

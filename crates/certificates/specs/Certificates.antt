@@ -53,3 +53,5 @@ pub data Certificate : Type 0 where
   ortho_certificate : List PairEntry → Certificate
   quasi_certificate : MeasureCertificate → List PairEntry → Certificate
   peak_certificate : Peak → Certificate
+  -- a certificate for the system that these steps leave
+  simplified_certificate : List Simplification → Certificate → Certificate

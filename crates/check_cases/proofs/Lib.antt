@@ -1,2 +1,3 @@
 pub mod NoRules
 pub mod Ones
+pub mod Judged

@@ -1,15 +1,17 @@
 //! Prints what is judged of systems and certificates that no run of the program judges: by a measure that is no interpretation,
 //! of an interpretation of a system that is not deterministic, of the first entries of an interpretation, of a conflict by
-//! a right side that rules contract, since a certificate with it is rejected for its class, and of a peak that ends at a term
-//! with a symbol that is not the file's. The cases of `run_cases` have all else.
+//! a right side that rules contract, since a certificate with it is rejected for its class, of a peak that ends at a term
+//! with a symbol that is not the file's, and of certificates behind steps. The cases of `run_cases` have all else.
 //!
 //! A case is a line `CALL: SYSTEM` of `data/cases.txt`. Other lines are printed as they are.
 #![tactic(auto)]
 
+mod behind;
 mod foreign;
 mod measures;
 mod prefixes;
 
+use behind::print_behind;
 use cert_model::PairEvidence;
 use cops_read::read_system;
 use critical_pairs::overlaps;
@@ -49,6 +51,9 @@ fn print_case(rt: &HostRuntime, line: &str) -> io::Result<()> {
     let Some((call, text)) = line.split_once(": ") else {
         return Ok(());
     };
+    if call == "behind" {
+        return print_behind(rt, text);
+    }
     if call == "foreign" {
         return print_foreign(rt, text);
     }

@@ -4,15 +4,15 @@ use Rattle.std.specs.Prelude.{IfSome, IsErrOf, option_map}
 use Rattle.rewriting.specs.Rules.{System}
 use Rattle.rewriting.specs.Confluence.{IsConfluent}
 use Rattle.join_systems.specs.FileRelation.{IsFromFile, IsFileConfluent}
-use Rattle.certificates.specs.Certificates.{Peak, peak_certificate}
-use Rattle.valid_certificates.specs.Laws.{ReachesApart}
+use Rattle.certificates.specs.Certificates.{Certificate, ortho_certificate, quasi_certificate, peak_certificate, simplified_certificate}
+use Rattle.valid_certificates.specs.CarriedBack.{IsPeakApart}
 use Rattle.cops_read.specs.NameTable.{NameTable}
 use Rattle.cc_io.specs.Faults.{Rose}
 use Rattle.cc_io.specs.Errors.{IsTooLong}
 use Rattle.cc_io.specs.declared.shelf.ReadAllError.{ReadAllError}
 use Rattle.cc_io.specs.declared.shelf.ReadAllError.TheVariants as reading
 use Rattle.cert_model.specs.declared.reasons.Rejected as reasons
-use Rattle.cert_grammar.specs.CertificateText.{IsCertificateText}
+use Rattle.cert_grammar.specs.FirstVersion.{CanBeSpelt, IsCertificateText}
 use Rattle.cert_grammar.specs.Marks as marks
 use Rattle.cert_check.specs.Answers.{OnYes, OnNo}
 use Rattle.cert_check.specs.Bytes.{BytesAnswers}
@@ -26,7 +26,7 @@ use Rattle.concon_run.specs.CertRefusals.{CertRefusal, long_certificate, no_cert
 use Rattle.concon_run.specs.Run.{ShelfRun, Run, HasFailed, BeginsAtMost}
 use Rattle.concon_run.specs.Said.{Said, IsSaidIfMemory, Tells, TellsIfMemory}
 use Rattle.concon_run.specs.Systems.{Bytes, told_or_any, bytes_of, SpellsSystem}
-use Rattle.concon_run.specs.Check.{IsCheck, SpellsCertificate, IsRefusedCertificate, CheckOutcome, no_system, no_certificate, rejected, shown, IsTrueOf, CheckAnswer, checked, file_unread, cert_unread, said_of_check, said_of_outcome, IsCheckAnswer, CalmlyComesTo}
+use Rattle.concon_run.specs.Check.{IsCheck, names_judged, IsRefusedCertificate, CheckOutcome, no_system, no_certificate, rejected, shown, IsTrueOf, CheckAnswer, checked, file_unread, cert_unread, said_of_check, said_of_outcome, IsCheckAnswer, CalmlyComesTo}
 use Rattle.concon_run.specs.Checking.{CertificateAnswers, IsShownBy, check_answer}
 use Rattle.concon_run.specs.Files.{SystemAnswers, no_system_said}
 use Rattle.concon_run.specs.Refusals.{refused_said}
@@ -58,6 +58,13 @@ cert_not_read told failed sys names reading.ReadFault fault long = fault refl
 cert_not_read told failed sys names (reading.TooLong n) fault long = no_certificate_beyond told names (long tt)
 cert_not_read told failed sys names reading.NoMemory fault long = tt
 
+-- no text has steps before the body, so names tell the variables of what it is judged for
+pub named : (names : NameTable) (c : Certificate) → CanBeSpelt names c → Some names ≡ names_judged names c
+named names (ortho_certificate pairs) h = refl
+named names (quasi_certificate measure pairs) h = refl
+named names (peak_certificate peak) h = refl
+named names (simplified_certificate steps c) h = absurd h
+
 -- the answer to the bytes of a certificate is one to its file
 module _ (cert : Bytes) (failed : Type 0) (sys : System) (names : NameTable) (bytes : List ℕ) (f : cert bytes) (short : length bytes ≤ most_cert_bytes) where
   pub cert_refused : (e : CertError) → BytesAnswers sys names bytes (Err (bytes_error.Cert e)) → CertificateAnswers cert failed sys names (Err (no_verdict.CertRefused e))
@@ -65,22 +72,23 @@ module _ (cert : Bytes) (failed : Type 0) (sys : System) (names : NameTable) (by
   cert_refused (cert_causes.UnknownName at) h = (bytes, f, (short, h.1))
   cert_refused (cert_causes.WrongArity at) h = (bytes, f, (short, h.1))
   cert_refused (cert_causes.BadNumber at) h = (bytes, f, (short, h.1))
+  cert_refused (cert_causes.BadShare at) h = (bytes, f, (short, h.1))
   cert_refused (cert_causes.CertTooDeep at) h = (bytes, f, (short, h.1))
   cert_refused (cert_causes.TooMany what at) h = (bytes, f, (short, h.1))
   cert_refused cert_causes.NoMemory h = tt
 
-  pub cert_rejected : (reason : reasons.Rejected) → BytesAnswers sys names bytes (Err (bytes_error.Rejected reason)) → CertificateAnswers cert failed sys names (Err (no_verdict.Rejected names reason))
-  cert_rejected reason h = (refl, (h.0, (bytes, f, short, h.1), h.2))
+  pub cert_rejected : (reason : reasons.Rejected) → BytesAnswers sys names bytes (Err (bytes_error.Rejected reason)) → CertificateAnswers cert failed sys names (Err (no_verdict.Rejected (Some names) reason))
+  cert_rejected reason h = (h.0, (bytes, f, short, h.1), h.2, named names h.0 h.1.spelt)
 
   module _ (from : IsFromFile sys) where
     shown_by : (v : Verdict) → OnYes {E = BytesError} (Ok v) (IsConfluent sys) → OnYes {E = BytesError} (Ok v) (IsFromFile sys → IsFileConfluent sys)
-        → OnNo {E = BytesError} (Ok v) ((peak : Peak) × IsCertificateText names bytes (peak_certificate peak) × ReachesApart sys peak) → IsShownBy cert sys names v
+        → OnNo {E = BytesError} (Ok v) ((c : Certificate) × IsCertificateText names bytes c × IsPeakApart sys c) → IsShownBy cert sys names v
     shown_by Yes confluent file h = record { file = file from; system = confluent }
     shown_by No confluent file h = (h.0, (bytes, f, short, h.1), h.2)
 
     pub cert_judged : (v : Verdict) → BytesAnswers sys names bytes (Ok v) → OnYes {E = BytesError} (Ok v) (IsConfluent sys)
         → OnYes {E = BytesError} (Ok v) (IsFromFile sys → IsFileConfluent sys)
-        → OnNo {E = BytesError} (Ok v) ((peak : Peak) × IsCertificateText names bytes (peak_certificate peak) × ReachesApart sys peak)
+        → OnNo {E = BytesError} (Ok v) ((c : Certificate) × IsCertificateText names bytes c × IsPeakApart sys c)
         → CertificateAnswers cert failed sys names (Ok v)
     cert_judged v h confluent file apart = (h.0, (bytes, f, short, h.1), h.2, h.3, shown_by v confluent file apart)
 
@@ -115,12 +123,7 @@ module _ (shelf : ShelfRun) (file cert : List ℕ) where
     certificate_answered failed rose (Err (no_verdict.CertUnread (reading.TooLong n))) h = record { cause = (sys, names, f, h); right = tt; left = tt }
     certificate_answered failed rose (Err (no_verdict.CertUnread reading.NoMemory)) h = tt
     certificate_answered failed rose (Err (no_verdict.CertRefused e)) h = refusal (cert_refusal_of e) h
-    certificate_answered failed rose (Err (no_verdict.Rejected others reason)) h =
-        record {
-          cause = (sys, h.1.0, subst (SpellsSystem (bytes_of shelf file) sys) (sym h.0) f, subst (λ n. SpellsCertificate (bytes_of shelf cert) n h.1.0) (sym h.0) h.1.1, h.1.2);
-          right = tt;
-          left = tt;
-        }
+    certificate_answered failed rose (Err (no_verdict.Rejected judged reason)) h = record { cause = (sys, names, h.0, f, h.1, h.2, h.3); right = tt; left = tt }
     certificate_answered failed rose (Err no_verdict.NoMemory) h = tt
 
 -- what is said is what the answer says

@@ -2,8 +2,9 @@
 use Rattle.std.proofs.Common.{◌≡◌, ◌⊎◌, ◌++◌, ℕ, List, [], Option, Some, None, codes, inl, inr, refl, sym, ap, ◌∙◌, subst, subst₂}
 use Rattle.std.proofs.lemmas.List.{append-nil}
 use Rattle.cc_io.specs.Bytes.{appended}
-use Rattle.certificates.specs.Certificates.{Certificate, ortho_certificate, quasi_certificate, peak_certificate}
+use Rattle.certificates.specs.Certificates.{Certificate}
 use Rattle.cert_check.specs.Kinds.{verdict_of}
+use Rattle.concon_run.specs.Verdicts.{status_of}
 use Rattle.cert_check.specs.declared.Verdict.{Verdict}
 use Rattle.cert_check.specs.declared.Verdict.TheVariants.{Yes, No}
 use Rattle.cops_read.specs.NameTable.{NameTable}
@@ -60,11 +61,13 @@ check_meant run file cert form (checked (shown No)) h = inl (inl (file, cert, fo
 check_meant run file cert form file_unread h = (file, h.cause, refl)
 check_meant run file cert form cert_unread h = (cert, h.cause.0, refl)
 
+found_meant : (run : Run) (names : NameTable) (c : Certificate) (err : List ℕ) → ProveComesTo run (found names c) → (v : Verdict) → v ≡ verdict_of c → Means run (status_of v) (proof_text names c) err
+found_meant run names c err h Yes e = inl (inl (inr (names, c, h, e, refl)))
+found_meant run names c err h No e = inl (inr (names, c, h, e, refl))
+
 prove_meant : (run : Run) (file : List ℕ) (budget : ℕ) → IsProve run.words file budget → (a : ProveAnswer) → IsProveAnswer run.shelf file budget a → IsMeant run (said_of_prove file a)
 prove_meant run file budget form (searched (bad_file refusal)) h = (refusal, file, inl (inr (budget, form)), h.cause)
-prove_meant run file budget form (searched (found names (ortho_certificate pairs))) h = inl (inl (inr (names, ortho_certificate pairs, (file, budget, form, h.cause), refl, refl)))
-prove_meant run file budget form (searched (found names (quasi_certificate measure pairs))) h = inl (inl (inr (names, quasi_certificate measure pairs, (file, budget, form, h.cause), refl, refl)))
-prove_meant run file budget form (searched (found names (peak_certificate peak))) h = inl (inr (names, peak_certificate peak, (file, budget, form, h.cause), refl, refl))
+prove_meant run file budget form (searched (found names c)) h = found_meant run names c _ (file, budget, form, h.cause) (verdict_of c) refl
 prove_meant run file budget form (searched over_budget) h = inr (inl (file, budget, form, h.cause), refl)
 prove_meant run file budget form (searched exhausted) h = inl (inl (file, budget, form, h.cause), refl)
 prove_meant run file budget form search.file_unread h = (file, h.cause, refl)

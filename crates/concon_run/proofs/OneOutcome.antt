@@ -7,12 +7,12 @@ use Rattle.valid_certificates.specs.Certificates.{IsRejected, IsValid}
 use Rattle.valid_certificates.specs.Laws.{CertificatesHaveOneAnswer}
 use Rattle.cert_check.specs.Kinds.{verdict_of}
 use Rattle.cops_read.specs.NameTable.{NameTable}
-use Rattle.cert_grammar.specs.CertificateText.{IsCertificateText}
-use Rattle.cert_laws.specs.MarkLaws as texts
+use Rattle.cert_grammar.specs.FirstVersion.{IsCertificateText}
+use Rattle.cert_openings.specs.FirstLaws as texts
 use Rattle.cert_text.proofs.OneCertificate.{same_certificate}
 use Rattle.concon_run.specs.CertRefusals.{CertRefusal, long_certificate, no_certificate_text, most_cert_bytes, IsCertRefused}
 use Rattle.concon_run.specs.Systems.{told_or_any}
-use Rattle.concon_run.specs.Check.{CheckOutcome, no_system, no_certificate, rejected, shown, SpellsCertificate, IsRefusedCertificate, ComesTo}
+use Rattle.concon_run.specs.Check.{names_judged, CheckOutcome, no_system, no_certificate, rejected, shown, SpellsCertificate, IsRefusedCertificate, ComesTo}
 use Rattle.concon_run.proofs.OneSystem.{KnownSystems, Told, same_bytes, one_pair, spells_or_none, none_or_spells, one_refused}
 
 -- what is known of the texts of certificates, and of certificates
@@ -53,40 +53,41 @@ module _ (systems : KnownSystems) (k : KnownCertificates) (file cert : Option (L
   one_cert_refused names others r s e x y =
       refused_once names x.0 r s x.2 (subst₂ (λ n b. IsCertRefused n b s) (sym e) (same_bytes cert x.0 y.0 x.1 y.1) y.2)
 
-  same_rejection : (names others : NameTable) (reason other : Rejection) (sys third : System) (c d : Certificate) → names ≡ others → sys ≡ third → c ≡ d
-      → IsRejected sys c reason → IsRejected third d other → rejected names reason ≡ rejected others other
-  same_rejection names others reason other sys third c d e f g x y =
-      ap₂ rejected e ((k.answers third d).one_reason reason other (subst₂ (λ s p. IsRejected s p reason) f g x) y)
+  same_rejection : (names others : NameTable) (judged given : Option NameTable) (reason other : Rejection) (sys third : System) (c d : Certificate)
+      → names ≡ others → sys ≡ third → c ≡ d → IsRejected sys c reason × (judged ≡ names_judged names c) → IsRejected third d other × (given ≡ names_judged others d)
+      → rejected judged reason ≡ rejected given other
+  same_rejection names others judged given reason other sys third c d e f g x y =
+      ap₂ rejected (x.1 ∙ (ap₂ names_judged e g ∙ sym y.1)) ((k.answers third d).one_reason reason other (subst₂ (λ s p. IsRejected s p reason) f g x.0) y.0)
 
   pub one_outcome : (o p : CheckOutcome) → ComesTo (Told file) (Told cert) o → ComesTo (told_or_any file) (told_or_any cert) p → o ≡ p
   one_outcome (no_system r) (no_system s) x y = ap no_system (one_refused systems file r s x y)
   one_outcome (no_system r) (no_certificate s) x y = absurd (none_or_spells systems file y.0 y.1 r x y.2)
-  one_outcome (no_system r) (rejected others other) x y = absurd (none_or_spells systems file y.0 others r x y.2)
+  one_outcome (no_system r) (rejected given other) x y = absurd (none_or_spells systems file y.0 y.1 r x y.3)
   one_outcome (no_system r) (shown w) x y = absurd (none_or_spells systems file y.0 y.1 r x y.3)
   one_outcome (no_certificate r) (no_system s) x y = absurd (spells_or_none systems file x.0 x.1 s x.2 y)
   one_outcome (no_certificate r) (no_certificate s) x y =
       let same = one_pair systems file x.0 y.0 x.1 y.1 x.2 y.2 in ap no_certificate (one_cert_refused x.1 y.1 r s same.1 x.3 y.3)
-  one_outcome (no_certificate r) (rejected others other) x y =
-      let same = one_pair systems file x.0 y.0 x.1 others x.2 y.2 in absurd (none_or_text x.1 others y.1 r same.1 x.3 y.3)
+  one_outcome (no_certificate r) (rejected given other) x y =
+      let same = one_pair systems file x.0 y.0 x.1 y.1 x.2 y.3 in absurd (none_or_text x.1 y.1 y.2 r same.1 x.3 y.4)
   one_outcome (no_certificate r) (shown w) x y =
       let same = one_pair systems file x.0 y.0 x.1 y.1 x.2 y.3 in absurd (none_or_text x.1 y.1 y.2 r same.1 x.3 y.4)
-  one_outcome (rejected names reason) (no_system s) x y = absurd (spells_or_none systems file x.0 names s x.2 y)
-  one_outcome (rejected names reason) (no_certificate s) x y =
-      let same = one_pair systems file x.0 y.0 names y.1 x.2 y.2 in absurd (text_or_none names y.1 x.1 s same.1 x.3 y.3)
-  one_outcome (rejected names reason) (rejected others other) x y =
-      let same = one_pair systems file x.0 y.0 names others x.2 y.2 in
-      same_rejection names others reason other x.0 y.0 x.1 y.1 same.1 same.0 (one_text names others x.1 y.1 same.1 x.3 y.3) x.4 y.4
-  one_outcome (rejected names reason) (shown w) x y =
-      let same = one_pair systems file x.0 y.0 names y.1 x.2 y.3 in
-      let certs = one_text names y.1 x.1 y.2 same.1 x.3 y.4 in
-      absurd ((k.answers y.0 y.2).never_both reason (subst₂ (λ s p. IsRejected s p reason) same.0 certs x.4) y.5)
+  one_outcome (rejected judged reason) (no_system s) x y = absurd (spells_or_none systems file x.0 x.1 s x.3 y)
+  one_outcome (rejected judged reason) (no_certificate s) x y =
+      let same = one_pair systems file x.0 y.0 x.1 y.1 x.3 y.2 in absurd (text_or_none x.1 y.1 x.2 s same.1 x.4 y.3)
+  one_outcome (rejected judged reason) (rejected given other) x y =
+      let same = one_pair systems file x.0 y.0 x.1 y.1 x.3 y.3 in
+      same_rejection x.1 y.1 judged given reason other x.0 y.0 x.2 y.2 same.1 same.0 (one_text x.1 y.1 x.2 y.2 same.1 x.4 y.4) (x.5, x.6) (y.5, y.6)
+  one_outcome (rejected judged reason) (shown w) x y =
+      let same = one_pair systems file x.0 y.0 x.1 y.1 x.3 y.3 in
+      let certs = one_text x.1 y.1 x.2 y.2 same.1 x.4 y.4 in
+      absurd ((k.answers y.0 y.2).never_both reason (subst₂ (λ s p. IsRejected s p reason) same.0 certs x.5) y.5)
   one_outcome (shown v) (no_system s) x y = absurd (spells_or_none systems file x.0 x.1 s x.3 y)
   one_outcome (shown v) (no_certificate s) x y =
       let same = one_pair systems file x.0 y.0 x.1 y.1 x.3 y.2 in absurd (text_or_none x.1 y.1 x.2 s same.1 x.4 y.3)
-  one_outcome (shown v) (rejected others other) x y =
-      let same = one_pair systems file x.0 y.0 x.1 others x.3 y.2 in
-      let certs = one_text x.1 others x.2 y.1 same.1 x.4 y.3 in
-      absurd ((k.answers y.0 y.1).never_both other y.4 (subst₂ IsValid same.0 certs x.5))
+  one_outcome (shown v) (rejected given other) x y =
+      let same = one_pair systems file x.0 y.0 x.1 y.1 x.3 y.3 in
+      let certs = one_text x.1 y.1 x.2 y.2 same.1 x.4 y.4 in
+      absurd ((k.answers y.0 y.2).never_both other y.5 (subst₂ IsValid same.0 certs x.5))
   one_outcome (shown v) (shown w) x y =
       let same = one_pair systems file x.0 y.0 x.1 y.1 x.3 y.3 in
       ap shown (x.6 ∙ (ap verdict_of (one_text x.1 y.1 x.2 y.2 same.1 x.4 y.4) ∙ sym y.6))

@@ -26,6 +26,7 @@ use Rattle.portfolio.specs.declared.Outcome.TheVariants.{Found, Exhausted, Spent
 use Rattle.portfolio.specs.Answers.{SearchesAll, IfExhausted}
 use Rattle.cops_read.specs.NameTable.{NameTable}
 use Rattle.cert_check.specs.Kinds.{verdict_of}
+use Rattle.cert_check.proofs.Levels.{peak_apart}
 use Rattle.cert_check.proofs.Bounds.{spelt_over}
 use Rattle.concon_run.specs.Run.{ShelfRun, Run, HasFailed}
 use Rattle.concon_run.specs.Said.{Said, IsSaidIfMemory, Tells, TellsIfMemory}
@@ -65,7 +66,7 @@ module _ (names : NameTable) (sys : System) where
     wholly h = record { file = files sys from h; system = h }
 
     peak_shown : (peak : Peak) → HasText names (peak_certificate peak) → IsValid sys (peak_certificate peak) → IsShown sys (peak_certificate peak) (verdict_of (peak_certificate peak))
-    peak_shown peak text valid = apart sys peak good (spelt_over names sys.arities named peak.start text.0.0) valid
+    peak_shown peak text valid = peak_apart sys peak (apart sys peak good (spelt_over names sys.arities named peak.start text.0.0) valid)
 
     given_shown : (item : PeakItem) (c : Certificate) → GivesPeak names sys item c → IsShown sys c (verdict_of c)
     given_shown (make_listing n) c h = absurd h.0

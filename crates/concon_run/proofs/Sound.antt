@@ -1,8 +1,12 @@
 -- A text that begins with Y is that of a YES, and one that begins with N that of a NO.
-use Rattle.std.proofs.Common.{◌≡◌, ◌⊎◌, ℕ, zero, suc, List, [], ◌∷◌, ◌++◌, take, Option, Some, sym, ap, ◌∙◌, inl, inr, arith}
+use Rattle.std.proofs.Common.{◌≡◌, ◌⊎◌, ℕ, zero, suc, List, [], ◌∷◌, ◌++◌, take, Option, Some, refl, sym, ap, subst, codes, ◌∙◌, inl, inr, arith}
 use Rattle.std.proofs.lemmas.List.{append-nil, append_cancel_left}
 use Rattle.cc_io.specs.Bytes.{appended}
-use Rattle.certificates.specs.Certificates.{ortho_certificate, quasi_certificate, peak_certificate}
+use Rattle.certificates.specs.Certificates.{Certificate, ortho_certificate, quasi_certificate, peak_certificate, simplified_certificate}
+use Rattle.cert_grammar.specs.CertificateText.{answer_line}
+use Rattle.cert_grammar.specs.FirstVersion.{certificate_text}
+use Rattle.cert_check.specs.Kinds.{verdict_of}
+use Rattle.concon_run.specs.Verdicts.{IsShown}
 use Rattle.cert_check.specs.declared.Verdict.TheVariants.{Yes, No}
 use Rattle.concon_run.specs.Run.{SinkRun, Run}
 use Rattle.concon_run.specs.Said.{Said, Tells, TakesWhole, TakesPart, no_memory_said}
@@ -22,6 +26,13 @@ front_begins zero xs t x e = absurd cc
 front_begins (suc n) [] t x e = absurd cc
 front_begins (suc n) (y ∷ ys) t x e = (ys, cc)
 
+-- the line of an answer is that of the verdict
+says : (c : Certificate) → ((verdict_of c ≡ Yes) × (answer_line c ≡ codes "YES\n")) ⊎ ((verdict_of c ≡ No) × (answer_line c ≡ codes "NO\n"))
+says (ortho_certificate pairs) = inl (refl, refl)
+says (quasi_certificate measure pairs) = inl (refl, refl)
+says (peak_certificate peak) = inr (refl, refl)
+says (simplified_certificate steps c) = says c
+
 -- an answer whose text for out begins with N; texts for out begin with Y, N, M, R or s
 module _ (run : Run) (rest : List ℕ) where
   check_by_n : (file cert : List ℕ) → IsCheck run.words file cert → (a : CheckAnswer) → IsCheckAnswer run.shelf file cert a → (said_of_check file cert a).out ≡ 78 ∷ rest → NamesPeakApart run
@@ -37,7 +48,12 @@ module _ (run : Run) (rest : List ℕ) where
   prove_by_n file budget form (searched (bad_file refusal)) h e = absurd cc
   prove_by_n file budget form (searched (found names (ortho_certificate pairs))) h e = absurd (begins 89 78 _ rest e (λ q. omega (arith, q)))
   prove_by_n file budget form (searched (found names (quasi_certificate measure pairs))) h e = absurd (begins 89 78 _ rest e (λ q. omega (arith, q)))
-  prove_by_n file budget form (searched (found names (peak_certificate peak))) h e = inr (file, budget, form, (h.right.0, names, peak, h.right.1, h.right.2))
+  prove_by_n file budget form (searched (found names (simplified_certificate steps c))) h e = by (says c)
+    where
+      by : ((verdict_of c ≡ Yes) × (answer_line c ≡ codes "YES\n")) ⊎ ((verdict_of c ≡ No) × (answer_line c ≡ codes "NO\n")) → NamesPeakApart run
+      by (inl a) = absurd (begins 89 78 _ rest (sym (ap (λ (w : List ℕ). w ++ certificate_text names (simplified_certificate steps c)) a.1) ∙ e) (λ q. omega (arith, q)))
+      by (inr a) = inr (file, budget, form, (h.right.0, names, simplified_certificate steps c, h.right.1, subst (IsShown h.right.0 (simplified_certificate steps c)) a.0 h.right.2))
+  prove_by_n file budget form (searched (found names (peak_certificate peak))) h e = inr (file, budget, form, (h.right.0, names, peak_certificate peak, h.right.1, h.right.2))
   prove_by_n file budget form (searched over_budget) h e = absurd (begins 77 78 _ rest e (λ q. omega (arith, q)))
   prove_by_n file budget form (searched exhausted) h e = absurd (begins 77 78 _ rest e (λ q. omega (arith, q)))
   prove_by_n file budget form search.file_unread h e = absurd cc
@@ -73,6 +89,11 @@ module _ (run : Run) (rest : List ℕ) where
   prove_by_y file budget form (searched (bad_file refusal)) h e = absurd cc
   prove_by_y file budget form (searched (found names (ortho_certificate pairs))) h e = (file, inr (budget, form), (h.right.0, names, h.right.1, h.right.2))
   prove_by_y file budget form (searched (found names (quasi_certificate measure pairs))) h e = (file, inr (budget, form), (h.right.0, names, h.right.1, h.right.2))
+  prove_by_y file budget form (searched (found names (simplified_certificate steps c))) h e = by (says c)
+    where
+      by : ((verdict_of c ≡ Yes) × (answer_line c ≡ codes "YES\n")) ⊎ ((verdict_of c ≡ No) × (answer_line c ≡ codes "NO\n")) → NamesConfluentSystem run
+      by (inl a) = (file, inr (budget, form), (h.right.0, names, h.right.1, subst (IsShown h.right.0 (simplified_certificate steps c)) a.0 h.right.2))
+      by (inr a) = absurd (begins 78 89 _ rest (sym (ap (λ (w : List ℕ). w ++ certificate_text names (simplified_certificate steps c)) a.1) ∙ e) (λ q. omega (arith, q)))
   prove_by_y file budget form (searched (found names (peak_certificate peak))) h e = absurd (begins 78 89 _ rest e (λ q. omega (arith, q)))
   prove_by_y file budget form (searched over_budget) h e = absurd (begins 77 89 _ rest e (λ q. omega (arith, q)))
   prove_by_y file budget form (searched exhausted) h e = absurd (begins 77 89 _ rest e (λ q. omega (arith, q)))

@@ -17,8 +17,8 @@ use Rattle.cops_systems.specs.File.{IsFile, no_tokens, no_tree, no_meaning}
 use Rattle.cops_systems.specs.declared.errors.ReadError.{ReadError}
 use Rattle.cops_systems.specs.declared.errors.ReadError.TheVariants as unread
 use Rattle.cops_write.specs.Text.{system_text}
-use Rattle.cert_grammar.specs.CertificateText.{IsCertificateText, CanBeSpelt, certificate_text}
-use Rattle.cert_laws.specs.MarkLaws.{NeverBoth}
+use Rattle.cert_grammar.specs.FirstVersion.{IsCertificateText, CanBeSpelt, certificate_text}
+use Rattle.cert_openings.specs.FirstLaws.{NeverBoth}
 use Rattle.cert_model.specs.CertificateView.{certificate_view}
 use Rattle.cert_model.specs.declared.model.Certificate.{Certificate}
 use Rattle.cert_words.specs.CertRefusals.{IsRefusedAs}
@@ -79,6 +79,7 @@ never_refused_cert never names bytes c text (bad.CertSyntax at) other h = never 
 never_refused_cert never names bytes c text (bad.UnknownName at) other h = never names bytes c _ at text h
 never_refused_cert never names bytes c text (bad.WrongArity at) other h = never names bytes c _ at text h
 never_refused_cert never names bytes c text (bad.BadNumber at) other h = never names bytes c _ at text h
+never_refused_cert never names bytes c text (bad.BadShare at) other h = never names bytes c _ at text h
 never_refused_cert never names bytes c text (bad.CertTooDeep at) other h = never names bytes c _ at text h
 never_refused_cert never names bytes c text (bad.TooMany what at) other h = never names bytes c _ at text h
 never_refused_cert never names bytes c text bad.NoMemory other h = other refl

@@ -2,10 +2,10 @@
 use Rattle.std.specs.Prelude.{◌≤◌, ◌<◌, ℕ, List, length, Option, Some, None, option_map, codes}
 use Rattle.cops_read.specs.NameTable.{NameTable}
 use Rattle.cert_grammar.specs.Marks as marks
-use Rattle.cert_grammar.specs.Refusals.{IsCertificateRefused}
+use Rattle.cert_grammar.specs.FirstVersion.{IsCertificateRefused}
 use Rattle.cert_words.specs.Words.{counted_view}
 use Rattle.cert_words.specs.declared.error.CertError.{CertError}
-use Rattle.cert_words.specs.declared.error.CertError.TheVariants.{CertSyntax, UnknownName, WrongArity, BadNumber, CertTooDeep, TooMany, NoMemory}
+use Rattle.cert_words.specs.declared.error.CertError.TheVariants.{CertSyntax, UnknownName, WrongArity, BadNumber, BadShare, CertTooDeep, TooMany, NoMemory}
 use Rattle.concon_run.specs.FileRefusals.{refused_line}
 
 -- no certificate is longer
@@ -26,6 +26,7 @@ cert_cause_words marks.syntax = codes "syntax"
 cert_cause_words marks.unknown_name = codes "unknown name"
 cert_cause_words marks.wrong_arity = codes "wrong arity"
 cert_cause_words marks.bad_number = codes "bad number"
+cert_cause_words marks.bad_share = codes "bad share"
 cert_cause_words (marks.too_many what) = codes "too many"
 cert_cause_words marks.too_deep = codes "too deep"
 
@@ -39,6 +40,7 @@ cert_error_cause (CertSyntax at) = Some (marks.syntax, at)
 cert_error_cause (UnknownName at) = Some (marks.unknown_name, at)
 cert_error_cause (WrongArity at) = Some (marks.wrong_arity, at)
 cert_error_cause (BadNumber at) = Some (marks.bad_number, at)
+cert_error_cause (BadShare at) = Some (marks.bad_share, at)
 cert_error_cause (CertTooDeep at) = Some (marks.too_deep, at)
 cert_error_cause (TooMany what at) = Some (marks.too_many (counted_view what), at)
 cert_error_cause NoMemory = None

@@ -1,15 +1,15 @@
 -- The command check: its words, what it may answer and why, the texts of that, and what each answer means.
-use Rattle.std.specs.Prelude.{◌≡◌, ◌⊎◌, ◌≤◌, ℕ, List, [], ◌∷◌, length, codes}
+use Rattle.std.specs.Prelude.{◌≡◌, ◌⊎◌, ◌≤◌, ℕ, List, [], ◌∷◌, Option, Some, None, length, codes}
 use Rattle.rewriting.specs.Rules.{System}
-use Rattle.certificates.specs.Certificates.{Certificate, Peak, peak_certificate}
+use Rattle.certificates.specs.Certificates.{Certificate, ortho_certificate, quasi_certificate, peak_certificate, simplified_certificate}
 use Rattle.certificates.specs.Reasons.{Rejection}
 use Rattle.valid_certificates.specs.Certificates.{IsValid, IsRejected}
-use Rattle.valid_certificates.specs.Laws.{ReachesApart}
+use Rattle.valid_certificates.specs.CarriedBack.{IsPeakApart}
 use Rattle.cert_check.specs.Kinds.{verdict_of}
 use Rattle.cert_check.specs.declared.Verdict.{Verdict}
 use Rattle.cert_check.specs.declared.Verdict.TheVariants as verdict
 use Rattle.cops_read.specs.NameTable.{NameTable}
-use Rattle.cert_grammar.specs.CertificateText.{IsCertificateText}
+use Rattle.cert_grammar.specs.FirstVersion.{IsCertificateText}
 use Rattle.concon_run.specs.Rejections.{rejected_line}
 use Rattle.concon_run.specs.FileRefusals.{FileRefusal, file_refused_line}
 use Rattle.concon_run.specs.CertRefusals.{CertRefusal, most_cert_bytes, IsCertRefused, cert_refused_line}
@@ -31,29 +31,37 @@ SpellsCertificate cert names c = (bytes : List ℕ) × cert bytes × (length byt
 abbrev pub IsRefusedCertificate : Bytes → NameTable → CertRefusal → Type 0
 IsRefusedCertificate cert names refusal = (bytes : List ℕ) × cert bytes × IsCertRefused names bytes refusal
 
+-- the names that tell the variables of the rules for which a certificate is judged: behind steps there are none
+abbrev pub names_judged : NameTable → Certificate → Option NameTable
+names_judged names (ortho_certificate pairs) = Some names
+names_judged names (quasi_certificate measure pairs) = Some names
+names_judged names (peak_certificate peak) = Some names
+names_judged names (simplified_certificate steps c) = None
+
 -- what the two texts come to
 pub data CheckOutcome : Type 0 where
   no_system : FileRefusal → CheckOutcome
   no_certificate : CertRefusal → CheckOutcome
-  -- the certificate is rejected; the names are those of the file
-  rejected : NameTable → Rejection → CheckOutcome
+  -- the certificate is rejected; the names tell its variables
+  rejected : Option NameTable → Rejection → CheckOutcome
   -- the certificate is valid, and shows this of the system
   shown : Verdict → CheckOutcome
 
 abbrev pub ComesTo : Bytes → Bytes → CheckOutcome → Type 0
 ComesTo file cert (no_system refusal) = IsRefusedFile file refusal
 ComesTo file cert (no_certificate refusal) = (sys : System) × (names : NameTable) × SpellsSystem file sys names × IsRefusedCertificate cert names refusal
-ComesTo file cert (rejected names reason) =
-    (sys : System) × (c : Certificate) × SpellsSystem file sys names × SpellsCertificate cert names c × IsRejected sys c reason
+ComesTo file cert (rejected judged reason) =
+    (sys : System) × (names : NameTable) × (c : Certificate) × SpellsSystem file sys names × SpellsCertificate cert names c × IsRejected sys c reason
+    × (judged ≡ names_judged names c)
 ComesTo file cert (shown verdict) =
     (sys : System) × (names : NameTable) × (c : Certificate) × SpellsSystem file sys names × SpellsCertificate cert names c × IsValid sys c
     × (verdict ≡ verdict_of c)
 
--- the file spells a system, and the certificate a peak: its derivations lead from the start to two terms without a common reduct
+-- the file spells a system, and the certificate a peak, behind good steps or behind none: its derivations lead from the start to two
+-- terms without a common reduct
 abbrev pub IsRefuted : Bytes → Bytes → Type 0
 IsRefuted file cert =
-    (sys : System) × (names : NameTable) × (peak : Peak) × SpellsSystem file sys names × SpellsCertificate cert names (peak_certificate peak)
-    × ReachesApart sys peak
+    (sys : System) × (names : NameTable) × (c : Certificate) × SpellsSystem file sys names × SpellsCertificate cert names c × IsPeakApart sys c
 
 -- the verdict is true
 abbrev pub IsTrueOf : Bytes → Bytes → Verdict → Type 0

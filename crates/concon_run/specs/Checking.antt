@@ -4,7 +4,7 @@ use Rattle.rewriting.specs.Rules.{System}
 use Rattle.certificates.specs.Certificates as math
 use Rattle.certificates.specs.Reasons.{Rejection}
 use Rattle.valid_certificates.specs.Certificates.{IsValid, IsRejected}
-use Rattle.valid_certificates.specs.Laws.{ReachesApart}
+use Rattle.valid_certificates.specs.CarriedBack.{IsPeakApart}
 use Rattle.cops_read.specs.NameTable.{NameTable}
 use Rattle.cert_model.specs.ReasonView.{rejected_view}
 use Rattle.cert_check.specs.Kinds.{verdict_of}
@@ -16,7 +16,7 @@ use Rattle.concon_run.specs.CertRefusals.{long_certificate, cert_refusal_of}
 use Rattle.concon_run.specs.Said.{Said}
 use Rattle.concon_run.specs.Systems.{Bytes, IsWhollyConfluent}
 use Rattle.concon_run.specs.Files.{no_system_answer}
-use Rattle.concon_run.specs.Check.{SpellsCertificate, IsRefusedCertificate, no_system, no_certificate, rejected, shown, CheckAnswer, checked, file_unread, cert_unread}
+use Rattle.concon_run.specs.Check.{names_judged, SpellsCertificate, IsRefusedCertificate, no_system, no_certificate, rejected, shown, CheckAnswer, checked, file_unread, cert_unread}
 use Rattle.concon_run.specs.declared.check.NoVerdict.{NoVerdict}
 use Rattle.concon_run.specs.declared.check.NoVerdict.TheVariants as why
 use Rattle.concon_run.specs.declared.status.Status.TheVariants as status
@@ -24,7 +24,7 @@ use Rattle.concon_run.specs.declared.status.Status.TheVariants as status
 -- what it shows that a certificate is valid, of which this is the text
 abbrev pub IsShownBy : Bytes → System → NameTable → Verdict → Type 0
 IsShownBy cert sys names verdict.Yes = IsWhollyConfluent sys
-IsShownBy cert sys names verdict.No = (peak : math.Peak) × SpellsCertificate cert names (math.peak_certificate peak) × ReachesApart sys peak
+IsShownBy cert sys names verdict.No = (c : math.Certificate) × SpellsCertificate cert names c × IsPeakApart sys c
 
 -- the text is that of a valid certificate, or is refused, or is that of one that is rejected
 abbrev pub CertificateAnswers : Bytes → Type 0 → System → NameTable → Result Verdict NoVerdict → Type 0
@@ -33,8 +33,8 @@ CertificateAnswers cert failed sys names (Err (why.CertUnread reading.ReadFault)
 CertificateAnswers cert failed sys names (Err (why.CertUnread (reading.TooLong n))) = IsRefusedCertificate cert names long_certificate
 CertificateAnswers cert failed sys names (Err (why.CertUnread reading.NoMemory)) = Unit {0}
 CertificateAnswers cert failed sys names (Err (why.CertRefused e)) = IfSome (cert_refusal_of e) (IsRefusedCertificate cert names)
-CertificateAnswers cert failed sys names (Err (why.Rejected others reason)) =
-    (others ≡ names) × ((c : math.Certificate) × SpellsCertificate cert names c × IsRejected sys c (rejected_view reason))
+CertificateAnswers cert failed sys names (Err (why.Rejected judged reason)) =
+    (c : math.Certificate) × SpellsCertificate cert names c × IsRejected sys c (rejected_view reason) × (judged ≡ names_judged names c)
 CertificateAnswers cert failed sys names (Err why.NoMemory) = Unit {0}
 CertificateAnswers cert failed sys names (Err (why.NoSystem e)) = ⊥
 
@@ -49,5 +49,5 @@ check_answer (Err (why.CertRefused e)) = option_map (λ r. checked (no_certifica
 check_answer (Err (why.Rejected names reason)) = Some (checked (rejected names (rejected_view reason)))
 check_answer (Err why.NoMemory) = None
 
-abbrev pub rejected_said : NameTable → Rejection → Said
+abbrev pub rejected_said : Option NameTable → Rejection → Said
 rejected_said names reason = record { status = status.Rejected; out = rejected_line names reason; err = [] }

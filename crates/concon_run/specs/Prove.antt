@@ -6,7 +6,8 @@ use Rattle.valid_certificates.specs.Certificates.{IsValid}
 use Rattle.first_found.specs.Spaces.{Space, IsDearer}
 use Rattle.quasi_space.specs.AllSpaces.{all_spaces, pruned_spaces}
 use Rattle.cops_names.specs.NameTable.{NameTable}
-use Rattle.cert_grammar.specs.CertificateText.{certificate_text, answer_line}
+use Rattle.cert_grammar.specs.CertificateText.{answer_line}
+use Rattle.cert_grammar.specs.FirstVersion.{certificate_text}
 use Rattle.cert_check.specs.Kinds.{verdict_of}
 use Rattle.concon_run.specs.Words.{usual_budget, IsBudget}
 use Rattle.concon_run.specs.FileRefusals.{FileRefusal, file_refused_line}

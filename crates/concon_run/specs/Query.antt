@@ -9,7 +9,7 @@ use Rattle.first_found.specs.Spaces.{IsDearer}
 use Rattle.cops_names.specs.NameTable.{NameTable}
 use Rattle.cert_grammar.specs.Words.{term_text}
 use Rattle.cert_grammar.specs.Steps.{derivation_text}
-use Rattle.cert_grammar.specs.EvidenceText.{infeasibility_text}
+use Rattle.cert_grammar.specs.FirstVersion.{infeasibility_text}
 use Rattle.query_text.specs.Query as text
 use Rattle.query_space.specs.Items.{QueryAnswer, never_met, met_by, IsGoodAnswer}
 use Rattle.query_space.specs.Space.{query_space, IsHeld, IsQueryPrice}

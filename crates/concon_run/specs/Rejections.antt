@@ -1,7 +1,7 @@
 -- The texts of rejections.
 use Rattle.std.specs.Prelude.{◌++◌, ℕ, List, [], Option, Some, None, codes, decimal, unwrap_or}
 use Rattle.rewriting.specs.Positions.{Position}
-use Rattle.certificates.specs.Reasons.{StepReason, no_such_rule, no_such_hypothesis, no_redex, wrong_count, unbound, condition_fails, too_large, BadStep, Class, left_linear, type3, extended_oriented, right_stable, deterministic, Blame, MeasureReason, wrong_shape, wrong_coefficient, overflow_at, smaller_variable, smaller_constant, not_ordered, EvidenceReason, not_allowed, not_root, sides_differ, tcap_unifies, tcap_large, conflict_number, conflict_left, conflict_unifies, conflict_large, auto_number, auto_any, auto_misses, auto_wide, auto_not_closed, auto_wide_right, auto_reaches, join_left, join_right, join_differs, unfeasible_number, unfeasible_first, unfeasible_second, first_reducible, second_reducible, unfeasible_unifies, unfeasible_large, Rejection, class_fails, not_irreducible, measure_fails, unraveling_large, pair_large, too_many_pairs, pair_missing, pair_extra, evidence_fails, foreign, first_bad, second_bad, same_term, not_normal, redex_extra, redex_fails, caps_unify, caps_large}
+use Rattle.certificates.specs.Reasons.{StepReason, no_such_rule, no_such_hypothesis, no_redex, wrong_count, unbound, condition_fails, too_large, BadStep, Class, left_linear, type3, extended_oriented, right_stable, deterministic, Blame, MeasureReason, wrong_shape, wrong_coefficient, overflow_at, smaller_variable, smaller_constant, not_ordered, EvidenceReason, not_allowed, not_root, sides_differ, tcap_unifies, tcap_large, conflict_number, conflict_left, conflict_unifies, conflict_large, auto_number, auto_any, auto_misses, auto_wide, auto_not_closed, auto_wide_right, auto_reaches, join_left, join_right, join_differs, unfeasible_number, unfeasible_first, unfeasible_second, first_reducible, second_reducible, unfeasible_unifies, unfeasible_large, SimplificationReason, missing_rule, missing_condition, not_inline, inlined_large, bad_evidence, Rejection, class_fails, not_irreducible, measure_fails, unraveling_large, pair_large, too_many_pairs, pair_missing, pair_extra, evidence_fails, foreign, first_bad, second_bad, same_term, not_normal, redex_extra, redex_fails, caps_unify, caps_large, simplification_fails}
 use Rattle.cops_read.specs.NameTable.{NameTable, variable_at}
 use Rattle.cert_grammar.specs.Words.{each_behind, position_text}
 use Rattle.concon_run.specs.Paths.{path_text}
@@ -30,12 +30,17 @@ class_text extended_oriented = codes "oriented"
 class_text right_stable = codes "right-stable"
 class_text deterministic = codes "deterministic"
 
--- the name of a variable of a rule, where there is one
-abbrev pub variable_text : NameTable → ℕ → Option ℕ → List ℕ
-variable_text names rule None = []
-variable_text names rule (Some k) = codes " variable " ++ unwrap_or (variable_at names rule k) []
+-- the name of a variable of a rule; behind steps, where rules have other numbers than in the file and no names are given, its own number
+abbrev pub variable_name : Option NameTable → ℕ → ℕ → List ℕ
+variable_name (Some names) rule k = unwrap_or (variable_at names rule k) []
+variable_name None rule k = codes "|" ++ decimal k
 
-abbrev pub blame_text : NameTable → Blame → List ℕ
+-- where there is a variable
+abbrev pub variable_text : Option NameTable → ℕ → Option ℕ → List ℕ
+variable_text names rule None = []
+variable_text names rule (Some k) = codes " variable " ++ variable_name names rule k
+
+abbrev pub blame_text : Option NameTable → Blame → List ℕ
 blame_text names b = (codes "class " ++ (class_text b.class ++ (codes " rule " ++ (decimal b.rule ++ (codes " condition " ++ decimal b.condition))))) ++ variable_text names b.rule b.variable
 
 abbrev pub measure_text : MeasureReason → List ℕ
@@ -74,7 +79,14 @@ evidence_reason_text second_reducible = codes "unfeasible second reducible"
 evidence_reason_text unfeasible_unifies = codes "unfeasible unifies"
 evidence_reason_text unfeasible_large = codes "unfeasible large"
 
-abbrev pub rejection_text : NameTable → Rejection → List ℕ
+abbrev pub simplification_reason_text : SimplificationReason → List ℕ
+simplification_reason_text missing_rule = codes "no such rule"
+simplification_reason_text missing_condition = codes "no such condition"
+simplification_reason_text not_inline = codes "inline"
+simplification_reason_text inlined_large = codes "large"
+simplification_reason_text (bad_evidence reason) = evidence_reason_text reason
+
+abbrev pub rejection_text : Option NameTable → Rejection → List ℕ
 rejection_text names (class_fails blame) = blame_text names blame
 rejection_text names (not_irreducible i k) = codes "irreducible rule " ++ (decimal i ++ (codes " condition " ++ decimal k))
 rejection_text names (measure_fails reason) = measure_text reason
@@ -93,7 +105,8 @@ rejection_text names (redex_extra n) = codes "peak redex extra " ++ decimal n
 rejection_text names (redex_fails n reason) = (codes "peak redex " ++ (decimal n ++ codes " ")) ++ evidence_reason_text reason
 rejection_text names caps_unify = codes "peak caps unify"
 rejection_text names caps_large = codes "peak caps large"
+rejection_text names (simplification_fails n reason) = (codes "simplify " ++ (decimal n ++ codes " ")) ++ simplification_reason_text reason
 
 -- the line that says why a certificate is rejected
-abbrev pub rejected_line : NameTable → Rejection → List ℕ
+abbrev pub rejected_line : Option NameTable → Rejection → List ℕ
 rejected_line names reason = codes "REJECTED " ++ (rejection_text names reason ++ codes "\n")

@@ -1,5 +1,5 @@
 -- What each status means, and what the texts on out mean.
-use Rattle.std.specs.Prelude.{◌≡◌, ◌⊎◌, ◌++◌, ℕ, List, Some, codes}
+use Rattle.std.specs.Prelude.{◌≡◌, ◌⊎◌, ◌++◌, ℕ, List, Option, Some, codes}
 use Rattle.certificates.specs.Certificates.{Certificate}
 use Rattle.certificates.specs.Reasons.{Rejection}
 use Rattle.cert_check.specs.Kinds.{verdict_of}
@@ -52,7 +52,7 @@ abbrev pub IsCertificateRefusal : Run → Type 0
 IsCertificateRefusal run = (refusal : CertRefusal) × CheckComesTo run (no_certificate refusal)
 
 abbrev pub IsRejection : Run → Type 0
-IsRejection run = (names : NameTable) × (reason : Rejection) × CheckComesTo run (rejected names reason)
+IsRejection run = (names : Option NameTable) × (reason : Rejection) × CheckComesTo run (rejected names reason)
 
 -- a certificate with this verdict is valid: the one that is checked, or the first that is searched for
 abbrev pub IsVerdict : Run → Verdict → Type 0

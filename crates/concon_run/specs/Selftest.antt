@@ -1,6 +1,6 @@
 -- The command selftest: its words, its answer, and what it counts for that.
 use Rattle.std.specs.Prelude.{◌≡◌, ◌≤◌, ◌*◌, ◌++◌, ℕ, List, [], ◌∷◌, length, codes, decimal}
-use Rattle.certificates.specs.Certificates.{Certificate, ortho_certificate, quasi_certificate, peak_certificate}
+use Rattle.certificates.specs.Certificates.{Certificate, ortho_certificate, quasi_certificate, peak_certificate, simplified_certificate}
 use Rattle.cert_check.specs.declared.Verdict.TheVariants.{Yes}
 use Rattle.concon_run.specs.Run.{Run}
 use Rattle.concon_run.specs.Said.{Said, TellsIfMemory}
@@ -30,6 +30,7 @@ abbrev pub pair_count : Certificate → ℕ
 pair_count (ortho_certificate pairs) = length pairs
 pair_count (quasi_certificate measure pairs) = length pairs
 pair_count (peak_certificate peak) = 0
+pair_count (simplified_certificate steps c) = 0
 
 -- the line of the test with this number
 abbrev pub tested_line : ℕ → Tested → List ℕ

@@ -3,8 +3,8 @@ use Rattle.std.specs.Prelude.{◌≡◌, ◌≤◌, ℕ, List, length, Option, S
 use Rattle.rewriting.specs.Rules.{System}
 use Rattle.rewriting.specs.Confluence.{IsConfluent}
 use Rattle.join_systems.specs.FileRelation.{IsFileConfluent}
-use Rattle.certificates.specs.Certificates.{Peak}
-use Rattle.valid_certificates.specs.Laws.{ReachesApart}
+use Rattle.certificates.specs.Certificates.{Certificate}
+use Rattle.valid_certificates.specs.CarriedBack.{IsPeakApart}
 use Rattle.cops_read.specs.NameTable.{NameTable}
 use Rattle.cops_read.specs.File.{IsFile}
 use Rattle.concon_run.specs.Run.{ShelfRun}
@@ -42,6 +42,6 @@ pub record IsWhollyConfluent (sys : System) : Type 0 where
 abbrev pub IsConfirmed : Bytes → Type 0
 IsConfirmed file = (sys : System) × (names : NameTable) × SpellsSystem file sys names × IsWhollyConfluent sys
 
--- the file spells a system, for which there is a peak: its derivations lead from the start to two terms without a common reduct
+-- the file spells a system, for which there is a peak, behind good steps or behind none: its derivations lead from the start to two terms without a common reduct
 abbrev pub IsDisproved : Bytes → Type 0
-IsDisproved file = (sys : System) × (names : NameTable) × (peak : Peak) × SpellsSystem file sys names × ReachesApart sys peak
+IsDisproved file = (sys : System) × (names : NameTable) × (c : Certificate) × SpellsSystem file sys names × IsPeakApart sys c

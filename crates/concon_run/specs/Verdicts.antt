@@ -2,7 +2,7 @@
 use Rattle.std.specs.Prelude.{ℕ, List, codes}
 use Rattle.rewriting.specs.Rules.{System}
 use Rattle.certificates.specs.Certificates.{Certificate}
-use Rattle.cert_check.specs.Kinds.{IsPeakApart}
+use Rattle.valid_certificates.specs.CarriedBack.{IsPeakApart}
 use Rattle.cert_check.specs.declared.Verdict.{Verdict}
 use Rattle.cert_check.specs.declared.Verdict.TheVariants.{Yes, No}
 use Rattle.concon_run.specs.Systems.{IsWhollyConfluent}

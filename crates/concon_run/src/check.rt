@@ -1,5 +1,6 @@
 //! The command check: reads the two texts, judges the certificate, and says what came of it.
 ghost use Rattle.std.specs.Prelude.{◌≡◌, ℕ, List, IfSome, IfNone, Err, option_map};
+ghost use Rattle.std.specs.Option.{option_copied};
 ghost use Rattle.cc_io.specs.Errors.{IsBegunIfAny};
 ghost use Rattle.cc_io.specs.Faults.{Rose};
 ghost use Rattle.cert_model.specs.ReasonView.{rejected_view};
@@ -64,13 +65,14 @@ pub enum NoVerdict {
     CertUnread(ReadAllError),
     /// The certificate is no text of one.
     CertRefused(CertError),
-    /// The certificate is not valid; the names are those of the file.
-    Rejected(Names, Rejected),
+    /// The certificate is not valid; the names are those of the file, where its rules are judged: none behind steps.
+    Rejected(Option<Names>, Rejected),
     /// Memory was refused.
     NoMemory,
 }
 
 // What the certificate shows. Its bytes alone are held, and not its entries.
+#[tactic(auto, using(crate::proofs::Checks::named))]
 fn verdict_on<S: Shelf>(
     alloc: Global,
     shelf: &mut S,
@@ -90,7 +92,8 @@ fn verdict_on<S: Shelf>(
     match check_bytes(alloc, sys, &names, &bytes) {
         Ok(verdict) => Ok(verdict),
         Err(BytesError::Cert(error)) => Err(NoVerdict::CertRefused(error)),
-        Err(BytesError::Rejected(reason)) => Err(NoVerdict::Rejected(names, reason)),
+        // No text of a certificate has steps before the body.
+        Err(BytesError::Rejected(reason)) => Err(NoVerdict::Rejected(Some(names), reason)),
         Err(BytesError::NoMemory) => Err(NoVerdict::NoMemory),
     }
 }
@@ -121,6 +124,7 @@ fn cert_refusal(error: &CertError) -> Option<RefusedAt>
         CertError::UnknownName { at } => refused_at(*at, b"unknown name"),
         CertError::WrongArity { at } => refused_at(*at, b"wrong arity"),
         CertError::BadNumber { at } => refused_at(*at, b"bad number"),
+        CertError::BadShare { at } => refused_at(*at, b"bad share"),
         CertError::CertTooDeep { at } => refused_at(*at, b"too deep"),
         CertError::TooMany { at, .. } => refused_at(*at, b"too many"),
         CertError::NoMemory => None,
@@ -128,8 +132,8 @@ fn cert_refusal(error: &CertError) -> Option<RefusedAt>
 }
 
 // Says why a certificate is rejected.
-fn rejected(alloc: Global, names: &Names, reason: &Rejected) -> Reply
-    ensures { IsSaidIfMemory (rejected_said names.now (rejected_view reason.now)) (reply_said result) }
+fn rejected(alloc: Global, names: Option<&Names>, reason: &Rejected) -> Reply
+    ensures { IsSaidIfMemory (rejected_said (option_copied names) (rejected_view reason.now)) (reply_said result) }
 {
     match rejection_line(alloc, names, reason) {
         Ok(line) => Reply {
@@ -159,7 +163,7 @@ fn no_verdict_reply(alloc: Global, check: Check, why: &NoVerdict) -> Reply
             check.cert,
             cert_refusal(error),
         ),
-        NoVerdict::Rejected(names, reason) => rejected(alloc, names, reason),
+        NoVerdict::Rejected(names, reason) => rejected(alloc, names.as_ref(), reason),
         NoVerdict::NoMemory => no_memory(),
     }
 }

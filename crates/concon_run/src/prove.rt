@@ -144,12 +144,15 @@ fn search<S: Shelf>(
 }
 
 // What the certificate shows, by its kind.
+#[cycle(verdict_of)]
+#[tactic(auto, using(cert_model::proofs::CertificateViews::ortho_shown, cert_model::proofs::CertificateViews::quasi_shown, cert_model::proofs::CertificateViews::peak_shown, cert_model::proofs::CertificateViews::simplified_shown))]
 fn verdict_of(cert: &Certificate) -> Verdict
     ensures { result ≡ kinds.verdict_of (certificate_view cert.now) }
 {
     match cert {
         Certificate::Ortho(_) | Certificate::Quasi(_, _) => Verdict::Yes,
         Certificate::Peak(_) => Verdict::No,
+        Certificate::Simplified { body, .. } => verdict_of(body),
     }
 }
 

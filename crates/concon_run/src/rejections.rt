@@ -1,11 +1,14 @@
 //! The texts of rejections.
-ghost use Rattle.std.specs.Prelude.{◌≡◌, ◌++◌, IfOk, OnOk, codes, decimal};
-ghost use Rattle.cert_model.specs.ReasonView.{step_reason_view, bad_step_view, class_view, blame_view, measure_reason_view, evidence_reason_view, rejected_view};
-ghost use Rattle.concon_run.specs.Rejections.{step_reason_text, bad_step_text, class_text, variable_text, blame_text, place_text, measure_text, evidence_reason_text, rejection_text, rejected_line};
+ghost use Rattle.std.specs.Prelude.{◌≡◌, ◌++◌, IfOk, OnOk, Some, codes, decimal};
+ghost use Rattle.std.specs.Option.{option_copied};
+ghost use Rattle.cert_model.specs.ReasonView.{step_reason_view, bad_step_view, class_view, blame_view, measure_reason_view, evidence_reason_view, simp_reason_view, rejected_view};
+ghost use Rattle.concon_run.specs.Rejections.{step_reason_text, bad_step_text, class_text, variable_text, blame_text, place_text, measure_text, evidence_reason_text, simplification_reason_text, rejection_text, rejected_line};
 ghost use Rattle.certificates.specs.Reasons.{auto_not_closed};
 
 use crate::pieces::{Piece, put_all};
-use cert_model::{BadStep, Blame, Class, EvidenceReason, MeasureReason, Rejected, StepReason};
+use cert_model::{
+    BadStep, Blame, Class, EvidenceReason, MeasureReason, Rejected, SimpReason, StepReason,
+};
 use cops_read::Names;
 use std::alloc::{AllocError, Global};
 
@@ -77,25 +80,43 @@ fn put_number(out: &mut Vec<u8>, what: &'static [u8], n: u32) -> Result<(), Allo
     put_all(out, &[Piece::Text(what), Piece::Number(n)])
 }
 
-fn put_variable(
-    out: &mut Vec<u8>,
-    names: &Names,
-    rule: u32,
-    variable: Option<u32>,
-) -> Result<(), AllocError>
-    ensures { OnOk result (out.new.items ≡ out.old.items ++ variable_text names.now rule variable) }
+// A variable of a rule by its name.
+fn put_named(out: &mut Vec<u8>, names: &Names, rule: u32, k: u32) -> Result<(), AllocError>
+    ensures { OnOk result (out.new.items ≡ out.old.items ++ variable_text (Some names.now) rule (Some k)) }
 {
-    let Some(k) = variable else {
-        return Ok(());
-    };
     match names.variable_name(rule, k) {
         Some(name) => put_all(out, &[Piece::Text(b" variable "), Piece::Name(name)]),
         None => put_all(out, &[Piece::Text(b" variable ")]),
     }
 }
 
-fn put_blame(out: &mut Vec<u8>, names: &Names, blame: &Blame) -> Result<(), AllocError>
-    ensures { OnOk result (out.new.items ≡ out.old.items ++ blame_text names.now (blame_view blame.now)) }
+// By its name, or by its number where no names are given.
+fn put_variable(
+    out: &mut Vec<u8>,
+    names: Option<&Names>,
+    rule: u32,
+    variable: Option<u32>,
+) -> Result<(), AllocError>
+    ensures { OnOk result (out.new.items ≡ out.old.items ++ variable_text (option_copied names) rule variable) }
+{
+    let Some(k) = variable else {
+        return Ok(());
+    };
+    match names {
+        Some(names) => put_named(out, names, rule, k),
+        None => put_all(
+            out,
+            &[
+                Piece::Text(b" variable "),
+                Piece::Text(b"|"),
+                Piece::Number(k),
+            ],
+        ),
+    }
+}
+
+fn put_blame(out: &mut Vec<u8>, names: Option<&Names>, blame: &Blame) -> Result<(), AllocError>
+    ensures { OnOk result (out.new.items ≡ out.old.items ++ blame_text (option_copied names) (blame_view blame.now)) }
 {
     put_all(
         out,
@@ -240,8 +261,39 @@ fn put_two(out: &mut Vec<u8>, rule: u32, cond: u32) -> Result<(), AllocError>
     )
 }
 
-fn put_rejection(out: &mut Vec<u8>, names: &Names, reason: &Rejected) -> Result<(), AllocError>
-    ensures { OnOk result (out.new.items ≡ out.old.items ++ rejection_text names.now (rejected_view reason.now)) }
+// Why a step that simplifies is not good.
+fn put_simplification(out: &mut Vec<u8>, reason: &SimpReason) -> Result<(), AllocError>
+    ensures { OnOk result (out.new.items ≡ out.old.items ++ simplification_reason_text (simp_reason_view reason.now)) }
+{
+    match reason {
+        SimpReason::NoRule => put_words(out, b"no such rule"),
+        SimpReason::NoCond => put_words(out, b"no such condition"),
+        SimpReason::NotInline => put_words(out, b"inline"),
+        SimpReason::TooLarge => put_words(out, b"large"),
+        SimpReason::Evidence(reason) => put_evidence(out, reason),
+    }
+}
+
+fn put_step(out: &mut Vec<u8>, step: u32, reason: &SimpReason) -> Result<(), AllocError>
+    ensures { OnOk result (out.new.items ≡ out.old.items ++ ((codes "simplify " ++ (decimal step ++ codes " ")) ++ simplification_reason_text (simp_reason_view reason.now))) }
+{
+    put_all(
+        out,
+        &[
+            Piece::Text(b"simplify "),
+            Piece::Number(step),
+            Piece::Text(b" "),
+        ],
+    )?;
+    put_simplification(out, reason)
+}
+
+fn put_rejection(
+    out: &mut Vec<u8>,
+    names: Option<&Names>,
+    reason: &Rejected,
+) -> Result<(), AllocError>
+    ensures { OnOk result (out.new.items ≡ out.old.items ++ rejection_text (option_copied names) (rejected_view reason.now)) }
 {
     match reason {
         Rejected::ClassFails(blame) => put_blame(out, names, blame),
@@ -280,16 +332,17 @@ fn put_rejection(out: &mut Vec<u8>, names: &Names, reason: &Rejected) -> Result<
         Rejected::RedexFails { entry, reason } => put_entry(out, b"peak redex ", *entry, reason),
         Rejected::CapsUnify => put_words(out, b"peak caps unify"),
         Rejected::CapsLarge => put_words(out, b"peak caps large"),
+        Rejected::SimpFails { step, reason } => put_step(out, *step, reason),
     }
 }
 
-/// The line that says why a certificate is rejected.
+/// The line that says why a certificate is rejected. Without names variables are told by number.
 pub fn rejection_line(
     alloc: Global,
-    names: &Names,
+    names: Option<&Names>,
     reason: &Rejected,
 ) -> Result<Vec<u8>, AllocError>
-    ensures { IfOk result (λ v. v.items ≡ rejected_line names.now (rejected_view reason.now)) }
+    ensures { IfOk result (λ v. v.items ≡ rejected_line (option_copied names) (rejected_view reason.now)) }
 {
     let mut text = Vec::from_slice(alloc, b"REJECTED ")?;
     put_rejection(&mut text, names, reason)?;

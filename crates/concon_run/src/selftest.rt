@@ -3,7 +3,7 @@
 ghost use Rattle.std.specs.Prelude.{◌≡◌, ◌≤◌, ◌∷◌, ℕ, List, [], IfOk, IfSome, IfNone, MatchOption, codes, decimal};
 ghost use Rattle.certificates.specs.Certificates as math;
 ghost use Rattle.valid_certificates.specs.Certificates.{IsValid};
-ghost use Rattle.cert_grammar.specs.CertificateText.{CanBeSpelt};
+ghost use Rattle.cert_grammar.specs.FirstVersion.{CanBeSpelt};
 ghost use Rattle.cert_model.specs.CertificateView.{certificate_view};
 ghost use Rattle.cert_check.specs.Kinds.{verdict_of, CanBeJudged};
 ghost use Rattle.search_spaces.specs.Ortho.{ortho_space};
@@ -148,13 +148,14 @@ fn verdict_on(alloc: Global, sys: &System, cert: &Certificate) -> Result<Verdict
     }
 }
 
+#[tactic(auto, using(cert_model::proofs::CertificateViews::ortho_shown, cert_model::proofs::CertificateViews::quasi_shown, cert_model::proofs::CertificateViews::peak_shown, cert_model::proofs::CertificateViews::simplified_shown))]
 fn pair_count(cert: &Certificate) -> u64
     ensures { result ≡ pair_count (certificate_view cert.now) }
 {
     match cert {
         Certificate::Ortho(pairs) => pairs.len() as u64,
         Certificate::Quasi(_, pairs) => pairs.len() as u64,
-        Certificate::Peak(_) => 0,
+        Certificate::Peak(_) | Certificate::Simplified { .. } => 0,
     }
 }
 

@@ -5,8 +5,8 @@ use Rattle.std.proofs.lemmas.Fmt.{length-decimal-le}
 use Rattle.std.proofs.lemmas.List.FromFn.{length-map-range_with_len}
 use Rattle.certificates.specs.Certificates.{PairEntry}
 use Rattle.cops_names.specs.NameTable.{NameTable}
-use Rattle.cert_grammar.specs.EvidenceText.{evidence_text, pairs_text, ArePairs}
-use Rattle.cert_grammar.specs.CertificateText.{certificate_text}
+use Rattle.cert_grammar.specs.EvidenceText.{ArePairs}
+use Rattle.cert_grammar.specs.FirstVersion.{evidence_text, pairs_text, certificate_text}
 use Rattle.search_spaces.specs.Texts.{most_bytes}
 use Rattle.search_spaces.specs.Entries.{entry_for}
 use Rattle.generated_systems.specs.Certificate.{overlap_for, conflict, generated_entries, generated_certificate}

@@ -125,6 +125,7 @@ fn apart(
     }
 }
 
+#[tactic(auto, using(cert_model::proofs::CertificateViews::peak_shown))]
 fn certificate(
     alloc: Global,
     start: &Term,

@@ -1,5 +1,5 @@
 -- How the search ends.
-use Rattle.std.proofs.Common.{ℕ, ◌≡◌, inl, inr, List, Result, Ok, Err, refl, subst, arith}
+use Rattle.std.proofs.Common.{ℕ, ◌≡◌, inl, inr, List, Result, Ok, Err, refl, sym, subst, arith}
 use Rattle.rewriting.specs.Rules.{System}
 use Rattle.unifier_run.specs.Overlaps.{Overlap, AreOverlaps}
 use Rattle.certificates.specs.Certificates.{Certificate, PairEntry, ortho_certificate}
@@ -62,14 +62,18 @@ module _ (names : NameTable) (sys : System) where
     is_open = record { classes = classes; overlaps = overlaps }
 
     module _ (es : List PairEntry) (n : ℕ) (spends : Spends before n after) (firsts : AreFirsts (IsOrthoEntry sys) os es n) where
-      pub whole_searched : HasText names (ortho_certificate es) → (n : ℕ) × Spends before n after × (ortho_space names sys).Finds (ortho_certificate es) n
-      whole_searched text = (n, spends, ends_found names sys os is_open before.left n es firsts text)
+      module _ (d : Certificate) (is : d ≡ ortho_certificate es) where
+        pub whole_searched : HasText names d → (n : ℕ) × Spends before n after × (ortho_space names sys).Finds d n
+        whole_searched text = (n, spends, subst (λ c. (ortho_space names sys).Finds c n) (sym is) (ends_found names sys os is_open before.left n es firsts (subst (HasText names) is text)))
 
-      pub long_searched : (HasText names (ortho_certificate es) → ⊥) → Searched before after (Ok Nothing)
-      long_searched long = (n, spends, ends_too_long names sys os is_open before.left n es firsts long)
+        has_none : (HasText names d → ⊥) → HasText names (ortho_certificate es) → ⊥
+        has_none long text = long (subst (HasText names) (sym is) text)
 
-      pub long_paid : (HasText names (ortho_certificate es) → ⊥) → Paid before after
-      long_paid long = (n, spends, inl (os, is_open, inr (es, firsts, long)))
+        pub long_searched : (HasText names d → ⊥) → Searched before after (Ok Nothing)
+        long_searched long = (n, spends, ends_too_long names sys os is_open before.left n es firsts (has_none long))
+
+        pub long_paid : (HasText names d → ⊥) → Paid before after
+        long_paid long = (n, spends, inl (os, is_open, inr (es, firsts, has_none long)))
 
     module _ (n : ℕ) (spends : Spends before n after) (ends : EndsAtRow (IsOrthoEntry sys) (overlap_cost ortho_items) os n) where
       pub row_searched : Searched before after (Ok Nothing)

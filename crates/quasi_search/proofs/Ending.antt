@@ -1,5 +1,5 @@
 -- How the search ends.
-use Rattle.std.proofs.Common.{ℕ, ◌≡◌, ◌+◌, ◌≤◌, inl, inr, List, Result, Ok, Err, subst, arith}
+use Rattle.std.proofs.Common.{ℕ, ◌≡◌, ◌+◌, ◌≤◌, inl, inr, List, Result, Ok, Err, sym, subst, arith}
 use Rattle.rewriting.specs.Rules.{System}
 use Rattle.unifier_run.specs.Overlaps.{Overlap, AreOverlaps}
 use Rattle.certificates.specs.Certificates.{Certificate, MeasureCertificate, PairEntry, quasi_certificate}
@@ -99,19 +99,19 @@ module _ (names : NameTable) (sys : System) where
 
     -- every overlap has evidence, and the search goes on for a measure
     module _ (before here after : Counts) (es : List PairEntry) (whole : (n : ℕ) × Spends before n here × AreFirsts (IsQuasiEntry sys) os es n) where
-      pub good_searched : (m : MeasureCertificate) → (u : ℕ) × Spends here u after × IsPrunedFirst sys m u → HasText names (quasi_certificate m es)
-          → (n : ℕ) × Spends before n after × ((k : ℕ) × Pruned.Finds (quasi_certificate m es) k × (n ≤ k))
-      good_searched m (u, spends, first) text = (
+      pub good_searched : (m : MeasureCertificate) → (u : ℕ) × Spends here u after × IsPrunedFirst sys m u → (d : Certificate) → d ≡ quasi_certificate m es → HasText names d
+          → (n : ℕ) × Spends before n after × ((k : ℕ) × Pruned.Finds d k × (n ≤ k))
+      good_searched m (u, spends, first) d is text = (
         whole.0 + u,
         spends_both before here after whole.0 u whole.1 spends,
-        ends_found names sys (pruned_measures sys) (pruned_tried sys) os is_open es whole.0 whole.2 before.left u m first text,
+        subst (λ c. (k : ℕ) × Pruned.Finds c k × (whole.0 + u ≤ k)) (sym is) (ends_found names sys (pruned_measures sys) (pruned_tried sys) os is_open es whole.0 whole.2 before.left u m first (subst (HasText names) is text)),
       )
 
-      pub long_searched : (m : MeasureCertificate) → (u : ℕ) × Spends here u after × IsPrunedFirst sys m u → (HasText names (quasi_certificate m es) → ⊥) → Searches Pruned before after (Ok Nothing)
-      long_searched m (u, spends, first) long = (
+      pub long_searched : (m : MeasureCertificate) → (u : ℕ) × Spends here u after × IsPrunedFirst sys m u → (d : Certificate) → d ≡ quasi_certificate m es → (HasText names d → ⊥) → Searches Pruned before after (Ok Nothing)
+      long_searched m (u, spends, first) d is long = (
         whole.0 + u,
         spends_both before here after whole.0 u whole.1 spends,
-        ends_too_long names sys (pruned_measures sys) (pruned_tried sys) os is_open es whole.0 whole.2 before.left u m first long,
+        ends_too_long names sys (pruned_measures sys) (pruned_tried sys) os is_open es whole.0 whole.2 before.left u m first (λ t. long (subst (HasText names) (sym is) t)),
       )
 
       pub none_searched : (u : ℕ) × Spends here u after × IsNoneGood sys u → Searches Pruned before after (Ok Nothing)

@@ -4,7 +4,7 @@ use mathlib.Core.Logic.{inl, inr}
 use Rattle.std.specs.Coded.{Coded, code_by, coded×, coded⊎, coded_ℕ, coded_bool, coded_list, coded_option}
 use Rattle.rewriting.specs.Codes.{coded_system}
 use Rattle.rewriting.specs.Rules.{System}
-use Rattle.certificates.specs.Reasons.{StepReason, no_such_rule, no_such_hypothesis, no_redex, wrong_count, unbound, condition_fails, too_large, BadStep, Class, left_linear, type3, extended_oriented, right_stable, deterministic, Blame, MeasureReason, wrong_shape, wrong_coefficient, overflow_at, smaller_variable, smaller_constant, not_ordered, EvidenceReason, not_allowed, not_root, sides_differ, tcap_unifies, tcap_large, conflict_number, conflict_left, conflict_unifies, conflict_large, auto_number, auto_any, auto_misses, auto_wide, auto_not_closed, auto_wide_right, auto_reaches, join_left, join_right, join_differs, unfeasible_number, unfeasible_first, unfeasible_second, first_reducible, second_reducible, unfeasible_unifies, unfeasible_large, Rejection, class_fails, not_irreducible, measure_fails, unraveling_large, pair_large, too_many_pairs, pair_missing, pair_extra, evidence_fails, foreign, first_bad, second_bad, same_term, not_normal, redex_extra, redex_fails, caps_unify, caps_large}
+use Rattle.certificates.specs.Reasons.{StepReason, no_such_rule, no_such_hypothesis, no_redex, wrong_count, unbound, condition_fails, too_large, BadStep, Class, left_linear, type3, extended_oriented, right_stable, deterministic, Blame, MeasureReason, wrong_shape, wrong_coefficient, overflow_at, smaller_variable, smaller_constant, not_ordered, EvidenceReason, not_allowed, not_root, sides_differ, tcap_unifies, tcap_large, conflict_number, conflict_left, conflict_unifies, conflict_large, auto_number, auto_any, auto_misses, auto_wide, auto_not_closed, auto_wide_right, auto_reaches, join_left, join_right, join_differs, unfeasible_number, unfeasible_first, unfeasible_second, first_reducible, second_reducible, unfeasible_unifies, unfeasible_large, SimplificationReason, missing_rule, missing_condition, not_inline, inlined_large, bad_evidence, Rejection, class_fails, not_irreducible, measure_fails, unraveling_large, pair_large, too_many_pairs, pair_missing, pair_extra, evidence_fails, foreign, first_bad, second_bad, same_term, not_normal, redex_extra, redex_fails, caps_unify, caps_large, simplification_fails}
 use Rattle.valid_certificates.specs.Kinds.{Kind, ortho, quasi}
 use Rattle.tallies.specs.Tally.{Tally, passed, failed}
 use Rattle.tallies.specs.Runs.{PairRun, OrthoRun, QuasiRun}
@@ -178,10 +178,32 @@ coded_evidence_reason =
     code_by EvidenceParts (coded⊎ coded_ℕ (coded⊎ coded_ℕ (coded⊎ (coded× coded_ℕ (coded× (coded_list coded_ℕ) coded_ℕ)) (coded× coded_ℕ coded_bad_step)))) evidence_parts
     evidence_reason_of evidence_reason_back
 
+-- why a step that simplifies is not good: a place among those that tell nothing more, or a reason of evidence
+abbrev simplification_parts : SimplificationReason → ℕ ⊎ EvidenceReason
+simplification_parts missing_rule = inl 0
+simplification_parts missing_condition = inl 1
+simplification_parts not_inline = inl 2
+simplification_parts inlined_large = inl 3
+simplification_parts (bad_evidence why) = inr why
+
+abbrev simplification_reason_of : ℕ ⊎ EvidenceReason → SimplificationReason
+simplification_reason_of (inl n) = get_or (missing_rule ∷ missing_condition ∷ not_inline ∷ []) n inlined_large
+simplification_reason_of (inr why) = bad_evidence why
+
+pub simplification_reason_back : (r : SimplificationReason) → simplification_reason_of (simplification_parts r) ≡ r
+simplification_reason_back missing_rule = refl
+simplification_reason_back missing_condition = refl
+simplification_reason_back not_inline = refl
+simplification_reason_back inlined_large = refl
+simplification_reason_back (bad_evidence why) = refl
+
+abbrev coded_simplification_reason : Coded SimplificationReason
+coded_simplification_reason = code_by (ℕ ⊎ EvidenceReason) (coded⊎ coded_ℕ coded_evidence_reason) simplification_parts simplification_reason_of simplification_reason_back
+
 -- why a certificate is rejected: a place among the reasons that tell only numbers, with these; a blame; a reason of a measure; a
--- bad step; or an entry's number with a reason of evidence
+-- bad step; an entry's number with a reason of evidence; or a step's with one of its own
 abbrev RejectionParts : Type 0
-RejectionParts = (ℕ × (ℕ × (List ℕ × ℕ))) ⊎ (Blame ⊎ (MeasureReason ⊎ ((ℕ × BadStep) ⊎ (ℕ × (ℕ × EvidenceReason)))))
+RejectionParts = (ℕ × (ℕ × (List ℕ × ℕ))) ⊎ (Blame ⊎ (MeasureReason ⊎ ((ℕ × BadStep) ⊎ ((ℕ × (ℕ × EvidenceReason)) ⊎ (ℕ × SimplificationReason)))))
 
 abbrev rejection_parts : Rejection → RejectionParts
 rejection_parts (class_fails blame) = inr (inl blame)
@@ -192,16 +214,17 @@ rejection_parts (pair_large i p j) = inl (2, (i, (p, j)))
 rejection_parts too_many_pairs = inl (3, (0, ([], 0)))
 rejection_parts (pair_missing i p j) = inl (4, (i, (p, j)))
 rejection_parts (pair_extra n) = inl (5, (n, ([], 0)))
-rejection_parts (evidence_fails n why) = inr (inr (inr (inr (0, (n, why)))))
+rejection_parts (evidence_fails n why) = inr (inr (inr (inr (inl (0, (n, why))))))
 rejection_parts (foreign which) = inl (10, (which, ([], 0)))
 rejection_parts (first_bad bad) = inr (inr (inr (inl (0, bad))))
 rejection_parts (second_bad bad) = inr (inr (inr (inl (1, bad))))
 rejection_parts same_term = inl (6, (0, ([], 0)))
 rejection_parts (not_normal n p i) = inl (7, (n, (p, i)))
 rejection_parts (redex_extra n) = inl (8, (n, ([], 0)))
-rejection_parts (redex_fails n why) = inr (inr (inr (inr (1, (n, why)))))
+rejection_parts (redex_fails n why) = inr (inr (inr (inr (inl (1, (n, why))))))
 rejection_parts caps_unify = inl (9, (0, ([], 0)))
 rejection_parts caps_large = inl (11, (0, ([], 0)))
+rejection_parts (simplification_fails n why) = inr (inr (inr (inr (inr (n, why)))))
 
 abbrev rejection_of : RejectionParts → Rejection
 rejection_of (inl (n, (i, (p, j)))) =
@@ -211,7 +234,8 @@ rejection_of (inl (n, (i, (p, j)))) =
 rejection_of (inr (inl blame)) = class_fails blame
 rejection_of (inr (inr (inl why))) = measure_fails why
 rejection_of (inr (inr (inr (inl (n, bad))))) = get_or (first_bad bad ∷ []) n (second_bad bad)
-rejection_of (inr (inr (inr (inr (n, (k, why)))))) = get_or (evidence_fails k why ∷ []) n (redex_fails k why)
+rejection_of (inr (inr (inr (inr (inl (n, (k, why))))))) = get_or (evidence_fails k why ∷ []) n (redex_fails k why)
+rejection_of (inr (inr (inr (inr (inr (n, why)))))) = simplification_fails n why
 
 pub rejection_back : (r : Rejection) → rejection_of (rejection_parts r) ≡ r
 rejection_back (class_fails blame) = refl
@@ -232,11 +256,12 @@ rejection_back (redex_extra n) = refl
 rejection_back (redex_fails n why) = refl
 rejection_back caps_unify = refl
 rejection_back caps_large = refl
+rejection_back (simplification_fails n why) = refl
 
 abbrev pub coded_rejection : Coded Rejection
 coded_rejection =
     code_by RejectionParts
-    (coded⊎ (coded× coded_ℕ (coded× coded_ℕ (coded× (coded_list coded_ℕ) coded_ℕ))) (coded⊎ coded_blame (coded⊎ coded_measure_reason (coded⊎ (coded× coded_ℕ coded_bad_step) (coded× coded_ℕ (coded× coded_ℕ coded_evidence_reason))))))
+    (coded⊎ (coded× coded_ℕ (coded× coded_ℕ (coded× (coded_list coded_ℕ) coded_ℕ))) (coded⊎ coded_blame (coded⊎ coded_measure_reason (coded⊎ (coded× coded_ℕ coded_bad_step) (coded⊎ (coded× coded_ℕ (coded× coded_ℕ coded_evidence_reason)) (coded× coded_ℕ coded_simplification_reason))))))
     rejection_parts rejection_of rejection_back
 
 -- a tally, as a number or a reason

@@ -5,8 +5,8 @@ use Rattle.rewriting.specs.Classes.{IsLeftLinear, IsType3, IsExtendedOriented, I
 use Rattle.rewriting.proofs.Conditions.{Order, is_smaller, is_equal, is_greater, order}
 use Rattle.unifier_run.specs.Overlaps.{Triple, Overlap}
 use Rattle.interpretations.specs.Judgement.{Judgement, good, not_good, unraveling_large}
-use Rattle.certificates.specs.Certificates.{PairEntry, MeasureCertificate, linear_measure, precedence_measure, ortho_certificate, quasi_certificate, peak_certificate}
-use Rattle.certificates.specs.Reasons.{EvidenceReason, Class, left_linear, type3, extended_oriented, right_stable, deterministic, Blame, MeasureReason, Rejection, class_fails, not_irreducible, measure_fails, unraveling_large as large_unraveling, pair_large, evidence_fails}
+use Rattle.certificates.specs.Certificates.{PairEntry, MeasureCertificate, linear_measure, precedence_measure, Simplification, Certificate, ortho_certificate, quasi_certificate, peak_certificate, simplified_certificate}
+use Rattle.certificates.specs.Reasons.{EvidenceReason, Class, left_linear, type3, extended_oriented, right_stable, deterministic, Blame, MeasureReason, Rejection, class_fails, not_irreducible, measure_fails, unraveling_large as large_unraveling, pair_large, evidence_fails, simplification_fails}
 use Rattle.certificates.specs.Blames.{IsInClass}
 use Rattle.path_orders.proofs.OneJudgement.{judgement_once as precedence_once}
 use Rattle.valid_certificates.specs.Kinds.{Kind}
@@ -14,7 +14,9 @@ use Rattle.valid_certificates.specs.Kinds.{ortho, quasi}
 use Rattle.valid_certificates.specs.PairEvidence.{IsPairJudged}
 use Rattle.valid_certificates.specs.Entries.{AreSettled, AreNotSettled, DoSettle, DoNotSettle, pair_is_large, pairs_are_many, entry_fails}
 use Rattle.valid_certificates.specs.Confluence.{IsValidOrtho, IsBlameOf, IsOrthoRejected, not_left_linear, not_type3, not_oriented, not_right_stable, ortho_pairs_fail, AreRightSidesIrreducible, IsFirstReducible, IsValidQuasi, IsQuasiRejected, not_deterministic, side_is_reducible, measure_is_bad, unraveling_is_large, quasi_pairs_fail}
-use Rattle.valid_certificates.specs.Certificates.{IsMeasureJudged}
+use Rattle.valid_certificates.specs.Certificates.{IsMeasureJudged, IsValid, IsStepRejected, IsRejected}
+use Rattle.simplifications.specs.Simplifying.{AllSimplify}
+use Rattle.simplifications.proofs.OneAnswer.{one_answer}
 use Rattle.valid_certificates.specs.Laws.{IsOneAnswer, CertificatesHaveOneAnswer}
 use Rattle.rewriting.proofs.Once.{IsOnce, or_once, test_once, with_once, once_within}
 use Rattle.valid_certificates.proofs.OneAnswer.{peak_answer}
@@ -207,7 +209,38 @@ pub measure_judged_once : (sys : System) (m : MeasureCertificate) → IsOnce Jud
 measure_judged_once sys (linear_measure es) = judgement_once sys es
 measure_judged_once sys (precedence_measure order) = precedence_once sys order
 
+steps_once : (sys : System) (steps : List Simplification) (a b : System) → AllSimplify sys steps a → AllSimplify sys steps b → a ≡ b
+steps_once sys steps a b h k = (one_answer sys steps).one_system a b h k
+
+-- steps fail at one of them, for one reason, and then they lead to no system
+step_rejected_once : (sys : System) (steps : List Simplification) (r s : Rejection) → IsStepRejected sys steps r → IsStepRejected sys steps s → r ≡ s
+step_rejected_once sys steps r s (n, why, h, e) (m, other, k, d) =
+    let same = (one_answer sys steps).one_reason n m why other h k in
+    e ∙ ap₂ simplification_fails same.0 same.1 ∙ sym d
+
+steps_or_not : (sys : System) (steps : List Simplification) (r : Rejection) (last : System) → IsStepRejected sys steps r → AllSimplify sys steps last → ⊥
+steps_or_not sys steps r last (n, why, h, _) all = (one_answer sys steps).never_both last n why all h
+
+-- behind steps, which lead to one system at most
+module _ (sys : System) (steps : List Simplification) (c : Certificate) (each : (last : System) → IsOneAnswer (IsValid last c) (IsRejected last c)) where
+  abbrev BodyFails : Rejection → Type 0
+  BodyFails r = (last : System) × AllSimplify sys steps last × IsRejected last c r
+
+  body_once : (r s : Rejection) → BodyFails r → BodyFails s → r ≡ s
+  body_once r s h k = (each h.0).one_reason r s h.2 (subst (λ (x : System). IsRejected x c s) (steps_once sys steps k.0 h.0 k.1 h.1) k.2)
+
+  behind_or_not : (r : Rejection) → IsRejected sys (simplified_certificate steps c) r → IsValid sys (simplified_certificate steps c) → ⊥
+  behind_or_not r (inl h) v = steps_or_not sys steps r v.0 h v.1
+  behind_or_not r (inr h) v = (each h.0).never_both r h.2 (subst (λ (x : System). IsValid x c) (steps_once sys steps v.0 h.0 v.1 h.1) v.2)
+
+  behind_steps : IsOneAnswer (IsValid sys (simplified_certificate steps c)) (IsRejected sys (simplified_certificate steps c))
+  behind_steps = record {
+    one_reason = or_once Rejection (IsStepRejected sys steps) BodyFails (λ r s h k. steps_or_not sys steps r k.0 h k.1) (step_rejected_once sys steps) body_once;
+    never_both = behind_or_not;
+  }
+
 pub certificate_answer : CertificatesHaveOneAnswer
 certificate_answer sys (ortho_certificate es) = ortho_answer sys es
 certificate_answer sys (quasi_certificate m es) = quasi_answer sys es (IsMeasureJudged sys m) (measure_judged_once sys m)
 certificate_answer sys (peak_certificate p) = peak_answer sys p
+certificate_answer sys (simplified_certificate steps c) = behind_steps sys steps c (λ last. certificate_answer last c)

@@ -7,12 +7,14 @@ use Rattle.unifier_run.proofs.Total.{all_clash_decided}
 use Rattle.interpretations.specs.Judgement.{Judgement, good, not_good, unraveling_large}
 use Rattle.interpretations.proofs.Total.{interpretation_total}
 use Rattle.certificates.specs.Blames.{IsInClass, IsBlamed}
-use Rattle.certificates.specs.Certificates.{PairEntry, MeasureCertificate, linear_measure, precedence_measure, Certificate, ortho_certificate, quasi_certificate, peak_certificate}
-use Rattle.certificates.specs.Reasons.{Class, left_linear, type3, extended_oriented, right_stable, deterministic, Blame, class_fails, not_irreducible, measure_fails, unraveling_large as large_unraveling}
+use Rattle.certificates.specs.Certificates.{PairEntry, Simplification, MeasureCertificate, linear_measure, precedence_measure, Certificate, ortho_certificate, quasi_certificate, peak_certificate, simplified_certificate}
+use Rattle.certificates.specs.Reasons.{Class, left_linear, type3, extended_oriented, right_stable, deterministic, Blame, class_fails, not_irreducible, measure_fails, unraveling_large as large_unraveling, SimplificationReason, simplification_fails}
 use Rattle.certificates.proofs.ClassTotal.{FirstSide, class_total, sides_total}
 use Rattle.caps.proofs.Total.{pair_total as caps_of_two}
 use Rattle.path_orders.proofs.Decided.{precedence_total}
 use Rattle.judged_evidence.proofs.Judged.{infeasibility_total}
+use Rattle.simplifications.specs.Simplifying.{AllSimplify, FailsAt}
+use Rattle.simplifications.proofs.OneAnswer.{one_answer}
 use Rattle.valid_certificates.specs.Kinds.{Kind, ortho, quasi}
 use Rattle.valid_certificates.specs.Confluence.{IsInOrthoClasses, IsValidOrtho, IsOrthoRejected, not_left_linear, not_type3, not_oriented, not_right_stable, ortho_pairs_fail, AreRightSidesIrreducible, IsFirstReducible, IsValidQuasi, IsQuasiRejected, not_deterministic, side_is_reducible, measure_is_bad, unraveling_is_large, quasi_pairs_fail}
 use Rattle.valid_certificates.specs.Certificates.{IsMeasureJudged, IsValid, IsRejected}
@@ -105,10 +107,27 @@ module _ (sys : System) where
   pairs_total : (kind : Kind) (es : List PairEntry) → HasAnswer (DoSettle kind sys es) (DoNotSettle kind sys es)
   pairs_total kind es = entries_total kind sys (pair_total sys (caps_of_two sys) kind) es
 
-  certificate_total : (c : Certificate) → HasAnswer (IsValid sys c) (IsRejected sys c)
-  certificate_total (ortho_certificate es) = ortho_total sys (class_total sys) es (pairs_total ortho es)
-  certificate_total (quasi_certificate m es) = quasi_total sys (class_total sys) (IsMeasureJudged sys m) (measure_total sys m) (right_sides_total sys) es (pairs_total quasi es)
-  certificate_total (peak_certificate p) = peak_total sys (infeasibility_total sys) (caps_of_two sys) p
+-- behind steps, or at the first that fails
+behind_total : (sys : System) (steps : List Simplification) (c : Certificate) → ((last : System) → HasAnswer (IsValid last c) (IsRejected last c))
+    → HasAnswer (IsValid sys (simplified_certificate steps c)) (IsRejected sys (simplified_certificate steps c))
+behind_total sys steps c each = go (one_answer sys steps).some
+  where
+    body : (last : System) → AllSimplify sys steps last → HasAnswer (IsValid last c) (IsRejected last c)
+        → HasAnswer (IsValid sys (simplified_certificate steps c)) (IsRejected sys (simplified_certificate steps c))
+    body last all (inl v) = inl (last, all, v)
+    body last all (inr (r, h)) = inr (r, inr (last, all, h))
+
+    go : ((last : System) × AllSimplify sys steps last) ⊎ ((n : ℕ) × (why : SimplificationReason) × FailsAt sys steps n why)
+        → HasAnswer (IsValid sys (simplified_certificate steps c)) (IsRejected sys (simplified_certificate steps c))
+    go (inl (last, all)) = body last all (each last)
+    go (inr (n, why, h)) = inr (simplification_fails n why, inl (n, why, h, refl))
+
+certificate_total : (sys : System) (c : Certificate) → HasAnswer (IsValid sys c) (IsRejected sys c)
+certificate_total sys (ortho_certificate es) = ortho_total sys (class_total sys) es (pairs_total sys ortho es)
+certificate_total sys (quasi_certificate m es) =
+    quasi_total sys (class_total sys) (IsMeasureJudged sys m) (measure_total sys m) (right_sides_total sys) es (pairs_total sys quasi es)
+certificate_total sys (peak_certificate p) = peak_total sys (infeasibility_total sys) (caps_of_two sys) p
+certificate_total sys (simplified_certificate steps c) = behind_total sys steps c (λ last. certificate_total last c)
 
 pub every_certificate : CertificatesHaveAnAnswer
 every_certificate sys c = certificate_total sys c

@@ -1,5 +1,6 @@
 use Rattle.std.proofs.Common.{map, refl}
 use Rattle.cert_model.specs.CertificateView.{pair_entry_view}
+use Rattle.cert_model.proofs.CertificateViews.{ortho_shown}
 use Rattle.critical_pairs.specs.View.{overlap_view}
 use Rattle.valid_certificates.specs.Kinds.{ortho}
 use Rattle.search_spaces.specs.PairItems.{ortho_items}
@@ -14,20 +15,20 @@ pub returns-then-has_text-clause-searched : goal.returns-then-has_text-clause-se
 returns-then-has_text-clause-searched c =
     let os = map overlap_view c.args.overlaps.now in
     let w = entries_told (IsOrthoEntry c.args.sys.now) (overlap_cost ortho_items) (StopsAtOverlap ortho c.args.sys.now ortho_items) os c.args.budget.now c.entries_for.new.budget c.in-Ok-Whole.field-0 (Whole c.in-Ok-Whole.pairs) c.in-Ok-Whole.field-0-is c.in-Ok-Whole.ensures.answer in
-    whole_searched c.args.names.now c.args.sys.now os c.requires.classes c.requires.overlaps c.args.budget.now c.entries_for.new.budget (map pair_entry_view c.in-Ok-Whole.pairs.items) w.0 w.1 w.2 (c.if-has_text.ensures.0 refl)
+    whole_searched c.args.names.now c.args.sys.now os c.requires.classes c.requires.overlaps c.args.budget.now c.entries_for.new.budget (map pair_entry_view c.in-Ok-Whole.pairs.items) w.0 w.1 w.2 _ (ortho_shown c.in-Ok-Whole.pairs) (c.if-has_text.ensures.0 refl)
 
 pub returns-else-has_text-clause-searched : goal.returns-else-has_text-clause-searched
 returns-else-has_text-clause-searched c =
     let os = map overlap_view c.args.overlaps.now in
     let w = entries_told (IsOrthoEntry c.args.sys.now) (overlap_cost ortho_items) (StopsAtOverlap ortho c.args.sys.now ortho_items) os c.args.budget.now c.entries_for.new.budget c.in-Ok-Whole.field-0 (Whole c.in-Ok-Whole.pairs) c.in-Ok-Whole.field-0-is c.in-Ok-Whole.ensures.answer in
-    long_searched c.args.names.now c.args.sys.now os c.requires.classes c.requires.overlaps c.args.budget.now c.entries_for.new.budget (map pair_entry_view c.in-Ok-Whole.pairs.items) w.0 w.1 w.2
+    long_searched c.args.names.now c.args.sys.now os c.requires.classes c.requires.overlaps c.args.budget.now c.entries_for.new.budget (map pair_entry_view c.in-Ok-Whole.pairs.items) w.0 w.1 w.2 _ (ortho_shown c.in-Ok-Whole.pairs)
     (λ t. (let e = c.if-has_text.ensures.1 t in cc))
 
 pub returns-else-has_text-clause-paid : goal.returns-else-has_text-clause-paid
 returns-else-has_text-clause-paid c =
     let os = map overlap_view c.args.overlaps.now in
     let w = entries_told (IsOrthoEntry c.args.sys.now) (overlap_cost ortho_items) (StopsAtOverlap ortho c.args.sys.now ortho_items) os c.args.budget.now c.entries_for.new.budget c.in-Ok-Whole.field-0 (Whole c.in-Ok-Whole.pairs) c.in-Ok-Whole.field-0-is c.in-Ok-Whole.ensures.answer in
-    long_paid c.args.names.now c.args.sys.now os c.requires.classes c.requires.overlaps c.args.budget.now c.entries_for.new.budget (map pair_entry_view c.in-Ok-Whole.pairs.items) w.0 w.1 w.2
+    long_paid c.args.names.now c.args.sys.now os c.requires.classes c.requires.overlaps c.args.budget.now c.entries_for.new.budget (map pair_entry_view c.in-Ok-Whole.pairs.items) w.0 w.1 w.2 _ (ortho_shown c.in-Ok-Whole.pairs)
     (λ t. (let e = c.if-has_text.ensures.1 t in cc))
 
 pub returns-in-Ok-Missing-clause-searched : goal.returns-in-Ok-Missing-clause-searched

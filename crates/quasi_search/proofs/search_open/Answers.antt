@@ -2,6 +2,8 @@ use Rattle.cc_count.proofs.Spending.{kept_on}
 use Rattle.std.proofs.Common.{map, refl}
 use Rattle.certificates.specs.Certificates.{linear_measure}
 use Rattle.cert_model.specs.CertificateView.{pair_entry_view, linear_entry_view}
+use Rattle.cert_model.proofs.CertificateViews.{quasi_shown}
+use Rattle.cert_model.specs.declared.model.MeasureCert.TheVariants.{Linear}
 use Rattle.critical_pairs.specs.View.{overlap_view}
 use Rattle.pair_search.specs.declared.walks.Entries.TheVariants as entries
 use Rattle.pair_search.proofs.Walking.{entries_told}
@@ -26,7 +28,7 @@ returns-then-has_text-clause-pruned c =
     (entries_told (IsQuasiEntry c.args.sys.now) (items_cost c.args.sys.now) (StopsAtQuasi c.args.sys.now) (map overlap_view c.args.overlaps.now) c.args.budget.now c.entries_for.new.budget c.in-Ok-Whole.field-0 (entries.Whole c.in-Ok-Whole.pairs) c.in-Ok-Whole.field-0-is c.in-Ok-Whole.ensures.answer)
     (linear_measure (map linear_entry_view c.in-Ok-Good.linear.entries.items))
     (grid_told c.system.result.now c.args.sys.now c.entries_for.new.budget c.search_grid.new.budget c.in-Ok-Good.field-0 (grid.Good c.in-Ok-Good.linear) c.system.ensures c.in-Ok-Good.field-0-is c.in-Ok-Good.ensures.answer)
-    (c.if-has_text.ensures.0 refl)
+    _ (quasi_shown (Linear c.in-Ok-Good.linear) c.in-Ok-Whole.pairs) (c.if-has_text.ensures.0 refl)
 
 pub returns-then-has_text-clause-kept : goal.returns-then-has_text-clause-kept
 returns-then-has_text-clause-kept c =
@@ -38,7 +40,7 @@ returns-else-has_text-clause-pruned c =
     (entries_told (IsQuasiEntry c.args.sys.now) (items_cost c.args.sys.now) (StopsAtQuasi c.args.sys.now) (map overlap_view c.args.overlaps.now) c.args.budget.now c.entries_for.new.budget c.in-Ok-Whole.field-0 (entries.Whole c.in-Ok-Whole.pairs) c.in-Ok-Whole.field-0-is c.in-Ok-Whole.ensures.answer)
     (linear_measure (map linear_entry_view c.in-Ok-Good.linear.entries.items))
     (grid_told c.system.result.now c.args.sys.now c.entries_for.new.budget c.search_grid.new.budget c.in-Ok-Good.field-0 (grid.Good c.in-Ok-Good.linear) c.system.ensures c.in-Ok-Good.field-0-is c.in-Ok-Good.ensures.answer)
-    (λ t. (let e = c.if-has_text.ensures.1 t in cc))
+    _ (quasi_shown (Linear c.in-Ok-Good.linear) c.in-Ok-Whole.pairs) (λ t. (let e = c.if-has_text.ensures.1 t in cc))
 
 pub returns-else-has_text-clause-kept : goal.returns-else-has_text-clause-kept
 returns-else-has_text-clause-kept c =

@@ -1,5 +1,6 @@
 use Rattle.std.proofs.Common.{[], ◌∷◌, refl, arith}
-use Rattle.cert_grammar.specs.Items.{space, line, between, any_number, derivations_left, states_line, evidence}
+use Rattle.cert_grammar.specs.Items.{space, line, between, any_number, derivations_left, states_line}
+use Rattle.cert_grammar.specs.FirstVersion.{evidence}
 use Rattle.cert_words.proofs.Walking.{then_reads, framed}
 use Rattle.cert_words.proofs.Choosing.{chosen_at}
 use Rattle.cert_reading.proofs.Chosen.{past}

@@ -1,5 +1,6 @@
 use Rattle.std.proofs.Common.{[], ◌∷◌, refl}
-use Rattle.cert_grammar.specs.Items.{line, between, any_number, states_line, infeasibility}
+use Rattle.cert_grammar.specs.Items.{line, between, any_number, states_line}
+use Rattle.cert_grammar.specs.FirstVersion.{infeasibility}
 use Rattle.cert_words.proofs.Walking.{then_reads, framed}
 use Rattle.cert_reading.proofs.evidence.infeasibility.Goals as goal
 

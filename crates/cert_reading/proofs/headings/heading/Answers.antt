@@ -8,8 +8,8 @@ use Rattle.cert_reading.proofs.Opening.{kind_item}
 use Rattle.cert_reading.proofs.headings.heading.Goals as goal
 
 pub returns : goal.returns
-returns c = λ names.
+returns c = λ second names.
     let given = c.answer-given.result in
     let kind = c.kind_word-kind.result in
     as_marks_where (λ none u. append_assoc (answer_marks given) (fixed (codes "concon 1\n") ∷ []) (kind_mark given kind ∷ fixed (codes "\n") ∷ []))
-    (then_where (c.answer-given.ensures names) (then_where (c.kind_word-kind.ensures names) (low_where (item_of kind) (low_unopened (item_of kind) (kind_item kind)) (c.text.ensures names (between line) [] refl))))
+    (then_where (c.answer-given.ensures second names) (then_where (c.kind_word-kind.ensures names) (low_where (item_of kind) (low_unopened (item_of kind) (kind_item kind)) (c.text.ensures names (between line) [] refl))))

@@ -1,5 +1,5 @@
 use Rattle.std.proofs.Common.{true, false, codes, refl}
-use Rattle.cert_grammar.specs.Items.{body}
+use Rattle.cert_grammar.specs.FirstVersion.{body}
 use Rattle.cert_words.proofs.Stepping.{none_now, first_one, first_two, first_three, stuck_three, stop}
 use Rattle.cert_reading.proofs.Stopping.{word_where}
 use Rattle.cert_reading.proofs.Opening.{other_item, kind_read}
@@ -22,5 +22,5 @@ returns-in-Some-front-2 c = λ names.
 
 pub returns : goal.returns
 returns c = λ names.
-    let stuck = stuck_three names c.args.end c.args.at.now.left.now (body c.args.given) c.stuck.result _ _ _ refl c.in_default.ensures c.in_default-front.ensures c.in_default-front-2.ensures c.stuck.ensures in
-    word_where (λ s. other_item (body c.args.given) c.args.at.now.left.now (λ m e. cc) (λ m e. cc)) (λ none. stuck) (stop c.stuck.result (none_now _ _ c.is_some.ensures c.if-is_some.false) stuck)
+    let stuck = stuck_three names c.args.end c.args.at.now.left.now c.args.at.now.shares (body c.args.given) c.stuck.result _ _ _ refl c.in_default.ensures c.in_default-front.ensures c.in_default-front-2.ensures c.stuck.ensures in
+    word_where (λ s. other_item (body c.args.given) c.args.at.now.left.now (λ e. cc) (λ m e. cc) (λ m e. cc)) (λ none. stuck) (stop c.stuck.result (none_now _ _ c.is_some.ensures c.if-is_some.false) stuck)

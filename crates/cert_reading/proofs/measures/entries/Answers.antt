@@ -2,7 +2,7 @@ use Rattle.std.proofs.Common.{◌≡◌, ◌+◌, ◌∙◌, ℕ, suc, refl, sym
 use Rattle.std.proofs.lemmas.List.{length_push, append-nil, length-map}
 use Rattle.cert_model.specs.CertificateView.{linear_entry_view}
 use Rattle.cert_grammar.specs.CertificateMarks.{entries_marks}
-use Rattle.cert_grammar.specs.Items.{entries_from}
+use Rattle.cert_grammar.specs.FirstVersion.{entries_from}
 use Rattle.cert_reading.specs.Stops.{Anywhere, IsUnopened}
 use Rattle.cert_words.proofs.Walking.{then_reads, then_nothing, as_reads, already, open_before}
 use Rattle.cert_words.proofs.Stepping.{none_now, some_now}

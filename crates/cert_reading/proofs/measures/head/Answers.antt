@@ -1,5 +1,6 @@
 use Rattle.std.proofs.Common.{suc, [], ◌∷◌, refl}
-use Rattle.cert_grammar.specs.Items.{space, between, any_number, measured_name, measured_condition, coefficients_behind, entries_from}
+use Rattle.cert_grammar.specs.Items.{space, between, any_number, measured_name, measured_condition, coefficients_behind}
+use Rattle.cert_grammar.specs.FirstVersion.{entries_from}
 use Rattle.cert_words.proofs.Walking.{then_reads, framed, open_before}
 use Rattle.cert_reading.proofs.Stopping.{then_where, low_where, low_unopened}
 use Rattle.cert_reading.proofs.measures.head.Goals as goal

@@ -1,6 +1,6 @@
 use Rattle.std.proofs.Common.{suc, sym}
 use Rattle.std.proofs.lemmas.List.{append-nil}
-use Rattle.cert_grammar.specs.Items.{entries_from}
+use Rattle.cert_grammar.specs.FirstVersion.{entries_from}
 use Rattle.cert_words.proofs.Walking.{open_before}
 use Rattle.cert_reading.proofs.Stopping.{then_where, as_marks_where, low_where, low_unopened}
 use Rattle.cert_reading.proofs.measures.next_entry.Goals as goal

@@ -1,8 +1,7 @@
 use Rattle.std.proofs.Common.{◌≡◌, ◌+◌, ◌∙◌, ℕ, suc, refl, sym, ap, map, length, [], ◌∷◌, arith}
 use Rattle.std.proofs.lemmas.List.{length_push, append-nil, length-map}
 use Rattle.cert_model.specs.CertificateView.{pair_entry_view}
-use Rattle.cert_grammar.specs.CertificateMarks.{pairs_marks}
-use Rattle.cert_grammar.specs.Items.{pairs_from}
+use Rattle.cert_grammar.specs.FirstVersion.{pairs_marks, pairs_from}
 use Rattle.cert_reading.specs.Stops.{Anywhere, IsUnopened}
 use Rattle.cert_words.proofs.Walking.{then_reads, then_nothing, as_reads, already, open_before}
 use Rattle.cert_words.proofs.Stepping.{none_now, some_now}

@@ -1,13 +1,17 @@
 use Rattle.std.proofs.Common.{suc, [], ◌∷◌, ◌++◌, sym, refl}
 use Rattle.std.proofs.lemmas.List.{append-nil}
-use Rattle.cert_grammar.specs.Items.{space, between, any_number, any_position, infeasibility, redexes_from}
+use Rattle.cert_grammar.specs.Items.{space, line, between, any_number, any_position}
+use Rattle.cert_grammar.specs.FirstVersion.{infeasibility, redexes_from}
 use Rattle.cert_words.proofs.Walking.{then_reads, as_marks, framed, open_before}
+use Rattle.cert_reading.proofs.Chosen.{line_end, one_choice}
 use Rattle.cert_reading.proofs.peaks.next_redex.Goals as goal
 
 pub returns-then-not-counted_or-clause-last : goal.returns-then-not-counted_or-clause-last
 returns-then-not-counted_or-clause-last c =
     let n = c.args.n in
-    c.counted_or.ensures.other c.if-not-counted_or.true c.args.names.now (redexes_from n) (between space ∷ any_number space ∷ any_position space ∷ any_number space ∷ infeasibility ∷ redexes_from (suc n) ∷ []) [] refl
+    let names = c.args.names.now in
+    then_reads (c.counted_or.ensures.other c.if-not-counted_or.true names (redexes_from n) (between space ∷ any_number space ∷ any_position space ∷ any_number space ∷ infeasibility ∷ redexes_from (suc n) ∷ []) (between line ∷ []) refl)
+    (one_choice names c.args.end (between line) line_end _ _ _ (c.choose.ensures.chosen names (between line) (line_end ∷ []) refl refl))
 
 pub returns-clause-redex : goal.returns-clause-redex
 returns-clause-redex c =
@@ -15,7 +19,7 @@ returns-clause-redex c =
     let n = c.args.n in
     let rest = redexes_from (suc n) ∷ [] in
     as_marks (λ none u. sym (append-nil _))
-    (then_reads (c.counted_or.ensures.word c.if-not-counted_or.false names (redexes_from n) (between space ∷ any_number space ∷ any_position space ∷ any_number space ∷ infeasibility ∷ rest) [] refl)
+    (then_reads (c.counted_or.ensures.word c.if-not-counted_or.false names (redexes_from n) (between space ∷ any_number space ∷ any_position space ∷ any_number space ∷ infeasibility ∷ rest) (between line ∷ []) refl)
     (then_reads (framed (any_number space ∷ any_position space ∷ any_number space ∷ infeasibility ∷ rest) (c.text.ensures names (between space) [] refl))
     (then_reads (framed (any_position space ∷ any_number space ∷ infeasibility ∷ rest) (c.number-which.ensures.read names (any_number space) (λ k. between space ∷ []) refl))
     (then_reads (framed (any_position space ∷ any_number space ∷ infeasibility ∷ rest) (c.text-2.ensures names (between space) [] refl))

@@ -1,8 +1,7 @@
 use Rattle.std.proofs.Common.{◌≡◌, ◌+◌, ◌∙◌, ℕ, suc, refl, sym, ap, map, length, [], ◌∷◌, arith}
 use Rattle.std.proofs.lemmas.List.{length_push, append-nil, length-map}
 use Rattle.cert_model.specs.CertificateView.{redex_view}
-use Rattle.cert_grammar.specs.CertificateMarks.{redexes_marks}
-use Rattle.cert_grammar.specs.Items.{redexes_from}
+use Rattle.cert_grammar.specs.FirstVersion.{redexes_marks, redexes_from}
 use Rattle.cert_words.proofs.Walking.{then_reads, then_nothing, as_reads, already, open_before}
 use Rattle.cert_words.proofs.Stepping.{none_now, some_now}
 use Rattle.cert_reading.proofs.Stopping.{then_where, as_where, as_marks_where, already_where, open_before_where, low_where, low_unopened, anywhere, reads_anywhere}

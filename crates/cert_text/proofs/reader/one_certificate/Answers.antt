@@ -1,5 +1,5 @@
-use Rattle.cert_text.proofs.OneCertificate.{same_certificate}
+use Rattle.cert_openings.proofs.FirstVersion as first
 use Rattle.cert_text.proofs.reader.one_certificate.Goals as goal
 
 pub returns : goal.returns
-returns c = same_certificate
+returns c = first.one_certificate

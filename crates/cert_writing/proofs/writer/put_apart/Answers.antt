@@ -1,6 +1,6 @@
 use Rattle.std.proofs.Common.{ap}
 use Rattle.cert_model.specs.CertificateView.{apart_view}
-use Rattle.cert_grammar.specs.CertificateText.{apart_text}
+use Rattle.cert_grammar.specs.FirstVersion.{apart_text}
 use Rattle.cert_writing.proofs.Writing.{as_text}
 use Rattle.cert_writing.proofs.writer.put_apart.Goals as goal
 

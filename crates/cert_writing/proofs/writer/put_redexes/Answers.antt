@@ -1,5 +1,5 @@
 use Rattle.std.proofs.Common.{map, refl}
-use Rattle.cert_grammar.specs.CertificateText.{redexes_text}
+use Rattle.cert_grammar.specs.FirstVersion.{redexes_text}
 use Rattle.cert_writing.specs.WrittenParts.{redex_text}
 use Rattle.cert_model.specs.CertificateView.{redex_view}
 use Rattle.cert_writing.proofs.Writing.{next_lent}

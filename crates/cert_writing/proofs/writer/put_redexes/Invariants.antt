@@ -1,5 +1,5 @@
 use Rattle.std.proofs.Common.{map, drop}
-use Rattle.cert_grammar.specs.CertificateText.{redexes_text}
+use Rattle.cert_grammar.specs.FirstVersion.{redexes_text}
 use Rattle.cert_model.specs.CertificateView.{redex_view}
 use Rattle.cert_writing.proofs.Writing.{Leads}
 use Rattle.cert_writing.proofs.writer.put_redexes.Given as goal

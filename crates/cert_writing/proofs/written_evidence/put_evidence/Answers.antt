@@ -1,6 +1,6 @@
 use Rattle.std.proofs.Common.{ap}
 use Rattle.cert_model.specs.EvidenceView.{pair_evidence_view}
-use Rattle.cert_grammar.specs.EvidenceText.{evidence_text}
+use Rattle.cert_grammar.specs.FirstVersion.{evidence_text}
 use Rattle.cert_writing.proofs.Writing.{as_text}
 use Rattle.cert_writing.proofs.written_evidence.put_evidence.Goals as goal
 

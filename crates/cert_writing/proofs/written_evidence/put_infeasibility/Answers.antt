@@ -1,6 +1,6 @@
 use Rattle.std.proofs.Common.{ap}
 use Rattle.cert_model.specs.EvidenceView.{inf_evidence_view}
-use Rattle.cert_grammar.specs.EvidenceText.{infeasibility_text}
+use Rattle.cert_grammar.specs.FirstVersion.{infeasibility_text}
 use Rattle.cert_writing.proofs.Writing.{as_text}
 use Rattle.cert_writing.proofs.written_evidence.put_infeasibility.Goals as goal
 

@@ -1,5 +1,5 @@
 use Rattle.std.proofs.Common.{map, refl}
-use Rattle.cert_grammar.specs.EvidenceText.{pairs_text}
+use Rattle.cert_grammar.specs.FirstVersion.{pairs_text}
 use Rattle.cert_writing.specs.WrittenParts.{pair_text}
 use Rattle.cert_model.specs.CertificateView.{pair_entry_view}
 use Rattle.cert_writing.proofs.Writing.{next_lent}

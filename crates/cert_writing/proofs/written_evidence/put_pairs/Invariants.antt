@@ -1,5 +1,5 @@
 use Rattle.std.proofs.Common.{map, drop}
-use Rattle.cert_grammar.specs.EvidenceText.{pairs_text}
+use Rattle.cert_grammar.specs.FirstVersion.{pairs_text}
 use Rattle.cert_model.specs.CertificateView.{pair_entry_view}
 use Rattle.cert_writing.proofs.Writing.{Leads}
 use Rattle.cert_writing.proofs.written_evidence.put_pairs.Given as goal

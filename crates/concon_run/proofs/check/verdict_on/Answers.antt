@@ -1,7 +1,7 @@
 use Rattle.std.proofs.Common.{Ok, subst}
-use Rattle.certificates.specs.Certificates.{Peak, peak_certificate}
-use Rattle.valid_certificates.specs.Laws.{ReachesApart}
-use Rattle.cert_grammar.specs.CertificateText.{IsCertificateText}
+use Rattle.certificates.specs.Certificates.{Certificate}
+use Rattle.valid_certificates.specs.CarriedBack.{IsPeakApart}
+use Rattle.cert_grammar.specs.FirstVersion.{IsCertificateText}
 use Rattle.cert_check.specs.Answers.{OnNo}
 use Rattle.cert_check.specs.Bytes.{BytesAnswers}
 use Rattle.cert_check.specs.declared.bytes.BytesError.{BytesError}
@@ -22,4 +22,4 @@ returns-in-Ok-check_bytes-clause-answers g c =
     (c.one_reading.ensures.told c.requires.0 c.args.sys.now c.args.names c.requires.1) v
     (subst (λ b. BytesAnswers c.args.sys.now c.args.names b (Ok v)) c.deref.ensures.value c.in-Ok-check_bytes.ensures.answers) c.in-Ok-check_bytes.ensures.yes
     c.in-Ok-check_bytes.ensures.file
-    (subst (λ b. OnNo {E = BytesError} (Ok v) ((p : Peak) × IsCertificateText c.args.names b (peak_certificate p) × ReachesApart c.args.sys.now p)) c.deref.ensures.value c.in-Ok-check_bytes.ensures.no)
+    (subst (λ b. OnNo {E = BytesError} (Ok v) ((d : Certificate) × IsCertificateText c.args.names b d × IsPeakApart c.args.sys.now d)) c.deref.ensures.value c.in-Ok-check_bytes.ensures.no)

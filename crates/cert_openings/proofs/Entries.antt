@@ -1,0 +1,254 @@
+-- One entry more, and the last line.
+use Rattle.std.proofs.Common.{◌≡◌, ◌⊎◌, inl, inr, ℕ, zero, suc, ◌+◌, ◌-◌, ◌≤◌, slice_get, Some, ◌<◌, cond, List, [], ◌∷◌, ◌++◌, length, refl, sym, ap, ◌∙◌, subst, codes, decimal, append_assoc, append-nil, length-append, arith}
+use Rattle.certificates.specs.Evidence.{Automaton}
+use Rattle.certificates.specs.Certificates.{PairEntry, Certificate}
+use Rattle.cops_names.specs.NameTable.{NameTable}
+use Rattle.cert_grammar.specs.Words.{position_text}
+use Rattle.cert_grammar.specs.Versions.{Version, first_version, second_version, Uses, IsUnsimplified, CanSimplify, IsOfVersion, used_by_evidence, used_by_pairs, used_by_steps, automata_of}
+use Rattle.cert_grammar.specs.SharedText.{is_among, texts_of, with_new, shared_by, uses_of, unfolded_length, AllNew, AreAutomata}
+use Rattle.cert_grammar.specs.EvidenceText.{automaton_text, evidence_text, pairs_text, ArePairs}
+use Rattle.cert_grammar.specs.CertificateText.{measure_text, simplifications_text, heading_text, body_text, answer_line, certificate_text, IsWithin, IsShared, IsCertificateText}
+use Rattle.cert_sharing.proofs.FirstUses.{told, pick, pick_number, numbered}
+use Rattle.cert_sharing.proofs.SpeltShares.{shared_are}
+use Rattle.cert_openings.specs.Openings.{Opening, ortho_opening, quasi_opening, simplified_opening, certificate_for, uses_with, AreLeft, IsRead, Takes}
+use Rattle.cert_openings.specs.Laws.{IsWhole, IsReadTo, IsTold}
+
+-- ---- the automata of one entry more
+
+pairs_more : (es : List PairEntry) (p : PairEntry) → used_by_pairs (es ++ p ∷ []) ≡ used_by_pairs es ++ used_by_evidence p.evidence
+pairs_more [] p = append-nil (used_by_evidence p.evidence)
+pairs_more (e ∷ es) p = ap (λ (l : List Automaton). used_by_evidence e.evidence ++ l) (pairs_more es p) ∙ sym (append_assoc (used_by_evidence e.evidence) (used_by_pairs es) (used_by_evidence p.evidence))
+
+automata_more : (o : Opening) (es : List PairEntry) (p : PairEntry) → automata_of (certificate_for o (es ++ p ∷ [])) ≡ automata_of (certificate_for o es) ++ used_by_evidence p.evidence
+automata_more ortho_opening es p = pairs_more es p
+automata_more (quasi_opening m) es p = pairs_more es p
+automata_more (simplified_opening steps o) es p =
+    ap (λ (l : List Automaton). used_by_steps steps ++ l) (automata_more o es p) ∙ sym (append_assoc (used_by_steps steps) (automata_of (certificate_for o es)) (used_by_evidence p.evidence))
+
+new_both : (a b : List Automaton) (names : NameTable) (old : List Automaton) → with_new names old (a ++ b) ≡ with_new names (with_new names old a) b
+new_both [] b names old = refl
+new_both (x ∷ a) b names old = new_both a b names (cond (is_among (automaton_text names x) (texts_of names old)) old (old ++ x ∷ []))
+
+unfolded_both : (a b : List Automaton) (names : NameTable) → unfolded_length names (a ++ b) ≡ unfolded_length names a + unfolded_length names b
+unfolded_both [] b names = omega arith
+unfolded_both (x ∷ a) b names = let q = unfolded_both a b names in omega (arith, q)
+
+shared_more : (o : Opening) (es : List PairEntry) (p : PairEntry) (names : NameTable) → shared_by names (certificate_for o (es ++ p ∷ [])) ≡ with_new names (shared_by names (certificate_for o es)) (used_by_evidence p.evidence)
+shared_more o es p names = ap (with_new names []) (automata_more o es p) ∙ new_both (automata_of (certificate_for o es)) (used_by_evidence p.evidence) names []
+
+-- ---- its text
+
+-- an overlap alone
+abbrev entry_text : NameTable → Uses → PairEntry → List ℕ
+entry_text names u p = codes "pair " ++ (decimal p.inner ++ (codes " " ++ (position_text p.position ++ (codes " " ++ (decimal p.outer ++ (codes " " ++ evidence_text names u p.evidence))))))
+
+pairs_text_more : (es : List PairEntry) (p : PairEntry) (names : NameTable) (u : Uses) → pairs_text names u (es ++ p ∷ []) ≡ pairs_text names u es ++ pairs_text names u (p ∷ [])
+pairs_text_more [] p names u = refl
+pairs_text_more (e ∷ es) p names u = ap (λ (w : List ℕ). entry_text names u e ++ w) (pairs_text_more es p names u) ∙ sym (append_assoc (entry_text names u e) (pairs_text names u es) (pairs_text names u (p ∷ [])))
+
+behind_steps : (b d w x : List ℕ) → b ++ 10 ∷ (d ++ (w ++ x)) ≡ (b ++ 10 ∷ (d ++ w)) ++ x
+behind_steps b d w x = ap (λ (z : List ℕ). b ++ 10 ∷ z) (sym (append_assoc d w x)) ∙ sym (append_assoc b (10 ∷ (d ++ w)) x)
+
+body_more : (o : Opening) (es : List PairEntry) (p : PairEntry) (names : NameTable) (u : Uses) → body_text names u (certificate_for o (es ++ p ∷ [])) ≡ body_text names u (certificate_for o es) ++ pairs_text names u (p ∷ [])
+body_more ortho_opening es p names u = ap (λ (w : List ℕ). codes "ortho\n" ++ w) (pairs_text_more es p names u)
+body_more (quasi_opening m) es p names u =
+    ap (λ (w : List ℕ). codes "quasi\n" ++ (measure_text names m ++ w)) (pairs_text_more es p names u)
+    ∙ ap (λ (w : List ℕ). codes "quasi\n" ++ w) (sym (append_assoc (measure_text names m) (pairs_text names u es) (pairs_text names u (p ∷ []))))
+body_more (simplified_opening steps o) es p names u =
+    ap (λ (w : List ℕ). codes "simplify " ++ (decimal (length steps) ++ (codes "\n" ++ (simplifications_text names u steps ++ w)))) (body_more o es p names u)
+    ∙ ap (λ (w : List ℕ). codes "simplify " ++ w) (behind_steps (decimal (length steps)) (simplifications_text names u steps) (body_text names u (certificate_for o es)) (pairs_text names u (p ∷ [])))
+
+-- ---- its limits
+
+are_more : (es : List PairEntry) (p : PairEntry) (names : NameTable) → ArePairs names es → ArePairs names (p ∷ []) → ArePairs names (es ++ p ∷ [])
+are_more [] p names h k = k
+are_more (e ∷ es) p names h k = (h.0, h.1, h.2, h.3, are_more es p names h.4 k)
+
+within_more : (o : Opening) (es : List PairEntry) (p : PairEntry) (names : NameTable) → length es < 20000 → ArePairs names (p ∷ []) → IsWithin names (certificate_for o es) → IsWithin names (certificate_for o (es ++ p ∷ []))
+within_more ortho_opening es p names l k h = let long = length-append es (p ∷ []) in (omega (arith, l, long), are_more es p names h.1 k)
+within_more (quasi_opening m) es p names l k h = let long = length-append es (p ∷ []) in (h.0, omega (arith, l, long), are_more es p names h.2 k)
+within_more (simplified_opening steps o) es p names l k h = (h.0, h.1, h.2, within_more o es p names l k h.3)
+
+unsimplified_more : (o : Opening) (es ps : List PairEntry) → IsUnsimplified (certificate_for o es) → IsUnsimplified (certificate_for o ps)
+unsimplified_more ortho_opening es ps h = tt
+unsimplified_more (quasi_opening m) es ps h = tt
+unsimplified_more (simplified_opening steps o) es ps h = absurd h
+
+simplify_more : (v : Version) (o : Opening) (es ps : List PairEntry) → CanSimplify v (certificate_for o es) → CanSimplify v (certificate_for o ps)
+simplify_more first_version o es ps h = absurd h
+simplify_more second_version o es ps h = unsimplified_more o es ps h
+
+allowed_more : (o : Opening) (es ps : List PairEntry) (v : Version) → IsOfVersion v (certificate_for o es) → IsOfVersion v (certificate_for o ps)
+allowed_more ortho_opening es ps v h = tt
+allowed_more (quasi_opening m) es ps v h = h
+allowed_more (simplified_opening steps o) es ps v h = simplify_more v o es ps h
+
+-- ---- what is shared and what is left
+
+same_shared : (o : Opening) (es : List PairEntry) (p : PairEntry) (names : NameTable) (left then : List Automaton) → with_new names (shared_by names (certificate_for o es)) (used_by_evidence p.evidence) ++ then ≡ shared_by names (certificate_for o es) ++ left → shared_by names (certificate_for o (es ++ p ∷ [])) ++ then ≡ shared_by names (certificate_for o es) ++ left
+same_shared o es p names left then e = ap (λ (l : List Automaton). l ++ then) (shared_more o es p names) ∙ e
+
+left_more : (v : Version) (o : Opening) (es : List PairEntry) (p : PairEntry) (names : NameTable) (left then : List Automaton) → AreLeft v names (certificate_for o es) left → Takes v names (certificate_for o es) left (used_by_evidence p.evidence) then → AreLeft v names (certificate_for o (es ++ p ∷ [])) then
+left_more first_version o es p names left then h t = t
+left_more second_version o es p names left then h t =
+    let same = same_shared o es p names left then t.0 in
+    let long = ap (unfolded_length names) (automata_more o es p) ∙ unfolded_both (automata_of (certificate_for o es)) (used_by_evidence p.evidence) names in
+    let most = t.1 in (
+      subst (λ (l : List Automaton). length l ≤ 1000) (sym same) h.0,
+      subst (λ (l : List Automaton). AllNew [] (texts_of names l)) (sym same) h.1,
+      subst (AreAutomata names) (sym same) h.2,
+      omega (arith, long, most),
+    )
+
+-- the lines before the body and the numbers are those of before
+heading_more : (v : Version) (o : Opening) (es : List PairEntry) (p : PairEntry) (names : NameTable) (left then : List Automaton) → Takes v names (certificate_for o es) left (used_by_evidence p.evidence) then → heading_text v names (shared_by names (certificate_for o (es ++ p ∷ [])) ++ then) ≡ heading_text v names (shared_by names (certificate_for o es) ++ left)
+heading_more first_version o es p names left then t = refl
+heading_more second_version o es p names left then t = ap (heading_text second_version names) (same_shared o es p names left then t.0)
+
+uses_more : (v : Version) (o : Opening) (es : List PairEntry) (p : PairEntry) (names : NameTable) (left then : List Automaton) → Takes v names (certificate_for o es) left (used_by_evidence p.evidence) then → uses_with v names (shared_by names (certificate_for o (es ++ p ∷ [])) ++ then) ≡ uses_with v names (shared_by names (certificate_for o es) ++ left)
+uses_more first_version o es p names left then t = refl
+uses_more second_version o es p names left then t = ap (uses_with second_version names) (same_shared o es p names left then t.0)
+
+pub entry_is_taken :
+    (names : NameTable) (bytes : List ℕ) (o : Opening) (es : List PairEntry) (at : ℕ) (p : PairEntry) (left : List Automaton) (rest : List ℕ) → (h : IsRead names bytes o es at)
+    → length es < 20000 → ArePairs names (p ∷ [])
+    → h.rest ≡ pairs_text names (uses_with h.version names (shared_by names (certificate_for o es) ++ h.left)) (p ∷ []) ++ rest
+    → Takes h.version names (certificate_for o es) h.left (used_by_evidence p.evidence) left
+    → IsReadTo names bytes o (es ++ p ∷ []) (at + length (pairs_text names (uses_with h.version names (shared_by names (certificate_for o es) ++ h.left)) (p ∷ []))) h.version left rest
+entry_is_taken names bytes o es at p then rest h l k e t =
+    let c = certificate_for o es in
+    let d = certificate_for o (es ++ p ∷ []) in
+    let v = h.version in
+    let u = uses_with v names (shared_by names c ++ h.left) in
+    let heading = heading_text v names (shared_by names c ++ h.left) in
+    let one = pairs_text names u (p ∷ []) in
+    let body : body_text names u d ++ rest ≡ body_text names u c ++ h.rest =
+    ap (λ (w : List ℕ). w ++ rest) (body_more o es p names u) ∙ append_assoc (body_text names u c) one rest ∙ ap (λ (w : List ℕ). body_text names u c ++ w) (sym e) in
+    let long = ap length e ∙ length-append one rest in
+    let place = h.place in
+    record {
+      read = record {
+        version = v;
+        allowed = allowed_more o es (es ++ p ∷ []) v h.allowed;
+        within = within_more o es p names l k h.within;
+        left = then;
+        are_left = left_more v o es p names h.left then h.are_left t;
+        answer = h.answer;
+        is_answer = h.is_answer;
+        rest = rest;
+        text = h.text ∙ ap (λ (w : List ℕ). h.answer ++ (heading ++ w)) (sym body)
+            ∙ ap (λ (x : Uses). h.answer ++ (heading ++ (body_text names x d ++ rest))) (sym (uses_more v o es p names h.left then t))
+            ∙ ap (λ (w : List ℕ). h.answer ++ (w ++ (body_text names (uses_with v names (shared_by names d ++ then)) d ++ rest))) (sym (heading_more v o es p names h.left then t));
+        place = omega (arith, long, place);
+      };
+      is_version = refl;
+      is_left = refl;
+      is_rest = refl;
+    }
+
+-- the automaton with a number stands at its place
+pick_stands : (all : List Automaton) (n : ℕ) → 1 ≤ n → n ≤ length all → slice_get all (n - 1) ≡ Some (pick all n)
+pick_stands [] n low high = absurd (let q : n ≤ 0 = high in omega arith)
+pick_stands (a ∷ all) zero low high = absurd (omega (arith, low))
+pick_stands (a ∷ all) (suc zero) low high = refl
+pick_stands (a ∷ all) (suc (suc n)) low high =
+    let e : suc (suc n) - 1 ≡ suc n = omega arith in
+    let d : n ≡ suc n - 1 = omega arith in
+    ap (slice_get (a ∷ all)) e ∙ ap (slice_get all) d ∙ pick_stands all (suc n) (omega arith) (let q : suc (suc n) ≤ suc (length all) = high in omega arith)
+
+pub number_tells : (names : NameTable) (now left : List Automaton) (n : ℕ) → AllNew [] (texts_of names (now ++ left)) → 1 ≤ n → n ≤ length (now ++ left) → n ≤ suc (length now) → IsTold names now left n
+number_tells names now left n h low high most =
+    let r = told (n ∷ []) names (now ++ left) now left h refl (low, high, most, tt) in
+    record {
+      automaton = pick (now ++ left) n;
+      stands = pick_stands (now ++ left) n low high;
+      number = pick_number names (now ++ left) n h low high;
+      then = r.left;
+      takes = ap (λ (l : List Automaton). l ++ r.left) r.is ∙ sym r.parts;
+    }
+
+-- ---- the whole text
+
+pub answer_is : (o : Opening) (es : List PairEntry) → answer_line (certificate_for o es) ≡ codes "YES\n"
+answer_is ortho_opening es = refl
+answer_is (quasi_opening m) es = refl
+answer_is (simplified_opening steps o) es = answer_is o es
+
+uses_same : (v : Version) (names : NameTable) (c : Certificate) → uses_of v names c ≡ uses_with v names (shared_by names c)
+uses_same first_version names c = refl
+uses_same second_version names c = refl
+
+-- a text with this front
+abbrev text_behind : NameTable → Version → Certificate → List ℕ → List Automaton → List ℕ → List ℕ
+text_behind names v c answer all rest = answer ++ (heading_text v names all ++ (body_text names (uses_with v names all) c ++ rest))
+
+none_left : (v : Version) (names : NameTable) (c : Certificate) → IsWithin names c → IsShared v names c → AreLeft v names c []
+none_left first_version names c w h = refl
+none_left second_version names c w h =
+    let same = append-nil (shared_by names c) in (
+      subst (λ (l : List Automaton). length l ≤ 1000) (sym same) h.0,
+      subst (λ (l : List Automaton). AllNew [] (texts_of names l)) (sym same) (numbered (automata_of c) names [] tt).new,
+      subst (AreAutomata names) (sym same) (shared_are names c w),
+      h.1,
+    )
+
+is_shared : (v : Version) (names : NameTable) (c : Certificate) (left : List Automaton) → left ≡ [] → AreLeft v names c left → IsShared v names c
+is_shared first_version names c left e h = tt
+is_shared second_version names c left e h = (subst (λ (l : List Automaton). length l ≤ 1000) (ap (λ (l : List Automaton). shared_by names c ++ l) e ∙ append-nil (shared_by names c)) h.0, h.3)
+
+whole_text : (names : NameTable) (v : Version) (c : Certificate) (answer : List ℕ) (left : List Automaton) (rest : List ℕ) → left ≡ [] → rest ≡ codes "end\n" → text_behind names v c answer (shared_by names c ++ left) rest ≡ answer ++ certificate_text v names c
+whole_text names v c answer left rest e f =
+    let shared = shared_by names c in
+    ap (text_behind names v c answer (shared ++ left)) f
+    ∙ ap (λ (l : List Automaton). text_behind names v c answer l (codes "end\n")) (ap (λ (l : List Automaton). shared ++ l) e ∙ append-nil shared)
+    ∙ ap (λ (u : Uses). answer ++ (heading_text v names shared ++ (body_text names u c ++ codes "end\n"))) (sym (uses_same v names c))
+
+pub whole_is_text : (names : NameTable) (bytes : List ℕ) (o : Opening) (es : List PairEntry) (at : ℕ) → (h : IsRead names bytes o es at) → h.left ≡ [] → h.rest ≡ codes "end\n" → IsCertificateText names bytes (certificate_for o es)
+whole_is_text names bytes o es at h e f = (h.version, record { spelt = (h.allowed, h.within, is_shared h.version names c h.left e h.are_left); text = by h.is_answer })
+  where
+    c : Certificate
+    c = certificate_for o es
+
+    text : bytes ≡ h.answer ++ certificate_text h.version names c
+    text = h.text ∙ whole_text names h.version c h.answer h.left h.rest e f
+
+    by : (h.answer ≡ []) ⊎ (h.answer ≡ codes "YES\n") → (bytes ≡ certificate_text h.version names c) ⊎ (bytes ≡ answer_line c ++ certificate_text h.version names c)
+    by (inl q) = inl (text ∙ ap (λ (a : List ℕ). a ++ certificate_text h.version names c) q)
+    by (inr q) = inr (text ∙ ap (λ (a : List ℕ). a ++ certificate_text h.version names c) (q ∙ sym (answer_is o es)))
+
+parts_behind : (a b c r : List ℕ) → a ++ (b ++ (c ++ r)) ≡ (a ++ (b ++ c)) ++ r
+parts_behind a b c r = ap (λ (w : List ℕ). a ++ w) (sym (append_assoc b c r)) ∙ sym (append_assoc a (b ++ c) r)
+
+pub text_is_whole : (names : NameTable) (bytes : List ℕ) (o : Opening) (es : List PairEntry) → IsCertificateText names bytes (certificate_for o es) → IsWhole names bytes o es
+text_is_whole names bytes o es (v, h) = by h.text
+  where
+    c : Certificate
+    c = certificate_for o es
+
+    whole : (answer : List ℕ) → (answer ≡ []) ⊎ (answer ≡ codes "YES\n") → bytes ≡ answer ++ certificate_text v names c → IsWhole names bytes o es
+    whole answer is_answer e =
+        let all = shared_by names c ++ [] in
+        let heading = heading_text v names all in
+        let body = body_text names (uses_with v names all) c in
+        let text = e ∙ sym (whole_text names v c answer [] (codes "end\n") refl refl) in
+        record {
+          at = length (answer ++ (heading ++ body));
+          read = record {
+            version = v;
+            allowed = h.spelt.0;
+            within = h.spelt.1;
+            left = [];
+            are_left = none_left v names c h.spelt.1 h.spelt.2;
+            answer = answer;
+            is_answer = is_answer;
+            rest = codes "end\n";
+            text = text;
+            place = sym (ap length (text ∙ parts_behind answer heading body (codes "end\n")) ∙ length-append (answer ++ (heading ++ body)) (codes "end\n"));
+          };
+          all_used = refl;
+          last = refl;
+        }
+
+    by : (bytes ≡ certificate_text v names c) ⊎ (bytes ≡ answer_line c ++ certificate_text v names c) → IsWhole names bytes o es
+    by (inl e) = whole [] (inl refl) e
+    by (inr e) = whole (answer_line c) (inr (answer_is o es)) e

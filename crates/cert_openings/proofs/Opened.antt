@@ -1,0 +1,187 @@
+-- A read opening by its marks: they pass, and so do its shared automata.
+use Rattle.std.proofs.Common.{◌≡◌, ◌⊎◌, inl, inr, ℕ, suc, ◌≤◌, Bool, true, false, cond, List, [], ◌∷◌, ◌++◌, length, map, Option, Some, None, refl, sym, ap, ◌∙◌, subst, codes, append_assoc, length-append, arith}
+use Rattle.certificates.specs.Evidence.{Automaton}
+use Rattle.certificates.specs.Certificates.{PairEntry, Certificate}
+use Rattle.cops_names.specs.NameTable.{NameTable}
+use Rattle.cert_grammar.specs.Words.{largest, name_of}
+use Rattle.cert_grammar.specs.Versions.{Version, first_version, second_version, Uses, in_full, by_number, version_of, IsOfVersion, automata_of}
+use Rattle.cert_grammar.specs.SharedText.{same_bytes, is_among, texts_of, shared_by, place_among, number_in, unfolded_length, AllNew}
+use Rattle.cert_grammar.specs.EvidenceText.{automaton_text}
+use Rattle.cert_grammar.specs.Marks.{is_answer, Mark, fixed, marks_text}
+use Rattle.cert_grammar.specs.CertificateMarks.{answer_marks, heading_marks, automata_marks, body_marks, closing}
+use Rattle.cert_grammar.specs.CertificateText.{heading_text, body_text}
+use Rattle.cert_grammar.specs.Sharing.{Shared, nothing_shared, PassShares}
+use Rattle.cert_grammar.specs.Refusals.{HaveNames, Skeleton, marks_of}
+use Rattle.cert_laws.proofs.Spelt.{Spells, put_fixed, put_both, have_both}
+use Rattle.cert_laws.proofs.SpeltWhole.{AreShort, HasHeading, answer_of, spelt_heading, spelt_body}
+use Rattle.cert_sharing.proofs.FirstUses.{InOrder, AreAmong, texts_both, texts_length, among_more}
+use Rattle.cert_sharing.proofs.UseMarks.{state, AreStill, still_marks, still_pass, pass_join, automata_behind, new_automata, PassUses, numbers_of, counts_body}
+use Rattle.cert_sharing.proofs.SpeltShares.{marked_are, place_most, unfolds_to, uses_pass, lines, used_texts, shared_numbered}
+use Rattle.cert_openings.specs.Openings.{Opening, ortho_opening, quasi_opening, simplified_opening, certificate_for, uses_with, AreLeft, IsRead}
+use Rattle.cert_openings.proofs.OpeningMarks.{opening_marks, whole_marks}
+
+-- ---- numbers where more automata stand behind
+
+place_more : (t : List ℕ) (old rest : List (List ℕ)) → is_among t old ≡ true → place_among t (old ++ rest) ≡ place_among t old
+place_more t [] rest e = absurd cc
+place_more t (u ∷ us) rest e = by (same_bytes t u) e (λ f. place_more t us rest f)
+  where
+    by : (v : Bool) → cond v true (is_among t us) ≡ true → (is_among t us ≡ true → place_among t (us ++ rest) ≡ place_among t us) → cond v 1 (suc (place_among t (us ++ rest))) ≡ cond v 1 (suc (place_among t us))
+    by true e each = refl
+    by false e each = ap suc (each e)
+
+number_more : (names : NameTable) (all left : List Automaton) (a : Automaton) → is_among (automaton_text names a) (texts_of names all) ≡ true → number_in names (all ++ left) a ≡ number_in names all a
+number_more names all left a e = ap (place_among (automaton_text names a)) (texts_both names all left) ∙ place_more (automaton_text names a) (texts_of names all) (texts_of names left) e
+
+numbers_more : (used : List Automaton) (names : NameTable) (all left : List Automaton) → AreAmong names used (texts_of names all) → map (number_in names (all ++ left)) used ≡ map (number_in names all) used
+numbers_more [] names all left h = refl
+numbers_more (a ∷ used) names all left h =
+    ap (λ (n : ℕ). n ∷ map (number_in names (all ++ left)) used) (number_more names all left a h.0) ∙ ap (λ (l : List ℕ). number_in names all a ∷ l) (numbers_more used names all left h.1)
+
+pub among_all : (used : List Automaton) (names : NameTable) (all left : List Automaton) → AreAmong names used (texts_of names all) → AreAmong names used (texts_of names (all ++ left))
+among_all [] names all left h = tt
+among_all (a ∷ used) names all left h =
+    (ap (is_among (automaton_text names a)) (texts_both names all left) ∙ among_more (automaton_text names a) (texts_of names all) (texts_of names left) h.0, among_all used names all left h.1)
+
+order_more : (ns : List ℕ) (total more used : ℕ) → total ≤ more → InOrder total used ns → InOrder more used ns
+order_more [] total more used le h = tt
+order_more (n ∷ ns) total more used le h = let few = h.1 in (h.0, omega (arith, few, le), h.2, order_more ns total more _ le h.3)
+
+-- what the body of a certificate asks where automata are left
+uses_with_left : (v : Version) (names : NameTable) (c : Certificate) (left : List Automaton) → AreLeft v names c left → PassUses (used_texts (uses_with v names (shared_by names c ++ left)) (texts_of names (shared_by names c ++ left))) 0 0 (numbers_of (uses_with v names (shared_by names c ++ left)) (automata_of c))
+uses_with_left first_version names c left h = tt
+uses_with_left second_version names c left h =
+    let shared = shared_by names c in
+    let all = shared ++ left in
+    let used = automata_of c in
+    let r = shared_numbered names c in
+    let size = texts_length names all in
+    let longer = length-append shared left in
+    let same = numbers_more used names shared left r.each in
+    let sum = unfolds_to used names all 0 (among_all used names shared left r.each) in
+    let light : unfolded_length names used ≤ 67108864 = h.3 in
+    uses_pass (map (number_in names all) used) (texts_of names all) 0 0
+    (subst (InOrder (length (texts_of names all)) 0) (sym same) (order_more (map (number_in names shared) used) (length shared) (length (texts_of names all)) 0 (omega (arith, size, longer)) r.order))
+    (omega (arith, sum, light))
+
+-- ---- shared automata of the opening's marks
+
+lines_pass : (c : Certificate) (names : NameTable) (u : Uses) (bs : List Automaton) (given : Option Bool) (b : List ℕ) → HasHeading names u bs → AllNew [] (used_texts u (texts_of names bs)) → PassUses (used_texts u (texts_of names bs)) 0 0 (numbers_of u (automata_of c))
+    → PassShares (state [] b 0 0) (heading_marks (name_of names) u bs ++ body_marks (name_of names) u given c)
+lines_pass c names in_full bs given b k n h = (refl, (counts_body c (name_of names) in_full given).from [] (b ++ codes "concon 1\n") 0 0 h)
+lines_pass c names (by_number f) bs given b k n h =
+    let x = name_of names in
+    let u = by_number f in
+    let still : AreStill (lines bs) = (tt, (tt, (tt, (tt, tt)))) in
+    let begun = still_marks (lines bs) [] b 0 0 still in
+    let texts = marked_are bs names k.1 in
+    let c0 = b ++ marks_text (lines bs) in
+    let after = automata_behind bs x [] c0 0 0 in
+    pass_join (lines bs) (automata_marks x bs ++ body_marks x u given c) (state [] b 0 0) (still_pass (lines bs) (state [] b 0 0) still)
+    (subst (λ (s : Shared). PassShares s (automata_marks x bs ++ body_marks x u given c)) (sym begun)
+    (pass_join (automata_marks x bs) (body_marks x u given c) (state [] c0 0 0) (new_automata bs x [] c0 0 0 (subst (AllNew []) (sym texts) n))
+    (subst (λ (s : Shared). PassShares s (body_marks x u given c)) (sym (after.1 ∙ ap (λ (l : List (List ℕ)). state l after.0 0 0) texts))
+    ((counts_body c x u given).from (texts_of names bs) after.0 0 0 h))))
+
+opening_pass : (o : Opening) (names : NameTable) (u : Uses) (bs : List Automaton) (given : Option Bool) → HasHeading names u bs → AllNew [] (used_texts u (texts_of names bs)) → PassUses (used_texts u (texts_of names bs)) 0 0 (numbers_of u (automata_of (certificate_for o []))) → PassShares nothing_shared (opening_marks (name_of names) u bs given o)
+opening_pass o names u bs None k n h = lines_pass (certificate_for o []) names u bs None [] k n h
+opening_pass o names u bs (Some true) k n h = (refl, lines_pass (certificate_for o []) names u bs (Some true) (codes "YES\n") k n h)
+opening_pass o names u bs (Some false) k n h = (refl, lines_pass (certificate_for o []) names u bs (Some false) (codes "NO\n") k n h)
+
+-- ---- the opening
+
+pub record Opened (names : NameTable) (bytes : List ℕ) (o : Opening) (end : ℕ) : Type 0 where
+  pub uses : Uses
+  pub shared : List Automaton
+  pub answer : Option Bool
+  pub allowed : IsOfVersion (version_of uses) (certificate_for o [])
+  pub spells : Spells names (opening_marks (name_of names) uses shared answer o) (marks_text (opening_marks (name_of names) uses shared answer o))
+  pub pass_shared : PassShares nothing_shared (opening_marks (name_of names) uses shared answer o)
+  pub rest : List ℕ
+  pub text : bytes ≡ marks_text (opening_marks (name_of names) uses shared answer o) ++ rest
+  pub place : length (marks_text (opening_marks (name_of names) uses shared answer o)) ≡ end
+
+pub same_version : (v : Version) (names : NameTable) (all : List Automaton) → version_of (uses_with v names all) ≡ v
+same_version first_version names all = refl
+same_version second_version names all = refl
+
+pub short_with : (v : Version) (names : NameTable) (c : Certificate) (left : List Automaton) → AreLeft v names c left → AreShort (uses_with v names (shared_by names c ++ left))
+short_with first_version names c left h = tt
+short_with second_version names c left h = λ a.
+    let all = shared_by names c ++ left in
+    let most = place_most (automaton_text names a) (texts_of names all) in
+    let size = texts_length names all in
+    let few : length all ≤ 1000 = h.0 in
+    let q : place_among (automaton_text names a) (texts_of names all) ≤ largest = omega (arith, most, size, few) in
+    q
+
+pub heading_with : (v : Version) (names : NameTable) (c : Certificate) (left : List Automaton) → AreLeft v names c left → HasHeading names (uses_with v names (shared_by names c ++ left)) (shared_by names c ++ left)
+heading_with first_version names c left h = tt
+heading_with second_version names c left h = (h.0, h.2)
+
+new_with : (v : Version) (names : NameTable) (c : Certificate) (left : List Automaton) → AreLeft v names c left → AllNew [] (used_texts (uses_with v names (shared_by names c ++ left)) (texts_of names (shared_by names c ++ left)))
+new_with first_version names c left h = tt
+new_with second_version names c left h = h.1
+
+told_is : (o : Opening) (es : List PairEntry) → answer_of (certificate_for o es) ≡ true
+told_is ortho_opening es = refl
+told_is (quasi_opening m) es = refl
+told_is (simplified_opening ss o) es = told_is o es
+
+-- an answer line that fits, or none
+given_of : (a : List ℕ) → (a ≡ []) ⊎ (a ≡ codes "YES\n") → (g : Option Bool) × (a ≡ marks_text (answer_marks g)) × (is_answer true g ≡ true) × ((names : NameTable) (ms : List Mark) (t : List ℕ) → Spells names ms t → Spells names (answer_marks g ++ ms) (a ++ t))
+given_of a (inl e) = (None, e, refl, λ names ms t s. subst (λ (b : List ℕ). Spells names ms (b ++ t)) (sym e) s)
+given_of a (inr e) = (Some true, e, refl, λ names ms t s. subst (λ (b : List ℕ). Spells names (fixed (codes "YES\n") ∷ ms) (b ++ t)) (sym e) (put_fixed names (codes "YES\n") ms t s))
+
+parts_behind : (a b c r : List ℕ) → a ++ (b ++ (c ++ r)) ≡ (a ++ (b ++ c)) ++ r
+parts_behind a b c r = ap (λ (w : List ℕ). a ++ w) (sym (append_assoc b c r)) ∙ sym (append_assoc a (b ++ c) r)
+
+pub opened : (names : NameTable) (bytes : List ℕ) (o : Opening) (end : ℕ) → IsRead names bytes o [] end → Opened names bytes o end
+opened names bytes o end h =
+    let c = certificate_for o [] in
+    let v = h.version in
+    let bs = shared_by names c ++ h.left in
+    let u = uses_with v names bs in
+    let g = given_of h.answer h.is_answer in
+    let ms = opening_marks (name_of names) u bs g.0 o in
+    let version = same_version v names bs in
+    let spells : Spells names ms (h.answer ++ (heading_text (version_of u) names bs ++ body_text names u c)) =
+    g.3 names (heading_marks (name_of names) u bs ++ body_marks (name_of names) u g.0 c) (heading_text (version_of u) names bs ++ body_text names u c)
+    (put_both names (heading_marks (name_of names) u bs) (body_marks (name_of names) u g.0 c) (heading_text (version_of u) names bs) (body_text names u c)
+    (spelt_heading u names bs (heading_with v names c h.left h.are_left))
+    (spelt_body c names u g.0 (short_with v names c h.left h.are_left) (ap (λ (b : Bool). is_answer b g.0) (told_is o []) ∙ g.2) h.within)) in
+    let text : bytes ≡ marks_text ms ++ h.rest =
+    h.text ∙ ap (λ (w : Version). h.answer ++ (heading_text w names bs ++ (body_text names u c ++ h.rest))) (sym version)
+    ∙ parts_behind h.answer (heading_text (version_of u) names bs) (body_text names u c) h.rest ∙ ap (λ (w : List ℕ). w ++ h.rest) (sym spells.text) in
+    let long = ap length text ∙ length-append (marks_text ms) h.rest in
+    record {
+      uses = u;
+      shared = bs;
+      answer = g.0;
+      allowed = subst (λ (w : Version). IsOfVersion w c) (sym version) h.allowed;
+      spells = record { passed = spells.passed; named = spells.named; text = refl };
+      pass_shared = opening_pass o names u bs g.0 (heading_with v names c h.left h.are_left) (new_with v names c h.left h.are_left) (uses_with_left v names c h.left h.are_left);
+      rest = h.rest;
+      text = text;
+      place = (let place = h.place in omega (arith, long, place));
+    }
+
+pub opened_rest : (names : NameTable) (bytes : List ℕ) (o : Opening) (end : ℕ) → (h : IsRead names bytes o [] end) → (opened names bytes o end h).rest ≡ h.rest
+unfolding opened
+opened_rest names bytes o end h = refl
+
+-- with the last line it is a text of the grammar
+skeleton : (names : NameTable) (bytes : List ℕ) (o : Opening) (end : ℕ) → Opened names bytes o end → Skeleton
+skeleton names bytes o end h = record {
+  names = name_of names;
+  uses = h.uses;
+  shared = h.shared;
+  answer = h.answer;
+  certificate = certificate_for o [];
+  allowed = h.allowed;
+  named = subst HaveNames (sym (whole_marks (name_of names) h.uses h.shared h.answer o)) (have_both (opening_marks (name_of names) h.uses h.shared h.answer o) closing h.spells.named tt);
+}
+
+pub with_end : (names : NameTable) (bytes : List ℕ) (o : Opening) (end : ℕ) → (h : Opened names bytes o end) → (s : Skeleton) × (marks_of s ≡ opening_marks (name_of names) h.uses h.shared h.answer o ++ closing)
+unfolding skeleton
+with_end names bytes o end h = (skeleton names bytes o end h, whole_marks (name_of names) h.uses h.shared h.answer o)

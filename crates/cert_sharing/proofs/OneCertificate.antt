@@ -1,0 +1,423 @@
+-- Bytes are the text of one certificate at most.
+use Rattle.std.proofs.Common.{◌≡◌, ◌⊎◌, inl, inr, ℕ, suc, Bool, true, false, List, [], ◌∷◌, ◌++◌, length, codes, Option, Some, None, refl, sym, ap, ◌∙◌, arith, append_assoc}
+use Rattle.std.proofs.lemmas.List.{append_cancel_left}
+use Rattle.rewriting.specs.Positions.{Position}
+use Rattle.rewriting.specs.Unraveling.{Head, file, auxiliary}
+use Rattle.certificates.specs.Derivations.{Derivation}
+use Rattle.certificates.specs.Evidence.{Automaton, InfeasibilityEvidence, by_caps, by_automaton, PairEvidence, trivial_pair, infeasible_pair, conflicting_pair, joined_pair, unfeasible_pair}
+use Rattle.certificates.specs.Certificates.{PairEntry, LinearEntry, MeasureCertificate, linear_measure, precedence_measure, Redex, Apartness, by_normal_forms, by_rigid_caps, Peak, Simplification, dropped, inlined, Certificate, ortho_certificate, quasi_certificate, peak_certificate, simplified_certificate}
+use Rattle.cops_names.specs.NameTable.{NameTable}
+use Rattle.cert_grammar.specs.Words.{name_of}
+use Rattle.cert_grammar.specs.Versions.{Version, first_version, second_version, Uses, in_full, by_number, used_by, used_by_evidence, used_by_pairs, used_by_redexes, used_by_apart, used_by_steps, automata_of}
+use Rattle.cert_grammar.specs.EvidenceText.{automaton_text, IsAutomaton}
+use Rattle.cert_grammar.specs.CertificateText.{IsMeasured, AreEntries, AreHeads, IsMeasure, IsWithin, IsCertificateText}
+use Rattle.cert_grammar.specs.Marks.{Naming, shares, automaton_ends, Mark, fixed, closed, mark_text, marks_text}
+use Rattle.cert_grammar.specs.WordMarks.{term_marks, derivation_marks}
+use Rattle.cert_grammar.specs.CertificateMarks.{closing, use_marks, automaton_marks, automata_marks, infeasibility_marks, evidence_marks, pairs_marks, coefficients_marks, measured_marks, entries_marks, heads_marks, measure_marks, redexes_marks, apart_marks, simplifications_marks, body_marks, answer_marks, certificate_marks}
+use Rattle.cert_grammar.specs.SharedText.{is_among, texts_of, shared_by, number_in, uses_of, AreAutomata}
+use Rattle.cert_grammar.specs.Sharing.{text_at}
+use Rattle.cert_grammar.specs.Refusals.{Skeleton}
+use Rattle.cert_laws.specs.MarkLaws.{GoesAlong, Alike, ended, same, parted}
+use Rattle.cert_laws.proofs.Along.{differ}
+use Rattle.cert_laws.proofs.AlikeEvidence.{alike_automata}
+use Rattle.cert_laws.proofs.AlikeWhole.{alike_skeletons}
+use Rattle.cert_laws.proofs.OneAnswer.{closes_all}
+use Rattle.cert_laws.proofs.SpeltWhole.{spelt_automaton}
+use Rattle.cert_laws.proofs.OneRefusal.{Closes}
+use Rattle.cert_laws.proofs.Spelt.{text_both}
+use Rattle.cert_laws.proofs.PassEvidence.{AllOf, all_of}
+use Rattle.cert_sharing.proofs.FirstUses.{AreAmong, place_text}
+use Rattle.cert_sharing.proofs.SpeltShares.{of_certificate, shared_are, shared_numbered, spelt_marks}
+use Rattle.cert_sharing.proofs.SameParts.{same_symbol, regroup, head_same, tail_same, clash, number_same, place_same, same_terms, same_derivation, same_automata}
+
+-- ---- whole texts that are alike
+
+goes_whole : (ms : List Mark) (bytes : List ℕ) → Closes ms → bytes ≡ marks_text ms → GoesAlong ms bytes
+goes_whole ms bytes (front, t, e) q = (front, fixed t, record { back = []; parts = e; rest = []; text = q ∙ ap marks_text e ∙ text_both front (fixed t ∷ []); reached = tt })
+
+shorter : (m : Mark) (ms : List Mark) → (m ∷ ms ≡ []) ⊎ Closes (m ∷ ms) → (ms ≡ []) ⊎ Closes ms
+shorter m ms (inl c) = absurd cc
+shorter m ms (inr ([], t, c)) = inl cc
+shorter m ms (inr (d ∷ front, t, c)) = inr (front, t, cc)
+
+pub whole_same : {ms ns : List Mark} → Alike ms ns → (ms ≡ []) ⊎ Closes ms → (ns ≡ []) ⊎ Closes ns → marks_text ms ≡ marks_text ns → ms ≡ ns
+whole_same ended c d e = refl
+whole_same (same {m = m} {ms = ms} {ns = ns} k) c d e = ap (λ (l : List Mark). m ∷ l) (whole_same k (shorter m ms c) (shorter m ns d) (append_cancel_left (mark_text m) (marks_text ms) (marks_text ns) e))
+whole_same (parted {m = m} {n = n} {ms = ms} {ns = ns} f) (inl c) d e = let q : m ∷ ms ≡ [] = c in absurd cc
+whole_same (parted {m = m} {n = n} {ms = ms} {ns = ns} f) (inr c) (inl d) e = let q : n ∷ ns ≡ [] = d in absurd cc
+whole_same (parted {m = m} {n = n} {ms = ms} {ns = ns} f) (inr c) (inr d) e = absurd (f (marks_text (m ∷ ms)) (goes_whole (m ∷ ms) (marks_text (m ∷ ms)) c refl) (goes_whole (n ∷ ns) (marks_text (m ∷ ms)) d e))
+
+-- ---- parts that use automata
+
+-- automata whose uses have the same marks are the same
+abbrev SameUses : NameTable → Uses → Uses → (Automaton → Type 0) → (Automaton → Type 0) → Type 0
+SameUses names u w P Q = (a b : Automaton) (k l : List Mark) → P a → Q b → use_marks (name_of names) u a ++ k ≡ use_marks (name_of names) w b ++ l → (a ≡ b) × (k ≡ l)
+
+same_infeasibility : (e f : InfeasibilityEvidence) (names : NameTable) (u w : Uses) (P Q : Automaton → Type 0) (k l : List Mark) → SameUses names u w P Q → AllOf P (used_by e) → AllOf Q (used_by f) → infeasibility_marks (name_of names) u e ++ k ≡ infeasibility_marks (name_of names) w f ++ l → (e ≡ f) × (k ≡ l)
+same_infeasibility by_caps by_caps names u w P Q k l s h i e = (refl, tail_same _ _ _ _ e)
+same_infeasibility by_caps (by_automaton m b) names u w P Q k l s h i e = absurd (clash _ _ _ _ refl e)
+same_infeasibility (by_automaton j a) by_caps names u w P Q k l s h i e = absurd (clash _ _ _ _ refl e)
+same_infeasibility (by_automaton j a) (by_automaton m b) names u w P Q k l s h i e =
+    let c = tail_same _ _ _ _ e in
+    let number_is = number_same j m _ _ c in
+    let r = s a b k l h.0 i.0 (tail_same _ _ _ _ c) in
+    (ap (λ (z : ℕ). by_automaton z a) number_is ∙ ap (λ (z : Automaton). by_automaton m z) r.0, r.1)
+
+two_derivations : (a b c d : Derivation) (k l : List Mark) → (derivation_marks a ++ derivation_marks b) ++ k ≡ (derivation_marks c ++ derivation_marks d) ++ l → (a ≡ c) × (b ≡ d) × (k ≡ l)
+two_derivations a b c d k l e =
+    let first = same_derivation a c _ _ (regroup (derivation_marks a) (derivation_marks b) k (derivation_marks c) (derivation_marks d) l e) in
+    let second = same_derivation b d k l first.1 in
+    (first.0, second.0, second.1)
+
+same_evidence : (e f : PairEvidence) (names : NameTable) (u w : Uses) (P Q : Automaton → Type 0) (k l : List Mark) → SameUses names u w P Q → AllOf P (used_by_evidence e) → AllOf Q (used_by_evidence f) → evidence_marks (name_of names) u e ++ k ≡ evidence_marks (name_of names) w f ++ l → (e ≡ f) × (k ≡ l)
+same_evidence trivial_pair trivial_pair names u w P Q k l s h i e = (refl, tail_same _ _ _ _ e)
+same_evidence (infeasible_pair a) (infeasible_pair b) names u w P Q k l s h i e = let r = same_infeasibility a b names u w P Q k l s h i e in (ap infeasible_pair r.0, r.1)
+same_evidence (conflicting_pair a b) (conflicting_pair c d) names u w P Q k l s h i e =
+    let x = tail_same _ _ _ _ e in
+    let first = number_same a c _ _ x in
+    let y = tail_same _ _ _ _ (tail_same _ _ _ _ x) in
+    let second = number_same b d _ _ y in
+    (ap (λ (z : ℕ). conflicting_pair z b) first ∙ ap (λ (z : ℕ). conflicting_pair c z) second, tail_same _ _ _ _ (tail_same _ _ _ _ y))
+same_evidence (joined_pair a b) (joined_pair c d) names u w P Q k l s h i e =
+    let r = two_derivations a b c d k l (tail_same _ _ _ _ e) in
+    (ap (λ (z : Derivation). joined_pair z b) r.0 ∙ ap (λ (z : Derivation). joined_pair c z) r.1, r.2)
+same_evidence (unfeasible_pair m a b) (unfeasible_pair n c d) names u w P Q k l s h i e =
+    let x = tail_same _ _ _ _ e in
+    let first = number_same m n _ _ x in
+    let r = two_derivations a b c d k l (tail_same _ _ _ _ (tail_same _ _ _ _ x)) in
+    (ap (λ (z : ℕ). unfeasible_pair z a b) first ∙ ap (λ (z : Derivation). unfeasible_pair n z b) r.0 ∙ ap (λ (z : Derivation). unfeasible_pair n c z) r.1, r.2)
+same_evidence (infeasible_pair by_caps) f names u w P Q k l s h i e = absurd (clash _ _ _ _ refl e)
+same_evidence (infeasible_pair (by_automaton j a)) f names u w P Q k l s h i e = absurd (clash _ _ _ _ refl e)
+same_evidence g (infeasible_pair by_caps) names u w P Q k l s h i e = absurd (clash _ _ _ _ refl e)
+same_evidence g (infeasible_pair (by_automaton j a)) names u w P Q k l s h i e = absurd (clash _ _ _ _ refl e)
+same_evidence g f names u w P Q k l s h i e = absurd (clash _ _ _ _ refl e)
+
+same_pair : (p q : PairEntry) → p.inner ≡ q.inner → p.position ≡ q.position → p.outer ≡ q.outer → p.evidence ≡ q.evidence → p ≡ q
+same_pair p q a b c d =
+    ap (λ (z : ℕ). record { inner = z; position = p.position; outer = p.outer; evidence = p.evidence }) a
+    ∙ ap (λ (z : Position). record { inner = q.inner; position = z; outer = p.outer; evidence = p.evidence }) b
+    ∙ ap (λ (z : ℕ). record { inner = q.inner; position = q.position; outer = z; evidence = p.evidence }) c
+    ∙ ap (λ (z : PairEvidence). record { inner = q.inner; position = q.position; outer = q.outer; evidence = z }) d
+
+same_redex : (p q : Redex) → p.which ≡ q.which → p.position ≡ q.position → p.rule ≡ q.rule → p.evidence ≡ q.evidence → p ≡ q
+same_redex p q a b c d =
+    ap (λ (z : ℕ). record { which = z; position = p.position; rule = p.rule; evidence = p.evidence }) a
+    ∙ ap (λ (z : Position). record { which = q.which; position = z; rule = p.rule; evidence = p.evidence }) b
+    ∙ ap (λ (z : ℕ). record { which = q.which; position = q.position; rule = z; evidence = p.evidence }) c
+    ∙ ap (λ (z : InfeasibilityEvidence). record { which = q.which; position = q.position; rule = q.rule; evidence = z }) d
+
+same_pairs : (ps qs : List PairEntry) (names : NameTable) (u w : Uses) (P Q : Automaton → Type 0) (n : ℕ) → SameUses names u w P Q → AllOf P (used_by_pairs ps) → AllOf Q (used_by_pairs qs) → pairs_marks (name_of names) u n ps ++ closing ≡ pairs_marks (name_of names) w n qs ++ closing → ps ≡ qs
+same_pairs [] [] names u w P Q n s h i e = refl
+same_pairs [] (q ∷ qs) names u w P Q n s h i e = absurd (clash _ _ _ _ refl e)
+same_pairs (p ∷ ps) [] names u w P Q n s h i e = absurd (clash _ _ _ _ refl e)
+same_pairs (p ∷ ps) (q ∷ qs) names u w P Q n s h i e =
+    let x = name_of names in
+    let a = tail_same _ _ _ _ (tail_same _ _ _ _ e) in
+    let inner = number_same p.inner q.inner _ _ a in
+    let b = tail_same _ _ _ _ (tail_same _ _ _ _ a) in
+    let place = place_same p.position q.position _ _ b in
+    let c = tail_same _ _ _ _ (tail_same _ _ _ _ b) in
+    let outer = number_same p.outer q.outer _ _ c in
+    let d = tail_same _ _ _ _ (tail_same _ _ _ _ c) in
+    let mine = all_of P (used_by_evidence p.evidence) (used_by_pairs ps) h in
+    let yours = all_of Q (used_by_evidence q.evidence) (used_by_pairs qs) i in
+    let shown = same_evidence p.evidence q.evidence names u w P Q _ _ s mine.0 yours.0 (regroup (evidence_marks x u p.evidence) (pairs_marks x u (suc n) ps) closing (evidence_marks x w q.evidence) (pairs_marks x w (suc n) qs) closing d) in
+    let others = same_pairs ps qs names u w P Q (suc n) s mine.1 yours.1 shown.1 in
+    ap (λ (z : PairEntry). z ∷ ps) (same_pair p q inner place outer shown.0) ∙ ap (λ (z : List PairEntry). q ∷ z) others
+
+same_redexes : (ps qs : List Redex) (names : NameTable) (u w : Uses) (P Q : Automaton → Type 0) (n : ℕ) → SameUses names u w P Q → AllOf P (used_by_redexes ps) → AllOf Q (used_by_redexes qs) → redexes_marks (name_of names) u n ps ++ closing ≡ redexes_marks (name_of names) w n qs ++ closing → ps ≡ qs
+same_redexes [] [] names u w P Q n s h i e = refl
+same_redexes [] (q ∷ qs) names u w P Q n s h i e = absurd (clash _ _ _ _ refl e)
+same_redexes (p ∷ ps) [] names u w P Q n s h i e = absurd (clash _ _ _ _ refl e)
+same_redexes (p ∷ ps) (q ∷ qs) names u w P Q n s h i e =
+    let x = name_of names in
+    let a = tail_same _ _ _ _ (tail_same _ _ _ _ e) in
+    let which = number_same p.which q.which _ _ a in
+    let b = tail_same _ _ _ _ (tail_same _ _ _ _ a) in
+    let place = place_same p.position q.position _ _ b in
+    let c = tail_same _ _ _ _ (tail_same _ _ _ _ b) in
+    let rule = number_same p.rule q.rule _ _ c in
+    let d = tail_same _ _ _ _ (tail_same _ _ _ _ c) in
+    let mine = all_of P (used_by p.evidence) (used_by_redexes ps) h in
+    let yours = all_of Q (used_by q.evidence) (used_by_redexes qs) i in
+    let shown = same_infeasibility p.evidence q.evidence names u w P Q _ _ s mine.0 yours.0 (regroup (infeasibility_marks x u p.evidence) (redexes_marks x u (suc n) ps) closing (infeasibility_marks x w q.evidence) (redexes_marks x w (suc n) qs) closing d) in
+    let others = same_redexes ps qs names u w P Q (suc n) s mine.1 yours.1 shown.1 in
+    ap (λ (z : Redex). z ∷ ps) (same_redex p q which place rule shown.0) ∙ ap (λ (z : List Redex). q ∷ z) others
+
+-- ---- measures
+
+same_coefficients : (js ks : List ℕ) (n : ℕ) (k l : List Mark) → coefficients_marks n js ++ (fixed (codes "\n") ∷ k) ≡ coefficients_marks n ks ++ (fixed (codes "\n") ∷ l) → (js ≡ ks) × (k ≡ l)
+same_coefficients [] [] n k l e = (refl, tail_same _ _ _ _ e)
+same_coefficients [] (j ∷ ks) n k l e = absurd (clash _ _ _ _ refl e)
+same_coefficients (j ∷ js) [] n k l e = absurd (clash _ _ _ _ refl e)
+same_coefficients (i ∷ js) (j ∷ ks) n k l e =
+    let a = tail_same _ _ _ _ e in
+    let q = head_same _ _ _ _ a in
+    let first : i ≡ j = cc in
+    let others = same_coefficients js ks (suc n) k l (tail_same _ _ _ _ a) in
+    (ap (λ (z : ℕ). z ∷ js) first ∙ ap (λ (z : List ℕ). j ∷ z) others.0, others.1)
+
+same_measured : (a b : Head) (names : NameTable) (n : ℕ) (k l : List Mark) → IsMeasured names a → IsMeasured names b → measured_marks (name_of names) n a ++ k ≡ measured_marks (name_of names) n b ++ l → (a ≡ b) × (k ≡ l)
+same_measured (file f) (file g) names n k l h i e =
+    let c = tail_same _ _ _ _ (tail_same _ _ _ _ e) in
+    let q = head_same _ _ _ _ c in
+    let name : name_of names f ≡ name_of names g = cc in
+    (ap file (same_symbol names f g h.0 i.0 h.1.named h.1.found i.1.named i.1.found name), tail_same _ _ _ _ c)
+same_measured (file f) (auxiliary r c) names n k l h i e = absurd (clash _ _ _ _ refl e)
+same_measured (auxiliary r c) (file g) names n k l h i e = absurd (clash _ _ _ _ refl e)
+same_measured (auxiliary r c) (auxiliary s d) names n k l h i e =
+    let x = tail_same _ _ _ _ (tail_same _ _ _ _ e) in
+    let rule = number_same r s _ _ x in
+    let y = tail_same _ _ _ _ (tail_same _ _ _ _ x) in
+    let condition = number_same c d _ _ y in
+    (ap (λ (z : ℕ). auxiliary z c) rule ∙ ap (λ (z : ℕ). auxiliary s z) condition, tail_same _ _ _ _ y)
+
+-- no line of a measure is an overlap or the end
+no_line : (a : Head) (x : Naming) (w : Uses) (n : ℕ) (qs : List PairEntry) (k : List Mark) → measured_marks x n a ++ k ≡ pairs_marks x w 1 qs ++ closing → ⊥
+no_line (file f) x w n [] k e = clash _ _ _ _ refl e
+no_line (file f) x w n (q ∷ qs) k e = clash _ _ _ _ refl e
+no_line (auxiliary r c) x w n [] k e = clash _ _ _ _ refl e
+no_line (auxiliary r c) x w n (q ∷ qs) k e = clash _ _ _ _ refl e
+
+abbrev line_end : List Mark
+line_end = fixed (codes "\n") ∷ []
+
+flat : (a b c k : List Mark) → ((a ++ (b ++ line_end)) ++ c) ++ k ≡ a ++ (b ++ (fixed (codes "\n") ∷ (c ++ k)))
+flat a b c k = simp append_assoc
+
+flat_line : (a c k : List Mark) → ((a ++ line_end) ++ c) ++ k ≡ a ++ (fixed (codes "\n") ∷ (c ++ k))
+flat_line a c k = simp append_assoc
+
+same_entries : (ds es : List LinearEntry) (names : NameTable) (u w : Uses) (n : ℕ) (ps qs : List PairEntry) → AreEntries names ds → AreEntries names es → entries_marks (name_of names) n ds ++ (pairs_marks (name_of names) u 1 ps ++ closing) ≡ entries_marks (name_of names) n es ++ (pairs_marks (name_of names) w 1 qs ++ closing)
+    → (ds ≡ es) × (pairs_marks (name_of names) u 1 ps ++ closing ≡ pairs_marks (name_of names) w 1 qs ++ closing)
+same_entries [] [] names u w n ps qs h i e = (refl, e)
+same_entries [] (d ∷ es) names u w n ps qs h i e = let x = name_of names in absurd (no_line d.head x u n ps _ (sym (flat (measured_marks x n d.head) (coefficients_marks 1 d.coefficients) (entries_marks x (suc n) es) (pairs_marks x w 1 qs ++ closing)) ∙ sym e))
+same_entries (d ∷ ds) [] names u w n ps qs h i e = let x = name_of names in absurd (no_line d.head x w n qs _ (sym (flat (measured_marks x n d.head) (coefficients_marks 1 d.coefficients) (entries_marks x (suc n) ds) (pairs_marks x u 1 ps ++ closing)) ∙ e))
+same_entries (d ∷ ds) (c ∷ es) names u w n ps qs h i e =
+    let x = name_of names in
+    let mine = flat (measured_marks x n d.head) (coefficients_marks 1 d.coefficients) (entries_marks x (suc n) ds) (pairs_marks x u 1 ps ++ closing) in
+    let yours = flat (measured_marks x n c.head) (coefficients_marks 1 c.coefficients) (entries_marks x (suc n) es) (pairs_marks x w 1 qs ++ closing) in
+    let first = same_measured d.head c.head names n _ _ h.0 i.0 (sym mine ∙ e ∙ yours) in
+    let numbers = same_coefficients d.coefficients c.coefficients 1 _ _ first.1 in
+    let others = same_entries ds es names u w (suc n) ps qs h.3 i.3 numbers.1 in
+    (ap (λ (z : Head). record { head = z; coefficients = d.coefficients } ∷ ds) first.0 ∙ ap (λ (z : List ℕ). record { head = c.head; coefficients = z } ∷ ds) numbers.0 ∙ ap (λ (z : List LinearEntry). c ∷ z) others.0, others.1)
+
+same_heads : (ds es : List Head) (names : NameTable) (u w : Uses) (n : ℕ) (ps qs : List PairEntry) → AreHeads names ds → AreHeads names es → heads_marks (name_of names) n ds ++ (pairs_marks (name_of names) u 1 ps ++ closing) ≡ heads_marks (name_of names) n es ++ (pairs_marks (name_of names) w 1 qs ++ closing)
+    → (ds ≡ es) × (pairs_marks (name_of names) u 1 ps ++ closing ≡ pairs_marks (name_of names) w 1 qs ++ closing)
+same_heads [] [] names u w n ps qs h i e = (refl, e)
+same_heads [] (d ∷ es) names u w n ps qs h i e = let x = name_of names in absurd (no_line d x u n ps _ (sym (flat_line (measured_marks x n d) (heads_marks x (suc n) es) (pairs_marks x w 1 qs ++ closing)) ∙ sym e))
+same_heads (d ∷ ds) [] names u w n ps qs h i e = let x = name_of names in absurd (no_line d x w n qs _ (sym (flat_line (measured_marks x n d) (heads_marks x (suc n) ds) (pairs_marks x u 1 ps ++ closing)) ∙ e))
+same_heads (d ∷ ds) (c ∷ es) names u w n ps qs h i e =
+    let x = name_of names in
+    let mine = flat_line (measured_marks x n d) (heads_marks x (suc n) ds) (pairs_marks x u 1 ps ++ closing) in
+    let yours = flat_line (measured_marks x n c) (heads_marks x (suc n) es) (pairs_marks x w 1 qs ++ closing) in
+    let first = same_measured d c names n _ _ h.0 i.0 (sym mine ∙ e ∙ yours) in
+    let others = same_heads ds es names u w (suc n) ps qs h.1 i.1 (tail_same _ _ _ _ first.1) in
+    (ap (λ (z : Head). z ∷ ds) first.0 ∙ ap (λ (z : List Head). c ∷ z) others.0, others.1)
+
+same_measure : (m r : MeasureCertificate) (names : NameTable) (u w : Uses) (ps qs : List PairEntry) → IsMeasure names m → IsMeasure names r → measure_marks (name_of names) m ++ (pairs_marks (name_of names) u 1 ps ++ closing) ≡ measure_marks (name_of names) r ++ (pairs_marks (name_of names) w 1 qs ++ closing)
+    → (m ≡ r) × (pairs_marks (name_of names) u 1 ps ++ closing ≡ pairs_marks (name_of names) w 1 qs ++ closing)
+same_measure (linear_measure ds) (linear_measure es) names u w ps qs h i e = let r = same_entries ds es names u w 1 ps qs h.1 i.1 (tail_same _ _ _ _ e) in (ap linear_measure r.0, r.1)
+same_measure (precedence_measure ds) (precedence_measure es) names u w ps qs h i e = let r = same_heads ds es names u w 1 ps qs h.1 i.1 (tail_same _ _ _ _ e) in (ap precedence_measure r.0, r.1)
+same_measure (linear_measure ds) (precedence_measure es) names u w ps qs h i e = absurd (clash _ _ _ _ refl e)
+same_measure (precedence_measure ds) (linear_measure es) names u w ps qs h i e = absurd (clash _ _ _ _ refl e)
+
+-- ---- bodies
+
+same_apart : (a b : Apartness) (names : NameTable) (u w : Uses) (P Q : Automaton → Type 0) → SameUses names u w P Q → AllOf P (used_by_apart a) → AllOf Q (used_by_apart b) → apart_marks (name_of names) u a ++ closing ≡ apart_marks (name_of names) w b ++ closing → a ≡ b
+same_apart (by_normal_forms rs) (by_normal_forms ss) names u w P Q s h i e = ap by_normal_forms (same_redexes rs ss names u w P Q 1 s h i (tail_same _ _ _ _ e))
+same_apart (by_normal_forms rs) by_rigid_caps names u w P Q s h i e = absurd (clash _ _ _ _ refl e)
+same_apart by_rigid_caps (by_normal_forms ss) names u w P Q s h i e = absurd (clash _ _ _ _ refl e)
+same_apart by_rigid_caps by_rigid_caps names u w P Q s h i e = refl
+
+same_steps : (ss ts : List Simplification) (names : NameTable) (u w : Uses) (P Q : Automaton → Type 0) (k l : List Mark) → SameUses names u w P Q → length ss ≡ length ts → AllOf P (used_by_steps ss) → AllOf Q (used_by_steps ts) → simplifications_marks (name_of names) u ss ++ k ≡ simplifications_marks (name_of names) w ts ++ l → (ss ≡ ts) × (k ≡ l)
+same_steps [] [] names u w P Q k l s n h i e = (refl, e)
+same_steps [] (t ∷ ts) names u w P Q k l s n h i e = absurd (let q : 0 ≡ suc (length ts) = n in omega arith)
+same_steps (t ∷ ss) [] names u w P Q k l s n h i e = absurd (let q : suc (length ss) ≡ 0 = n in omega arith)
+same_steps (dropped r a ∷ ss) (dropped q b ∷ ts) names u w P Q k l s n h i e =
+    let x = name_of names in
+    let c = tail_same _ _ _ _ e in
+    let rule = number_same r q _ _ c in
+    let d = tail_same _ _ _ _ (tail_same _ _ _ _ c) in
+    let mine = all_of P (used_by a) (used_by_steps ss) h in
+    let yours = all_of Q (used_by b) (used_by_steps ts) i in
+    let shown = same_infeasibility a b names u w P Q _ _ s mine.0 yours.0 (regroup (infeasibility_marks x u a) (simplifications_marks x u ss) k (infeasibility_marks x w b) (simplifications_marks x w ts) l d) in
+    let others = same_steps ss ts names u w P Q k l s (let q : suc (length ss) ≡ suc (length ts) = n in omega arith) mine.1 yours.1 shown.1 in
+    (ap (λ (z : ℕ). dropped z a ∷ ss) rule ∙ ap (λ (z : InfeasibilityEvidence). dropped q z ∷ ss) shown.0 ∙ ap (λ (z : List Simplification). dropped q b ∷ z) others.0, others.1)
+same_steps (inlined r j ∷ ss) (inlined q m ∷ ts) names u w P Q k l s n h i e =
+    let c = tail_same _ _ _ _ e in
+    let rule = number_same r q _ _ c in
+    let d = tail_same _ _ _ _ (tail_same _ _ _ _ c) in
+    let condition = number_same j m _ _ d in
+    let others = same_steps ss ts names u w P Q k l s (let q : suc (length ss) ≡ suc (length ts) = n in omega arith) h i (tail_same _ _ _ _ (tail_same _ _ _ _ d)) in
+    (ap (λ (z : ℕ). inlined z j ∷ ss) rule ∙ ap (λ (z : ℕ). inlined q z ∷ ss) condition ∙ ap (λ (z : List Simplification). inlined q m ∷ z) others.0, others.1)
+same_steps (dropped r a ∷ ss) (inlined q m ∷ ts) names u w P Q k l s n h i e = absurd (clash _ _ _ _ refl e)
+same_steps (inlined r j ∷ ss) (dropped q b ∷ ts) names u w P Q k l s n h i e = absurd (clash _ _ _ _ refl e)
+
+same_peak : (p q : Peak) → p.start ≡ q.start → p.first ≡ q.first → p.second ≡ q.second → p.apart ≡ q.apart → p ≡ q
+same_peak p q a b c d =
+    ap (λ z. record { start = z; first = p.first; second = p.second; apart = p.apart }) a
+    ∙ ap (λ (z : Derivation). record { start = q.start; first = z; second = p.second; apart = p.apart }) b
+    ∙ ap (λ (z : Derivation). record { start = q.start; first = q.first; second = z; apart = p.apart }) c
+    ∙ ap (λ (z : Apartness). record { start = q.start; first = q.first; second = q.second; apart = z }) d
+
+same_bodies : (c d : Certificate) (names : NameTable) (u w : Uses) (P Q : Automaton → Type 0) (given : Option Bool) → SameUses names u w P Q → IsWithin names c → IsWithin names d → AllOf P (automata_of c) → AllOf Q (automata_of d) → body_marks (name_of names) u given c ++ closing ≡ body_marks (name_of names) w given d ++ closing → c ≡ d
+same_bodies (ortho_certificate ps) (ortho_certificate qs) names u w P Q given s a b h i e = ap ortho_certificate (same_pairs ps qs names u w P Q 1 s h i (tail_same _ _ _ _ (tail_same _ _ _ _ e)))
+same_bodies (quasi_certificate m ps) (quasi_certificate r qs) names u w P Q given s a b h i e =
+    let x = name_of names in
+    let both = same_measure m r names u w ps qs a.0 b.0 (regroup (measure_marks x m) (pairs_marks x u 1 ps) closing (measure_marks x r) (pairs_marks x w 1 qs) closing (tail_same _ _ _ _ (tail_same _ _ _ _ e))) in
+    ap (λ (z : MeasureCertificate). quasi_certificate z ps) both.0 ∙ ap (quasi_certificate r) (same_pairs ps qs names u w P Q 1 s h i both.1)
+same_bodies (peak_certificate p) (peak_certificate q) names u w P Q given s a b h i e =
+    let x = name_of names in
+    let lines = tail_same _ _ _ _ (tail_same _ _ _ _ (tail_same _ _ _ _ e)) in
+    let start = same_terms p.start q.start names 1 1 _ _ a.0 b.0
+    (regroup (term_marks x 1 1 p.start) (fixed (codes "\n") ∷ (derivation_marks p.first ++ (derivation_marks p.second ++ apart_marks x u p.apart))) closing (term_marks x 1 1 q.start) (fixed (codes "\n") ∷ (derivation_marks q.first ++ (derivation_marks q.second ++ apart_marks x w q.apart))) closing lines) in
+    let first = same_derivation p.first q.first _ _ (regroup (derivation_marks p.first) (derivation_marks p.second ++ apart_marks x u p.apart) closing (derivation_marks q.first) (derivation_marks q.second ++ apart_marks x w q.apart) closing (tail_same _ _ _ _ start.1)) in
+    let second = same_derivation p.second q.second _ _ (regroup (derivation_marks p.second) (apart_marks x u p.apart) closing (derivation_marks q.second) (apart_marks x w q.apart) closing first.1) in
+    ap peak_certificate (same_peak p q start.0 first.0 second.0 (same_apart p.apart q.apart names u w P Q s h i second.1))
+same_bodies (simplified_certificate ss c) (simplified_certificate ts d) names u w P Q given s a b h i e =
+    let x = name_of names in
+    let count_of = tail_same _ _ _ _ e in
+    let q = head_same _ _ _ _ count_of in
+    let size : length ss ≡ length ts = cc in
+    let lines = tail_same _ _ _ _ (tail_same _ _ _ _ count_of) in
+    let mine = all_of P (used_by_steps ss) (automata_of c) h in
+    let yours = all_of Q (used_by_steps ts) (automata_of d) i in
+    let steps = same_steps ss ts names u w P Q _ _ s size mine.0 yours.0 (regroup (simplifications_marks x u ss) (body_marks x u given c) closing (simplifications_marks x w ts) (body_marks x w given d) closing lines) in
+    ap (λ (z : List Simplification). simplified_certificate z c) steps.0 ∙ ap (simplified_certificate ts) (same_bodies c d names u w P Q given s a.3 b.3 mine.1 yours.1 steps.1)
+same_bodies (ortho_certificate ps) (quasi_certificate m qs) names u w P Q given s a b h i e = absurd (clash _ _ _ _ refl e)
+same_bodies (ortho_certificate ps) (peak_certificate q) names u w P Q given s a b h i e = absurd (clash _ _ _ _ refl e)
+same_bodies (ortho_certificate ps) (simplified_certificate ts d) names u w P Q given s a b h i e = absurd (clash _ _ _ _ refl e)
+same_bodies (quasi_certificate m ps) (ortho_certificate qs) names u w P Q given s a b h i e = absurd (clash _ _ _ _ refl e)
+same_bodies (quasi_certificate m ps) (peak_certificate q) names u w P Q given s a b h i e = absurd (clash _ _ _ _ refl e)
+same_bodies (quasi_certificate m ps) (simplified_certificate ts d) names u w P Q given s a b h i e = absurd (clash _ _ _ _ refl e)
+same_bodies (peak_certificate p) (ortho_certificate qs) names u w P Q given s a b h i e = absurd (clash _ _ _ _ refl e)
+same_bodies (peak_certificate p) (quasi_certificate m qs) names u w P Q given s a b h i e = absurd (clash _ _ _ _ refl e)
+same_bodies (peak_certificate p) (simplified_certificate ts d) names u w P Q given s a b h i e = absurd (clash _ _ _ _ refl e)
+same_bodies (simplified_certificate ss c) (ortho_certificate qs) names u w P Q given s a b h i e = absurd (clash _ _ _ _ refl e)
+same_bodies (simplified_certificate ss c) (quasi_certificate m qs) names u w P Q given s a b h i e = absurd (clash _ _ _ _ refl e)
+same_bodies (simplified_certificate ss c) (peak_certificate q) names u w P Q given s a b h i e = absurd (clash _ _ _ _ refl e)
+
+-- ---- answers and headings
+
+same_answers : (f g : Option Bool) (a b : List ℕ) (k l : List Mark) → differ (codes "YES\n") a ≡ true → differ (codes "NO\n") a ≡ true → differ (codes "YES\n") b ≡ true → differ (codes "NO\n") b ≡ true → answer_marks f ++ (fixed a ∷ k) ≡ answer_marks g ++ (fixed b ∷ l) → (f ≡ g) × (fixed a ∷ k ≡ fixed b ∷ l)
+same_answers None None a b k l p q r s e = (refl, e)
+same_answers (Some true) (Some true) a b k l p q r s e = (refl, tail_same _ _ _ _ e)
+same_answers (Some false) (Some false) a b k l p q r s e = (refl, tail_same _ _ _ _ e)
+same_answers None (Some true) a b k l p q r s e = absurd (clash _ _ _ _ p (sym e))
+same_answers None (Some false) a b k l p q r s e = absurd (clash _ _ _ _ q (sym e))
+same_answers (Some true) None a b k l p q r s e = absurd (clash _ _ _ _ r e)
+same_answers (Some false) None a b k l p q r s e = absurd (clash _ _ _ _ s e)
+same_answers (Some true) (Some false) a b k l p q r s e = absurd (clash _ _ _ _ refl e)
+same_answers (Some false) (Some true) a b k l p q r s e = absurd (clash _ _ _ _ refl e)
+
+abbrev seal : List Mark
+seal = closed (shares automaton_ends) ∷ []
+
+same_shared : (bs ds : List Automaton) (names : NameTable) (k l : List Mark) → AreAutomata names bs → AreAutomata names ds → length bs ≡ length ds → automata_marks (name_of names) bs ++ k ≡ automata_marks (name_of names) ds ++ l → (bs ≡ ds) × (k ≡ l)
+same_shared [] [] names k l h i n e = (refl, e)
+same_shared [] (d ∷ ds) names k l h i n e = absurd (let q : 0 ≡ suc (length ds) = n in omega arith)
+same_shared (b ∷ bs) [] names k l h i n e = absurd (let q : suc (length bs) ≡ 0 = n in omega arith)
+same_shared (b ∷ bs) (d ∷ ds) names k l h i n e =
+    let x = name_of names in
+    let lines = regroup (automaton_marks x b ++ seal) (automata_marks x bs) k (automaton_marks x d ++ seal) (automata_marks x ds) l e in
+    let first = same_automata b d names _ _ h.0 i.0 (regroup (automaton_marks x b) seal _ (automaton_marks x d) seal _ lines) in
+    let others = same_shared bs ds names k l h.1 i.1 (let q : suc (length bs) ≡ suc (length ds) = n in omega arith) (tail_same _ _ _ _ first.1) in
+    (ap (λ (z : Automaton). z ∷ bs) first.0 ∙ ap (λ (z : List Automaton). d ∷ z) others.0, others.1)
+
+-- automata with one text are one
+text_tells : (a b : Automaton) (names : NameTable) → IsAutomaton names a → IsAutomaton names b → automaton_text names a ≡ automaton_text names b → a ≡ b
+text_tells a b names h i e =
+    let x = name_of names in
+    let mine = spelt_automaton a names h in
+    let yours = spelt_automaton b names i in
+    let texts : marks_text (automaton_marks x a ++ line_end) ≡ marks_text (automaton_marks x b ++ line_end) =
+    text_both (automaton_marks x a) line_end ∙ ap (λ (t : List ℕ). t ++ marks_text line_end) (mine.text ∙ e ∙ sym yours.text) ∙ sym (text_both (automaton_marks x b) line_end) in
+    let marks = whole_same (alike_automata a b x x line_end line_end mine.named yours.named (same ended)) (inr (automaton_marks x a, codes "\n", refl)) (inr (automaton_marks x b, codes "\n", refl)) texts in
+    (same_automata a b names line_end line_end h i marks).0
+
+-- ---- certificates
+
+in_full_same : (names : NameTable) → SameUses names in_full in_full (IsAutomaton names) (IsAutomaton names)
+in_full_same names a b k l h i e = same_automata a b names k l h i (tail_same _ _ _ _ e)
+
+-- an automaton that stands among others
+abbrev Known : NameTable → List Automaton → Automaton → Type 0
+Known names all a = IsAutomaton names a × (is_among (automaton_text names a) (texts_of names all) ≡ true)
+
+numbers_same : (names : NameTable) (bs ds : List Automaton) → bs ≡ ds → SameUses names (by_number (number_in names bs)) (by_number (number_in names ds)) (Known names bs) (Known names ds)
+numbers_same names bs ds q a b k l h i e =
+    let c = tail_same _ _ _ _ e in
+    let here = head_same _ _ _ _ c in
+    let number_is : number_in names bs a ≡ number_in names ds b = cc in
+    let mine = place_text (automaton_text names a) (texts_of names bs) h.1 in
+    let yours = place_text (automaton_text names b) (texts_of names ds) i.1 in
+    let texts = sym mine ∙ ap (λ (n : ℕ). text_at n (texts_of names bs)) number_is ∙ ap (λ (z : List Automaton). text_at (number_in names ds b) (texts_of names z)) q ∙ yours in
+    (text_tells a b names h.0 i.0 texts, tail_same _ _ _ _ (tail_same _ _ _ _ c))
+
+all_automata : (used : List Automaton) (names : NameTable) → AreAutomata names used → AllOf (IsAutomaton names) used
+all_automata [] names h = tt
+all_automata (a ∷ used) names h = (h.0, all_automata used names h.1)
+
+all_known : (used all : List Automaton) (names : NameTable) → AreAutomata names used → AreAmong names used (texts_of names all) → AllOf (Known names all) used
+all_known [] all names h k = tt
+all_known (a ∷ used) all names h k = ((h.0, k.0), all_known used all names h.1 k.1)
+
+-- how the uses are written where these automata stand before the body
+abbrev pub numbered_in : Version → NameTable → List Automaton → Uses
+numbered_in first_version names bs = in_full
+numbered_in second_version names bs = by_number (number_in names bs)
+
+-- these stand there, all that the certificate uses among them
+abbrev pub StandBefore : Version → NameTable → Certificate → List Automaton → Type 0
+StandBefore first_version names c bs = Unit {0}
+StandBefore second_version names c bs = AreAutomata names bs × AreAmong names (automata_of c) (texts_of names bs)
+
+abbrev pub AreSame : Version → List Automaton → List Automaton → Type 0
+AreSame first_version bs ds = Unit {0}
+AreSame second_version bs ds = bs ≡ ds
+
+-- marks tell the version, the certificate and the automata before it
+pub marks_tell : (v w : Version) (names : NameTable) (c d : Certificate) (bs ds : List Automaton) (f g : Option Bool) → IsWithin names c → IsWithin names d → StandBefore v names c bs → StandBefore w names d ds
+    → certificate_marks (name_of names) (numbered_in v names bs) bs f c ≡ certificate_marks (name_of names) (numbered_in w names ds) ds g d → (v ≡ w) × (c ≡ d) × AreSame v bs ds
+marks_tell first_version first_version names c d bs ds f g a b m n e =
+    let r = same_answers f g (codes "concon 1\n") (codes "concon 1\n") _ _ refl refl refl refl e in
+    let lines : body_marks (name_of names) in_full f c ++ closing ≡ body_marks (name_of names) in_full f d ++ closing = tail_same _ _ _ _ r.1 ∙ ap (λ (o : Option Bool). body_marks (name_of names) in_full o d ++ closing) (sym r.0) in
+    (refl, same_bodies c d names in_full in_full (IsAutomaton names) (IsAutomaton names) f (in_full_same names) a b (all_automata (automata_of c) names (of_certificate c names a)) (all_automata (automata_of d) names (of_certificate d names b)) lines, tt)
+marks_tell first_version second_version names c d bs ds f g a b m n e = let r = same_answers f g (codes "concon 1\n") (codes "concon 2\n") _ _ refl refl refl refl e in absurd (clash _ _ _ _ refl r.1)
+marks_tell second_version first_version names c d bs ds f g a b m n e = let r = same_answers f g (codes "concon 2\n") (codes "concon 1\n") _ _ refl refl refl refl e in absurd (clash _ _ _ _ refl r.1)
+marks_tell second_version second_version names c d bs ds f g a b m n e =
+    let x = name_of names in
+    let u = by_number (number_in names bs) in
+    let w = by_number (number_in names ds) in
+    let r = same_answers f g (codes "concon 2\n") (codes "concon 2\n") _ _ refl refl refl refl e in
+    let count_of = tail_same _ _ _ _ (tail_same _ _ _ _ r.1) in
+    let q = head_same _ _ _ _ count_of in
+    let size : length bs ≡ length ds = cc in
+    let rest = tail_same _ _ _ _ (tail_same _ _ _ _ count_of) in
+    let all = same_shared bs ds names (body_marks x u f c ++ closing) (body_marks x w g d ++ closing) m.0 n.0 size rest in
+    let lines : body_marks x u f c ++ closing ≡ body_marks x w f d ++ closing = all.1 ∙ ap (λ (o : Option Bool). body_marks x w o d ++ closing) (sym r.0) in (
+      refl,
+      same_bodies c d names u w (Known names bs) (Known names ds) f (numbers_same names bs ds all.0) a b
+          (all_known (automata_of c) bs names (of_certificate c names a) m.1) (all_known (automata_of d) ds names (of_certificate d names b) n.1) lines,
+      all.0,
+    )
+
+own_stand : (v : Version) (names : NameTable) (c : Certificate) → IsWithin names c → StandBefore v names c (shared_by names c)
+own_stand first_version names c a = tt
+own_stand second_version names c a = (shared_are names c a, (shared_numbered names c).each)
+
+same_uses : (v : Version) (names : NameTable) (c : Certificate) → uses_of v names c ≡ numbered_in v names (shared_by names c)
+same_uses first_version names c = refl
+same_uses second_version names c = refl
+
+pub one_certificate : (names : NameTable) (bytes : List ℕ) (c d : Certificate) → IsCertificateText names bytes c → IsCertificateText names bytes d → c ≡ d
+one_certificate names bytes c d (v, h) (w, k) =
+    let x = name_of names in
+    let mine = spelt_marks v names bytes c h in
+    let yours = spelt_marks w names bytes d k in
+    let s : Skeleton = record { names = x; uses = uses_of v names c; shared = shared_by names c; answer = mine.0; certificate = c; allowed = mine.3; named = mine.2 } in
+    let t : Skeleton = record { names = x; uses = uses_of w names d; shared = shared_by names d; answer = yours.0; certificate = d; allowed = yours.3; named = yours.2 } in
+    let marks = whole_same (alike_skeletons s t) (inr (closes_all s)) (inr (closes_all t)) (mine.1 ∙ sym yours.1) in
+    (marks_tell v w names c d (shared_by names c) (shared_by names d) mine.0 yours.0 h.spelt.1 k.spelt.1 (own_stand v names c h.spelt.1) (own_stand w names d k.spelt.1)
+    (ap (λ (u : Uses). certificate_marks x u (shared_by names c) mine.0 c) (sym (same_uses v names c)) ∙ marks ∙ ap (λ (u : Uses). certificate_marks x u (shared_by names d) yours.0 d) (same_uses w names d))).1

@@ -1,0 +1,402 @@
+-- What the marks of a certificate ask of its shared automata: the numbers of its uses, in order.
+use Rattle.std.proofs.Common.{◌≡◌, ℕ, suc, ◌+◌, ◌-◌, ◌≤◌, max, nat_le, Bool, true, false, cond, not, ◌&&◌, List, [], ◌∷◌, ◌++◌, length, map, codes, Option, Some, None, refl, sym, ap, ◌∙◌, subst, append_assoc, append-nil, leb-true, le-leb}
+use Rattle.rewriting.specs.Terms.{Term, var, app, Terms, nil, cons, size}
+use Rattle.rewriting.specs.Positions.{Position}
+use Rattle.rewriting.specs.Unraveling.{Head, file, auxiliary}
+use Rattle.certificates.specs.Derivations.{Derivation, no_steps, first_step, Step, by_rule, by_hypothesis, Derivations, no_derivations, first_derivation}
+use Rattle.certificates.specs.Evidence.{Transition, Automaton, InfeasibilityEvidence, by_caps, by_automaton, PairEvidence, trivial_pair, infeasible_pair, conflicting_pair, joined_pair, unfeasible_pair}
+use Rattle.certificates.specs.Certificates.{PairEntry, LinearEntry, MeasureCertificate, linear_measure, precedence_measure, Redex, Apartness, by_normal_forms, by_rigid_caps, Simplification, dropped, inlined, Certificate, ortho_certificate, quasi_certificate, peak_certificate, simplified_certificate}
+use Rattle.cert_grammar.specs.Versions.{Uses, in_full, by_number, used_by, used_by_evidence, used_by_pairs, used_by_redexes, used_by_apart, used_by_steps, automata_of}
+use Rattle.cert_grammar.specs.Words.{largest}
+use Rattle.cert_grammar.specs.Marks.{Naming, Counted, limit, unfolded, CertificateCause, bad_share, too_many, automaton_begins, automaton_ends, is_use, is_light, Demand, is_symbol, has_arity, in_range, is_few, is_shallow, fits_answer, shares, Mark, fixed, word, closed, mark_text, marks_text, demands_of}
+use Rattle.cert_grammar.specs.WordMarks.{numeral, are_places, number, number_for, position, term_marks, arguments_marks, further_marks, steps_marks, step_marks, derivations_marks, derivation_marks}
+use Rattle.cert_grammar.specs.CertificateMarks.{use_mark, accepting_marks, further_states_marks, states_marks, head_marks, transitions_marks, automaton_marks, automata_marks, infeasibility_marks, evidence_marks, pairs_marks, coefficients_marks, measured_marks, entries_marks, heads_marks, measure_marks, redexes_marks, apart_marks, simplifications_marks, body_marks}
+use Rattle.cert_grammar.specs.SharedText.{is_among, AllNew}
+use Rattle.cert_grammar.specs.Sharing.{Shared, text_at, holds, first_of, share_verdict, effects, behind_mark, behind_marks, PassShares}
+use Rattle.cert_grammar.proofs.ScanLaws.{and_first, and_second}
+use Rattle.cert_sharing.proofs.FirstUses.{greatest}
+
+abbrev pub state : List (List ℕ) → List ℕ → ℕ → ℕ → Shared
+state ts b u w = record { texts = ts; begun = b; used = u; unfolds_to = w }
+
+-- ---- marks that ask nothing of shared automata
+
+abbrev pub IsStill : List Demand → Type 0
+IsStill [] = Unit {0}
+IsStill (shares e ∷ ds) = ⊥
+IsStill (is_symbol name ∷ ds) = IsStill ds
+IsStill (has_arity name n ∷ ds) = IsStill ds
+IsStill (in_range skip least bound n ∷ ds) = IsStill ds
+IsStill (is_few what n ∷ ds) = IsStill ds
+IsStill (is_shallow most n ∷ ds) = IsStill ds
+IsStill (fits_answer told given ∷ ds) = IsStill ds
+
+abbrev pub AreStill : List Mark → Type 0
+AreStill [] = Unit {0}
+AreStill (m ∷ ms) = IsStill (demands_of m) × AreStill ms
+
+pub still_both : (a b : List Mark) → AreStill a → AreStill b → AreStill (a ++ b)
+still_both [] b h k = k
+still_both (m ∷ a) b h k = (h.0, still_both a b h.1 k)
+
+still_effects : (ds : List Demand) (s : Shared) → IsStill ds → effects ds s ≡ s
+still_effects [] s h = refl
+still_effects (shares e ∷ ds) s h = absurd h
+still_effects (is_symbol name ∷ ds) s h = still_effects ds s h
+still_effects (has_arity name n ∷ ds) s h = still_effects ds s h
+still_effects (in_range skip least bound n ∷ ds) s h = still_effects ds s h
+still_effects (is_few what n ∷ ds) s h = still_effects ds s h
+still_effects (is_shallow most n ∷ ds) s h = still_effects ds s h
+still_effects (fits_answer told given ∷ ds) s h = still_effects ds s h
+
+still_verdict : (ds : List Demand) (s : Shared) (a : ℕ) → IsStill ds → share_verdict s a ds ≡ None
+still_verdict [] s a h = refl
+still_verdict (shares e ∷ ds) s a h = absurd h
+still_verdict (is_symbol name ∷ ds) s a h = still_verdict ds s a h
+still_verdict (has_arity name n ∷ ds) s a h = still_verdict ds s a h
+still_verdict (in_range skip least bound n ∷ ds) s a h = still_verdict ds s a h
+still_verdict (is_few what n ∷ ds) s a h = still_verdict ds s a h
+still_verdict (is_shallow most n ∷ ds) s a h = still_verdict ds s a h
+still_verdict (fits_answer told given ∷ ds) s a h = still_verdict ds s a h
+
+still_mark : (m : Mark) (ts : List (List ℕ)) (b : List ℕ) (u w : ℕ) → IsStill (demands_of m) → behind_mark m (state ts b u w) ≡ state ts (b ++ mark_text m) u w
+still_mark m ts b u w h = ap (λ (s : Shared). record { texts = s.texts; begun = s.begun ++ mark_text m; used = s.used; unfolds_to = s.unfolds_to }) (still_effects (demands_of m) (state ts b u w) h)
+
+-- they only add their text to what was begun
+pub still_marks : (ms : List Mark) (ts : List (List ℕ)) (b : List ℕ) (u w : ℕ) → AreStill ms → behind_marks ms (state ts b u w) ≡ state ts (b ++ marks_text ms) u w
+still_marks [] ts b u w h = ap (λ (x : List ℕ). state ts x u w) (sym (append-nil b))
+still_marks (m ∷ ms) ts b u w h =
+    ap (behind_marks ms) (still_mark m ts b u w h.0) ∙ still_marks ms ts (b ++ mark_text m) u w h.1 ∙ ap (λ (x : List ℕ). state ts x u w) (append_assoc b (mark_text m) (marks_text ms))
+
+pub still_pass : (ms : List Mark) (s : Shared) → AreStill ms → PassShares s ms
+still_pass [] s h = tt
+still_pass (m ∷ ms) s h = (still_verdict (demands_of m) s 0 h.0, still_pass ms (behind_mark m s) h.1)
+
+-- ---- parts that are still
+
+pub places_still : (p : Position) (skip : ℕ) → IsStill (are_places skip p)
+places_still [] skip = tt
+places_still (k ∷ p) skip = places_still p (skip + length (numeral k) + 1)
+
+mutual
+  term_still : (t : Term) (x : Naming) (level n : ℕ) → AreStill (term_marks x level n t)
+  term_still (var a) x level n = (tt, tt)
+  term_still (app f ts) x level n = (tt, still_both (arguments_marks x (suc level) (suc n) ts) _ (arguments_still ts x (suc level) (suc n)) (tt, tt))
+
+  arguments_still : (ts : Terms) (x : Naming) (level n : ℕ) → AreStill (arguments_marks x level n ts)
+  arguments_still nil x level n = tt
+  arguments_still (cons t ts) x level n = (tt, still_both (term_marks x level n t) _ (term_still t x level n) (further_still ts x level (n + size t)))
+
+  further_still : (ts : Terms) (x : Naming) (level n : ℕ) → AreStill (further_marks x level n ts)
+  further_still nil x level n = (tt, tt)
+  further_still (cons t ts) x level n = (tt, still_both (term_marks x level n t) _ (term_still t x level n) (further_still ts x level (n + size t)))
+
+mutual
+  steps_still : (d : Derivation) (level : ℕ) → AreStill (steps_marks level d)
+  steps_still no_steps level = tt
+  steps_still (first_step s d) level = still_both (step_marks level s) _ (step_still s level) (steps_still d level)
+
+  step_still : (s : Step) (level : ℕ) → AreStill (step_marks level s)
+  step_still (by_rule rule p ds) level = (tt, (tt, (tt, (places_still p 0, (tt, (tt, (tt, derivations_still ds (suc level))))))))
+  step_still (by_hypothesis k p) level = (tt, (tt, (tt, (places_still p 0, (tt, tt)))))
+
+  derivations_still : (ds : Derivations) (level : ℕ) → AreStill (derivations_marks level ds)
+  derivations_still no_derivations level = tt
+  derivations_still (first_derivation d ds) level = (tt, (tt, (tt, (tt, still_both (steps_marks level d) _ (steps_still d level) (derivations_still ds level)))))
+
+derivation_still : (d : Derivation) → AreStill (derivation_marks d)
+derivation_still d = (tt, (tt, (tt, (tt, steps_still d 1))))
+
+accepting_still : (qs : List ℕ) (bound : ℕ) → AreStill (accepting_marks bound qs)
+accepting_still [] bound = tt
+accepting_still (q ∷ qs) bound = (tt, (tt, accepting_still qs bound))
+
+further_states_still : (qs : List ℕ) (bound : ℕ) → AreStill (further_states_marks bound qs)
+further_states_still [] bound = (tt, tt)
+further_states_still (q ∷ qs) bound = (tt, (tt, further_states_still qs bound))
+
+states_still : (qs : List ℕ) (bound : ℕ) → AreStill (states_marks bound qs)
+states_still [] bound = tt
+states_still (q ∷ qs) bound = (tt, (tt, further_states_still qs bound))
+
+head_still : (f : Option ℕ) (x : Naming) (bound : ℕ) (qs : List ℕ) → AreStill (head_marks x bound f qs)
+head_still None x bound qs = (tt, tt)
+head_still (Some f) x bound qs = (tt, still_both (states_marks bound qs) _ (states_still qs bound) (tt, tt))
+
+transitions_still : (ts : List Transition) (x : Naming) (bound : ℕ) → AreStill (transitions_marks x bound ts)
+transitions_still [] x bound = tt
+transitions_still (t ∷ ts) x bound = still_both (head_marks x bound t.symbol t.arguments ++ _) (transitions_marks x bound ts) (still_both (head_marks x bound t.symbol t.arguments) _ (head_still t.symbol x bound t.arguments) (tt, (tt, (tt, tt)))) (transitions_still ts x bound)
+
+coefficients_still : (ks : List ℕ) (n : ℕ) → AreStill (coefficients_marks n ks)
+coefficients_still [] n = tt
+coefficients_still (k ∷ ks) n = (tt, (tt, coefficients_still ks (suc n)))
+
+measured_still : (a : Head) (x : Naming) (n : ℕ) → AreStill (measured_marks x n a)
+measured_still (file f) x n = (tt, (tt, (tt, tt)))
+measured_still (auxiliary r c) x n = (tt, (tt, (tt, (tt, (tt, tt)))))
+
+entries_still : (es : List LinearEntry) (x : Naming) (n : ℕ) → AreStill (entries_marks x n es)
+entries_still [] x n = tt
+entries_still (e ∷ es) x n = still_both (measured_marks x n e.head ++ _) (entries_marks x (suc n) es) (still_both (measured_marks x n e.head) _ (measured_still e.head x n) (still_both (coefficients_marks 1 e.coefficients) _ (coefficients_still e.coefficients 1) (tt, tt))) (entries_still es x (suc n))
+
+heads_still : (hs : List Head) (x : Naming) (n : ℕ) → AreStill (heads_marks x n hs)
+heads_still [] x n = tt
+heads_still (h ∷ hs) x n = still_both (measured_marks x n h ++ _) (heads_marks x (suc n) hs) (still_both (measured_marks x n h) _ (measured_still h x n) (tt, tt)) (heads_still hs x (suc n))
+
+measure_still : (m : MeasureCertificate) (x : Naming) → AreStill (measure_marks x m)
+measure_still (linear_measure es) x = (tt, entries_still es x 1)
+measure_still (precedence_measure hs) x = (tt, heads_still hs x 1)
+
+-- the marks of an automaton behind its first word
+abbrev pub behind_states : Naming → Automaton → List Mark
+behind_states x a =
+    fixed (codes " ") ∷ word (numeral a.states) (in_range 0 1 (suc largest) a.states ∷ is_few Counted.states a.states ∷ [])
+    ∷ fixed (codes "\naccepting") ∷ (accepting_marks a.states a.accepting
+    ++ (fixed (codes "\ntransitions ") ∷ number_for Counted.transitions (length a.transitions) ∷ fixed (codes "\n") ∷ transitions_marks x a.states a.transitions))
+
+pub behind_states_still : (a : Automaton) (x : Naming) → AreStill (behind_states x a)
+behind_states_still a x = (tt, (tt, (tt, still_both (accepting_marks a.states a.accepting) _ (accepting_still a.accepting a.states) (tt, (tt, (tt, transitions_still a.transitions x a.states))))))
+
+-- ---- lists of marks
+
+pub behind_both : (a b : List Mark) (s : Shared) → behind_marks (a ++ b) s ≡ behind_marks b (behind_marks a s)
+behind_both [] b s = refl
+behind_both (m ∷ a) b s = behind_both a b (behind_mark m s)
+
+pub pass_split : (a b : List Mark) (s : Shared) → PassShares s (a ++ b) → PassShares s a × PassShares (behind_marks a s) b
+pass_split [] b s h = (tt, h)
+pass_split (m ∷ a) b s h = let r = pass_split a b (behind_mark m s) h.1 in ((h.0, r.0), r.1)
+
+pub pass_join : (a b : List Mark) (s : Shared) → PassShares s a → PassShares (behind_marks a s) b → PassShares s (a ++ b)
+pass_join [] b s h k = k
+pass_join (m ∷ a) b s h k = (h.0, pass_join a b (behind_mark m s) h.1 k)
+
+-- ---- automata
+
+-- behind an automaton all of its text was begun, whatever was begun before
+pub automaton_behind : (a : Automaton) (x : Naming) (ts : List (List ℕ)) (b : List ℕ) (u w : ℕ) → behind_marks (automaton_marks x a) (state ts b u w) ≡ state ts (marks_text (automaton_marks x a)) u w
+automaton_behind a x ts b u w = still_marks (behind_states x a) ts (codes "states") u w (behind_states_still a x)
+
+pub automaton_pass : (a : Automaton) (x : Naming) (s : Shared) → PassShares s (automaton_marks x a)
+automaton_pass a x s = (refl, still_pass (behind_states x a) (behind_mark (word (codes "states") (shares automaton_begins ∷ [])) s) (behind_states_still a x))
+
+abbrev pub marked_texts : Naming → List Automaton → List (List ℕ)
+marked_texts x [] = []
+marked_texts x (a ∷ others) = marks_text (automaton_marks x a) ∷ marked_texts x others
+
+abbrev seal : List Mark
+seal = closed (shares automaton_ends) ∷ []
+
+sealed_behind : (a : Automaton) (x : Naming) (ts : List (List ℕ)) (b : List ℕ) (u w : ℕ) → behind_marks (automaton_marks x a ++ seal) (state ts b u w) ≡ state (ts ++ marks_text (automaton_marks x a) ∷ []) (marks_text (automaton_marks x a) ++ []) u w
+sealed_behind a x ts b u w = behind_both (automaton_marks x a) seal (state ts b u w) ∙ ap (behind_marks seal) (automaton_behind a x ts b u w)
+
+pub automata_behind : (bs : List Automaton) (x : Naming) (ts : List (List ℕ)) (b : List ℕ) (u w : ℕ) → (c : List ℕ) × (behind_marks (automata_marks x bs) (state ts b u w) ≡ state (ts ++ marked_texts x bs) c u w)
+automata_behind [] x ts b u w = (b, ap (λ (t : List (List ℕ)). state t b u w) (sym (append-nil ts)))
+automata_behind (a ∷ bs) x ts b u w =
+    let t = marks_text (automaton_marks x a) in
+    let r = automata_behind bs x (ts ++ t ∷ []) (t ++ []) u w in
+    (r.0, behind_both (automaton_marks x a ++ seal) (automata_marks x bs) (state ts b u w) ∙ ap (behind_marks (automata_marks x bs)) (sealed_behind a x ts b u w) ∙ r.1 ∙ ap (λ (l : List (List ℕ)). state l r.0 u w) (append_assoc ts (t ∷ []) (marked_texts x bs)))
+
+-- a demand alone
+alone : (v : Bool) (x : CertificateCause × ℕ) → first_of (cond {A = Option (CertificateCause × ℕ)} v None (Some x)) None ≡ None → v ≡ true
+alone true x e = refl
+alone false x e = absurd cc
+
+pub alone_met : (v : Bool) (x : CertificateCause × ℕ) → v ≡ true → first_of (cond {A = Option (CertificateCause × ℕ)} v None (Some x)) None ≡ None
+alone_met v x e = ap (λ (t : Bool). first_of (cond {A = Option (CertificateCause × ℕ)} t None (Some x)) None) e
+
+not_false : (v : Bool) → not v ≡ true → v ≡ false
+not_false true e = absurd cc
+not_false false e = refl
+
+pub automata_new : (bs : List Automaton) (x : Naming) (ts : List (List ℕ)) (b : List ℕ) (u w : ℕ) → PassShares (state ts b u w) (automata_marks x bs) → AllNew ts (marked_texts x bs)
+automata_new [] x ts b u w h = tt
+automata_new (a ∷ bs) x ts b u w h =
+    let t = marks_text (automaton_marks x a) in
+    let parts = pass_split (automaton_marks x a ++ seal) (automata_marks x bs) (state ts b u w) h in
+    let first = subst (λ (s : Shared). PassShares s seal) (automaton_behind a x ts b u w) (pass_split (automaton_marks x a) seal (state ts b u w) parts.0).1 in
+    let rest = subst (λ (s : Shared). PassShares s (automata_marks x bs)) (sealed_behind a x ts b u w) parts.1 in
+    (not_false (is_among t ts) (alone (not (is_among t ts)) (bad_share, 0 - length t) first.0), automata_new bs x (ts ++ t ∷ []) (t ++ []) u w rest)
+
+pub new_automata : (bs : List Automaton) (x : Naming) (ts : List (List ℕ)) (b : List ℕ) (u w : ℕ) → AllNew ts (marked_texts x bs) → PassShares (state ts b u w) (automata_marks x bs)
+new_automata [] x ts b u w h = tt
+new_automata (a ∷ bs) x ts b u w h =
+    let t = marks_text (automaton_marks x a) in
+    pass_join (automaton_marks x a ++ seal) (automata_marks x bs) (state ts b u w)
+    (pass_join (automaton_marks x a) seal (state ts b u w) (automaton_pass a x (state ts b u w)) (subst (λ (s : Shared). PassShares s seal) (sym (automaton_behind a x ts b u w)) (alone_met (not (is_among t ts)) (bad_share, 0 - length t) (ap not h.0), tt)))
+    (subst (λ (s : Shared). PassShares s (automata_marks x bs)) (sym (sealed_behind a x ts b u w)) (new_automata bs x (ts ++ t ∷ []) (t ++ []) u w h.1))
+
+-- ---- uses
+
+-- the bytes that uses add up to, behind so many
+abbrev pub unfolds : List (List ℕ) → ℕ → List ℕ → ℕ
+unfolds ts w [] = w
+unfolds ts w (n ∷ ns) = unfolds ts (w + length (text_at n ts)) ns
+
+-- numbers that may be used behind these, where so many bytes are used
+abbrev pub PassUses : List (List ℕ) → ℕ → ℕ → List ℕ → Type 0
+PassUses ts u w [] = Unit {0}
+PassUses ts u w (n ∷ ns) = (1 ≤ n) × (n ≤ length ts) × (n ≤ suc u) × (w + length (text_at n ts) ≤ limit unfolded) × PassUses ts (max u n) (w + length (text_at n ts)) ns
+
+-- marks with these uses
+pub record Counts (ms : List Mark) (ns : List ℕ) : Type 0 where
+  pub after : (ts : List (List ℕ)) (b : List ℕ) (u w : ℕ) → (c : List ℕ) × (behind_marks ms (state ts b u w) ≡ state ts c (greatest u ns) (unfolds ts w ns))
+  pub into : (ts : List (List ℕ)) (b : List ℕ) (u w : ℕ) → PassShares (state ts b u w) ms → PassUses ts u w ns
+  pub from : (ts : List (List ℕ)) (b : List ℕ) (u w : ℕ) → PassUses ts u w ns → PassShares (state ts b u w) ms
+
+pub counts_still : (ms : List Mark) → AreStill ms → Counts ms []
+counts_still ms h = record { after = λ ts b u w. (b ++ marks_text ms, still_marks ms ts b u w h); into = λ ts b u w k. tt; from = λ ts b u w k. still_pass ms (state ts b u w) h }
+
+greatest_both : (ms ns : List ℕ) (u : ℕ) → greatest u (ms ++ ns) ≡ greatest (greatest u ms) ns
+greatest_both [] ns u = refl
+greatest_both (m ∷ ms) ns u = greatest_both ms ns (max u m)
+
+unfolds_both : (ms ns : List ℕ) (ts : List (List ℕ)) (w : ℕ) → unfolds ts w (ms ++ ns) ≡ unfolds ts (unfolds ts w ms) ns
+unfolds_both [] ns ts w = refl
+unfolds_both (m ∷ ms) ns ts w = unfolds_both ms ns ts (w + length (text_at m ts))
+
+uses_join : (ms ns : List ℕ) (ts : List (List ℕ)) (u w : ℕ) → PassUses ts u w ms → PassUses ts (greatest u ms) (unfolds ts w ms) ns → PassUses ts u w (ms ++ ns)
+uses_join [] ns ts u w h k = k
+uses_join (m ∷ ms) ns ts u w h k = (h.0, h.1, h.2, h.3, uses_join ms ns ts (max u m) (w + length (text_at m ts)) h.4 k)
+
+uses_split : (ms ns : List ℕ) (ts : List (List ℕ)) (u w : ℕ) → PassUses ts u w (ms ++ ns) → PassUses ts u w ms × PassUses ts (greatest u ms) (unfolds ts w ms) ns
+uses_split [] ns ts u w h = (tt, h)
+uses_split (m ∷ ms) ns ts u w h = let r = uses_split ms ns ts (max u m) (w + length (text_at m ts)) h.4 in ((h.0, h.1, h.2, h.3, r.0), r.1)
+
+pub counts_both : (a b : List Mark) (ms ns : List ℕ) → Counts a ms → Counts b ns → Counts (a ++ b) (ms ++ ns)
+counts_both a b ms ns h k = record {
+  after = λ ts c u w.
+      let first = h.after ts c u w in
+      let rest = k.after ts first.0 (greatest u ms) (unfolds ts w ms) in
+      (rest.0, behind_both a b (state ts c u w) ∙ ap (behind_marks b) first.1 ∙ rest.1 ∙ ap (λ (n : ℕ). state ts rest.0 n (unfolds ts (unfolds ts w ms) ns)) (sym (greatest_both ms ns u)) ∙ ap (λ (n : ℕ). state ts rest.0 (greatest u (ms ++ ns)) n) (sym (unfolds_both ms ns ts w)));
+  into = λ ts c u w p.
+      let parts = pass_split a b (state ts c u w) p in
+      let first = h.after ts c u w in
+      uses_join ms ns ts u w (h.into ts c u w parts.0) (k.into ts first.0 (greatest u ms) (unfolds ts w ms) (subst (λ (s : Shared). PassShares s b) first.1 parts.1));
+  from = λ ts c u w p.
+      let parts = uses_split ms ns ts u w p in
+      let first = h.after ts c u w in
+      pass_join a b (state ts c u w) (h.from ts c u w parts.0) (subst (λ (s : Shared). PassShares s b) (sym first.1) (k.from ts first.0 (greatest u ms) (unfolds ts w ms) parts.1));
+}
+
+pub counts_put : (m : Mark) (ms : List Mark) (ns : List ℕ) → IsStill (demands_of m) → Counts ms ns → Counts (m ∷ ms) ns
+counts_put m ms ns h k = counts_both (m ∷ []) ms [] ns (counts_still (m ∷ []) (h, tt)) k
+
+-- both demands of a use
+two : (v w : Bool) (x y : CertificateCause × ℕ) → first_of (cond {A = Option (CertificateCause × ℕ)} v None (Some x)) (first_of (cond {A = Option (CertificateCause × ℕ)} w None (Some y)) None) ≡ None → (v ≡ true) × (w ≡ true)
+two true true x y e = (refl, refl)
+two true false x y e = absurd cc
+two false w x y e = absurd cc
+
+two_met : (v w : Bool) (x y : CertificateCause × ℕ) → v ≡ true → w ≡ true → first_of (cond {A = Option (CertificateCause × ℕ)} v None (Some x)) (first_of (cond {A = Option (CertificateCause × ℕ)} w None (Some y)) None) ≡ None
+two_met true true x y e f = refl
+two_met true false x y e f = absurd cc
+two_met false w x y e f = absurd cc
+
+use_met : (n : ℕ) (ts : List (List ℕ)) (b : List ℕ) (u w : ℕ) → share_verdict (state ts b u w) 0 (demands_of (use_mark n)) ≡ None → (1 ≤ n) × (n ≤ length ts) × (n ≤ suc u) × (w + length (text_at n ts) ≤ limit unfolded)
+use_met n ts b u w e =
+    let r = two (holds (state ts b u w) (is_use n)) (holds (state ts b u w) (is_light n)) (bad_share, 0) (too_many unfolded, 0) e in
+    let rest = and_second (nat_le 1 n) (nat_le n (length ts) && nat_le n (suc u)) r.0 in (
+      leb-true 1 n (and_first (nat_le 1 n) (nat_le n (length ts) && nat_le n (suc u)) r.0),
+      leb-true n (length ts) (and_first (nat_le n (length ts)) (nat_le n (suc u)) rest),
+      leb-true n (suc u) (and_second (nat_le n (length ts)) (nat_le n (suc u)) rest),
+      leb-true (w + length (text_at n ts)) (limit unfolded) r.1,
+    )
+
+and_true : (v w : Bool) → v ≡ true → w ≡ true → (v && w) ≡ true
+and_true true w e f = f
+and_true false w e f = absurd cc
+
+met_use : (n : ℕ) (ts : List (List ℕ)) (b : List ℕ) (u w : ℕ) → 1 ≤ n → n ≤ length ts → n ≤ suc u → w + length (text_at n ts) ≤ limit unfolded → share_verdict (state ts b u w) 0 (demands_of (use_mark n)) ≡ None
+met_use n ts b u w low high next light =
+    two_met (holds (state ts b u w) (is_use n)) (holds (state ts b u w) (is_light n)) (bad_share, 0) (too_many unfolded, 0)
+    (and_true (nat_le 1 n) (nat_le n (length ts) && nat_le n (suc u)) (le-leb 1 n low) (and_true (nat_le n (length ts)) (nat_le n (suc u)) (le-leb n (length ts) high) (le-leb n (suc u) next)))
+    (le-leb (w + length (text_at n ts)) (limit unfolded) light)
+
+pub counts_use : (n : ℕ) → Counts (use_mark n ∷ []) (n ∷ [])
+counts_use n = record {
+  after = λ ts b u w. (b ++ numeral n, refl);
+  into = λ ts b u w h. let r = use_met n ts b u w h.0 in (r.0, r.1, r.2, r.3, tt);
+  from = λ ts b u w h. (met_use n ts b u w h.0 h.1 h.2 h.3, tt);
+}
+
+-- ---- a certificate
+
+-- the numbers of uses
+abbrev pub numbers_of : Uses → List Automaton → List ℕ
+numbers_of in_full used = []
+numbers_of (by_number f) used = map f used
+
+pub map_both : (f : Automaton → ℕ) (a b : List Automaton) → map f (a ++ b) ≡ map f a ++ map f b
+map_both f [] b = refl
+map_both f (x ∷ a) b = ap (λ (l : List ℕ). f x ∷ l) (map_both f a b)
+
+numbers_both : (u : Uses) (a b : List Automaton) → numbers_of u (a ++ b) ≡ numbers_of u a ++ numbers_of u b
+numbers_both in_full a b = refl
+numbers_both (by_number f) a b = map_both f a b
+
+no_numbers : (u : Uses) (ms : List Mark) → AreStill ms → Counts ms (numbers_of u [])
+no_numbers in_full ms h = counts_still ms h
+no_numbers (by_number f) ms h = counts_still ms h
+
+counts_automaton : (a : Automaton) (x : Naming) → Counts (automaton_marks x a) []
+counts_automaton a x = record {
+  after = λ ts b u w. (marks_text (automaton_marks x a), automaton_behind a x ts b u w);
+  into = λ ts b u w h. tt;
+  from = λ ts b u w h. automaton_pass a x (state ts b u w);
+}
+
+counts_mapped : (u : Uses) (a b : List Automaton) (ms ns : List Mark) → Counts ms (numbers_of u a) → Counts ns (numbers_of u b) → Counts (ms ++ ns) (numbers_of u (a ++ b))
+counts_mapped u a b ms ns h k = subst (Counts (ms ++ ns)) (sym (numbers_both u a b)) (counts_both ms ns (numbers_of u a) (numbers_of u b) h k)
+
+counts_infeasibility : (e : InfeasibilityEvidence) (x : Naming) (u : Uses) → Counts (infeasibility_marks x u e) (numbers_of u (used_by e))
+counts_infeasibility by_caps x u = no_numbers u (fixed (codes "tcap\n") ∷ []) (tt, tt)
+counts_infeasibility (by_automaton k a) x in_full = counts_put _ _ [] tt (counts_put _ _ [] tt (counts_put _ _ [] tt (counts_automaton a x)))
+counts_infeasibility (by_automaton k a) x (by_number f) =
+    counts_put _ _ (f a ∷ []) tt (counts_put _ _ (f a ∷ []) tt (counts_put _ _ (f a ∷ []) tt
+    (counts_both (use_mark (f a) ∷ []) (fixed (codes "\n") ∷ []) (f a ∷ []) [] (counts_use (f a)) (counts_still (fixed (codes "\n") ∷ []) (tt, tt)))))
+
+counts_evidence : (e : PairEvidence) (x : Naming) (u : Uses) → Counts (evidence_marks x u e) (numbers_of u (used_by_evidence e))
+counts_evidence trivial_pair x u = no_numbers u _ (tt, tt)
+counts_evidence (infeasible_pair e) x u = counts_infeasibility e x u
+counts_evidence (conflicting_pair a b) x u = no_numbers u _ (tt, (tt, (tt, (tt, (tt, tt)))))
+counts_evidence (joined_pair d e) x u = no_numbers u _ (tt, still_both (derivation_marks d) _ (derivation_still d) (derivation_still e))
+counts_evidence (unfeasible_pair k d e) x u = no_numbers u _ (tt, (tt, (tt, still_both (derivation_marks d) _ (derivation_still d) (derivation_still e))))
+
+counts_front : (front ms : List Mark) (ns : List ℕ) → AreStill front → Counts ms ns → Counts (front ++ ms) ns
+counts_front front ms ns h k = counts_both front ms [] ns (counts_still front h) k
+
+counts_pairs : (ps : List PairEntry) (x : Naming) (u : Uses) (n : ℕ) → Counts (pairs_marks x u n ps) (numbers_of u (used_by_pairs ps))
+counts_pairs [] x u n = no_numbers u [] tt
+counts_pairs (p ∷ ps) x u n =
+    counts_front (word (codes "pair") (is_few Counted.pairs n ∷ []) ∷ fixed (codes " ") ∷ number p.inner ∷ fixed (codes " ") ∷ position p.position ∷ fixed (codes " ") ∷ number p.outer ∷ fixed (codes " ") ∷ []) _ _ (tt, (tt, (tt, (tt, (places_still p.position 0, (tt, (tt, (tt, tt))))))))
+    (counts_mapped u (used_by_evidence p.evidence) (used_by_pairs ps) (evidence_marks x u p.evidence) (pairs_marks x u (suc n) ps) (counts_evidence p.evidence x u) (counts_pairs ps x u (suc n)))
+
+counts_redexes : (rs : List Redex) (x : Naming) (u : Uses) (n : ℕ) → Counts (redexes_marks x u n rs) (numbers_of u (used_by_redexes rs))
+counts_redexes [] x u n = no_numbers u [] tt
+counts_redexes (r ∷ rs) x u n =
+    counts_front (word (codes "redex") (is_few Counted.redexes n ∷ []) ∷ fixed (codes " ") ∷ number r.which ∷ fixed (codes " ") ∷ position r.position ∷ fixed (codes " ") ∷ number r.rule ∷ fixed (codes " ") ∷ []) _ _ (tt, (tt, (tt, (tt, (places_still r.position 0, (tt, (tt, (tt, tt))))))))
+    (counts_mapped u (used_by r.evidence) (used_by_redexes rs) (infeasibility_marks x u r.evidence) (redexes_marks x u (suc n) rs) (counts_infeasibility r.evidence x u) (counts_redexes rs x u (suc n)))
+
+counts_apart : (a : Apartness) (x : Naming) (u : Uses) → Counts (apart_marks x u a) (numbers_of u (used_by_apart a))
+counts_apart (by_normal_forms rs) x u = counts_put _ _ _ tt (counts_redexes rs x u 1)
+counts_apart by_rigid_caps x u = no_numbers u _ (tt, tt)
+
+counts_steps : (ss : List Simplification) (x : Naming) (u : Uses) → Counts (simplifications_marks x u ss) (numbers_of u (used_by_steps ss))
+counts_steps [] x u = no_numbers u [] tt
+counts_steps (dropped r e ∷ ss) x u =
+    counts_front (fixed (codes "drop ") ∷ number r ∷ fixed (codes " ") ∷ []) _ _ (tt, (tt, (tt, tt)))
+    (counts_mapped u (used_by e) (used_by_steps ss) (infeasibility_marks x u e) (simplifications_marks x u ss) (counts_infeasibility e x u) (counts_steps ss x u))
+counts_steps (inlined r k ∷ ss) x u = counts_front (fixed (codes "inline ") ∷ number r ∷ fixed (codes " ") ∷ number k ∷ fixed (codes "\n") ∷ []) _ _ (tt, (tt, (tt, (tt, (tt, tt))))) (counts_steps ss x u)
+
+pub counts_body : (c : Certificate) (x : Naming) (u : Uses) (given : Option Bool) → Counts (body_marks x u given c) (numbers_of u (automata_of c))
+counts_body (ortho_certificate ps) x u given = counts_front (word (codes "ortho") (fits_answer true given ∷ []) ∷ fixed (codes "\n") ∷ []) _ _ (tt, (tt, tt)) (counts_pairs ps x u 1)
+counts_body (quasi_certificate m ps) x u given =
+    counts_front (word (codes "quasi") (fits_answer true given ∷ []) ∷ fixed (codes "\n") ∷ []) _ _ (tt, (tt, tt)) (counts_front (measure_marks x m) _ _ (measure_still m x) (counts_pairs ps x u 1))
+counts_body (peak_certificate p) x u given =
+    counts_front (word (codes "peak") (fits_answer false given ∷ []) ∷ fixed (codes "\n") ∷ fixed (codes "start ") ∷ []) _ _ (tt, (tt, (tt, tt)))
+    (counts_front (term_marks x 1 1 p.start) _ _ (term_still p.start x 1 1) (counts_put _ _ _ tt
+    (counts_front (derivation_marks p.first) _ _ (derivation_still p.first) (counts_front (derivation_marks p.second) _ _ (derivation_still p.second) (counts_apart p.apart x u)))))
+counts_body (simplified_certificate ss c) x u given =
+    counts_front (fixed (codes "simplify ") ∷ word (numeral (length ss)) (in_range 0 1 (suc largest) (length ss) ∷ is_few Counted.simplifications (length ss) ∷ []) ∷ fixed (codes "\n") ∷ []) _ _ (tt, (tt, (tt, tt)))
+    (counts_mapped u (used_by_steps ss) (automata_of c) (simplifications_marks x u ss) (body_marks x u given c) (counts_steps ss x u) (counts_body c x u given))

@@ -1,0 +1,105 @@
+//! The words at which shared automata are judged.
+
+ghost use Rattle.std.specs.Prelude.{◌≡◌, ◌++◌, ℕ, suc, List, [], ◌∷◌, None, length, true};
+ghost use Rattle.cops_names.specs.NameTable.{NameTable};
+ghost use Rattle.cert_grammar.specs.Words.{name_of};
+ghost use Rattle.cert_grammar.specs.Marks.{Naming, Mark, word, closed, automaton_begins, automaton_ends, is_use, is_light, all_used, shares};
+ghost use Rattle.cert_grammar.specs.CertificateMarks.{use_mark};
+ghost use Rattle.cert_grammar.specs.Sharing.{holds, share_effect};
+ghost use Rattle.cert_grammar.specs.Items.{Item, leads, is_short};
+ghost use Rattle.cert_grammar.specs.Items as spec;
+ghost use Rattle.cert_words.specs.declared.reading.Reading as read;
+ghost use Rattle.cert_words.specs.Walks.{Reads, BeginsAnew};
+
+use crate::error::{CertCount, CertError};
+use crate::leads::{Lead, front, stuck};
+use crate::reading::Reading;
+use crate::words::{place, within};
+use cert_shares::Share;
+
+/// The word with which an automaton begins.
+pub fn begins(end: usize, at: &mut Reading, bytes: &'static [u8])
+    ensures { (names : NameTable) (i : Item) (new : List Item) → leads i ≡ spec.keyword bytes.now (shares automaton_begins ∷ []) new ∷ [] → Reads names end (i ∷ []) (λ u. word bytes.now (shares automaton_begins ∷ []) ∷ []) new at.old at.new }
+{
+    if at.refused.is_some() {
+        return;
+    }
+    match front(Lead::Keyword(bytes), at.left) {
+        Some((_, rest)) => at.left = rest,
+        None => at.refused = Some(stuck(&[Lead::Keyword(bytes)], at.left, end)),
+    }
+}
+
+/// The word of the last line, at which each shared automaton is used.
+pub fn last_word(end: usize, at: &mut Reading, bytes: &'static [u8])
+    ensures { (names : NameTable) (i : Item) (new : List Item) → leads i ≡ spec.keyword bytes.now (shares all_used ∷ []) new ∷ [] → Reads names end (i ∷ []) (λ u. word bytes.now (shares all_used ∷ []) ∷ []) new at.old at.new }
+{
+    if at.refused.is_some() {
+        return;
+    }
+    let Some((_, rest)) = front(Lead::Keyword(bytes), at.left) else {
+        at.refused = Some(stuck(&[Lead::Keyword(bytes)], at.left, end));
+        return;
+    };
+    if !at.shares.all_used() {
+        at.refused = Some(CertError::BadShare {
+            at: place(end, at.left),
+        });
+        return;
+    }
+    at.left = rest;
+}
+
+/// The number of a shared automaton, which is used.
+pub fn used(end: usize, at: &mut Reading) -> u32
+    ensures read { (names : NameTable) (i : Item) (new : ℕ → List Item) → leads i ≡ spec.numeral_lead (λ n. is_short n ∷ shares (is_use n) ∷ shares (is_light n) ∷ []) new ∷ [] → Reads names end (i ∷ []) (λ u. use_mark result ∷ []) (new result) at.old at.new }
+    ensures used { at.new.refused ≡ None → holds at.old.shares (is_use result) ≡ true }
+    ensures known { at.new.refused ≡ None → at.new.shares ≡ share_effect (is_light result) (share_effect (is_use result) at.old.shares) }
+{
+    if at.refused.is_some() {
+        return 0;
+    }
+    let here = place(end, at.left);
+    let Some((word, rest)) = front(Lead::Number, at.left) else {
+        at.refused = Some(stuck(&[Lead::Number], at.left, end));
+        return 0;
+    };
+    let Some(n) = within(word, 0, 4_294_967_296) else {
+        at.refused = Some(CertError::BadNumber { at: here });
+        return 0;
+    };
+    match at.shares.take(n) {
+        Share::Good => {
+            at.left = rest;
+            n
+        }
+        Share::Bad => {
+            at.refused = Some(CertError::BadShare { at: here });
+            n
+        }
+        Share::Heavy => {
+            let what = CertCount::Unfolded;
+            at.refused = Some(CertError::TooMany { what, at: here });
+            n
+        }
+    }
+}
+
+/// The end of an automaton that began where these bytes were left: it differs from those before.
+pub fn ended<'a>(end: usize, at: &mut Reading<'a>, begun: &'a [u8])
+    ensures { (names : NameTable) (from : List Item) (f : Naming → List Mark) (i : Item) (new : List Item) (a : read.Reading) → a.left.now ≡ begun.now → BeginsAnew (f (name_of names)) → leads i ≡ spec.at_once (shares automaton_ends) new ∷ [] → Reads names end from f (i ∷ []) a at.old → Reads names end from (λ u. f u ++ closed (shares automaton_ends) ∷ []) new a at.new }
+{
+    if at.refused.is_some() {
+        return;
+    }
+    let (text, _) = begun.split_at(begun.len().saturating_sub(at.left.len()));
+    match at.shares.end(text) {
+        Ok(true) => {}
+        Ok(false) => {
+            at.refused = Some(CertError::BadShare {
+                at: place(end, begun),
+            });
+        }
+        Err(_) => at.refused = Some(CertError::NoMemory),
+    }
+}
