@@ -9,7 +9,7 @@ use Rattle.cert_check.specs.Kinds.{verdict_of}
 use Rattle.cops_read.specs.NameTable.{NameTable}
 use Rattle.cert_grammar.specs.FirstVersion.{IsCertificateText}
 use Rattle.cert_openings.specs.FirstLaws as texts
-use Rattle.cert_text.proofs.OneCertificate.{same_certificate}
+use Rattle.cert_openings.proofs.FirstVersion.{one_certificate}
 use Rattle.concon_run.specs.CertRefusals.{CertRefusal, long_certificate, no_certificate_text, most_cert_bytes, IsCertRefused}
 use Rattle.concon_run.specs.Systems.{told_or_any}
 use Rattle.concon_run.specs.Check.{names_judged, CheckOutcome, no_system, no_certificate, rejected, shown, SpellsCertificate, IsRefusedCertificate, ComesTo}
@@ -28,7 +28,7 @@ module _ (systems : KnownSystems) (k : KnownCertificates) (file cert : Option (L
   -- what two certificates of one text have in common
   one_text : (names others : NameTable) (c d : Certificate) → names ≡ others → SpellsCertificate (Told cert) names c → SpellsCertificate (told_or_any cert) others d → c ≡ d
   one_text names others c d e x y =
-      same_certificate names x.0 c d x.3 (cert_bytes x.0 y.0 names d x.1 y.1 (subst (λ n. IsCertificateText n y.0 d) (sym e) y.3))
+      one_certificate names x.0 c d x.3 (cert_bytes x.0 y.0 names d x.1 y.1 (subst (λ n. IsCertificateText n y.0 d) (sym e) y.3))
 
   -- the text of a certificate is not refused
   text_or_refused : (names : NameTable) (bytes : List ℕ) (c : Certificate) (r : CertRefusal) → length bytes ≤ most_cert_bytes → IsCertificateText names bytes c → IsCertRefused names bytes r → ⊥
