@@ -6,26 +6,12 @@ ghost use Rattle.std.specs.Prelude.{◌≡◌, ◌+◌, ◌≤◌, ◌&&◌, nat
 ghost use Rattle.rewriting.specs.Terms.{app, size, size_all};
 ghost use Rattle.term_core.specs.View.{view, views};
 ghost use Rattle.path_orders.specs.Comparing.{compared, exceeds, exceeds_each, exceeds_from, is_greater, reaches};
-ghost use Rattle.lpo.specs.Places.{before_by, place_in};
+ghost use Rattle.lpo.specs.Leaves.{IsKnown};
+ghost use Rattle.lpo.specs.Places.{before_by};
 
+use crate::leaves::{is_above_constant, is_in_any};
+use crate::places::is_before;
 use term_core::{Term, equal};
-
-/// The place of a symbol in the precedence, from 1, or 0.
-pub fn place(places: &[u32], symbol: u32) -> u32
-    ensures { result ≡ place_in places.now symbol }
-{
-    match places.get(symbol as usize) {
-        Some(place) => *place,
-        None => 0,
-    }
-}
-
-fn is_before(places: &[u32], f: u32, g: u32) -> bool
-    ensures { result ≡ before_by places.now f g }
-{
-    let first = place(places, f);
-    first > 0 && first < place(places, g)
-}
 
 fn is_same_symbol(f: u32, args: &[Term], g: u32, others: &[Term]) -> bool
     ensures { result ≡ (nat_eq f g && nat_eq (length args.now) (length others.now)) }
@@ -40,22 +26,29 @@ pub fn is_above(places: &[u32], s: &Term, t: &Term) -> bool
 {
     match s {
         Term::Var(_) => false,
-        Term::Fun(f, args) => is_above_from(places, *f, args, t),
+        Term::Fun(f, args) => {
+            let mut known = None;
+            is_above_from(places, *f, args, t, &mut known)
+        }
     }
 }
 
-// The same for a term with this symbol and these arguments.
+// The same for a term with this symbol and these arguments, which reach the constant that is known.
 #[cycle(compare)]
-fn is_above_from(places: &[u32], f: u32, args: &[Term], t: &Term) -> bool
-    ensures { result ≡ exceeds (before_by places.now) f (compared (before_by places.now) (views args.now)) (view t.now) }
+fn is_above_from(places: &[u32], f: u32, args: &[Term], t: &Term, known: &mut Option<u32>) -> bool
+    requires { IsKnown (before_by places.now) (views args.now) known.old }
+    ensures above { result ≡ exceeds (before_by places.now) f (compared (before_by places.now) (views args.now)) (view t.now) }
+    ensures known { IsKnown (before_by places.now) (views args.now) known.new }
 {
     match t {
-        Term::Var(_) => is_reached(places, args, t),
+        Term::Var(x) => is_in_any(*x, args),
         Term::Fun(g, others) => {
-            if is_before(places, f, *g) {
-                is_above_each(places, f, args, others)
+            if others.len() == 0 {
+                is_above_constant(places, f, args, *g, known)
+            } else if is_before(places, f, *g) {
+                is_above_each(places, f, args, others, known)
             } else if is_same_symbol(f, args, *g, others) {
-                is_above_behind(places, f, args, args, t, others)
+                is_above_behind(places, f, args, args, t, others, known)
             } else {
                 is_reached(places, args, t)
             }
@@ -65,13 +58,24 @@ fn is_above_from(places: &[u32], f: u32, args: &[Term], t: &Term) -> bool
 
 // Whether the term is greater than each of some.
 #[cycle(compare)]
-fn is_above_each(places: &[u32], f: u32, args: &[Term], ts: &[Term]) -> bool
-    ensures { result ≡ exceeds_each (before_by places.now) f (compared (before_by places.now) (views args.now)) (views ts.now) }
+fn is_above_each(
+    places: &[u32],
+    f: u32,
+    args: &[Term],
+    ts: &[Term],
+    known: &mut Option<u32>,
+) -> bool
+    requires { IsKnown (before_by places.now) (views args.now) known.old }
+    ensures above { result ≡ exceeds_each (before_by places.now) f (compared (before_by places.now) (views args.now)) (views ts.now) }
+    ensures known { IsKnown (before_by places.now) (views args.now) known.new }
 {
     match ts {
         [] => true,
         [first, rest @ ..] => {
-            is_above_from(places, f, args, first) && is_above_each(places, f, args, rest)
+            if !is_above_from(places, f, args, first, known) {
+                return false;
+            }
+            is_above_each(places, f, args, rest, known)
         }
     }
 }
@@ -85,10 +89,13 @@ fn is_above_behind(
     rest: &[Term],
     t: &Term,
     ts: &[Term],
+    known: &mut Option<u32>,
 ) -> bool
     requires behind { size_all (views args.now) + size_all (views ts.now) + 1 ≡ size_all (views rest.now) + size (view t.now) }
     requires within { size_all (views rest.now) ≤ size_all (views args.now) }
-    ensures { result ≡ exceeds_from (before_by places.now) f (compared (before_by places.now) (views args.now)) (compared (before_by places.now) (views rest.now)) (view t.now) (views ts.now) }
+    requires known { IsKnown (before_by places.now) (views args.now) known.old }
+    ensures above { result ≡ exceeds_from (before_by places.now) f (compared (before_by places.now) (views args.now)) (compared (before_by places.now) (views rest.now)) (view t.now) (views ts.now) }
+    ensures known { IsKnown (before_by places.now) (views args.now) known.new }
 {
     match rest {
         [] => false,
@@ -96,9 +103,9 @@ fn is_above_behind(
             [] => false,
             [right, others @ ..] => {
                 if equal(left, right) {
-                    is_above_behind(places, f, args, behind, t, others)
+                    is_above_behind(places, f, args, behind, t, others, known)
                 } else if is_above(places, left, right) {
-                    is_above_each(places, f, args, others)
+                    is_above_each(places, f, args, others, known)
                 } else {
                     is_reached(places, behind, t)
                 }

@@ -2,6 +2,7 @@
 #![tactic(auto)]
 
 mod compare;
+mod leaves;
 mod listed;
 mod places;
 mod rules;

@@ -1,13 +1,31 @@
 //! The places of symbols in a precedence.
-ghost use Rattle.std.specs.Prelude.{◌<◌, ◌^◌, ◌↔◌, IsTrue, IfOk, map, length};
+ghost use Rattle.std.specs.Prelude.{◌≡◌, ◌<◌, ◌^◌, ◌↔◌, IsTrue, IfOk, map, length};
 ghost use Rattle.rewriting.specs.Lists.{IsSorted};
 ghost use Rattle.term_core.specs.HeadView.{head_view};
-ghost use Rattle.lpo.specs.Places.{ArePlaces, IsOneMissing, OneMoreAnswers, PlacingAnswers};
+ghost use Rattle.lpo.specs.Places.{ArePlaces, IsOneMissing, OneMoreAnswers, PlacingAnswers, before_by, place_in};
 ghost use Rattle.lpo.specs.Symbols.{IsHeadBefore};
 
 use crate::symbols::symbol_of;
 use std::alloc::Global;
 use term_core::{Head, NoMemory};
+
+/// The place of a symbol in the precedence, from 1, or 0.
+pub fn place(places: &[u32], symbol: u32) -> u32
+    ensures { result ≡ place_in places.now symbol }
+{
+    match places.get(symbol as usize) {
+        Some(place) => *place,
+        None => 0,
+    }
+}
+
+/// Whether a symbol stands before another.
+pub fn is_before(places: &[u32], f: u32, g: u32) -> bool
+    ensures { result ≡ before_by places.now f g }
+{
+    let first = place(places, f);
+    first > 0 && first < place(places, g)
+}
 
 // Notes the place of an entry.
 fn place_one(heads: &[Head], order: &[Head], k: usize, places: &mut [u32]) -> bool

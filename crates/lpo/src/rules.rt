@@ -5,7 +5,8 @@ ghost use Rattle.term_core.specs.RuleView.{rule_view};
 ghost use Rattle.lpo.specs.Places.{are_placed, is_placed};
 ghost use Rattle.lpo.specs.Rules.{DeadAnswers, UnorderedAnswers, is_dead_at, is_ordered_by};
 
-use crate::compare::{is_above, place};
+use crate::compare::is_above;
+use crate::places::place;
 use term_core::{Rule, Term};
 
 fn is_ordered(places: &[u32], rule: &Rule) -> bool
