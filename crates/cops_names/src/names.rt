@@ -131,10 +131,7 @@ impl Names {
     }
 }
 
-fn values_of(
-    alloc: Global,
-    symbols: &IndexMap<String, usize>,
-) -> Result<Option<Vec<u32>>, NoMemory>
+fn values_of(alloc: Global, symbols: &IndexMap<String, usize>) -> Result<Option<Vec<u32>>, NoMemory>
     ensures { IfOk result (λ values. AritiesAnswer (map (λ e. e.1) symbols.now.entries) values) }
 {
     let mut values = Vec::with_capacity(alloc, symbols.len())?;
