@@ -148,23 +148,23 @@ module _ (names : NameTable) (end : ℕ) (from : List Item) (f : Naming → List
       → Reads names end from f (i ∷ []) a s → Reads names end from (λ u. f u ++ closed (shares automaton_ends) ∷ []) new a t
   end_stopped text t good e at is_end none some tells place cut g missed anew x =
       stopped e (open_before x none) some (subst (IsStopped names end from a.left.now a.shares) (sym tells) (λ le items.
-          let first = run.walks le items in
-          let is = text_is text run le cut in
-          let long = ap length (since run le) ∙ length-append (marks_text done) s.left.now in
-          let there : (end - length s.left.now) - length (marks_text done) ≡ at = omega (arith, long, place) in
-          record {
-            marks = done;
-            item = i;
-            more = [];
-            rest = s.left.now;
-            walks = first;
-            stops = λ b. (
-              (run.shares le b).0,
-              subst (λ (z : Shared). RefusesAt names (left_at end (i ∷ items) s.left.now) z (bad_share, at)) (sym (behind_all run le anew b))
-                  (shared_stop names end s.left.now s.shares i (at_once (shares automaton_ends) new) [] s.left.now (bad_share, at) items (with_begun (marks_text done) s.shares) (record { first = first_is is_end; word = refl; rest = refl; within = omega arith }) refl
-                  (alone_missed (not (is_among (marks_text done) s.shares.texts)) (bad_share, (end - length s.left.now) - length (marks_text done)) (subst (λ (w : List ℕ). not (is_among w s.shares.texts) ≡ false) is (is_again good (is_among text s.shares.texts) g missed)) ∙ ap (λ (k : ℕ). Some (bad_share, k)) there)),
-            );
-          }))
+      let first = run.walks le items in
+      let is = text_is text run le cut in
+      let long = ap length (since run le) ∙ length-append (marks_text done) s.left.now in
+      let there : (end - length s.left.now) - length (marks_text done) ≡ at = omega (arith, long, place) in
+      record {
+        marks = done;
+        item = i;
+        more = [];
+        rest = s.left.now;
+        walks = first;
+        stops = λ b. (
+          (run.shares le b).0,
+          subst (λ (z : Shared). RefusesAt names (left_at end (i ∷ items) s.left.now) z (bad_share, at)) (sym (behind_all run le anew b))
+              (shared_stop names end s.left.now s.shares i (at_once (shares automaton_ends) new) [] s.left.now (bad_share, at) items (with_begun (marks_text done) s.shares) (record { first = first_is is_end; word = refl; rest = refl; within = omega arith }) refl
+              (alone_missed (not (is_among (marks_text done) s.shares.texts)) (bad_share, (end - length s.left.now) - length (marks_text done)) (subst (λ (w : List ℕ). not (is_among w s.shares.texts) ≡ false) is (is_again good (is_among text s.shares.texts) g missed)) ∙ ap (λ (k : ℕ). Some (bad_share, k)) there)),
+        );
+      }))
     where
       run : Run names end from f (i ∷ []) a.left.now s.left.now a.shares s.shares
       run = read_run none x

@@ -21,6 +21,6 @@ pub use places::position;
 pub use reading::Reading;
 pub use shared::{begins, ended, last_word, used};
 pub use words::{
-    checked, counted, counted_or, counted_steps, either, has_so_many, name, name_or, nested, number, numbered,
-    opened, put, text,
+    checked, counted, counted_or, counted_steps, either, has_so_many, name, name_or, nested,
+    number, numbered, opened, put, text,
 };
