@@ -11,8 +11,8 @@ ghost use Rattle.cert_words.specs.Walks.{Reads, HasNoStates, AreWithoutStates};
 
 use cert_model::{Automaton, Transition};
 use cert_words::{
-    CertCount, Reading, begins, checked, counted, either, has_so_many, name_or, number, opened, put,
-    text,
+    CertCount, Reading, begins, checked, counted, either, has_so_many, name_or, number, opened,
+    put, text,
 };
 use cops_names::Names;
 use std::alloc::Global;
