@@ -10,7 +10,7 @@ use Rattle.term_core.specs.declared.terms.Term.{Term}
 use Rattle.term_core.specs.declared.terms.Term.TheVariants.{Fun}
 use Rattle.term_core.proofs.Views.{view-Fun}
 use Rattle.reach.specs.Keys.{cells, all_cells}
-use Rattle.reach.proofs.Cells.{on_ok, counted, size_pos}
+use Rattle.reach.proofs.Cells.{on_ok, counted}
 
 -- a variable has its value
 pub value_is : (b : Bindings) (x : ℕ) (u : math.Term) → get b x ≡ Some u → values_of b x ≡ u

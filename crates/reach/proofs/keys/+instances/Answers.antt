@@ -1,5 +1,5 @@
 use Rattle.std.proofs.Common.{◌∙◌}
-use Rattle.reach.proofs.Instances.{symbol_cells, instances_low}
+use Rattle.reach.proofs.Instances.{symbol_cells}
 use Rattle.reach.proofs.keys.+instances.Goals as goal
 
 pub add_instance-returns-in_ok-push-in-Fun : goal.add_instance-returns-in_ok-push-in-Fun

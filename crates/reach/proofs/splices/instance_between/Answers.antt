@@ -1,5 +1,4 @@
-use Rattle.std.proofs.Common.{◌≡◌, ◌≤◌, ◌++◌, ◌∙◌, length, ap, append_assoc, arith}
-use Rattle.rewriting.specs.Terms.{size}
+use Rattle.std.proofs.Common.{◌≡◌, ◌++◌, ◌∙◌, length, ap, append_assoc, arith}
 use Rattle.rewriting.specs.Substitutions.{apply, values_of}
 use Rattle.term_core.specs.View.{view}
 use Rattle.reach.specs.Keys.{cells}
