@@ -1,5 +1,6 @@
 -- The solutions that a `Path` stands for.
-use Rattle.std.specs.Prelude.{◌≡◌, None, Some, length, map, take, drop}
+use Rattle.std.specs.Prelude.{◌≡◌, ◌≤◌, ◌⊎◌, None, Some, List, [], length, map, take, drop}
+use Rattle.rewriting.specs.Terms.{Term, var, app}
 use Rattle.rewriting.specs.Rules.{Condition}
 use Rattle.matching.specs.Trails.{without}
 use Rattle.reach_lists.specs.Solutions as math
@@ -30,3 +31,13 @@ pub record IsEntered (c : Condition) (w : math.Reached) (p q : Path) : Type 0 wh
 pub record IsMissed (c : Condition) (w : math.Reached) (p q : Path) : Type 0 where
   pub none : math.extended c (path_view p) w ≡ None
   pub same : IsSamePath p q
+
+-- the root of the one is a symbol, and that of the other is another or none
+abbrev pub RootsDiffer : Term → Term → Type 0
+RootsDiffer (var x) t = ⊥
+RootsDiffer (app f ps) (var y) = Unit {0}
+RootsDiffer (app f ps) (app g ts) = f ≡ g → ⊥
+
+-- the list takes no term and no condition is left, or a pattern does not match onto the start
+abbrev pub IsNothing : List math.Reached → List Condition → Term → Term → Type 0
+IsNothing l later pattern start = ((2000 ≤ length l) × (later ≡ [])) ⊎ RootsDiffer pattern start
