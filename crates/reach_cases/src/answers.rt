@@ -47,9 +47,9 @@ fn of_question(alloc: Global, question: &Question) -> Result<String, AllocError>
     Ok(out)
 }
 
-// Whether both sides of all these conditions fit.
+/// Whether both sides of all these conditions fit.
 #[tactic(auto, using(crate::proofs::Conditions::all_fit))]
-fn do_fit(conds: &[Cond]) -> bool
+pub fn do_fit(conds: &[Cond]) -> bool
     ensures { IsTrue result → DoConditionsFit (map condition_view conds.now) }
 {
     let Some((cond, rest)) = conds.split_first() else {
@@ -125,7 +125,8 @@ fn put_list(
     Ok(())
 }
 
-fn put_term(
+/// Puts the text of a term last, or its length where that is long.
+pub fn put_term(
     alloc: Global,
     out: &mut String,
     question: &Question,
@@ -142,9 +143,9 @@ fn put_term(
     out.push_str(std::str::from_utf8(&text).unwrap_or("?"))
 }
 
-// The steps in square brackets, each as the number of its rule, or `h` and that of its hypothesis, at its position, with the
-// derivations of the conditions behind it.
-fn put_derivation(alloc: Global, out: &mut String, d: &Derivation) -> Result<(), AllocError> {
+/// Puts the steps last in square brackets, each as the number of its rule, or `h` and that of its hypothesis, at its position, with
+/// the derivations of the conditions behind it.
+pub fn put_derivation(alloc: Global, out: &mut String, d: &Derivation) -> Result<(), AllocError> {
     out.push_str(" [")?;
     for (i, step) in d.steps.iter().enumerate() {
         if i > 0 {

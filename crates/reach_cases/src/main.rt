@@ -2,12 +2,13 @@
 //! and spent. Where there is a list, the question is asked again with its cost as the budget, and with one unit less.
 //!
 //! A question is a line `STEPS DEPTH BUDGET; RULES; START`, or with `; HYPOTHESES` behind it, in the notation of files, over the
-//! variables x, y and z; `{N*PIECE}` is PIECE so many times, with commas between. Empty lines and those that begin with `#` are
-//! printed as they are.
+//! variables x, y and z. With `first ` before it the hypotheses are conditions instead, and their first solution is told. `{N*PIECE}`
+//! is PIECE so many times, with commas between. Empty lines and those that begin with `#` are printed as they are.
 #![tactic(auto)]
 
 mod answers;
 mod questions;
+mod solving;
 
 use std::{fs, io};
 
@@ -17,7 +18,10 @@ fn main(rt: HostRuntime) -> io::Result<()> {
         if line.is_empty() || line.starts_with('#') {
             println!(&rt; "{line}")?;
         } else {
-            let told = answers::of_line(rt.alloc(), line)?;
+            let told = match line.strip_prefix("first ") {
+                Some(conditions) => solving::of_line(rt.alloc(), conditions)?,
+                None => answers::of_line(rt.alloc(), line)?,
+            };
             println!(&rt; "{line}  =>  {told}")?;
         }
     }
