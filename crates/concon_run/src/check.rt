@@ -72,7 +72,6 @@ pub enum NoVerdict {
 }
 
 // What the certificate shows. Its bytes alone are held, and not its entries.
-#[tactic(auto, using(crate::proofs::Checks::named))]
 fn verdict_on<S: Shelf>(
     alloc: Global,
     shelf: &mut S,
@@ -133,7 +132,7 @@ fn cert_refusal(error: &CertError) -> Option<RefusedAt>
 
 // Says why a certificate is rejected.
 fn rejected(alloc: Global, names: Option<&Names>, reason: &Rejected) -> Reply
-    ensures { IsSaidIfMemory (rejected_said (option_copied names) (rejected_view reason.now)) (reply_said result) }
+    ensures { IsSaidIfMemory (rejected_said (option_copied names.entry) (rejected_view reason.now)) (reply_said result) }
 {
     match rejection_line(alloc, names, reason) {
         Ok(line) => Reply {

@@ -97,7 +97,7 @@ fn put_variable(
     rule: u32,
     variable: Option<u32>,
 ) -> Result<(), AllocError>
-    ensures { OnOk result (out.new.items ≡ out.old.items ++ variable_text (option_copied names) rule variable) }
+    ensures { OnOk result (out.new.items ≡ out.old.items ++ variable_text (option_copied names.entry) rule variable) }
 {
     let Some(k) = variable else {
         return Ok(());
@@ -116,7 +116,7 @@ fn put_variable(
 }
 
 fn put_blame(out: &mut Vec<u8>, names: Option<&Names>, blame: &Blame) -> Result<(), AllocError>
-    ensures { OnOk result (out.new.items ≡ out.old.items ++ blame_text (option_copied names) (blame_view blame.now)) }
+    ensures { OnOk result (out.new.items ≡ out.old.items ++ blame_text (option_copied names.entry) (blame_view blame.now)) }
 {
     put_all(
         out,
@@ -293,7 +293,7 @@ fn put_rejection(
     names: Option<&Names>,
     reason: &Rejected,
 ) -> Result<(), AllocError>
-    ensures { OnOk result (out.new.items ≡ out.old.items ++ rejection_text (option_copied names) (rejected_view reason.now)) }
+    ensures { OnOk result (out.new.items ≡ out.old.items ++ rejection_text (option_copied names.entry) (rejected_view reason.now)) }
 {
     match reason {
         Rejected::ClassFails(blame) => put_blame(out, names, blame),
@@ -342,7 +342,7 @@ pub fn rejection_line(
     names: Option<&Names>,
     reason: &Rejected,
 ) -> Result<Vec<u8>, AllocError>
-    ensures { IfOk result (λ v. v.items ≡ rejected_line (option_copied names) (rejected_view reason.now)) }
+    ensures { IfOk result (λ v. v.items ≡ rejected_line (option_copied names.entry) (rejected_view reason.now)) }
 {
     let mut text = Vec::from_slice(alloc, b"REJECTED ")?;
     put_rejection(&mut text, names, reason)?;

@@ -1,4 +1,4 @@
-use Rattle.std.proofs.Common.{Ok, subst}
+use Rattle.std.proofs.Common.{Ok, Err, subst}
 use Rattle.certificates.specs.Certificates.{Certificate}
 use Rattle.valid_certificates.specs.CarriedBack.{IsPeakApart}
 use Rattle.cert_grammar.specs.FirstVersion.{IsCertificateText}
@@ -6,7 +6,7 @@ use Rattle.cert_check.specs.Answers.{OnNo}
 use Rattle.cert_check.specs.Bytes.{BytesAnswers}
 use Rattle.cert_check.specs.declared.bytes.BytesError.{BytesError}
 use Rattle.concon_run.specs.Systems.{told_or_any}
-use Rattle.concon_run.proofs.Checks.{cert_not_read, cert_judged}
+use Rattle.concon_run.proofs.Checks.{cert_not_read, cert_rejected, cert_judged}
 use Rattle.concon_run.proofs.check.verdict_on.Goals as goal
 
 pub check_bytes-requires : goal.check_bytes-requires
@@ -23,3 +23,10 @@ returns-in-Ok-check_bytes-clause-answers g c =
     (subst (λ b. BytesAnswers c.args.sys.now c.args.names b (Ok v)) c.deref.ensures.value c.in-Ok-check_bytes.ensures.answers) c.in-Ok-check_bytes.ensures.yes
     c.in-Ok-check_bytes.ensures.file
     (subst (λ b. OnNo {E = BytesError} (Ok v) ((d : Certificate) × IsCertificateText c.args.names b d × IsPeakApart c.args.sys.now d)) c.deref.ensures.value c.in-Ok-check_bytes.ensures.no)
+
+pub returns-in-Err-Rejected-clause-answers : goal.returns-in-Err-Rejected-clause-answers
+returns-in-Err-Rejected-clause-answers g c =
+    cert_rejected (told_or_any (g.S.Shelf.contents c.args.shelf.now c.args.cert.now)) (Unit {0}) c.args.sys.now c.args.names c.in-Ok.bytes.items c.in-Ok.ensures.all c.in-Ok.ensures.limit
+    c.in-Err-Rejected.reason
+    (subst (λ e. BytesAnswers c.args.sys.now c.args.names c.in-Ok.bytes.items (Err e)) c.in-Err-Rejected.field-0-is
+    (subst (λ b. BytesAnswers c.args.sys.now c.args.names b (Err c.in-Err-Rejected.field-0)) c.deref.ensures.value c.in-Err-Rejected.ensures.answers))
