@@ -23,7 +23,7 @@ returns-in_default c =
     fails_found c.args.sys.now c.rounds.current c.rounds.steps.items c.args.budget.now c.rounds.budget c.walk_through.new.budget c.rounds.invariant c.in-Ok-Given.made
     (subst (λ z. WalkAnswers c.rounds.current (tries c.rounds.current) c.rounds.budget c.walk_through.new.budget (Ok z)) c.in-Ok-Given.field-0-is c.in-Ok-Given.ensures)
 
-pub rounds-decreases : goal.rounds-decreases
-rounds-decreases c =
+pub rounds-smaller : goal.rounds-smaller
+rounds-smaller c =
     walk_pays c.rounds.current c.rounds.budget c.walk_through.new.budget c.in-Ok-Given.made
     (subst (λ z. WalkAnswers c.rounds.current (tries c.rounds.current) c.rounds.budget c.walk_through.new.budget (Ok z)) c.in-Ok-Given.field-0-is c.in-Ok-Given.ensures)
