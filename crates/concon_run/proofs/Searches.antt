@@ -6,7 +6,7 @@ use Rattle.rewriting.specs.Systems.{IsWellFormed}
 use Rattle.rewriting.specs.Confluence.{IsConfluent}
 use Rattle.join_systems.specs.FileRelation.{IsFromFile}
 use Rattle.join_systems.specs.Laws.{FilesAreConfluent}
-use Rattle.certificates.specs.Certificates.{Certificate, Peak, peak_certificate}
+use Rattle.certificates.specs.Certificates.{Certificate, ortho_certificate, quasi_certificate, Peak, peak_certificate, simplified_certificate}
 use Rattle.valid_certificates.specs.Certificates.{IsValid}
 use Rattle.valid_certificates.specs.Laws.{ValidPeaksReachApart}
 use Rattle.ortho_check.specs.Laws.{ValidSystemsAreConfluent}
@@ -24,6 +24,7 @@ use Rattle.quasi_space.specs.Laws.{AllSpacesAreSearchable, AllPrunedSpacesAreSea
 use Rattle.portfolio.specs.declared.Outcome.{Outcome}
 use Rattle.portfolio.specs.declared.Outcome.TheVariants.{Found, Exhausted, Spent}
 use Rattle.portfolio.specs.Answers.{SearchesAll, IfExhausted}
+use Rattle.cert_grammar.specs.CertificateText.{answer_line}
 use Rattle.cops_read.specs.NameTable.{NameTable}
 use Rattle.cert_check.specs.Kinds.{verdict_of}
 use Rattle.cert_check.proofs.Levels.{peak_apart}
@@ -31,7 +32,7 @@ use Rattle.cert_check.proofs.Bounds.{spelt_over}
 use Rattle.concon_run.specs.Run.{ShelfRun, Run, HasFailed}
 use Rattle.concon_run.specs.Said.{Said, IsSaidIfMemory, Tells, TellsIfMemory}
 use Rattle.concon_run.specs.Systems.{told_or_any, bytes_of, SpellsSystem, IsWhollyConfluent}
-use Rattle.concon_run.specs.Verdicts.{IsShown}
+use Rattle.concon_run.specs.Verdicts.{IsShown, verdict_text}
 use Rattle.concon_run.specs.Files.{SystemAnswers, no_system_said}
 use Rattle.concon_run.specs.Prove.{IsProve, SearchOutcome, bad_file, found, over_budget, exhausted, HoldsNone, SearchComesTo, Spaces, SearchMustComeTo, said_of_search, ProveAnswer, searched, file_unread, said_of_prove, IsProveAnswer, CalmlyMustComeTo}
 use Rattle.concon_run.specs.Proving.{SearchAnswers, outcome_of, prove_answer}
@@ -189,3 +190,10 @@ pub prove_exactly : KnownSystems → (spaces : Spaces) → ArePriced spaces → 
 prove_exactly k spaces priced run file budget outcome calm (searched o) h told =
     inl (subst (λ p. Tells run (said_of_search file p)) (sym (one_search k spaces priced (run.shelf.contents file) budget outcome o calm.1 h.cause)) told)
 prove_exactly k spaces priced run file budget outcome calm file_unread h told = absurd (calm.2 h.cause)
+
+-- the answer line is the one of what a certificate shows
+pub verdict_told : (c : Certificate) → verdict_text (verdict_of c) ≡ answer_line c
+verdict_told (ortho_certificate pairs) = refl
+verdict_told (quasi_certificate measure pairs) = refl
+verdict_told (peak_certificate peak) = refl
+verdict_told (simplified_certificate steps c) = verdict_told c
