@@ -2,4 +2,3 @@ pub mod NameTable
 pub mod NameLists
 pub mod NamesView
 pub mod NameSetView
-pub mod Arities

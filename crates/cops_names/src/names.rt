@@ -4,7 +4,6 @@ ghost use Rattle.std.specs.Bool.{OnTrue, OnFalse};
 ghost use Rattle.cops_names.specs.NameTable.{number_of, name_at, arity_at, variable_at, all_of};
 ghost use Rattle.cops_names.specs.NameLists.{with_names};
 ghost use Rattle.cops_names.specs.NamesView.{texts_of};
-ghost use Rattle.cops_names.specs.Arities.{AritiesAnswer};
 
 use crate::name_set::NameSet;
 use indexmap::IndexMap;
@@ -16,7 +15,7 @@ use term_core::NoMemory;
 /// variables. Symbols are numbered from 0, rules from 1, the variables of a rule from 0.
 #[derive(Drop)]
 pub struct Names {
-    symbols: IndexMap<String, usize>,
+    symbols: IndexMap<String, u32>,
     rules: Vec<Vec<String>>,
 }
 
@@ -46,7 +45,7 @@ impl Names {
 
     /// Puts a symbol last and answers true. Where its name is there already, the answer is false and
     /// nothing has changed.
-    pub fn add_symbol(&mut self, name: String, arity: usize) -> Result<bool, NoMemory>
+    pub fn add_symbol(&mut self, name: String, arity: u32) -> Result<bool, NoMemory>
         requires { length self.old.symbols < 2 ^ 31 }
         ensures absent { IfOk result (λ added. IsTrue added ↔ (number_of self.old.symbols (string_bytes name) ≡ None)) }
         ensures last { IfOk result (λ added. OnTrue added (self.new.symbols ≡ self.old.symbols ++ (string_bytes name, arity) ∷ [])) }
@@ -98,16 +97,16 @@ impl Names {
     }
 
     /// The arity of a symbol.
-    pub fn arity(&self, n: u32) -> Option<usize>
+    pub fn arity(&self, n: u32) -> Option<u32>
         ensures { result ≡ arity_at self.now n }
     {
         let (_, arity) = self.symbols.get_index(n as usize)?;
         Some(*arity)
     }
 
-    /// The arities of all symbols in 32 bits, or nothing where one of them has no room in these.
-    pub fn arities(&self, alloc: Global) -> Result<Option<Vec<u32>>, NoMemory>
-        ensures { IfOk result (λ arities. AritiesAnswer (map (λ s. s.1) self.now.symbols) arities) }
+    /// The arities of all symbols.
+    pub fn arities(&self, alloc: Global) -> Result<Vec<u32>, NoMemory>
+        ensures { IfOk result (λ v. v.items ≡ map (λ s. s.1) self.now.symbols) }
     {
         values_of(alloc, &self.symbols)
     }
@@ -131,17 +130,11 @@ impl Names {
     }
 }
 
-fn values_of(alloc: Global, symbols: &IndexMap<String, usize>) -> Result<Option<Vec<u32>>, NoMemory>
-    ensures { IfOk result (λ values. AritiesAnswer (map (λ e. e.1) symbols.now.entries) values) }
+fn values_of(alloc: Global, symbols: &IndexMap<String, u32>) -> Result<Vec<u32>, NoMemory>
+    ensures { IfOk result (λ v. v.items ≡ map (λ e. e.1) symbols.now.entries) }
 {
-    let mut values = Vec::with_capacity(alloc, symbols.len())?;
-    'values: for value in symbols.values() {
-        let Ok(value) = u32::try_from(*value) else {
-            return Ok(None);
-        };
-        values.push(value)?;
-    }
-    Ok(Some(values))
+    let values = symbols.values().copied().collect(alloc)?;
+    Ok(values)
 }
 
 fn add_list<'a>(set: &mut NameSet<'a>, names: &'a [String]) -> Result<(), NoMemory>
