@@ -42,7 +42,7 @@ pub fn has_name_for(names: &Names, symbol: u32, count: usize) -> bool
     ensures { IsTrue result ↔ ((name : List ℕ) × IsNamed names.now symbol name count) }
 {
     match names.arity(symbol) {
-        Some(arity) => arity == count && has_name(names, symbol),
+        Some(arity) => arity as usize == count && has_name(names, symbol),
         None => false,
     }
 }

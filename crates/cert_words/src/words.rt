@@ -259,7 +259,7 @@ pub fn has_so_many(names: &Names, f: u32, n: usize) -> bool
     ensures { result ≡ is_number n (arity_at names.now f) }
 {
     match names.arity(f) {
-        Some(arity) => arity == n,
+        Some(arity) => arity as usize == n,
         None => false,
     }
 }

@@ -16,3 +16,4 @@ pub mod Kept
 pub mod Named
 pub mod Places
 pub mod Shaped
+pub mod ReadNames

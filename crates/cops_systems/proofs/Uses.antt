@@ -13,7 +13,7 @@ use Rattle.cops_systems.specs.Refusals.{arity_in, known_symbol_cause}
 use Rattle.cops_systems.specs.Heads.{IsSymbolUsed}
 use Rattle.cops_names.proofs.Lists.{position_of_any, position_end}
 
-abbrev is_name : List ℕ → (List ℕ × ℕ) → Bool
+abbrev pub is_name : List ℕ → (List ℕ × ℕ) → Bool
 is_name name s = bytes_eq name s.0
 
 pub with_fresh : (table : List (List ℕ × ℕ)) (name : List ℕ) (n : ℕ) → number_of table name ≡ None → with_symbol table name n ≡ table ++ (name, n) ∷ []
@@ -56,17 +56,12 @@ added table u h less =
       arity = last.1;
     }
 
-on_true : (b : Bool) (P : Type 0) → IsTrue b → OnTrue b P → P
-on_true true P h p = p
-on_true false P h p = cc
-
 -- a name that was not there was put last
-pub put : (table after : List (List ℕ × ℕ)) (u : Use) (name bytes : List ℕ) (n f : ℕ) (b : Bool) → name ≡ u.spot.node.name.text → n ≡ u.spot.node.arguments → None ≡ number_of table name → bytes ≡ name
-    → (number_of table bytes ≡ None → IsTrue b) → OnTrue b (after ≡ table ++ (bytes, n) ∷ []) → f ≡ length table → f < 1000 → IsSymbolUsed table u after f
-put table after u name bytes n f b named many h same truth last is less =
-    let now = on_true b (after ≡ table ++ (bytes, n) ∷ []) (truth (ap (number_of table) same ∙ sym h)) last in
+pub put : (table after : List (List ℕ × ℕ)) (u : Use) (name bytes : List ℕ) (n f : ℕ) → name ≡ u.spot.node.name.text → n ≡ u.spot.node.arguments → None ≡ number_of table name → bytes ≡ name
+    → after ≡ table ++ (bytes, n) ∷ [] → f ≡ length table → f < 1000 → IsSymbolUsed table u after f
+put table after u name bytes n f named many h same last is less =
     let whole : after ≡ table ++ (u.spot.node.name.text, u.spot.node.arguments) ∷ [] =
-    now ∙ ap (λ (x : List ℕ). table ++ (x, n) ∷ []) (same ∙ named) ∙ ap (λ (m : ℕ). table ++ (u.spot.node.name.text, m) ∷ []) many in
+    last ∙ ap (λ (x : List ℕ). table ++ (x, n) ∷ []) (same ∙ named) ∙ ap (λ (m : ℕ). table ++ (u.spot.node.name.text, m) ∷ []) many in
     subst (λ (t : List (List ℕ × ℕ)). IsSymbolUsed table u t f) (sym whole)
     (subst (λ (i : ℕ). IsSymbolUsed table u (table ++ (u.spot.node.name.text, u.spot.node.arguments) ∷ []) i) (sym is)
     (added table u (sym (h ∙ ap (number_of table) named)) (omega arith)))

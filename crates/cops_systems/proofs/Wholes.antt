@@ -28,13 +28,6 @@ counted block table (t ∷ ts) (r ∷ rs) h n =
     let are = ap length (variables_are block table t (rule_view r) h.0) in
     (n.0 ∙ sym (length_upto (length (rule_variables block t))) ∙ sym are, counted block table ts rs h.1 n.1)
 
--- arities within the limits have room in 32 bits
-have_room : (table : List (List ℕ × ℕ)) → All (λ s. s.1 ≤ 20) table → All (λ n. n < 2 ^ 32) (map (λ s. s.1) table)
-have_room [] h = All-nil (λ (n : ℕ). n < 2 ^ 32)
-have_room (s ∷ ss) h =
-    let here = All-head (λ (e : List ℕ × ℕ). e.1 ≤ 20) s ss h in
-    All-cons (λ (n : ℕ). n < 2 ^ 32) s.1 (map (λ (e : List ℕ × ℕ). e.1) ss) (omega (arith, here)) (have_room ss (All-tail (λ (e : List ℕ × ℕ). e.1 ≤ 20) s ss h))
-
 -- From the values that the program has.
 module _ (file : FileTree) (text : FileText) (is_text : IsFileText text file) (other : List (List ℕ)) (start : List (List ℕ × ℕ)) (typed : Bool) (texts : List RuleText)
     (same : other ≡ variables_of file) (first : start ≡ []) (type_is : typed ≡ has_type file) (all : texts ≡ text.rules.items) where
@@ -66,8 +59,8 @@ module _ (file : FileTree) (text : FileText) (is_text : IsFileText text file) (o
     meant : IsSystemOf file (system_of arities rs) names
     meant = record { accepted = refusal_is file ∙ read_of.accepted; symbols = read_of.symbols; arities = is; own = refl; variables = read_of.variables; rules = read_of.mean }
 
-    pub arities_have_room : All (λ n. n < 2 ^ 32) (map (λ s. s.1) names.symbols)
-    arities_have_room = have_room names.symbols (is_within_limits file (system_of arities rs) names meant).few_arguments
+    pub few_arguments : All (λ s. s.1 ≤ 20) names.symbols
+    few_arguments = (is_within_limits file (system_of arities rs) names meant).few_arguments
 
     pub rules_sound : IsSystem (system_of arities rs)
     rules_sound = system_is file (system_of arities rs) names meant

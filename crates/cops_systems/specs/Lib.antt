@@ -10,3 +10,4 @@ pub mod RuleSteps
 pub mod Heads
 pub mod Texts
 pub mod Shapes
+pub mod ReadNames

@@ -9,6 +9,7 @@ ghost use Rattle.cops_systems.specs.RuleSteps.{have_bars, ListAnswers, FileAnswe
 use crate::block::Block;
 use crate::errors::ReadError;
 use crate::heads::Scope;
+use crate::read_names::ReadNames;
 use crate::rules::read_rules;
 use cops_names::{NameSet, Names};
 use cops_trees::{ConditionType, FileText, Name, RuleText};
@@ -47,16 +48,14 @@ fn read_list<'a>(alloc: Global, file: FileText<'a>) -> Result<(System, Names), R
     let has_type = condition_type.is_some();
     let mut scope = Scope {
         block: read_block(alloc, &variables)?,
-        names: Names::new(alloc),
+        names: ReadNames::new(alloc),
         variables: NameSet::new(alloc),
     };
     let rules = read_rules(alloc, &mut scope, has_type, rules)?;
-    // Each argument was within the limits, so the arities have room in 32 bits.
-    let Some(arities) = scope.names.arities(alloc)? else {
-        unreachable!();
-    };
+    let names = scope.names.into_names();
+    let arities = names.arities(alloc)?;
     let system = System::of_sound(arities, rules);
-    Ok((system, scope.names))
+    Ok((system, names))
 }
 
 fn have_conditions(rules: &[RuleText]) -> bool

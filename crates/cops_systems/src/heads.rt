@@ -6,7 +6,8 @@ ghost use Rattle.cops_systems.specs.Heads.{used_at, WithinAnswers, RoomAnswers, 
 
 use crate::block::Block;
 use crate::errors::{Count, ReadError};
-use cops_names::{NameSet, Names};
+use crate::read_names::ReadNames;
+use cops_names::NameSet;
 use cops_trees::Node;
 use std::alloc::Global;
 
@@ -18,7 +19,7 @@ pub const MOST_DEPTH: usize = 200;
 #[derive(Drop)]
 pub(crate) struct Scope<'a> {
     pub(crate) block: Block<'a>,
-    pub(crate) names: Names,
+    pub(crate) names: ReadNames,
     pub(crate) variables: NameSet<'a>,
 }
 
@@ -109,7 +110,7 @@ fn read_variable<'a>(
 // The number of a symbol. A name that is not there is put last.
 fn read_symbol(
     alloc: Global,
-    names: &mut Names,
+    names: &mut ReadNames,
     node: &Node<'_>,
     place: NodePlace,
     name: &str,

@@ -6,6 +6,7 @@ mod block;
 mod errors;
 mod files;
 mod heads;
+mod read_names;
 mod rules;
 mod terms;
 

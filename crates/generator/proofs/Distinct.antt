@@ -1,5 +1,5 @@
 -- The names of a generated system are distinct.
-use Rattle.std.proofs.Common.{◌≡◌, ℕ, zero, suc, ◌+◌, ◌-◌, ◌*◌, ◌<◌, ◌≤◌, ◌^◌, Bool, true, false, cond, List, [], ◌∷◌, ◌++◌, drop, length, length-append, All, Some, None, refl, sym, ap, subst, ◌∙◌, arith, append_assoc, codes, decimal}
+use Rattle.std.proofs.Common.{◌≡◌, ℕ, zero, suc, ◌+◌, ◌-◌, ◌*◌, ◌<◌, ◌≤◌, ◌^◌, Bool, true, false, cond, List, [], ◌∷◌, ◌++◌, drop, length, length-append, Some, None, refl, sym, ap, subst, ◌∙◌, arith, append_assoc, codes, decimal}
 use Rattle.std.specs.Prelude.{flat_map, is_some, if◌then◌else◌, replicate, map}
 use Rattle.std.specs.List.{range_with_len, list_any, position_or_len}
 use Rattle.std.specs.Prelude.{position, nat_lt}
@@ -8,7 +8,6 @@ use Rattle.std.specs.Str.{bytes_eq}
 use Rattle.std.specs.Str.Parse.{AllDigits}
 use Rattle.std.proofs.lemmas.Bool.{false_from_ne_true, le-ltb}
 use Rattle.std.proofs.lemmas.Fmt.{decimal_is_IsNumeral, decimal_injective}
-use Rattle.std.proofs.lemmas.List.Elements.{All-cons, All-replicate}
 use Rattle.std.proofs.lemmas.List.Folds.{list_any-append}
 use Rattle.std.proofs.lemmas.Slice.Eq.{bytes_eq-Decides}
 use Rattle.cops_names.specs.NameTable.{number_of}
@@ -127,17 +126,6 @@ ones a (suc m) =
 
 pub arities_are : (n : ℕ) → map (λ s. s.1) (generated_names n).symbols ≡ arities n
 arities_are n = ap (λ (xs : List ℕ). 1 ∷ 0 ∷ 0 ∷ 1 ∷ 0 ∷ 1 ∷ xs) (ones 1 (n - 1))
-
--- each arity has room in 32 bits
-abbrev pub has_room : ℕ → Type 0
-has_room n = n < 2 ^ 32
-
-pub have_room : (n : ℕ) → All has_room (arities n)
-have_room n =
-    let rest : List ℕ = replicate (2 * (n - 1)) 1 in
-    let behind : All has_room rest = All-replicate has_room (2 * (n - 1)) 1 (omega arith) in
-    All-cons has_room 1 (0 ∷ 0 ∷ 1 ∷ 0 ∷ 1 ∷ rest) (omega arith) (All-cons has_room 0 (0 ∷ 1 ∷ 0 ∷ 1 ∷ rest) (omega arith) (All-cons has_room 0 (1 ∷ 0 ∷ 1 ∷ rest) (omega arith)
-    (All-cons has_room 1 (0 ∷ 1 ∷ rest) (omega arith) (All-cons has_room 0 (1 ∷ rest) (omega arith) (All-cons has_room 1 rest (omega arith) behind)))))
 
 pub variable_count : (a m : ℕ) → length (flat_map variables_for (range_with_len a m)) ≡ 4 * m
 variable_count a zero = refl

@@ -24,9 +24,7 @@ pub fn system_of(alloc: Global, n: u32) -> Result<(System, Names), NoMemory>
     ensures names { IfOk result (λ p. p.1 ≡ generated_names n) }
 {
     let names = names_of(alloc, n)?;
-    let Some(arities) = names.arities(alloc)? else {
-        unreachable!();
-    };
+    let arities = names.arities(alloc)?;
     let rules = rules_of(alloc, n)?;
     let system = System::of_sound(arities, rules);
     Ok((system, names))

@@ -20,7 +20,7 @@ fn numbered(alloc: Global, letter: &str, n: u32) -> Result<String, NoMemory>
 }
 
 // Puts a symbol last, where no symbol has its name.
-fn add(names: &mut Names, name: String, arity: usize) -> Result<(), NoMemory>
+fn add(names: &mut Names, name: String, arity: u32) -> Result<(), NoMemory>
     requires { length names.old.symbols < 2 ^ 31 }
     ensures symbols { OnOk result (names.new.symbols ≡ with_symbol names.old.symbols (string_bytes name) arity) }
     ensures variables { names.new.variables ≡ names.old.variables }
@@ -29,7 +29,7 @@ fn add(names: &mut Names, name: String, arity: usize) -> Result<(), NoMemory>
     Ok(())
 }
 
-fn add_plain(alloc: Global, names: &mut Names, name: &str, arity: usize) -> Result<(), NoMemory>
+fn add_plain(alloc: Global, names: &mut Names, name: &str, arity: u32) -> Result<(), NoMemory>
     requires { length names.old.symbols < 2 ^ 31 }
     ensures symbols { OnOk result (names.new.symbols ≡ with_symbol names.old.symbols name.now arity) }
     ensures variables { names.new.variables ≡ names.old.variables }

@@ -1,17 +1,16 @@
-use Rattle.std.proofs.Common.{◌≡◌, ◌∙◌, ◌<◌, ◌^◌, ap, map, subst, List, ℕ, [], refl, All, Bool, Option, Some, None, is_some}
-use Rattle.std.specs.Global.{Vec}
+use Rattle.std.proofs.Common.{◌≡◌, ◌∙◌, ap, sym, subst, map, List, ℕ, [], refl, Bool, Option, is_some}
 use Rattle.file_text.specs.declared.ConditionType.{ConditionType}
 use Rattle.file_text.specs.Syntax.{Name, FileTree, has_type}
 use Rattle.cops_trees.specs.View.{IsFileText, names_view}
 use Rattle.cops_trees.specs.declared.tree.Name as program
 use Rattle.cops_trees.specs.declared.tree.FileText.{FileText}
 use Rattle.cops_names.specs.NameTable.{NameTable}
-use Rattle.cops_names.specs.Arities.{AritiesAnswer}
 use Rattle.cops_names.specs.NameLists.{with_names}
 use Rattle.cops_systems.specs.Meaning.{variables_of}
+use Rattle.cops_systems.specs.File.{IsSystemOf}
 use Rattle.cops_systems.specs.RuleSteps.{ListAnswers}
 use Rattle.cops_systems.proofs.Tells.{handed}
-use Rattle.cops_systems.proofs.Wholes.{rules_told, arities_have_room, rules_sound, rules_counted, file_read}
+use Rattle.cops_systems.proofs.Wholes.{rules_told, few_arguments, rules_sound, rules_counted, file_read}
 use Rattle.cops_systems.proofs.files.read_list.Goals as goal
 
 block_is : (file : FileTree) (text : FileText) (block : List (List ℕ)) (items : List program.Name) → IsFileText text file → block ≡ with_names [] (map (λ n. n.text) (names_view items))
@@ -21,12 +20,6 @@ block_is file text block items h e same =
 
 type_is : (file : FileTree) (text : FileText) (typed : Bool) → IsFileText text file → typed ≡ is_some text.condition_type → typed ≡ has_type file
 type_is file text typed h e = e ∙ ap (λ (k : Option ConditionType). is_some k) h.condition_type
-
-all_there : (arities : List ℕ) (o : Option (Vec ℕ)) (v : Vec ℕ) → o ≡ Some v → AritiesAnswer arities o → v.items ≡ arities
-all_there arities o v e h = subst (AritiesAnswer arities) e h
-
-some_large : (arities : List ℕ) (o : Option (Vec ℕ)) → o ≡ None → AritiesAnswer arities o → All (λ n. n < 2 ^ 32) arities → ⊥
-some_large arities o e h = subst (AritiesAnswer arities) e h
 
 pub returns-in_err-rules : goal.returns-in_err-rules
 returns-in_err-rules c tree h =
@@ -39,15 +32,14 @@ returns-in_err-rules c tree h =
 pub read_rules-requires-clause-texts : goal.read_rules-requires-clause-texts
 read_rules-requires-clause-texts c = (c.requires.0.rules, c.requires.1.rules)
 
-pub unreachable-requires : goal.unreachable-requires
-unreachable-requires c =
+pub into_names-names-requires : goal.into_names-names-requires
+into_names-names-requires c =
     let tree = c.requires.0 in
     let h = c.requires.1 in
-    some_large (map (λ s. s.1) c.read_rules.new.scope.names.symbols) c.in_ok-arities.field-0 c.in_default.is c.in_ok-arities.ensures
-    (arities_have_room tree c.args.file h c.in_ok-read_block.field-0 c.new.result.symbols c.is_some-has_type.result c.args.file.rules.items
+    few_arguments tree c.args.file h c.in_ok-read_block.field-0 c.new.result.symbols c.is_some-has_type.result c.args.file.rules.items
     (block_is tree c.args.file c.in_ok-read_block.field-0 c.deref.result.now h c.in_ok-read_block.ensures c.deref.ensures.value) (ap (λ (n : NameTable). n.symbols) c.new.ensures)
     (type_is tree c.args.file c.is_some-has_type.result h c.is_some-has_type.ensures) refl
-    c.read_rules.new.scope.names (map (λ s. s.1) c.read_rules.new.scope.names.symbols) c.in_ok-rules.rules.items c.in_ok-rules.ensures.rules refl)
+    c.read_rules.new.scope.names (map (λ s. s.1) c.read_rules.new.scope.names.symbols) c.in_ok-rules.rules.items c.in_ok-rules.ensures.rules refl
 
 pub of_sound-system-requires-clause-sound : goal.of_sound-system-requires-clause-sound
 of_sound-system-requires-clause-sound c =
@@ -56,7 +48,7 @@ of_sound-system-requires-clause-sound c =
     rules_sound tree c.args.file h c.in_ok-read_block.field-0 c.new.result.symbols c.is_some-has_type.result c.args.file.rules.items
     (block_is tree c.args.file c.in_ok-read_block.field-0 c.deref.result.now h c.in_ok-read_block.ensures c.deref.ensures.value) (ap (λ (n : NameTable). n.symbols) c.new.ensures)
     (type_is tree c.args.file c.is_some-has_type.result h c.is_some-has_type.ensures) refl
-    c.read_rules.new.scope.names c.in-Some.arities.items c.in_ok-rules.rules.items c.in_ok-rules.ensures.rules (all_there (map (λ s. s.1) c.read_rules.new.scope.names.symbols) c.in_ok-arities.field-0 c.in-Some.arities c.in-Some.is c.in_ok-arities.ensures)
+    c.read_rules.new.scope.names c.in_ok-arities.arities.items c.in_ok-rules.rules.items c.in_ok-rules.ensures.rules (c.in_ok-arities.ensures ∙ ap (λ (n : NameTable). map (λ (s : List ℕ × ℕ). s.1) n.symbols) c.into_names-names.ensures)
 
 pub of_sound-system-requires-clause-counted : goal.of_sound-system-requires-clause-counted
 of_sound-system-requires-clause-counted c =
@@ -65,11 +57,12 @@ of_sound-system-requires-clause-counted c =
     rules_counted tree c.args.file h c.in_ok-read_block.field-0 c.new.result.symbols c.is_some-has_type.result c.args.file.rules.items
     (block_is tree c.args.file c.in_ok-read_block.field-0 c.deref.result.now h c.in_ok-read_block.ensures c.deref.ensures.value) (ap (λ (n : NameTable). n.symbols) c.new.ensures)
     (type_is tree c.args.file c.is_some-has_type.result h c.is_some-has_type.ensures) refl
-    c.read_rules.new.scope.names c.in-Some.arities.items c.in_ok-rules.rules.items c.in_ok-rules.ensures.rules (all_there (map (λ s. s.1) c.read_rules.new.scope.names.symbols) c.in_ok-arities.field-0 c.in-Some.arities c.in-Some.is c.in_ok-arities.ensures)
+    c.read_rules.new.scope.names c.in_ok-arities.arities.items c.in_ok-rules.rules.items c.in_ok-rules.ensures.rules (c.in_ok-arities.ensures ∙ ap (λ (n : NameTable). map (λ (s : List ℕ × ℕ). s.1) n.symbols) c.into_names-names.ensures)
 
 pub returns : goal.returns
 returns c tree h =
-    file_read tree c.args.file h c.in_ok-read_block.field-0 c.new.result.symbols c.is_some-has_type.result c.args.file.rules.items
+    subst (λ (n : NameTable). IsSystemOf tree c.of_sound-system.result n) (sym c.into_names-names.ensures)
+    (file_read tree c.args.file h c.in_ok-read_block.field-0 c.new.result.symbols c.is_some-has_type.result c.args.file.rules.items
     (block_is tree c.args.file c.in_ok-read_block.field-0 c.deref.result.now h c.in_ok-read_block.ensures c.deref.ensures.value) (ap (λ (n : NameTable). n.symbols) c.new.ensures)
     (type_is tree c.args.file c.is_some-has_type.result h c.is_some-has_type.ensures) refl
-    c.read_rules.new.scope.names c.in-Some.arities.items c.in_ok-rules.rules.items c.in_ok-rules.ensures.rules (all_there (map (λ s. s.1) c.read_rules.new.scope.names.symbols) c.in_ok-arities.field-0 c.in-Some.arities c.in-Some.is c.in_ok-arities.ensures) c.of_sound-system.result c.of_sound-system.ensures
+    c.read_rules.new.scope.names c.in_ok-arities.arities.items c.in_ok-rules.rules.items c.in_ok-rules.ensures.rules (c.in_ok-arities.ensures ∙ ap (λ (n : NameTable). map (λ (s : List ℕ × ℕ). s.1) n.symbols) c.into_names-names.ensures) c.of_sound-system.result c.of_sound-system.ensures)
