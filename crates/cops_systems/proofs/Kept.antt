@@ -1,5 +1,5 @@
 -- What a tree means keeps the limits.
-use Rattle.std.proofs.Common.{◌≡◌, inl, inr, ℕ, ◌≤◌, Bool, List, [], ◌∷◌, ◌++◌, map, length, sym, subst, arith, All}
+use Rattle.std.proofs.Common.{inl, inr, ℕ, ◌≤◌, Bool, List, [], ◌∷◌, ◌++◌, map, length, sym, subst, arith, All}
 use Rattle.std.proofs.lemmas.List.Elements.{All-nil, All-cons, All-head, All-tail}
 use Rattle.std.proofs.lemmas.List.{length-map}
 use Rattle.file_text.specs.Syntax.{FileTree, has_type}

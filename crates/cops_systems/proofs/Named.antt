@@ -1,16 +1,11 @@
 -- What a tree means has the arities of its names.
-use Rattle.std.proofs.Common.{Bool, ◌≡◌, ◌≤◌, inl, inr, ℕ, List, [], ◌∷◌, ◌++◌, map, length, sym, ap, ap₂, ◌∙◌, subst, arith, All}
-use Rattle.std.proofs.lemmas.List.{map-append, length-map}
-use Rattle.std.proofs.lemmas.List.Elements.{All-nil, All-cons, All-head, All-tail, All-append, All-map}
-use Rattle.rewriting.specs.Rules.{Rule, System}
+use Rattle.std.proofs.Common.{◌≡◌, inl, inr, ℕ, List, [], ◌∷◌, ◌++◌, map, sym, ap, ◌∙◌}
+use Rattle.std.proofs.lemmas.List.{map-append}
+use Rattle.rewriting.specs.Rules.{System}
 use Rattle.file_text.specs.Syntax.{FileTree}
 use Rattle.cops_names.specs.NameTable.{NameTable}
-use Rattle.join_systems.specs.Joined.{joined_condition, joined_rule, last_rule, joined}
-use Rattle.join_names.specs.Fresh.{join_name, true_name, with_join_names}
-use Rattle.cops_systems.specs.Bounds.{most_conditions}
-use Rattle.cops_systems.specs.Limits.{IsAllowed, IsWithinLimits}
-use Rattle.cops_systems.specs.File.{IsSystemOf, IsJoinedFile, IsMeant}
-use Rattle.cops_systems.proofs.Within.{is_within_limits}
+use Rattle.join_names.specs.Fresh.{join_name, true_name}
+use Rattle.cops_systems.specs.File.{IsJoinedFile, IsMeant}
 
 -- the symbols are those of the names
 joined_arities : (file : FileTree) (sys : System) (names : NameTable) → IsJoinedFile file sys names → sys.arities ≡ map (λ s. s.1) names.symbols

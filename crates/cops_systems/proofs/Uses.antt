@@ -1,7 +1,6 @@
 -- What the use of a symbol adds to a table.
 use Rattle.std.proofs.Common.{◌≡◌, ℕ, ◌<◌, Bool, true, false, List, [], ◌∷◌, ◌++◌, length, Option, Some, None, refl, sym, ap, subst, ◌∙◌, arith}
-use Rattle.std.specs.Prelude.{option_map, slice_get, if◌then◌else◌, is_some, IsTrue}
-use Rattle.std.specs.Bool.{OnTrue}
+use Rattle.std.specs.Prelude.{option_map, slice_get, if◌then◌else◌, is_some}
 use Rattle.std.specs.List.{list_any}
 use Rattle.std.specs.Str.{bytes_eq}
 use Rattle.std.proofs.lemmas.Slice.Eq.{bytes_eq-Decides}

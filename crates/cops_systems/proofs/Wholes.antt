@@ -1,6 +1,5 @@
 -- From the rules that were read to the system that a file means.
-use Rattle.std.proofs.Common.{◌≡◌, ◌<◌, ◌≤◌, ◌^◌, ℕ, Bool, List, [], ◌∷◌, map, length, Err, All, sym, ap, subst, ◌∙◌, refl, arith}
-use Rattle.std.proofs.lemmas.List.Elements.{All-nil, All-cons, All-head, All-tail}
+use Rattle.std.proofs.Common.{◌≡◌, ◌≤◌, ℕ, Bool, List, [], ◌∷◌, map, length, Err, All, sym, ap, subst, ◌∙◌, refl}
 use Rattle.file_text.specs.Syntax.{RuleTree, FileTree, has_type}
 use Rattle.cops_trees.specs.View as tree
 use Rattle.cops_trees.specs.View.{IsFileText}

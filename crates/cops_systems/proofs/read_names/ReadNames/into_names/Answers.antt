@@ -1,4 +1,4 @@
-use Rattle.std.proofs.Common.{◌≤◌, List, ℕ, All, ap, sym, subst, ◌∙◌}
+use Rattle.std.proofs.Common.{◌≤◌, All, ap, sym, subst, ◌∙◌}
 use Rattle.cops_names.specs.NameTable.{NameTable}
 use Rattle.cops_systems.proofs.ReadNames.{none_cut, with_symbols}
 use Rattle.cops_systems.proofs.read_names.ReadNames.into_names.Goals as goal
