@@ -44,25 +44,26 @@ module _ (shape : Option MeasureReason) (places : List ℕ) (front more : List m
     where
       go : (s : Option MeasureReason) → ReasonAnswers s places front (Some reason) → ReasonAnswers s places (front ++ more) (Some reason)
       go (Some s) e = e
-      go None (i, e, r, at, no, all) =
+      go None (i, e, (r, at, fails, all)) =
           let within = slice_get_within front i r at in
-          (i, e, r, front_place front more i within ∙ at, no, λ j q less there. all j q less (sym (front_place front more j (omega (arith, less, within))) ∙ there))
+          (i, e, (r, front_place front more i within ∙ at, fails, λ j q less there. all j q less (sym (front_place front more j (omega (arith, less, within))) ∙ there)))
 
   pub reason_found : (i n : ℕ) → n ≡ length front + i + 1 → ReasonAnswers shape places front None → UnorderedAnswers places more (Some i) → ReasonAnswers shape places (front ++ more) (Some (Order n))
-  reason_found i n number h (r, at, no, all) = go shape h
+  reason_found i n number h (r, at, fails, all) = go shape h
     where
       go : (s : Option MeasureReason) → ReasonAnswers s places front None → ReasonAnswers s places (front ++ more) (Some (Order n))
       go (Some s) e = absurd (cc)
       go None ordered =
           let same : n ≡ suc (length front + i) = omega (arith, number) in
-          (length front + i, ap Order same, r, behind_place front more i ∙ at, no, both_hold (λ q. is_ordered_by places q ≡ true) front more i ordered all)
+          (length front + i, ap Order same, (r, behind_place front more i ∙ at, fails, both_hold (λ q. is_ordered_by places q ≡ true) front more i ordered all))
 
   pub reason_none : ReasonAnswers shape places front None → UnorderedAnswers places more None → ReasonAnswers shape places (front ++ more) None
   reason_none h all = go shape h
     where
       go : (s : Option MeasureReason) → ReasonAnswers s places front None → ReasonAnswers s places (front ++ more) None
       go (Some s) e = e
-      go None ordered j q at =
+      go None ordered =
+          λ j q at.
           let within = slice_get_within (front ++ more) j q at in
           let many = length-append front more in
           both_hold (λ p. is_ordered_by places p ≡ true) front more (length more) ordered (λ k p less there. all k p there) j q (omega (arith, within, many)) at
@@ -79,7 +80,7 @@ module _ (f : ℕ) (rs : List Rule) (shape : Option MeasureReason) (places : Lis
     where
       go : (s : Option MeasureReason) → ReasonAnswers s places [] s
       go (Some s) = refl
-      go None j q at = absurd (cc)
+      go None = λ j q at. absurd (cc)
 
   pub walk_finish : (i symbol before : ℕ) (reason : Option MeasureReason) → Walk f rs shape places i symbol before reason → length rs ≤ i → RulesReasonAnswers f (map rule_view rs) shape places (Ok reason)
   walk_finish i symbol before reason w le =

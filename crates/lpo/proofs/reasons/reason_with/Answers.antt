@@ -1,21 +1,25 @@
-use Rattle.std.proofs.Common.{rules, Option, List, ◌≡◌, ◌<◌, ◌+◌, ◌^◌, ◌++◌, map, length, ℕ, ◌-◌, ◌*◌, ◌≤◌, ◌/◌, ◌%◌, Bool, true, false, nat_eq, nat_lt, [], ◌∷◌, slice_index_or, slice_set, bit_and, bit_or, Fits, w8, w32, w64, Bor, MutBor}
-use Rattle.rewriting.specs.Lists.{IsSorted}
-use Rattle.rewriting.specs.Rules as math
-use Rattle.rewriting.specs.Unraveling as unraveling
-use Rattle.rewriting.specs.Systems.{condition_count}
-use Rattle.cert_model.specs.declared.reasons.MeasureReason as spec
-use Rattle.term_core.specs.HeadView.{head_view}
+use Rattle.std.proofs.Common.{map, length, ◌+◌, arith, subst, Some, None}
 use Rattle.term_core.specs.RuleView.{rule_view}
-use Rattle.unravel.specs.RuleAnswers.{DoTermsFit}
-use Rattle.lpo.specs.Places.{ArePlaces}
-use Rattle.lpo.specs.Reasons.{ShapeAnswers, ReasonAnswers, RulesReasonAnswers, FirstReasonAnswers}
-use Rattle.lpo.specs.Symbols.{IsHeadBefore}
+use Rattle.lpo.specs.Reasons.{ReasonAnswers}
+use Rattle.lpo.proofs.Judging.{within_rules}
+use Rattle.lpo.proofs.FirstReason.{reason_kept, reason_found, reason_none}
 use Rattle.lpo.proofs.reasons.reason_with.Goals as goal
 
--- src/reasons.rt:44:1
 pub returns-in-Some-first_unordered : goal.returns-in-Some-first_unordered
-returns-in-Some-first_unordered c = ?
+returns-in-Some-first_unordered c =
+    λ shape front many h.
+    let places = c.args.places.now in
+    let so_far = subst (ReasonAnswers shape places front) c.in_default.is h in
+    reason_found shape places front (map rule_view c.args.rules.now) c.in-Some-first_unordered.i (c.args.before + c.in-Some-first_unordered.i + 1) (omega (arith, many)) so_far c.in-Some-first_unordered.ensures
 
--- src/reasons.rt:44:1
 pub returns-in-None : goal.returns-in-None
-returns-in-None c = ?
+returns-in-None c =
+    λ shape front many h.
+    let places = c.args.places.now in
+    reason_none shape places front (map rule_view c.args.rules.now) (subst (ReasonAnswers shape places front) c.in_default.is h) c.in-None.ensures
+
+pub returns-in-Some : goal.returns-in-Some
+returns-in-Some c =
+    λ shape front many h.
+    let places = c.args.places.now in
+    reason_kept shape places front (map rule_view c.args.rules.now) c.in-Some.known (subst (ReasonAnswers shape places front) c.in-Some.is h)
