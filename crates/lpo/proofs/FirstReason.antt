@@ -1,5 +1,5 @@
 -- The first reason, from rule to rule, and the judgement that it gives.
-use Rattle.std.proofs.Common.{◌≡◌, ℕ, zero, suc, ◌+◌, ◌^◌, ◌<◌, ◌≤◌, true, refl, sym, ap, ◌∙◌, subst, List, [], ◌∷◌, ◌++◌, map, length, take, get_or, slice_get, Option, Some, None, Ok, Err, arith}
+use Rattle.std.proofs.Common.{◌≡◌, ℕ, zero, suc, ◌+◌, ◌^◌, ◌<◌, ◌≤◌, true, refl, sym, ap, ◌∙◌, subst, List, [], ◌∷◌, ◌++◌, map, length, take, get_or, slice_get, Option, Some, None, Result, Ok, Err, arith}
 use Rattle.std.proofs.lemmas.List.{length-append, length-map, length-take}
 use Rattle.std.proofs.lemmas.Option.{slice_get_within}
 use Rattle.rewriting.specs.Rules as math
@@ -16,7 +16,10 @@ use Rattle.term_core.specs.RuleView.{rule_view}
 use Rattle.term_core.specs.declared.systems.Rule.{Rule}
 use Rattle.unravel.proofs.Progress.{Front, front_begin, front_all, front_rules, front_next, count_within}
 use Rattle.unravel.proofs.Sound.{length-rules}
-use Rattle.lpo.specs.Reasons.{ShapeAnswers, ReasonAnswers, RulesReasonAnswers}
+use Rattle.unravel.proofs.Whole.{all_fit, first_large}
+use Rattle.unravel.specs.declared.UnravelError.{UnravelError}
+use Rattle.unravel.specs.declared.UnravelError.TheVariants.{TooLarge, NoMemory}
+use Rattle.lpo.specs.Reasons.{ShapeAnswers, ReasonAnswers, RulesReasonAnswers, FirstReasonAnswers}
 use Rattle.lpo.specs.Rules.{UnorderedAnswers, is_ordered_by}
 use Rattle.lpo.proofs.Judging.{whole, first_unordered, all_ordered}
 
@@ -118,6 +121,16 @@ module _ (f : ℕ) (rs : List Rule) (shape : Option MeasureReason) (places : Lis
           before_is = sym next_count;
           reason_is = subst (λ qs. ReasonAnswers shape places qs after) (sym next_rules) (step shape (unraveled_rules f (take i (map rule_view rs))) (sym w.before_is) w.reason_is);
         }
+
+pub of_system : (sys : math.System) (f : ℕ) (rs : List Rule) (shape : Option MeasureReason) (places : List ℕ) (result : Result (Option MeasureReason) UnravelError) → map rule_view rs ≡ sys.rules → f ≡ length sys.arities
+    → RulesReasonAnswers f (map rule_view rs) shape places result → FirstReasonAnswers sys shape places result
+of_system sys f rs shape places result rules_are first h =
+    go result (subst (λ n. RulesReasonAnswers n sys.rules shape places result) first (subst (λ qs. RulesReasonAnswers f qs shape places result) rules_are h))
+  where
+    go : (r : Result (Option MeasureReason) UnravelError) → RulesReasonAnswers (length sys.arities) sys.rules shape places r → FirstReasonAnswers sys shape places r
+    go (Ok reason) (fit, found) = (all_fit sys fit, found)
+    go (Err (TooLarge rule)) large = first_large sys rule large
+    go (Err NoMemory) h = tt
 
 -- the judgement
 module _ (sys : math.System) (order : Precedence) (places : List ℕ) where

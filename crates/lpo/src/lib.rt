@@ -9,9 +9,10 @@ mod reasons;
 mod rules;
 mod symbols;
 
-ghost use Rattle.std.specs.Prelude.{◌<◌, ◌^◌, MatchBool, map, length};
+ghost use Rattle.std.specs.Prelude.{◌≡◌, ◌<◌, ◌^◌, MatchBool, map, length};
 ghost use Rattle.rewriting.specs.Lists.{IsSorted};
 ghost use Rattle.rewriting.specs.Rules as math;
+ghost use Rattle.rewriting.specs.Unraveling as unraveling;
 ghost use Rattle.path_orders.specs.Judged.{IsPrecedenceJudged};
 ghost use Rattle.path_orders.specs.Dead.{IsDead, IsPrefix};
 ghost use Rattle.term_core.specs.HeadView.{head_view};
@@ -33,6 +34,28 @@ use std::alloc::Global;
 use term_core::{Head, NoMemory, Rule, System};
 use unravel::{UnravelError, Unraveled, unraveled_heads};
 
+// Judges a precedence by the symbols of the unraveled system, while none has a place.
+fn judge(
+    alloc: Global,
+    sys: &System,
+    heads: &[Head],
+    order: &[Head],
+    places: &mut [u32],
+) -> Result<(), MeasureError>
+    requires heads { map head_view heads.now ≡ unraveling.heads sys.now }
+    requires few_heads { length heads.now < 2 ^ 31 }
+    requires so_far { ArePlaces (map head_view heads.now) (map head_view order.now) 0 places.old }
+    ensures { ShowsAnswers (IsPrecedenceJudged sys.now (map head_view order.now)) result }
+{
+    let shape = shape_reason(heads, order, places);
+    match first_reason(alloc, sys, places, shape) {
+        Ok(None) => Ok(()),
+        Ok(Some(reason)) => Err(MeasureError::Reason(reason)),
+        Err(UnravelError::TooLarge { rule }) => Err(MeasureError::Unraveling { rule }),
+        Err(UnravelError::NoMemory) => Err(MeasureError::NoMemory),
+    }
+}
+
 /// Judges a precedence, the greatest symbol first, for the unraveling of a system by the lexicographic path order (Baader
 /// and Nipkow, Term Rewriting and All That, chapter 5): good, or the first reason why it is not, or the first rule of which
 /// a side of the unraveled system does not fit.
@@ -41,13 +64,7 @@ pub fn check_lpo(alloc: Global, sys: &System, order: &[Head]) -> Result<(), Meas
 {
     let heads = unraveled_heads(alloc, sys)?;
     let mut places = no_places(alloc, &heads, order)?;
-    let shape = shape_reason(&heads, order, &mut places);
-    match first_reason(alloc, sys, &places, shape) {
-        Ok(None) => Ok(()),
-        Ok(Some(reason)) => Err(MeasureError::Reason(reason)),
-        Err(UnravelError::TooLarge { rule }) => Err(MeasureError::Unraveling { rule }),
-        Err(UnravelError::NoMemory) => Err(MeasureError::NoMemory),
-    }
+    judge(alloc, sys, &heads, order, &mut places)
 }
 
 // Whether some rule, all of whose symbols are among the first ones of a precedence, is not ordered, while no symbol has a place.
