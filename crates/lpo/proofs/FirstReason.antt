@@ -1,10 +1,10 @@
 -- The first reason, from rule to rule, and the judgement that it gives.
-use Rattle.std.proofs.Common.{◌≡◌, ℕ, zero, suc, ◌+◌, ◌^◌, ◌<◌, ◌≤◌, true, refl, sym, ap, ◌∙◌, subst, List, [], ◌∷◌, ◌++◌, map, length, take, get_or, slice_get, Option, Some, None, Result, Ok, Err, arith}
+use Rattle.std.proofs.Common.{◌≡◌, ℕ, zero, suc, ◌+◌, ◌<◌, ◌≤◌, true, refl, sym, ap, ◌∙◌, subst, List, [], ◌∷◌, ◌++◌, map, length, take, get_or, slice_get, Option, Some, None, Result, Ok, Err, arith}
 use Rattle.std.proofs.lemmas.List.{length-append, length-map, length-take}
 use Rattle.std.proofs.lemmas.Option.{slice_get_within}
 use Rattle.rewriting.specs.Rules as math
 use Rattle.rewriting.specs.Systems.{condition_count, DoSidesFit}
-use Rattle.rewriting.specs.Unraveling.{heads, unraveled, unraveled_rule, unraveled_rules}
+use Rattle.rewriting.specs.Unraveling.{unraveled, unraveled_rule, unraveled_rules}
 use Rattle.interpretations.specs.Judgement.{good, not_good}
 use Rattle.interpretations.specs.Size.{DoesUnravelingFit}
 use Rattle.path_orders.specs.Precedences.{Precedence}
@@ -91,7 +91,7 @@ module _ (f : ℕ) (rs : List Rule) (shape : Option MeasureReason) (places : Lis
       (subst (λ z. DoSidesFit (unraveled_rules f z)) all w.front.fit, subst (λ z. ReasonAnswers shape places (unraveled_rules f z) reason) all w.reason_is)
 
   module _ (i symbol before : ℕ) (reason : Option MeasureReason) (r : Rule) (made : List Rule) (w : Walk f rs shape places i symbol before reason) (less : i < length rs) (is : r ≡ get_or rs i r)
-    (made_is : map rule_view made ≡ unraveled_rule symbol (rule_view r)) where
+      (made_is : map rule_view made ≡ unraveled_rule symbol (rule_view r)) where
     next_rules : unraveled_rules f (take (i + 1) (map rule_view rs)) ≡ unraveled_rules f (take i (map rule_view rs)) ++ map rule_view made
     next_rules = front_rules f rs i symbol r w.front less is ∙ ap (λ qs. unraveled_rules f (take i (map rule_view rs)) ++ qs) (sym made_is)
 

@@ -1,5 +1,5 @@
 -- What the functions that look for the first reason answer.
-use Rattle.std.specs.Prelude.{ℕ, suc, ◌≡◌, List, map, length, Option, None, Some, Result, Ok, Err}
+use Rattle.std.specs.Prelude.{ℕ, suc, ◌≡◌, List, length, Option, None, Some, Result, Ok, Err}
 use Rattle.rewriting.specs.Rules as math
 use Rattle.rewriting.specs.Systems.{DoSidesFit}
 use Rattle.rewriting.specs.Unraveling.{heads, unraveled, unraveled_rules}

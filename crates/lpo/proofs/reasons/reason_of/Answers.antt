@@ -62,7 +62,7 @@ pub loop-i-preserved : goal.loop-i-preserved
 loop-i-preserved c =
     let made = ap (map rule_view) c.deref.ensures.value ∙ c.in-Ok.ensures.0 in
     let next = walk_next c.args.first c.args.rules.now c.args.shape c.args.places.now c.loop-i.i c.loop-i.symbol c.loop-i.before c.loop-i.reason c.index-rules-i.result c.deref.result.now c.loop-i.invariant c.loop-i-test.true c.index-rules-i.is made
-        c.reason_with-reason.result c.in-Ok.ensures.1 c.reason_with-reason.ensures in
+    c.reason_with-reason.result c.in-Ok.ensures.1 c.reason_with-reason.ensures in
     let conditions : length c.index-rules-i.result.conds.items ≡ c.len-in-loop-i.result = omega (arith, (c.len-in-loop-i.ensures ∙ c.index-rules-i.result.conds.ok.0)) in
     let rules : length c.deref.result.now ≡ c.len.result = omega (arith, (c.len.ensures ∙ c.in-Ok.unraveled.ok.0), ap length c.deref.ensures.value) in
     subst (λ n. Walk c.args.first c.args.rules.now c.args.shape c.args.places.now (c.loop-i.i + 1) (c.loop-i.symbol + n) (c.loop-i.before + c.len.result) c.reason_with-reason.result) conditions

@@ -1,7 +1,6 @@
-use Rattle.std.proofs.Common.{map, length, ◌+◌, arith, subst, Some, None}
+use Rattle.std.proofs.Common.{map, ◌+◌, arith, subst}
 use Rattle.term_core.specs.RuleView.{rule_view}
 use Rattle.lpo.specs.Reasons.{ReasonAnswers}
-use Rattle.lpo.proofs.Judging.{within_rules}
 use Rattle.lpo.proofs.FirstReason.{reason_kept, reason_found, reason_none}
 use Rattle.lpo.proofs.reasons.reason_with.Goals as goal
 
