@@ -5,13 +5,14 @@ mod compare;
 mod leaves;
 mod listed;
 mod places;
+mod reasons;
 mod rules;
 mod symbols;
 
-ghost use Rattle.std.specs.Prelude.{◌<◌, ◌^◌, MatchBool, map, length};
+ghost use Rattle.std.specs.Prelude.{◌≡◌, ◌<◌, ◌^◌, MatchBool, map, length};
 ghost use Rattle.rewriting.specs.Lists.{IsSorted};
 ghost use Rattle.rewriting.specs.Rules as math;
-ghost use Rattle.interpretations.specs.Size.{DoesUnravelingFit};
+ghost use Rattle.rewriting.specs.Unraveling as unraveling;
 ghost use Rattle.path_orders.specs.Judged.{IsPrecedenceJudged};
 ghost use Rattle.path_orders.specs.Dead.{IsDead, IsPrefix};
 ghost use Rattle.term_core.specs.HeadView.{head_view};
@@ -24,59 +25,35 @@ ghost use Rattle.lpo.specs.Symbols.{IsHeadBefore};
 
 pub use crate::listed::{is_listed_dead, rules_by_symbol};
 pub use crate::places::no_places;
-use crate::places::{is_one_missing, place_all};
-use crate::rules::first_unordered;
+use crate::places::place_all;
+use crate::reasons::{first_reason, shape_reason};
 pub use crate::rules::is_one_dead;
 pub use crate::symbols::symbol_of;
-use cert_model::MeasureReason;
 use measure::{Measure, MeasureError, Partial};
 use std::alloc::Global;
 use term_core::{Head, NoMemory, Rule, System};
-use unravel::{UnravelError, Unraveled, unravel};
+use unravel::{UnravelError, Unraveled, unraveled_heads};
 
-// Judges a precedence by the symbols and rules of an unraveled system, while no symbol has a place.
-fn judge_placed(
-    heads: &[Head],
-    rules: &[Rule],
-    order: &[Head],
-    places: &mut [u32],
-) -> Result<(), MeasureError>
-    requires sorted { IsSorted IsHeadBefore (map head_view heads.now) }
-    requires few_heads { length heads.now < 2 ^ 31 }
-    requires few_rules { length rules.now < 2 ^ 31 }
-    requires so_far { ArePlaces (map head_view heads.now) (map head_view order.now) 0 places.old }
-    ensures { (sys : math.System) → IsOf sys (map head_view heads.now) (map rule_view rules.now) → DoesUnravelingFit sys → ShowsAnswers (IsPrecedenceJudged sys (map head_view order.now)) result }
-{
-    if let Some(k) = place_all(heads, order, places) {
-        return Err(MeasureError::Reason(MeasureReason::Shape {
-            entry: k as u32 + 1,
-        }));
-    }
-    if is_one_missing(places) {
-        return Err(MeasureError::Reason(MeasureReason::Shape {
-            entry: order.len() as u32 + 1,
-        }));
-    }
-    match first_unordered(places, rules) {
-        Some(i) => Err(MeasureError::Reason(MeasureReason::Order { rule: i as u32 + 1 })),
-        None => Ok(()),
-    }
-}
-
-// Judges a precedence for an unraveled system.
+// Judges a precedence by the symbols of the unraveled system, while none has a place.
 fn judge(
     alloc: Global,
     sys: &System,
-    unraveled: &Unraveled,
+    heads: &[Head],
     order: &[Head],
+    places: &mut [u32],
 ) -> Result<(), MeasureError>
-    requires { IsUnraveled sys.now unraveled.now }
+    requires heads { map head_view heads.now ≡ unraveling.heads sys.now }
+    requires few_heads { length heads.now < 2 ^ 31 }
+    requires so_far { ArePlaces (map head_view heads.now) (map head_view order.now) 0 places.old }
     ensures { ShowsAnswers (IsPrecedenceJudged sys.now (map head_view order.now)) result }
 {
-    let rules = unraveled.system.rules();
-    let heads: &[Head] = &unraveled.heads;
-    let mut places = no_places(alloc, heads, order)?;
-    judge_placed(heads, rules, order, &mut places)
+    let shape = shape_reason(heads, order, places);
+    match first_reason(alloc, sys, places, shape) {
+        Ok(None) => Ok(()),
+        Ok(Some(reason)) => Err(MeasureError::Reason(reason)),
+        Err(UnravelError::TooLarge { rule }) => Err(MeasureError::Unraveling { rule }),
+        Err(UnravelError::NoMemory) => Err(MeasureError::NoMemory),
+    }
 }
 
 /// Judges a precedence, the greatest symbol first, for the unraveling of a system by the lexicographic path order (Baader
@@ -85,12 +62,9 @@ fn judge(
 pub fn check_lpo(alloc: Global, sys: &System, order: &[Head]) -> Result<(), MeasureError>
     ensures { ShowsAnswers (IsPrecedenceJudged sys.now (map head_view order.now)) result }
 {
-    let unraveled = match unravel(alloc, sys) {
-        Ok(unraveled) => unraveled,
-        Err(UnravelError::TooLarge { rule }) => return Err(MeasureError::Unraveling { rule }),
-        Err(UnravelError::NoMemory) => return Err(MeasureError::NoMemory),
-    };
-    judge(alloc, sys, &unraveled, order)
+    let heads = unraveled_heads(alloc, sys)?;
+    let mut places = no_places(alloc, &heads, order)?;
+    judge(alloc, sys, &heads, order, &mut places)
 }
 
 // Whether some rule, all of whose symbols are among the first ones of a precedence, is not ordered, while no symbol has a place.

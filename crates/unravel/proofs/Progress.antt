@@ -47,7 +47,7 @@ count_take [] i q e = absurd (cc)
 count_take (r ∷ rs) zero q e = let same : r ≡ q = cc in let k = ap (λ r. length r.conditions) same in omega (arith, k)
 count_take (r ∷ rs) (suc i) q e = let k = count_take rs i q e in omega (arith, k)
 
-count_within : (rs : List rules.Rule) (i : ℕ) → condition_count (take i rs) ≤ condition_count rs
+pub count_within : (rs : List rules.Rule) (i : ℕ) → condition_count (take i rs) ≤ condition_count rs
 count_within [] zero = omega arith
 count_within [] (suc i) = omega arith
 count_within (r ∷ rs) zero = omega arith
@@ -65,60 +65,86 @@ at_place rs i r h is = slice_get-map rule_view rs i ∙ ap (option_map rule_view
 pub terms_fit_here : (rs : List Rule) (i : ℕ) (r : Rule) → DoTermsFit (map rule_view rs) → i < length rs → r ≡ get_or rs i r → Each Fits (terms_of_rule (rule_view r))
 terms_fit_here rs i r fit h is = terms_fit_at (map rule_view rs) i (rule_view r) fit (at_place rs i r h is)
 
+-- the rules of the first i rules fit, and the next auxiliary symbol has this number
+pub record Front (f : ℕ) (rs : List Rule) (i symbol : ℕ) : Type 0 where
+  pub symbol_is : symbol ≡ f + condition_count (take i (map rule_view rs))
+  pub fit : DoSidesFit (unraveled_rules f (take i (map rule_view rs)))
+
+pub front_begin : (f : ℕ) (rs : List Rule) → Front f rs 0 f
+front_begin f rs = record { symbol_is = omega arith; fit = tt }
+
+pub front_all : (rs : List Rule) (i : ℕ) → length rs ≤ i → take i (map rule_view rs) ≡ map rule_view rs
+front_all rs i h = take_all (map rule_view rs) i (let same = length-map rs rule_view in omega (arith, same, h))
+
+-- one rule more
+module _ (f : ℕ) (rs : List Rule) (i symbol : ℕ) (r : Rule) (p : Front f rs i symbol) (h : i < length rs) (is : r ≡ get_or rs i r) where
+  there : slice_get (map rule_view rs) i ≡ Some (rule_view r)
+  there = at_place rs i r h is
+
+  next_count : condition_count (take (suc i) (map rule_view rs)) ≡ condition_count (take i (map rule_view rs)) + length r.conds.items
+  next_count =
+      let next = count_take (map rule_view rs) i (rule_view r) there in
+      let same = length-map r.conds.items condition_view in
+      omega (arith, next, same)
+
+  pub front_room : symbol + length r.conds.items ≤ f + condition_count (map rule_view rs)
+  front_room = let s = p.symbol_is in let next = next_count in let most = count_within (map rule_view rs) (suc i) in omega (arith, s, next, most)
+
+  pub front_rules : unraveled_rules f (take (i + 1) (map rule_view rs)) ≡ unraveled_rules f (take i (map rule_view rs)) ++ unraveled_rule symbol (rule_view r)
+  front_rules =
+      let one : i + 1 ≡ suc i = omega arith in
+      ap (λ k. unraveled_rules f (take k (map rule_view rs))) one ∙ rules_take f (map rule_view rs) i (rule_view r) there
+      ∙ ap (λ n. unraveled_rules f (take i (map rule_view rs)) ++ unraveled_rule n (rule_view r)) (sym p.symbol_is)
+
+  pub front_next : DoSidesFit (unraveled_rule symbol (rule_view r)) → Front f rs (i + 1) (symbol + length r.conds.items)
+  front_next fits =
+      let one : i + 1 ≡ suc i = omega arith in
+      record {
+        symbol_is = (let s = p.symbol_is in let next = next_count in let same = ap (λ k. condition_count (take k (map rule_view rs))) one in omega (arith, s, next, same));
+        fit = subst DoSidesFit (sym front_rules) (sides_fit-append (unraveled_rules f (take i (map rule_view rs))) _ p.fit fits);
+      }
+
+  pub front_fail : (DoSidesFit (unraveled_rule symbol (rule_view r)) → ⊥) → IsLargeAt f (map rule_view rs) (i + 1)
+  front_fail large =
+      record {
+        place = i;
+        is_number = refl;
+        rule = rule_view r;
+        is_rule = there;
+        before = p.fit;
+        here = λ k. large (subst (λ n. DoSidesFit (unraveled_rule n (rule_view r))) (sym p.symbol_is) k);
+      }
+
 -- the rules of the first i rules stand
 pub record Progress (f : ℕ) (rs : List Rule) (i symbol : ℕ) (out : List Rule) : Type 0 where
-  pub symbol_is : symbol ≡ f + condition_count (take i (map rule_view rs))
+  pub front : Front f rs i symbol
   pub out_is : map rule_view out ≡ unraveled_rules f (take i (map rule_view rs))
-  pub fit : DoSidesFit (unraveled_rules f (take i (map rule_view rs)))
   pub counted : AreCounted out
 
 pub begin : (f : ℕ) (rs out : List Rule) → out ≡ [] → Progress f rs 0 f out
-begin f rs out e = record { symbol_is = omega arith; out_is = ap (map rule_view) e; fit = tt; counted = subst AreCounted (sym e) tt }
+begin f rs out e = record { front = front_begin f rs; out_is = ap (map rule_view) e; counted = subst AreCounted (sym e) tt }
 
 pub room : (f : ℕ) (rs : List Rule) (i symbol : ℕ) (out : List Rule) (r : Rule) → Progress f rs i symbol out → i < length rs → r ≡ get_or rs i r → symbol + length r.conds.items ≤ f + condition_count (map rule_view rs)
-room f rs i symbol out r p h is =
-    let s = p.symbol_is in
-    let next = count_take (map rule_view rs) i (rule_view r) (at_place rs i r h is) in
-    let most = count_within (map rule_view rs) (suc i) in
-    let same = length-map r.conds.items condition_view in
-    omega (arith, s, next, most, same)
+room f rs i symbol out r p h is = front_room f rs i symbol r p.front h is
 
 pub advance : (f : ℕ) (rs : List Rule) (i symbol : ℕ) (out after : List Rule) (r : Rule) (done : Unit {0}) → Progress f rs i symbol out → i < length rs → r ≡ get_or rs i r
     → AppendAnswers (unraveled_rule symbol (rule_view r)) out after (Ok done) → (AreCounted out → AreCounted after) → Progress f rs (i + 1) (symbol + length r.conds.items) after
 advance f rs i symbol out after r done p h is a counts =
-    let there = at_place rs i r h is in
-    let next = count_take (map rule_view rs) i (rule_view r) there in
-    let same = length-map r.conds.items condition_view in
-    let s = p.symbol_is in
-    let rules_next = rules_take f (map rule_view rs) i (rule_view r) there in
-    let one : i + 1 ≡ suc i = omega arith in
-    let at : unraveled_rule symbol (rule_view r) ≡ unraveled_rule (f + condition_count (take i (map rule_view rs))) (rule_view r) = ap (λ n. unraveled_rule n (rule_view r)) s in
-    subst (λ k. Progress f rs k (symbol + length r.conds.items) after) (sym one) record {
-      symbol_is = omega (arith, s, next, same);
-      out_is = a.0 ∙ ap₂ (λ x y. x ++ y) p.out_is at ∙ sym rules_next;
-      fit = subst DoSidesFit (sym rules_next) (sides_fit-append (unraveled_rules f (take i (map rule_view rs))) _ p.fit (subst DoSidesFit at a.1));
+    record {
+      front = front_next f rs i symbol r p.front h is a.1;
+      out_is = a.0 ∙ ap (λ x. x ++ unraveled_rule symbol (rule_view r)) p.out_is ∙ sym (front_rules f rs i symbol r p.front h is);
       counted = counts p.counted;
     }
 
 pub finish : (f : ℕ) (rs : List Rule) (i symbol : ℕ) (v : Vec Rule Global) → Progress f rs i symbol v.items → length rs ≤ i → RulesAnswers f (map rule_view rs) (Ok v)
-finish f rs i symbol v p h =
-    let all : take i (map rule_view rs) ≡ map rule_view rs = take_all (map rule_view rs) i (let same = length-map rs rule_view in omega (arith, same, h)) in
-    (p.out_is ∙ ap (unraveled_rules f) all, subst (λ z. DoSidesFit (unraveled_rules f z)) all p.fit)
+finish f rs i symbol v p h = let all = front_all rs i h in (p.out_is ∙ ap (unraveled_rules f) all, subst (λ z. DoSidesFit (unraveled_rules f z)) all p.front.fit)
 
 pub finish_counted : (f : ℕ) (rs : List Rule) (i symbol : ℕ) (out : List Rule) → Progress f rs i symbol out → AreCounted out
 finish_counted f rs i symbol out p = p.counted
 
 pub fail : (f : ℕ) (rs : List Rule) (i symbol : ℕ) (out after : List Rule) (r : Rule) → Progress f rs i symbol out → i < length rs → r ≡ get_or rs i r
     → AppendAnswers (unraveled_rule symbol (rule_view r)) out after (Err cause.TooLarge) → IsLargeAt f (map rule_view rs) (i + 1)
-fail f rs i symbol out after r p h is a =
-    record {
-      place = i;
-      is_number = refl;
-      rule = rule_view r;
-      is_rule = at_place rs i r h is;
-      before = p.fit;
-      here = λ k. a (subst (λ n. DoSidesFit (unraveled_rule n (rule_view r))) (sym p.symbol_is) k);
-    }
+fail f rs i symbol out after r p h is a = front_fail f rs i symbol r p.front h is a
 
 -- the terms of a system's rules fit
 pub terms_fit : (arities : Signature) (rs : List rules.Rule) → AreRules arities rs → DoTermsFit rs

@@ -1,5 +1,5 @@
 -- The unraveling of a system is again a system as files give it: its rules are over its symbols, numbered anew, and few.
-use Rattle.std.proofs.Common.{◌≡◌, ℕ, zero, suc, ◌+◌, refl, sym, ap, ap₂, ◌∙◌, subst, List, [], ◌∷◌, ◌++◌, map, length, arith, slice_get, Some, Result, Ok, Err, IfOk, OnOk, Vec, Global}
+use Rattle.std.proofs.Common.{◌≡◌, ℕ, zero, suc, ◌+◌, ◌^◌, ◌<◌, refl, sym, ap, ap₂, ◌∙◌, subst, List, [], ◌∷◌, ◌++◌, map, length, arith, slice_get, Some, Result, Ok, Err, IfOk, OnOk, Vec, Global}
 use Rattle.std.proofs.lemmas.List.{length-append}
 use Rattle.rewriting.specs.Terms.{Term, nil, cons, Fits}
 use Rattle.rewriting.specs.Substitutions.{apply}
@@ -8,12 +8,15 @@ use Rattle.rewriting.specs.Variables.{with_variables, variables, variables_of}
 use Rattle.rewriting.specs.Rules as rules
 use Rattle.rewriting.specs.Rules.{system_of}
 use Rattle.rewriting.specs.Systems.{condition_count, rule_variables, IsRuleOver, IsWellFormed, IsRule, AreRules, IsSystem, DoSidesFit}
-use Rattle.rewriting.specs.Unraveling.{unraveled, unraveled_from, unraveled_rule, unraveled_rules, numbered_anew, index_in, keeper, keeper_arities, all_keeper_arities}
+use Rattle.rewriting.specs.Unraveling.{unraveled, unraveled_from, unraveled_rule, unraveled_rules, numbered_anew, index_in, keeper, keeper_arities, all_keeper_arities, heads}
+use Rattle.interpretations.proofs.Bound.{length-heads}
 use Rattle.rewriting.proofs.Unraveled.{unraveled_well_formed}
 use Rattle.rewriting.proofs.Variables.{variables_have_all}
 use Rattle.simplifications.proofs.Anew.{numbered_counts, list_renamed, places_differ}
 use Rattle.simplifications.proofs.Parts.{length_map}
 use Rattle.term_core.specs.RuleView.{rule_view, AreCounted}
+use Rattle.term_core.specs.HeadView.{head_view}
+use Rattle.term_core.specs.declared.systems.Head.{Head}
 use Rattle.term_core.specs.declared.systems.Rule.{Rule}
 use Rattle.unravel.specs.declared.UnravelError.{UnravelError}
 use Rattle.unravel.specs.declared.rules.RuleError.{RuleError}
@@ -42,7 +45,7 @@ length-from : (f : ℕ) (xs : List ℕ) (head : Term) (cs : List rules.Condition
 length-from f xs head [] r = refl
 length-from f xs head (c ∷ cs) r = ap suc (length-from (suc f) (with_variables xs c.right) (keeper f c.right xs) cs r)
 
-length-rules : (f : ℕ) (qs : List rules.Rule) → length (unraveled_rules f qs) ≡ length qs + condition_count qs
+pub length-rules : (f : ℕ) (qs : List rules.Rule) → length (unraveled_rules f qs) ≡ length qs + condition_count qs
 length-rules f [] = refl
 length-rules f (q ∷ qs) =
     let a = length-append (unraveled_rule f q) (unraveled_rules (f + length q.conditions) qs) in
@@ -61,6 +64,17 @@ length-all_keepers (q ∷ qs) =
     let b = length-keepers (variables q.left) q.conditions in
     let c = length-all_keepers qs in
     omega (arith, a, b, c)
+
+-- so there are few symbols, also where some side does not fit
+pub few_heads : (sys : rules.System) (hs : List Head) → IsSystem sys → map head_view hs ≡ heads sys → length hs < 2 ^ 31
+few_heads sys hs h same =
+    let few = h.few_symbols in
+    let symbols = length-append sys.arities (all_keeper_arities sys.rules) in
+    let keepers = length-all_keepers sys.rules in
+    let whole = length-heads sys in
+    let many = length_map head_view hs in
+    let as_many = ap length same in
+    omega (arith, few, symbols, keepers, whole, many, as_many)
 
 -- each rule is one of two sides, its variables numbered anew
 record IsAnew (q : rules.Rule) : Type 0 where

@@ -37,7 +37,7 @@ fits_before f (p ∷ qs) (suc k) (suc j) q h lt e =
     let start : (f + length p.conditions) + condition_count (take j qs) ≡ f + (length p.conditions + condition_count (take j qs)) = omega arith in
     subst (λ n. DoSidesFit (unraveled_rule n q)) start rest
 
-all_fit : (sys : rules.System) → DoSidesFit (unraveled_rules (length sys.arities) sys.rules) → DoesUnravelingFit sys
+pub all_fit : (sys : rules.System) → DoSidesFit (unraveled_rules (length sys.arities) sys.rules) → DoesUnravelingFit sys
 all_fit sys h zero q e = absurd (cc)
 all_fit sys h (suc i) q e = fits_at (length sys.arities) sys.rules i q h e
 

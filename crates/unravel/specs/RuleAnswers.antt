@@ -29,6 +29,12 @@ AppendAnswers rs before after (Ok _) = (map rule_view after ≡ map rule_view be
 AppendAnswers rs before after (Err cause.TooLarge) = DoSidesFit rs → ⊥
 AppendAnswers rs before after (Err cause.NoMemory) = Unit {0}
 
+-- the rules, and all their sides fit; or one does not
+abbrev pub OneRuleAnswers : List rules.Rule → Result (Vec Rule Global) RuleError → Type 0
+OneRuleAnswers rs (Ok v) = (map rule_view v.items ≡ rs) × DoSidesFit rs
+OneRuleAnswers rs (Err cause.TooLarge) = DoSidesFit rs → ⊥
+OneRuleAnswers rs (Err cause.NoMemory) = Unit {0}
+
 -- every term of each rule fits
 abbrev pub DoTermsFit : List rules.Rule → Type 0
 DoTermsFit [] = Unit {0}

@@ -9,7 +9,9 @@ ghost use Rattle.std.specs.Prelude.{◌≡◌};
 ghost use Rattle.unravel.specs.Answers.{UnravelAnswers};
 
 use crate::rules::unraveled_rules;
-use crate::symbols::{unraveled_arities, unraveled_heads};
+pub use crate::rules::{RuleError, rules_of_one};
+use crate::symbols::unraveled_arities;
+pub use crate::symbols::unraveled_heads;
 use std::alloc::Global;
 use term_core::{Head, NoMemory, System};
 

@@ -8,7 +8,7 @@ ghost use Rattle.rewriting.specs.Unraveling.{unraveled, unraveled_from, unravele
 ghost use Rattle.term_core.specs.View.{view};
 ghost use Rattle.term_core.specs.RuleView.{condition_view, rule_view, AreCounted};
 ghost use Rattle.unravel.specs.SideView.{side_view, DoesPartFit};
-ghost use Rattle.unravel.specs.RuleAnswers.{NumberedAnswers, PushAnswers, AppendAnswers, RulesAnswers, DoTermsFit};
+ghost use Rattle.unravel.specs.RuleAnswers.{NumberedAnswers, PushAnswers, AppendAnswers, OneRuleAnswers, RulesAnswers, DoTermsFit};
 
 use crate::UnravelError;
 use crate::sides::{Side, add_variables};
@@ -143,6 +143,19 @@ fn push_rules(alloc: Global, symbol: u32, rule: &Rule, out: &mut Vec<Rule>) -> R
     let known = vars(alloc, &rule.left)?;
     let head = Side::Plain(&rule.left);
     push_from(alloc, symbol, &known, &head, &rule.conds, &rule.right, out)
+}
+
+/// The rules that come from one rule, whose first auxiliary symbol has this number.
+pub fn rules_of_one(alloc: Global, symbol: u32, rule: &Rule) -> Result<Vec<Rule>, RuleError>
+    requires fits { Each math.Fits (terms_of_rule (rule_view rule.now)) }
+    requires symbols { symbol + length rule.now.conds.items < 2 ^ 32 }
+    ensures { OneRuleAnswers (unraveled_rule symbol (rule_view rule.now)) result }
+{
+    let mut out = Vec::new(alloc);
+    match push_rules(alloc, symbol, rule, &mut out) {
+        Ok(()) => Ok(out),
+        Err(error) => Err(error),
+    }
 }
 
 // The rules that come from some rules, whose first auxiliary symbol has this number.

@@ -105,9 +105,10 @@ fn push_all_heads(rules: &[Rule], out: &mut Vec<Head>) -> Result<(), NoMemory>
 }
 
 /// What each symbol of the unraveled system is, in order of their numbers.
-#[tactic(auto, using(crate::proofs::SymbolLists::small_rules, crate::proofs::SymbolLists::first_all))]
+#[tactic(auto, using(crate::proofs::SymbolLists::small_rules, crate::proofs::SymbolLists::first_all, crate::proofs::Sound::few_heads))]
 pub fn unraveled_heads(alloc: Global, sys: &System) -> Result<Vec<Head>, NoMemory>
-    ensures { IfOk result (λ v. map head_view v.items ≡ heads sys.now) }
+    ensures heads { IfOk result (λ v. map head_view v.items ≡ heads sys.now) }
+    ensures few { IfOk result (λ v. length v.items < 2 ^ 31) }
 {
     let rules = sys.rules();
     let mut out = Vec::new(alloc);

@@ -10,5 +10,5 @@ of_sound-system-requires-clause-sound c =
 pub returns : goal.returns
 returns c =
     let rules = c.in_ok-rules.ensures in
-    let heads = c.in_ok-heads.ensures in
+    let heads = c.in_ok-heads.ensures.heads in
     is_unraveled c.args.sys.now _ c.in_ok-rules.rules.items c.in_ok-arities.arities.items rules.rules.0 rules.rules.1 c.in_ok-arities.ensures c.of_sound-system.ensures heads
