@@ -5,9 +5,14 @@ use Rattle.std.proofs.lemmas.Option.{slice_get-map}
 use Rattle.rewriting.specs.Terms.{Term, Terms, var, app, nil, cons}
 use Rattle.rewriting.specs.Signatures.{IsOver, AreOver}
 use Rattle.rewriting.specs.Rules.{System}
+use Rattle.rewriting.specs.Systems.{IsSystem}
+use Rattle.rewriting.proofs.Laws.{well_formed}
 use Rattle.certificates.specs.Derivations.{Derivation, no_steps, first_step, Step, by_rule, by_hypothesis, Derivations, no_derivations, first_derivation}
 use Rattle.certificates.specs.Evidence.{PairEvidence, trivial_pair, infeasible_pair, conflicting_pair, joined_pair, unfeasible_pair}
-use Rattle.certificates.specs.Certificates.{PairEntry, Apartness, by_normal_forms, by_rigid_caps, Peak, Certificate, ortho_certificate, quasi_certificate, peak_certificate, simplified_certificate}
+use Rattle.certificates.specs.Certificates.{PairEntry, Apartness, by_normal_forms, by_rigid_caps, Peak, Simplification, Certificate, ortho_certificate, quasi_certificate, peak_certificate, simplified_certificate}
+use Rattle.simplifications.specs.Simplifying.{AllSimplify}
+use Rattle.simplifications.proofs.Levels.{keep_levels}
+use Rattle.simplifications.proofs.Systems.{steps_make}
 use Rattle.certificates.specs.Sizes.{IsShort, AreStepsShort, IsStepShort, AreShort}
 use Rattle.valid_certificates.specs.Entries.{IsPairShort, ArePairsShort}
 use Rattle.noncon_check.specs.Judges.{AreFew}
@@ -17,8 +22,11 @@ use Rattle.cops_names.specs.NameTable.{NameTable}
 use Rattle.cert_grammar.specs.Words.{IsSpelt, AreSpelt}
 use Rattle.cert_grammar.specs.Limits.{AreSteps, IsStep, AreDerivations, IsDerivation}
 use Rattle.cert_grammar.specs.EvidenceText.{IsEvidence, ArePairs}
-use Rattle.cert_grammar.specs.CertificateText.{IsApart}
-use Rattle.cert_grammar.specs.FirstVersion.{CanBeSpelt}
+use Rattle.cert_grammar.specs.CertificateText.{IsApart, IsWithin}
+
+-- the symbols stay behind good steps
+pub same_symbols : (sys last : System) (steps : List Simplification) → IsSystem sys → AllSimplify sys steps last → last.arities ≡ sys.arities
+same_symbols sys last steps good all = (keep_levels sys last steps (well_formed sys good) all).arities
 
 -- terms that the names spell are over the arities of the names
 mutual
@@ -63,12 +71,12 @@ last_pair_short : (names : NameTable) (es : List PairEntry) (e : PairEntry) → 
 last_pair_short names [] e h = evidence_short names e.evidence h.3
 last_pair_short names (f ∷ es) e h = last_pair_short names es e h.4
 
-pub last_short : (names : NameTable) (o : Opening) (es : List PairEntry) (e : PairEntry) → CanBeSpelt names (certificate_for o (es ++ e ∷ [])) → IsPairShort e.evidence
+pub last_short : (names : NameTable) (o : Opening) (es : List PairEntry) (e : PairEntry) → IsWithin names (certificate_for o (es ++ e ∷ [])) → IsPairShort e.evidence
 last_short names ortho_opening es e h = last_pair_short names es e h.1
 last_short names (quasi_opening measure) es e h = last_pair_short names es e h.2
-last_short names (simplified_opening steps o) es e h = absurd h
+last_short names (simplified_opening steps o) es e h = last_short names o es e h.3
 
-pub peak_can_be_judged : (sys : System) (names : NameTable) (peak : Peak) → sys.arities ≡ map (λ s. s.1) names.symbols → CanBeSpelt names (peak_certificate peak) → CanPeakBeJudged sys peak
+pub peak_can_be_judged : (sys : System) (names : NameTable) (peak : Peak) → sys.arities ≡ map (λ s. s.1) names.symbols → IsWithin names (peak_certificate peak) → CanPeakBeJudged sys peak
 peak_can_be_judged sys names peak same h = record {
   fits = h.1;
   over = spelt_over names sys.arities same peak.start h.0;
@@ -82,8 +90,9 @@ pairs_short names [] h = tt
 pairs_short names (e ∷ es) h = (evidence_short names e.evidence h.3, pairs_short names es h.4)
 
 -- a certificate that can be spelt can be judged in each system of the names' symbols
-pub spelt_can_be_judged : (sys : System) (names : NameTable) (c : Certificate) → sys.arities ≡ map (λ s. s.1) names.symbols → CanBeSpelt names c → CanBeJudged sys c
-spelt_can_be_judged sys names (ortho_certificate pairs) same h = pairs_short names pairs h.1
-spelt_can_be_judged sys names (quasi_certificate measure pairs) same h = pairs_short names pairs h.2
-spelt_can_be_judged sys names (peak_certificate peak) same h = peak_can_be_judged sys names peak same h
-spelt_can_be_judged sys names (simplified_certificate steps c) same h = absurd h
+pub within_can_be_judged : (sys : System) (names : NameTable) (c : Certificate) → IsSystem sys → sys.arities ≡ map (λ s. s.1) names.symbols → IsWithin names c → CanBeJudged sys c
+within_can_be_judged sys names (ortho_certificate pairs) good same h = pairs_short names pairs h.1
+within_can_be_judged sys names (quasi_certificate measure pairs) good same h = pairs_short names pairs h.2
+within_can_be_judged sys names (peak_certificate peak) good same h = peak_can_be_judged sys names peak same h
+within_can_be_judged sys names (simplified_certificate steps c) good same h =
+    λ last all. within_can_be_judged last names c (steps_make sys last steps good all) (same_symbols sys last steps good all ∙ same) h.3

@@ -56,14 +56,19 @@ none_before sys last c e good judged =
       apart = λ h. h;
     })
 
+-- a peak behind good steps is one before them
+pub apart_before : (sys next : System) (steps : List Simplification) (body : Certificate) → IsSystem sys → AllSimplify sys steps next → IsPeakApart next body → IsPeakApart sys (simplified_certificate steps body)
+apart_before sys next steps body good all (end, peak, ends, reaches) =
+    let carried : (u v : Term) → _ = λ u v leads. peaks_back sys next steps peak.start u v (well_formed sys good) all (reaches.apart u v leads) in
+    (end, peak, (next, all, ends), record { leads = reaches.leads; apart = carried })
+
+-- and confluence is carried back
+pub confluent_before : (sys next : System) (steps : List Simplification) → IsSystem sys → AllSimplify sys steps next → IsConfluent next → IsConfluent sys
+confluent_before sys next steps good all k = (alike sys next (keep_levels sys next steps (well_formed sys good) all)).confluent.1 k
+
 -- a level of steps
 module _ (sys : System) (c : Certificate) (last : System) (steps : List Simplification) (body : Certificate) (h : StandsBehind sys c last (simplified_certificate steps body)) where
   module _ (next : System) (all : AllSimplify last steps next) where
-    apart_before : IsPeakApart next body → IsPeakApart last (simplified_certificate steps body)
-    apart_before (end, peak, ends, reaches) =
-        let carried : (u v : Term) → _ = λ u v leads. peaks_back last next steps peak.start u v (well_formed last h.system) all (reaches.apart u v leads) in
-        (end, peak, (next, all, ends), record { leads = reaches.leads; apart = carried })
-
     pub level_behind : StandsBehind sys c next body
     level_behind = record {
       system = steps_make last next steps h.system all;
@@ -71,8 +76,8 @@ module _ (sys : System) (c : Certificate) (last : System) (steps : List Simplifi
       valid = λ v. h.valid (next, all, v);
       rejected = λ r k. h.rejected r (inr (next, all, k));
       verdict = h.verdict;
-      confluent = λ k. h.confluent ((alike last next (keep_levels last next steps (well_formed last h.system) all)).confluent.1 k);
-      apart = λ k. h.apart (apart_before k);
+      confluent = λ k. h.confluent (confluent_before last next steps h.system all k);
+      apart = λ k. h.apart (apart_before last next steps body h.system all k);
     }
 
   pub steps_rejected : (e : CheckError) → StepsAnswer last steps (Err e) → VerdictAnswers sys c (Err e)

@@ -1,32 +1,31 @@
 -- The answer to a certificate's text, from those to its parts.
-use Rattle.std.proofs.Common.{◌≡◌, ℕ, List, map, Result, Err, refl, sym, subst}
+use Rattle.std.proofs.Common.{◌≡◌, ℕ, List, [], map, Option, None, Some, Result, Ok, Err, inl, inr, refl, sym, ap, ◌∙◌, subst}
 use Rattle.rewriting.specs.Rules.{System}
-use Rattle.certificates.specs.Certificates.{PairEntry, MeasureCertificate, Certificate}
+use Rattle.certificates.specs.Certificates.{PairEntry, MeasureCertificate, Simplification, Peak, Certificate, peak_certificate, simplified_certificate}
 use Rattle.valid_certificates.specs.Certificates.{IsMeasureJudged, IsValid, IsRejected}
+use Rattle.valid_certificates.specs.CarriedBack.{IsPeakApart}
 use Rattle.tallies.specs.Tally.{Tally, IsQuasiTally}
 use Rattle.cops_names.specs.NameTable.{NameTable}
-use Rattle.cert_model.specs.CertificateView.{peak_view}
 use Rattle.cert_model.specs.ReasonView.{rejected_view}
-use Rattle.cert_model.specs.declared.model.Peak as model
 use Rattle.cert_model.specs.declared.reasons.Rejected as reasons
-use Rattle.cert_grammar.specs.FirstVersion.{IsCertificateText}
-use Rattle.cert_openings.specs.FirstLaws.{NeverBoth}
+use Rattle.cert_grammar.specs.CertificateText.{IsCertificateText}
+use Rattle.cert_sharing.specs.SharedLaws.{NeverBoth}
 use Rattle.cert_grammar.specs.Marks.{syntax, unknown_name, wrong_arity, bad_number, bad_share, too_many, too_deep}
 use Rattle.cert_words.specs.CertRefusals.{IsRefusedAs}
 use Rattle.cert_words.specs.Words.{counted_view}
 use Rattle.cert_words.specs.declared.error.CertError.{CertError}
 use Rattle.cert_words.specs.declared.error.CertError.TheVariants as refused
-use Rattle.cert_openings.specs.Openings.{Opening, certificate_for}
-use Rattle.cert_text.specs.Reading.{Reading}
-use Rattle.cert_text.specs.OpenedText.{IsReadUpTo, IsOpenedAs}
-use Rattle.cert_text.specs.declared.opening.Opened.{Opened}
-use Rattle.cert_text.specs.declared.opening.Opened.TheVariants as opened
-use Rattle.cert_check.specs.Kinds.{CanPeakBeJudged}
+use Rattle.cert_openings.specs.Openings.{Opening, simplified_opening, certificate_for}
+use Rattle.cert_text.specs.Reading.{Reading, HasRead}
+use Rattle.cert_text.specs.OpenedText.{OpenedText, at_entries, whole, behind_steps, IsOpenedAs}
+use Rattle.cert_check.specs.Kinds.{HasNoSteps, CanPeakBeJudged, verdict_of}
+use Rattle.cert_check.specs.Answers.{OnYes, OnNo}
 use Rattle.cert_check.specs.BytesErrors.{error_of_text}
-use Rattle.cert_check.specs.Bytes.{IsTold, EntriesAnswer, IsNoRefusal}
+use Rattle.cert_check.specs.Bytes.{IsTold, BytesAnswers, behind, text_behind, IsBare, IsOpenedFor, BodyAnswers, EntriesAnswer, PeakAnswers, RestAnswers, WholeAnswers, IsNoRefusal}
 use Rattle.cert_check.specs.declared.Verdict.{Verdict}
+use Rattle.cert_check.specs.declared.Verdict.TheVariants.{Yes, No}
 use Rattle.cert_check.specs.declared.bytes.BytesError.{BytesError}
-use Rattle.cert_check.specs.declared.bytes.BytesError.TheVariants.{Cert, Rejected, NoMemory}
+use Rattle.cert_check.specs.declared.bytes.BytesError.TheVariants.{Cert, Rejected, RejectedBehindSteps, NoMemory}
 use Rattle.cert_check.proofs.Bounds.{peak_can_be_judged}
 
 -- what holds of another name of the system and of the certificate
@@ -44,49 +43,149 @@ tally_there sys other m n es t s e h =
     subst (λ x. IsQuasiTally (IsMeasureJudged x m) x es t) s (subst (λ x. IsQuasiTally (IsMeasureJudged other x) other es t) e h)
 
 -- the reason for which the text's certificate is rejected is the answer
-pub rejected_answer : (sys : System) (names : NameTable) (bytes : List ℕ) (o : Opening) (es : List PairEntry) (reason : reasons.Rejected) (r : Result (Unit {0}) BytesError)
-    → r ≡ Err (Rejected reason) → IsCertificateText names bytes (certificate_for o es) → IsRejected sys (certificate_for o es) (rejected_view reason) → EntriesAnswer sys names bytes o r
-rejected_answer sys names bytes o es reason r is text rejected = subst (EntriesAnswer sys names bytes o) (sym is) (es, text, rejected)
+pub rejected_answer : (sys : System) (names : NameTable) (bytes : List ℕ) (o own : Opening) (es : List PairEntry) (reason : reasons.Rejected) (r : Result Verdict BytesError)
+    → r ≡ Err (Rejected reason) → IsCertificateText names bytes (certificate_for o es) → IsRejected sys (certificate_for own es) (rejected_view reason) → EntriesAnswer sys names bytes o own r
+rejected_answer sys names bytes o own es reason r is text rejected = subst (EntriesAnswer sys names bytes o own) (sym is) (es, text, rejected)
 
--- a text with a certificate is not refused
-told_never : NeverBoth → (names : NameTable) (bytes : List ℕ) (c : Certificate) → IsCertificateText names bytes c → (e : CertError) → IsRefusedAs names bytes e → IsNoRefusal (Err (error_of_text e))
-told_never never names bytes c text (refused.CertSyntax at) h = never names bytes c syntax at text h
-told_never never names bytes c text (refused.UnknownName at) h = never names bytes c unknown_name at text h
-told_never never names bytes c text (refused.WrongArity at) h = never names bytes c wrong_arity at text h
-told_never never names bytes c text (refused.BadNumber at) h = never names bytes c bad_number at text h
-told_never never names bytes c text (refused.BadShare at) h = never names bytes c bad_share at text h
-told_never never names bytes c text (refused.CertTooDeep at) h = never names bytes c too_deep at text h
-told_never never names bytes c text (refused.TooMany what at) h = never names bytes c (too_many (counted_view what)) at text h
-told_never never names bytes c text refused.NoMemory h = tt
+-- so is the refusal of the text
+refused_so : (sys : System) (names : NameTable) (bytes : List ℕ) (o own : Opening) (e : CertError) → IsRefusedAs names bytes e → EntriesAnswer sys names bytes o own (Err (error_of_text e))
+refused_so sys names bytes o own (refused.CertSyntax at) h = (λ k. cc, h)
+refused_so sys names bytes o own (refused.UnknownName at) h = (λ k. cc, h)
+refused_so sys names bytes o own (refused.WrongArity at) h = (λ k. cc, h)
+refused_so sys names bytes o own (refused.BadNumber at) h = (λ k. cc, h)
+refused_so sys names bytes o own (refused.BadShare at) h = (λ k. cc, h)
+refused_so sys names bytes o own (refused.CertTooDeep at) h = (λ k. cc, h)
+refused_so sys names bytes o own (refused.TooMany what at) h = (λ k. cc, h)
+refused_so sys names bytes o own refused.NoMemory h = tt
 
-pub never_told : NeverBoth → (names : NameTable) (bytes : List ℕ) (e : CertError) → IsRefusedAs names bytes e → (r : Result Verdict BytesError) → r ≡ Err (error_of_text e)
+pub refused_there : (names : NameTable) (bytes : List ℕ) (r : Reading) → r.names ≡ names → r.bytes ≡ bytes → (e : CertError) → IsRefusedAs r.names r.bytes e → IsRefusedAs names bytes e
+refused_there names bytes r n b e h = subst (λ x. IsRefusedAs x bytes e) n (subst (λ x. IsRefusedAs r.names x e) b h)
+
+pub refused_answer : (sys : System) (names : NameTable) (bytes : List ℕ) (o own : Opening) (r : Reading) → r.names ≡ names → r.bytes ≡ bytes → (e : CertError) → IsRefusedAs r.names r.bytes e
+    → (answer : Result Verdict BytesError) → answer ≡ Err (error_of_text e) → EntriesAnswer sys names bytes o own answer
+refused_answer sys names bytes o own r n b e h answer is = subst (EntriesAnswer sys names bytes o own) (sym is) (refused_so sys names bytes o own e (refused_there names bytes r n b e h))
+
+-- ---- no text is refused that has a certificate
+
+told_never : NeverBoth → (names : NameTable) (bytes : List ℕ) (c : Certificate) → IsCertificateText names bytes c → (e : CertError) → IsTold names bytes e → ⊥
+told_never never names bytes c text (refused.CertSyntax at) h = never names bytes c syntax at text h.1
+told_never never names bytes c text (refused.UnknownName at) h = never names bytes c unknown_name at text h.1
+told_never never names bytes c text (refused.WrongArity at) h = never names bytes c wrong_arity at text h.1
+told_never never names bytes c text (refused.BadNumber at) h = never names bytes c bad_number at text h.1
+told_never never names bytes c text (refused.BadShare at) h = never names bytes c bad_share at text h.1
+told_never never names bytes c text (refused.CertTooDeep at) h = never names bytes c too_deep at text h.1
+told_never never names bytes c text (refused.TooMany what at) h = never names bytes c (too_many (counted_view what)) at text h.1
+told_never never names bytes c text refused.NoMemory h = h.0 refl
+
+pub exact_refusal : NeverBoth → (sys : System) (names : NameTable) (bytes : List ℕ) (r : Result Verdict BytesError) → BytesAnswers sys names bytes r
     → (c : Certificate) → IsCertificateText names bytes c → IsNoRefusal r
-never_told never names bytes e h r is c text = subst IsNoRefusal (sym is) (told_never never names bytes c text e h)
+exact_refusal never sys names bytes (Ok v) h c text = tt
+exact_refusal never sys names bytes (Err (Cert e)) h c text = told_never never names bytes c text e h
+exact_refusal never sys names bytes (Err (Rejected reason)) h c text = tt
+exact_refusal never sys names bytes (Err (RejectedBehindSteps reason)) h c text = tt
+exact_refusal never sys names bytes (Err NoMemory) h c text = tt
 
--- a text with a certificate is not refused where its entries are judged
-module _ (sys : System) (names : NameTable) (bytes : List ℕ) (o : Opening) (r : Reading) (up : IsReadUpTo names bytes o r) where
-  of_text : (e : Result (Unit {0}) BytesError) → EntriesAnswer sys r.names r.bytes o e → EntriesAnswer sys names bytes o e
-  of_text e h = subst (λ x. EntriesAnswer sys x bytes o e) up.0 (subst (λ x. EntriesAnswer sys r.names x o e) up.1 h)
+-- ---- a body at its entries
 
-  pub entries_exact : NeverBoth → (e : BytesError) (v : Result Verdict BytesError) → v ≡ Err e → EntriesAnswer sys r.names r.bytes o (Err e) → (c : Certificate) → IsCertificateText names bytes c → IsNoRefusal v
-  entries_exact never e v is h c text = subst IsNoRefusal (sym is) (exact e (of_text (Err e) h))
+abbrev opening_behind : Option (List Simplification) → Opening → Opening
+opening_behind None own = own
+opening_behind (Some steps) own = simplified_opening steps own
+
+certificate_behind : (before : Option (List Simplification)) (own : Opening) (es : List PairEntry) → certificate_for (opening_behind before own) es ≡ behind before (certificate_for own es)
+certificate_behind None own es = refl
+certificate_behind (Some steps) own es = refl
+
+module _ (names : NameTable) (bytes : List ℕ) (before : Option (List Simplification)) (own : Opening) (r : Reading) (t : OpenedText) (shown : t ≡ at_entries own r)
+    (opened : IsOpenedAs names bytes (text_behind before t)) where
+  stands : (b : Option (List Simplification)) → IsOpenedAs names bytes (text_behind b (at_entries own r)) → IsOpenedAs names bytes (at_entries (opening_behind b own) r)
+  stands None h = h
+  stands (Some steps) h = h
+
+  here : IsOpenedAs names bytes (at_entries (opening_behind before own) r)
+  here = stands before (subst (λ x. IsOpenedAs names bytes (text_behind before x)) shown opened)
+
+  -- its opening is read
+  pub read_so : (o : Opening) × HasRead r o []
+  read_so = (
+    opening_behind before own,
+    subst (λ n. HasRead (record { names = n; bytes = r.bytes; place = r.place }) (opening_behind before own) []) (sym here.0)
+        (subst (λ b. HasRead (record { names = names; bytes = b; place = r.place }) (opening_behind before own) []) (sym here.1) here.2.read),
+  )
+
+  text_so : (es : List PairEntry) → IsCertificateText r.names r.bytes (certificate_for (opening_behind before own) es) → IsCertificateText names bytes (behind before (certificate_for own es))
+  text_so es h =
+      subst (IsCertificateText names bytes) (certificate_behind before own es)
+      (subst (λ n. IsCertificateText n bytes (certificate_for (opening_behind before own) es)) here.0 (subst (λ b. IsCertificateText r.names b (certificate_for (opening_behind before own) es)) here.1 h))
+
+  told_so : (e : CertError) → IsRefusedAs r.names r.bytes e → IsRefusedAs names bytes e
+  told_so e h = subst (λ n. IsRefusedAs n bytes e) here.0 (subst (λ b. IsRefusedAs r.names b e) here.1 h)
+
+  -- and what is answered to its entries is the answer to the body
+  module _ (sys : System) (plain : (es : List PairEntry) → HasNoSteps (certificate_for own es)) where
+    of_entries : (e : Result Verdict BytesError) → EntriesAnswer sys r.names r.bytes (opening_behind before own) own e → BodyAnswers sys names bytes before e
+    of_entries (Ok v) h = (certificate_for own h.0, text_so h.0 h.1, h.2, h.3)
+    of_entries (Err (Cert e)) h = (h.0, told_so e h.1)
+    of_entries (Err (Rejected reason)) h = (certificate_for own h.0, text_so h.0 h.1, h.2, plain h.0)
+    of_entries (Err (RejectedBehindSteps reason)) h = absurd h
+    of_entries (Err NoMemory) h = tt
+
+    pub body_answered : (e : Result Verdict BytesError) → ((o : Opening) → HasRead r o [] → EntriesAnswer sys r.names r.bytes o own e) → BodyAnswers sys names bytes before e
+    unfolding read_so
+    body_answered e h = of_entries e (h read_so.0 read_so.1)
+
+  rest_so : (e : Result (Unit {0}) CertError) → RestAnswers r.names r.bytes (opening_behind before own) e → WholeAnswers names bytes before e
+  rest_so (Ok _) h = (certificate_for own h.0, text_so h.0 h.1)
+  rest_so (Err e) h = told_so e h
+
+  pub rest_answered : (e : Result (Unit {0}) CertError) → ((o : Opening) → HasRead r o [] → RestAnswers r.names r.bytes o e) → WholeAnswers names bytes before e
+  unfolding read_so
+  rest_answered e h = rest_so e (h read_so.0 read_so.1)
+
+-- an answer that shows nothing but confluence
+pub never_no : (A : Type 0) (e : Result Verdict BytesError) → OnNo e ⊥ → OnNo e A
+never_no A (Ok Yes) h = tt
+never_no A (Ok No) h = absurd h
+never_no A (Err e) h = tt
+
+-- or nothing but a peak
+pub never_yes : (A : Type 0) (e : Result Verdict BytesError) → OnYes e ⊥ → OnYes e A
+never_yes A (Ok Yes) h = absurd h
+never_yes A (Ok No) h = tt
+never_yes A (Err e) h = tt
+
+pub so_no : (A B : Type 0) (e : Result Verdict BytesError) → (A → B) → OnNo e A → OnNo e B
+so_no A B (Ok Yes) f h = tt
+so_no A B (Ok No) f h = f h
+so_no A B (Err e) f h = tt
+
+-- ---- a whole peak
+
+module _ (names : NameTable) (bytes : List ℕ) (before : Option (List Simplification)) (peak : Peak) (t : OpenedText) (shown : t ≡ whole (peak_certificate peak))
+    (opened : IsOpenedAs names bytes (text_behind before t)) where
+  whole_text : (b : Option (List Simplification)) → IsOpenedAs names bytes (text_behind b (whole (peak_certificate peak))) → IsCertificateText names bytes (behind b (peak_certificate peak))
+  whole_text None h = h
+  whole_text (Some steps) h = h
+
+  pub peak_text : IsCertificateText names bytes (behind before (peak_certificate peak))
+  peak_text = whole_text before (subst (λ x. IsOpenedAs names bytes (text_behind before x)) shown opened)
+
+  -- it may be judged
+  pub peak_judged : (sys : System) → sys.arities ≡ map (λ s. s.1) names.symbols → CanPeakBeJudged sys peak
+  peak_judged sys same = by before peak_text
     where
-      untold : (e : CertError) → IsTold names bytes e → IsNoRefusal (Err (error_of_text e)) → ⊥
-      untold (refused.CertSyntax at) h i = i
-      untold (refused.UnknownName at) h i = i
-      untold (refused.WrongArity at) h i = i
-      untold (refused.BadNumber at) h i = i
-      untold (refused.BadShare at) h i = i
-      untold (refused.CertTooDeep at) h i = i
-      untold (refused.TooMany what at) h i = i
-      untold refused.NoMemory h i = h.0 refl
+      by : (b : Option (List Simplification)) → IsCertificateText names bytes (behind b (peak_certificate peak)) → CanPeakBeJudged sys peak
+      by None h = peak_can_be_judged sys names peak same h.1.spelt.1
+      by (Some steps) h = peak_can_be_judged sys names peak same h.1.spelt.1.3
 
-      exact : (e : BytesError) → EntriesAnswer sys names bytes o (Err e) → IsNoRefusal (Err e)
-      exact (Cert e) h = untold e h (told_never never names bytes c text e h.1)
-      exact (Rejected reason) h = tt
-      exact NoMemory h = tt
+  -- and what is answered to it is the answer to the body
+  pub peak_answered : (sys : System) (e : Result Verdict BytesError) → PeakAnswers sys peak e → BodyAnswers sys names bytes before e
+  peak_answered sys (Ok v) h = (peak_certificate peak, peak_text, h.1, h.0)
+  peak_answered sys (Err (Cert e)) h = absurd h
+  peak_answered sys (Err (Rejected reason)) h = (peak_certificate peak, peak_text, h, tt)
+  peak_answered sys (Err (RejectedBehindSteps reason)) h = absurd h
+  peak_answered sys (Err NoMemory) h = tt
 
--- the peak's check may be asked
-pub peak_judged : (sys : System) (names : NameTable) (bytes : List ℕ) (found : Opened) (peak : model.Peak) → sys.arities ≡ map (λ s. s.1) names.symbols
-    → found ≡ opened.Peak peak → IsOpenedAs names bytes found → CanPeakBeJudged sys (peak_view peak)
-peak_judged sys names bytes found peak same is h = peak_can_be_judged sys names (peak_view peak) same (subst (IsOpenedAs names bytes) is h).spelt
+-- what it shows
+pub peak_shows : (sys : System) (peak : Peak) (t : OpenedText) → t ≡ whole (peak_certificate peak) → (e : Result Verdict BytesError) → OnNo e (IsPeakApart sys (peak_certificate peak))
+    → OnNo e ((names : NameTable) (bytes : List ℕ) (before : Option (List Simplification)) → IsOpenedFor sys names bytes before t → (c : Certificate) × IsCertificateText names bytes (behind before c) × IsPeakApart sys c)
+peak_shows sys peak t shown e = so_no _ _ e (λ apart names bytes before h. (peak_certificate peak, peak_text names bytes before peak t shown h.opened, apart))

@@ -3,6 +3,7 @@ use Rattle.rewriting.specs.Terms.{Fits}
 use Rattle.rewriting.specs.Signatures.{IsOver}
 use Rattle.rewriting.specs.Rules.{System}
 use Rattle.certificates.specs.Certificates.{Peak, Certificate, ortho_certificate, quasi_certificate, peak_certificate, simplified_certificate}
+use Rattle.certificates.specs.Reasons.{Rejection, simplification_fails}
 use Rattle.certificates.specs.Sizes.{IsShort}
 use Rattle.simplifications.specs.Simplifying.{AllSimplify}
 use Rattle.valid_certificates.specs.Entries.{ArePairsShort}
@@ -38,3 +39,8 @@ HasNoSteps (ortho_certificate pairs) = Unit {0}
 HasNoSteps (quasi_certificate measure pairs) = Unit {0}
 HasNoSteps (peak_certificate peak) = Unit {0}
 HasNoSteps (simplified_certificate steps c) = ⊥
+
+-- a step before the body fails
+abbrev pub IsOfStep : Rejection → Type 0
+IsOfStep (simplification_fails n why) = Unit {0}
+IsOfStep reason = ⊥

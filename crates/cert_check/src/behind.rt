@@ -13,8 +13,8 @@ use std::alloc::Global;
 use term_core::System;
 use validity::CheckError;
 
-// The system that the steps leave.
-fn system_behind(alloc: Global, sys: &System, steps: &[Simp]) -> Result<System, CheckError>
+/// The system that the steps leave.
+pub fn system_behind(alloc: Global, sys: &System, steps: &[Simp]) -> Result<System, CheckError>
     ensures { StepsAnswer sys.now (map simp_view steps.now) result }
 {
     match simplify(alloc, sys, steps) {

@@ -1,28 +1,26 @@
 //! The check of a certificate's text, entry by entry.
-ghost use Rattle.std.specs.Prelude.{◌≡◌, List, [], ◌∷◌, ◌++◌, OnOk, map};
+ghost use Rattle.std.specs.Prelude.{◌≡◌, ℕ, List, Option, Some, map};
 ghost use Rattle.rewriting.specs.Confluence.{IsConfluent};
 ghost use Rattle.join_systems.specs.FileRelation.{IsFromFile, IsFileConfluent};
 ghost use Rattle.certificates.specs.Certificates as math;
-ghost use Rattle.cert_model.specs.CertificateView.{pair_entry_view, measure_view, peak_view};
-ghost use Rattle.valid_certificates.specs.Entries.{IsPairShort};
+ghost use Rattle.certificates.specs.Certificates.{Simplification};
+ghost use Rattle.cops_names.specs.NameTable.{NameTable};
+ghost use Rattle.cert_model.specs.CertificateView.{peak_view, simp_view};
 ghost use Rattle.valid_certificates.specs.CarriedBack.{IsPeakApart};
-ghost use Rattle.cert_grammar.specs.FirstVersion.{IsCertificateText};
-ghost use Rattle.cert_openings.specs.Openings.{ortho_opening, quasi_opening};
-ghost use Rattle.cert_openings.specs.FirstOpenings.{IsRead};
-ghost use Rattle.tallies.specs.Tally.{IsOrthoTally, IsQuasiTally};
+ghost use Rattle.cert_grammar.specs.CertificateText.{IsCertificateText};
+ghost use Rattle.cert_text.specs.OpenedText.{opened_view, IsOpenedAs};
 ghost use Rattle.cert_check.specs.Kinds.{CanPeakBeJudged};
 ghost use Rattle.cert_check.specs.Answers.{OnYes, OnNo};
-ghost use Rattle.cert_check.specs.Bytes.{BytesAnswers, EntriesAnswer, IsNoRefusal, PeakAnswers};
+ghost use Rattle.cert_check.specs.Bytes as answers;
+ghost use Rattle.cert_check.specs.Bytes.{BytesAnswers, behind, text_behind, IsBare, IsOpenedFor, BodyAnswers, PeakAnswers, WholeAnswers, IsNoRefusal};
 
-use crate::measures::NamedMeasure;
+use crate::behind::system_behind;
+use crate::entries::{judge_ortho, judge_quasi, pass_entries};
 use crate::{Verdict, check_apart};
-use cert_model::{MeasureCert, PairEntry, Peak, Rejected};
-use cert_text::{CertError, Opened, Pairs, one_answer, open_cert};
+use cert_model::{Peak, Rejected, Simp};
+use cert_text::{CertError, Opened, one_answer, open_cert};
 use cops_names::Names;
 use join_systems::join_systems_keep_their_rules;
-use measure::Measure;
-use ortho_check::OrthoRun;
-use quasi_check::QuasiRun;
 use std::alloc::Global;
 use term_core::{NoMemory, System};
 use validity::CheckError;
@@ -32,8 +30,11 @@ use validity::CheckError;
 pub enum BytesError {
     /// They are the text of none: the first refusal.
     Cert(CertError),
-    /// They are the text of one that is not valid; the first reason, in the order of judging.
+    /// They are the text of one that is not valid; the first reason, in the order of judging. It speaks of the system's
+    /// own rules: no steps stand before the body, or one of them fails.
     Rejected(Rejected),
+    /// The same of the body, for the rules that its steps leave, which are good.
+    RejectedBehindSteps(Rejected),
     /// Memory was refused.
     NoMemory,
 }
@@ -88,74 +89,85 @@ impl From<CheckError> for BytesError {
     }
 }
 
-// Judges an entry, which nothing holds any longer.
-fn take_ortho(alloc: Global, run: &mut OrthoRun<'_>, entry: PairEntry) -> Result<(), NoMemory>
-    requires { IsPairShort (pair_entry_view entry).evidence }
-    ensures tally { (es : List math.PairEntry) → IsOrthoTally run.old.system es run.old.tally → OnOk result (IsOrthoTally run.old.system (es ++ pair_entry_view entry ∷ []) run.new.tally) }
-    ensures system { run.new.system ≡ run.old.system }
-{
-    run.take(alloc, &entry)
-}
-
-// The same under a measure.
-fn take_quasi<M: Measure>(
-    alloc: Global,
-    run: &mut QuasiRun<'_, M>,
-    entry: PairEntry,
-) -> Result<(), NoMemory>
-    requires { IsPairShort (pair_entry_view entry).evidence }
-    ensures tally { (es : List math.PairEntry) → IsQuasiTally (M.judged run.old.measure run.old.system) run.old.system es run.old.tally → OnOk result (IsQuasiTally (M.judged run.old.measure run.old.system) run.old.system (es ++ pair_entry_view entry ∷ []) run.new.tally) }
-    ensures system { run.new.system ≡ run.old.system }
-    ensures measure { run.new.measure ≡ run.old.measure }
-{
-    run.take(alloc, &entry)
-}
-
-// Judges the entries of a text of which the opening is read. The text is read to its end, also where an entry fails.
-fn judge_ortho(alloc: Global, sys: &System, mut pairs: Pairs<'_>) -> Result<(), BytesError>
-    requires { IsRead pairs.names pairs.bytes ortho_opening [] pairs.place }
-    ensures answers { EntriesAnswer sys.now pairs.entry.names pairs.entry.bytes ortho_opening result }
-    ensures confluent { OnOk result (IsConfluent sys.now) }
-{
-    let mut run = OrthoRun::start(alloc, sys)?;
-    'entries: while let Some(entry) = pairs.next(alloc)? {
-        take_ortho(alloc, &mut run, entry)?;
-    }
-    run.finish()?;
-    Ok(())
-}
-
-// The same under a measure.
-fn judge_quasi(
-    alloc: Global,
-    sys: &System,
-    measure: &MeasureCert,
-    mut pairs: Pairs<'_>,
-) -> Result<(), BytesError>
-    requires { IsRead pairs.names pairs.bytes (quasi_opening (measure_view measure.now)) [] pairs.place }
-    ensures answers { EntriesAnswer sys.now pairs.entry.names pairs.entry.bytes (quasi_opening (measure_view measure.now)) result }
-    ensures confluent { OnOk result (IsConfluent sys.now) }
-{
-    let judge = NamedMeasure { measure };
-    let mut run = QuasiRun::start(alloc, sys, &judge)?;
-    'entries: while let Some(entry) = pairs.next(alloc)? {
-        take_quasi(alloc, &mut run, entry)?;
-    }
-    run.finish()?;
-    Ok(())
-}
-
 // A peak, with what its check asks.
-fn judge_peak(alloc: Global, sys: &System, peak: &Peak) -> Result<(), BytesError>
+fn judge_peak(alloc: Global, sys: &System, peak: &Peak) -> Result<Verdict, BytesError>
     requires { CanPeakBeJudged sys.now (peak_view peak.now) }
     ensures answers { PeakAnswers sys.now (peak_view peak.now) result }
-    ensures apart { OnOk result (IsPeakApart sys.now (math.peak_certificate (peak_view peak.now))) }
+    ensures yes { OnYes result ⊥ }
+    ensures apart { OnNo result (IsPeakApart sys.now (math.peak_certificate (peak_view peak.now))) }
 {
     check_apart(alloc, sys, peak)?;
-    Ok(())
+    Ok(Verdict::No)
+}
+
+// Judges the body of a text, for the rules that it speaks of.
+#[tactic(auto, using(cert_text::proofs::OpenedViews::ortho_opened, cert_text::proofs::OpenedViews::quasi_opened, cert_text::proofs::OpenedViews::peak_opened, cert_text::proofs::OpenedViews::simplified_opened))]
+fn judge_opened(alloc: Global, sys: &System, opened: Opened<'_>) -> Result<Verdict, BytesError>
+    requires bare { IsBare (opened_view opened) }
+    requires opened { (names : NameTable) × (bytes : List ℕ) × (before : Option (List Simplification)) × IsOpenedFor sys.now names bytes before (opened_view opened) }
+    ensures answers { (names : NameTable) (bytes : List ℕ) (before : Option (List Simplification)) → IsOpenedFor sys.now names bytes before (opened_view opened.entry) → BodyAnswers sys.now names bytes before result }
+    ensures yes { OnYes result (IsConfluent sys.now) }
+    ensures no { OnNo result ((names : NameTable) (bytes : List ℕ) (before : Option (List Simplification)) → IsOpenedFor sys.now names bytes before (opened_view opened.entry) → (c : math.Certificate) × IsCertificateText names bytes (behind before c) × IsPeakApart sys.now c) }
+{
+    match opened {
+        Opened::Ortho(pairs) => judge_ortho(alloc, sys, pairs),
+        Opened::Quasi(measure, pairs) => judge_quasi(alloc, sys, &measure, pairs),
+        Opened::Peak(peak) => judge_peak(alloc, sys, &peak),
+        Opened::Simplified(_, _) => unreachable!(),
+    }
+}
+
+// Reads the rest of a text, and judges nothing.
+#[tactic(auto, using(cert_text::proofs::OpenedViews::ortho_opened, cert_text::proofs::OpenedViews::quasi_opened, cert_text::proofs::OpenedViews::peak_opened, cert_text::proofs::OpenedViews::simplified_opened))]
+fn read_on(alloc: Global, opened: Opened<'_>) -> Result<(), CertError>
+    requires bare { IsBare (opened_view opened) }
+    requires opened { (names : NameTable) × (bytes : List ℕ) × (before : Option (List Simplification)) × IsOpenedAs names bytes (text_behind before (opened_view opened)) }
+    ensures { (names : NameTable) (bytes : List ℕ) (before : Option (List Simplification)) → IsOpenedAs names bytes (text_behind before (opened_view opened.entry)) → WholeAnswers names bytes before result }
+{
+    match opened {
+        Opened::Ortho(pairs) => pass_entries(alloc, pairs),
+        Opened::Quasi(_, pairs) => pass_entries(alloc, pairs),
+        Opened::Peak(_) => Ok(()),
+        Opened::Simplified(_, _) => unreachable!(),
+    }
+}
+
+// Tells a reason for the body, for the rules that the steps before it leave.
+fn of_body(judged: Result<Verdict, BytesError>) -> Result<Verdict, BytesError>
+    ensures { result ≡ answers.of_body judged }
+{
+    match judged {
+        Err(BytesError::Rejected(reason)) => Err(BytesError::RejectedBehindSteps(reason)),
+        judged => judged,
+    }
+}
+
+// Judges a body for the rules that the steps before it leave. The text is read to its end, also where a step fails.
+fn judge_simplified(
+    alloc: Global,
+    sys: &System,
+    steps: &[Simp],
+    body: Opened<'_>,
+) -> Result<Verdict, BytesError>
+    requires { (names : NameTable) × (bytes : List ℕ) × IsOpenedFor sys.now names bytes (Some (map simp_view steps.now)) (opened_view body) }
+    ensures answers { (names : NameTable) (bytes : List ℕ) → IsOpenedFor sys.now names bytes (Some (map simp_view steps.now)) (opened_view body.entry) → BytesAnswers sys.now names bytes result }
+    ensures yes { OnYes result (IsConfluent sys.now) }
+    ensures no { OnNo result ((names : NameTable) (bytes : List ℕ) → IsOpenedFor sys.now names bytes (Some (map simp_view steps.now)) (opened_view body.entry) → (c : math.Certificate) × IsCertificateText names bytes c × IsPeakApart sys.now c) }
+{
+    // That the system is one as files give it is known of its rules.
+    let _rules = sys.rules();
+    match system_behind(alloc, sys, steps) {
+        Ok(last) => of_body(judge_opened(alloc, &last, body)),
+        Err(CheckError::Rejected(reason)) => {
+            read_on(alloc, body)?;
+            Err(BytesError::Rejected(reason))
+        }
+        Err(CheckError::NoMemory) => Err(BytesError::NoMemory),
+    }
 }
 
 // What a valid certificate shows of the system itself.
+#[tactic(auto, using(cert_text::proofs::OpenedViews::ortho_opened, cert_text::proofs::OpenedViews::quasi_opened, cert_text::proofs::OpenedViews::peak_opened, cert_text::proofs::OpenedViews::simplified_opened))]
 fn judge_bytes(
     alloc: Global,
     sys: &System,
@@ -164,29 +176,20 @@ fn judge_bytes(
 ) -> Result<Verdict, BytesError>
     requires names { sys.now.arities ≡ map (λ s. s.1) names.now.symbols }
     ensures answers { BytesAnswers sys.now names.now bytes.now result }
-    ensures exact_refusal { (c : math.Certificate) → IsCertificateText names.now bytes.now c → IsNoRefusal result }
     ensures yes { OnYes result (IsConfluent sys.now) }
     ensures no { OnNo result ((c : math.Certificate) × IsCertificateText names.now bytes.now c × IsPeakApart sys.now c) }
 {
-    one_answer();
     match open_cert(alloc, names, bytes)? {
-        Opened::Ortho(pairs) => {
-            judge_ortho(alloc, sys, pairs)?;
-            Ok(Verdict::Yes)
+        Opened::Simplified(steps, body) => {
+            judge_simplified(alloc, sys, &steps, Box::into_inner(body))
         }
-        Opened::Quasi(measure, pairs) => {
-            judge_quasi(alloc, sys, &measure, pairs)?;
-            Ok(Verdict::Yes)
-        }
-        Opened::Peak(peak) => {
-            judge_peak(alloc, sys, &peak)?;
-            Ok(Verdict::No)
-        }
+        opened => judge_opened(alloc, sys, opened),
     }
 }
 
 /// Reads a certificate entry by entry and judges each as it comes, so that memory never holds them all: what a valid one
-/// shows; else why the bytes are no certificate, and at which place; else the first reason why it is not valid.
+/// shows; else why the bytes are no certificate, and at which place; else the first reason why it is not valid. Steps are
+/// judged before the body that stands behind them.
 pub fn check_bytes(
     alloc: Global,
     sys: &System,
@@ -201,5 +204,6 @@ pub fn check_bytes(
     ensures no { OnNo result ((c : math.Certificate) × IsCertificateText names.now bytes.now c × IsPeakApart sys.now c) }
 {
     join_systems_keep_their_rules();
+    one_answer();
     judge_bytes(alloc, sys, names, bytes)
 }

@@ -3,6 +3,7 @@
 
 mod behind;
 mod bytes;
+mod entries;
 mod measures;
 
 ghost use Rattle.std.specs.Prelude.{OnOk, map};

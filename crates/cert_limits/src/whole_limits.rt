@@ -1,16 +1,20 @@
 //! Whether measures, peaks and whole certificates can be spelt with the names of a system.
 ghost use Rattle.std.specs.Prelude.{◌↔◌, ◌∷◌, [], IsTrue, map};
 ghost use Rattle.term_core.specs.HeadView.{head_view};
-ghost use Rattle.cert_model.specs.CertificateView.{pair_entry_view, linear_entry_view, measure_view, redex_view, apart_view, peak_view, certificate_view};
+ghost use Rattle.cert_model.specs.CertificateView.{pair_entry_view, linear_entry_view, measure_view, redex_view, apart_view, peak_view, simp_view, certificate_view};
 ghost use Rattle.certificates.specs.Certificates.{ortho_certificate, peak_certificate};
-ghost use Rattle.cert_grammar.specs.CertificateText.{IsMeasured, AreEntries, AreRedexEntries, IsApart};
-ghost use Rattle.cert_grammar.specs.FirstVersion.{IsMeasure, CanBeSpelt};
+ghost use Rattle.cert_grammar.specs.CertificateText.{IsMeasured, AreEntries, AreHeads, IsMeasure, AreRedexEntries, IsApart, AreSimplifications, IsWithin};
+ghost use Rattle.cert_grammar.specs.Versions.{second_version, IsUnsimplified, IsOfVersion};
 
 use crate::evidence_limits::{are_pairs, is_infeasibility};
 use crate::step_limits::is_derivation;
 use crate::term_limits::{are_numbers, are_places, has_name, is_number, is_spelt};
-use cert_grammar::{MOST_ENTRIES, MOST_NESTING, MOST_NUMBERS, MOST_PAIRS, MOST_REDEXES};
-use cert_model::{Certificate, Head, LinearEntry, MeasureCert, NonJoin, PairEntry, Peak, Redex};
+use cert_grammar::{
+    MOST_ENTRIES, MOST_NESTING, MOST_NUMBERS, MOST_PAIRS, MOST_REDEXES, MOST_SIMPLIFICATIONS,
+};
+use cert_model::{
+    Certificate, Head, LinearEntry, MeasureCert, NonJoin, PairEntry, Peak, Redex, Simp,
+};
 use cops_names::Names;
 use term_core::fits;
 
@@ -42,6 +46,17 @@ fn are_entries(names: &Names, entries: &[LinearEntry]) -> bool
     true
 }
 
+fn are_heads(names: &Names, heads: &[Head]) -> bool
+    ensures { IsTrue result ↔ AreHeads names.now (map head_view heads.now) }
+{
+    'heads: for head in heads {
+        if !is_measured(names, head) {
+            return false;
+        }
+    }
+    true
+}
+
 fn is_measure(names: &Names, measure: &MeasureCert) -> bool
     ensures { IsTrue result ↔ IsMeasure names.now (measure_view measure.now) }
 {
@@ -49,7 +64,9 @@ fn is_measure(names: &Names, measure: &MeasureCert) -> bool
         MeasureCert::Linear(linear) => {
             linear.entries.len() <= MOST_ENTRIES as usize && are_entries(names, &linear.entries)
         }
-        MeasureCert::Lpo(_) => false,
+        MeasureCert::Lpo(order) => {
+            order.len() <= MOST_ENTRIES as usize && are_heads(names, order)
+        }
     }
 }
 
@@ -85,7 +102,7 @@ fn is_apart(names: &Names, apart: &NonJoin) -> bool
 }
 
 fn is_peak(names: &Names, peak: &Peak) -> bool
-    ensures { IsTrue result ↔ CanBeSpelt names.now (peak_certificate (peak_view peak.now)) }
+    ensures { IsTrue result ↔ IsWithin names.now (peak_certificate (peak_view peak.now)) }
 {
     fits(&peak.start)
         && is_spelt(names, &peak.start)
@@ -96,15 +113,36 @@ fn is_peak(names: &Names, peak: &Peak) -> bool
 
 // Whether the overlaps are few, and within the limits.
 fn are_few_pairs(names: &Names, pairs: &[PairEntry]) -> bool
-    ensures { IsTrue result ↔ CanBeSpelt names.now (ortho_certificate (map pair_entry_view pairs.now)) }
+    ensures { IsTrue result ↔ IsWithin names.now (ortho_certificate (map pair_entry_view pairs.now)) }
 {
     pairs.len() <= MOST_PAIRS as usize && are_pairs(names, pairs)
 }
 
-/// Whether the certificate can be spelt with the names.
+fn is_step(names: &Names, step: &Simp) -> bool
+    ensures { IsTrue result ↔ AreSimplifications names.now (simp_view step.now ∷ []) }
+{
+    match step {
+        Simp::Drop { rule, evidence } => is_number(*rule) && is_infeasibility(names, evidence),
+        Simp::Inline { rule, cond } => is_number(*rule) && is_number(*cond),
+    }
+}
+
+fn are_steps(names: &Names, steps: &[Simp]) -> bool
+    ensures { IsTrue result ↔ AreSimplifications names.now (map simp_view steps.now) }
+{
+    'steps: for step in steps {
+        if !is_step(names, step) {
+            return false;
+        }
+    }
+    true
+}
+
+/// Whether the parts of the certificate are within the limits, and its symbols have names.
 #[tactic(auto, using(cert_model::proofs::CertificateViews::ortho_shown, cert_model::proofs::CertificateViews::quasi_shown, cert_model::proofs::CertificateViews::peak_shown, cert_model::proofs::CertificateViews::simplified_shown))]
-pub fn can_be_spelt(names: &Names, cert: &Certificate) -> bool
-    ensures { IsTrue result ↔ CanBeSpelt names.now (certificate_view cert.now) }
+#[cycle(is_within)]
+pub fn is_within(names: &Names, cert: &Certificate) -> bool
+    ensures { IsTrue result ↔ IsWithin names.now (certificate_view cert.now) }
 {
     match cert {
         Certificate::Ortho(pairs) => are_few_pairs(names, pairs),
@@ -112,6 +150,33 @@ pub fn can_be_spelt(names: &Names, cert: &Certificate) -> bool
             is_measure(names, measure) && are_few_pairs(names, pairs)
         }
         Certificate::Peak(peak) => is_peak(names, peak),
+        Certificate::Simplified { steps, body } => {
+            !steps.is_empty()
+                && steps.len() <= MOST_SIMPLIFICATIONS as usize
+                && are_steps(names, steps)
+                && is_within(names, body)
+        }
+    }
+}
+
+// Whether no steps stand before the body.
+#[tactic(auto, using(cert_model::proofs::CertificateViews::ortho_shown, cert_model::proofs::CertificateViews::quasi_shown, cert_model::proofs::CertificateViews::peak_shown, cert_model::proofs::CertificateViews::simplified_shown))]
+fn is_unsimplified(cert: &Certificate) -> bool
+    ensures { IsTrue result ↔ IsUnsimplified (certificate_view cert.now) }
+{
+    match cert {
+        Certificate::Ortho(_) | Certificate::Quasi(_, _) | Certificate::Peak(_) => true,
         Certificate::Simplified { .. } => false,
+    }
+}
+
+/// Whether the second version of the text has such certificates: those that are simplified once at most.
+#[tactic(auto, using(cert_model::proofs::CertificateViews::ortho_shown, cert_model::proofs::CertificateViews::quasi_shown, cert_model::proofs::CertificateViews::peak_shown, cert_model::proofs::CertificateViews::simplified_shown))]
+pub fn is_of_second(cert: &Certificate) -> bool
+    ensures { IsTrue result ↔ IsOfVersion second_version (certificate_view cert.now) }
+{
+    match cert {
+        Certificate::Ortho(_) | Certificate::Quasi(_, _) | Certificate::Peak(_) => true,
+        Certificate::Simplified { body, .. } => is_unsimplified(body),
     }
 }

@@ -147,7 +147,7 @@ entry_is_taken names bytes o es at p then rest h l k e t =
     }
 
 -- the automaton with a number stands at its place
-pick_stands : (all : List Automaton) (n : ℕ) → 1 ≤ n → n ≤ length all → slice_get all (n - 1) ≡ Some (pick all n)
+pub pick_stands : (all : List Automaton) (n : ℕ) → 1 ≤ n → n ≤ length all → slice_get all (n - 1) ≡ Some (pick all n)
 pick_stands [] n low high = absurd (let q : n ≤ 0 = high in omega arith)
 pick_stands (a ∷ all) zero low high = absurd (omega (arith, low))
 pick_stands (a ∷ all) (suc zero) low high = refl

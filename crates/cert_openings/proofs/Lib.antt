@@ -12,7 +12,4 @@ pub mod OwnLines
 pub mod Bare
 pub mod Cuts
 pub mod BadOpenings
-pub mod FirstVersion
-pub mod OneEnd
-pub mod FirstEnds
 pub mod OneReading

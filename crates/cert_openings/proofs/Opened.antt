@@ -1,4 +1,4 @@
--- A read opening by its marks: they pass, and so do its shared automata.
+-- A read opening, with entries behind it, by its marks: they pass, and so do its shared automata.
 use Rattle.std.proofs.Common.{◌≡◌, ◌⊎◌, inl, inr, ℕ, suc, ◌≤◌, Bool, true, false, cond, List, [], ◌∷◌, ◌++◌, length, map, Option, Some, None, refl, sym, ap, ◌∙◌, subst, codes, append_assoc, length-append, arith}
 use Rattle.certificates.specs.Evidence.{Automaton}
 use Rattle.certificates.specs.Certificates.{PairEntry, Certificate}
@@ -7,7 +7,7 @@ use Rattle.cert_grammar.specs.Words.{largest, name_of}
 use Rattle.cert_grammar.specs.Versions.{Version, first_version, second_version, Uses, in_full, by_number, version_of, IsOfVersion, automata_of}
 use Rattle.cert_grammar.specs.SharedText.{same_bytes, is_among, texts_of, shared_by, place_among, number_in, unfolded_length, AllNew}
 use Rattle.cert_grammar.specs.EvidenceText.{automaton_text}
-use Rattle.cert_grammar.specs.Marks.{is_answer, Mark, fixed, marks_text}
+use Rattle.cert_grammar.specs.Marks.{is_answer, Naming, Mark, fixed, marks_text}
 use Rattle.cert_grammar.specs.CertificateMarks.{answer_marks, heading_marks, automata_marks, body_marks, closing}
 use Rattle.cert_grammar.specs.CertificateText.{heading_text, body_text}
 use Rattle.cert_grammar.specs.Sharing.{Shared, nothing_shared, PassShares}
@@ -19,6 +19,10 @@ use Rattle.cert_sharing.proofs.UseMarks.{state, AreStill, still_marks, still_pas
 use Rattle.cert_sharing.proofs.SpeltShares.{marked_are, place_most, unfolds_to, uses_pass, lines, used_texts, shared_numbered}
 use Rattle.cert_openings.specs.Openings.{Opening, ortho_opening, quasi_opening, simplified_opening, certificate_for, uses_with, AreLeft, IsRead}
 use Rattle.cert_openings.proofs.OpeningMarks.{opening_marks, whole_marks}
+
+-- the marks of an answer, of the lines before the body, and of the body
+abbrev pub front_marks : Naming → Uses → List Automaton → Option Bool → Certificate → List Mark
+front_marks x u bs g c = answer_marks g ++ (heading_marks x u bs ++ body_marks x u g c)
 
 -- ---- numbers where more automata stand behind
 
@@ -83,23 +87,23 @@ lines_pass c names (by_number f) bs given b k n h =
     (subst (λ (s : Shared). PassShares s (body_marks x u given c)) (sym (after.1 ∙ ap (λ (l : List (List ℕ)). state l after.0 0 0) texts))
     ((counts_body c x u given).from (texts_of names bs) after.0 0 0 h))))
 
-opening_pass : (o : Opening) (names : NameTable) (u : Uses) (bs : List Automaton) (given : Option Bool) → HasHeading names u bs → AllNew [] (used_texts u (texts_of names bs)) → PassUses (used_texts u (texts_of names bs)) 0 0 (numbers_of u (automata_of (certificate_for o []))) → PassShares nothing_shared (opening_marks (name_of names) u bs given o)
-opening_pass o names u bs None k n h = lines_pass (certificate_for o []) names u bs None [] k n h
-opening_pass o names u bs (Some true) k n h = (refl, lines_pass (certificate_for o []) names u bs (Some true) (codes "YES\n") k n h)
-opening_pass o names u bs (Some false) k n h = (refl, lines_pass (certificate_for o []) names u bs (Some false) (codes "NO\n") k n h)
+front_pass : (c : Certificate) (names : NameTable) (u : Uses) (bs : List Automaton) (given : Option Bool) → HasHeading names u bs → AllNew [] (used_texts u (texts_of names bs)) → PassUses (used_texts u (texts_of names bs)) 0 0 (numbers_of u (automata_of c)) → PassShares nothing_shared (front_marks (name_of names) u bs given c)
+front_pass c names u bs None k n h = lines_pass c names u bs None [] k n h
+front_pass c names u bs (Some true) k n h = (refl, lines_pass c names u bs (Some true) (codes "YES\n") k n h)
+front_pass c names u bs (Some false) k n h = (refl, lines_pass c names u bs (Some false) (codes "NO\n") k n h)
 
--- ---- the opening
+-- ---- an opening and entries
 
-pub record Opened (names : NameTable) (bytes : List ℕ) (o : Opening) (end : ℕ) : Type 0 where
+pub record Gone (names : NameTable) (bytes : List ℕ) (o : Opening) (es : List PairEntry) (end : ℕ) : Type 0 where
   pub uses : Uses
   pub shared : List Automaton
   pub answer : Option Bool
-  pub allowed : IsOfVersion (version_of uses) (certificate_for o [])
-  pub spells : Spells names (opening_marks (name_of names) uses shared answer o) (marks_text (opening_marks (name_of names) uses shared answer o))
-  pub pass_shared : PassShares nothing_shared (opening_marks (name_of names) uses shared answer o)
+  pub allowed : IsOfVersion (version_of uses) (certificate_for o es)
+  pub spells : Spells names (front_marks (name_of names) uses shared answer (certificate_for o es)) (marks_text (front_marks (name_of names) uses shared answer (certificate_for o es)))
+  pub pass_shared : PassShares nothing_shared (front_marks (name_of names) uses shared answer (certificate_for o es))
   pub rest : List ℕ
-  pub text : bytes ≡ marks_text (opening_marks (name_of names) uses shared answer o) ++ rest
-  pub place : length (marks_text (opening_marks (name_of names) uses shared answer o)) ≡ end
+  pub text : bytes ≡ marks_text (front_marks (name_of names) uses shared answer (certificate_for o es)) ++ rest
+  pub place : length (marks_text (front_marks (name_of names) uses shared answer (certificate_for o es))) ≡ end
 
 pub same_version : (v : Version) (names : NameTable) (all : List Automaton) → version_of (uses_with v names all) ≡ v
 same_version first_version names all = refl
@@ -136,20 +140,20 @@ given_of a (inr e) = (Some true, e, refl, λ names ms t s. subst (λ (b : List �
 parts_behind : (a b c r : List ℕ) → a ++ (b ++ (c ++ r)) ≡ (a ++ (b ++ c)) ++ r
 parts_behind a b c r = ap (λ (w : List ℕ). a ++ w) (sym (append_assoc b c r)) ∙ sym (append_assoc a (b ++ c) r)
 
-pub opened : (names : NameTable) (bytes : List ℕ) (o : Opening) (end : ℕ) → IsRead names bytes o [] end → Opened names bytes o end
-opened names bytes o end h =
-    let c = certificate_for o [] in
+pub gone : (names : NameTable) (bytes : List ℕ) (o : Opening) (es : List PairEntry) (end : ℕ) → IsRead names bytes o es end → Gone names bytes o es end
+gone names bytes o es end h =
+    let c = certificate_for o es in
     let v = h.version in
     let bs = shared_by names c ++ h.left in
     let u = uses_with v names bs in
     let g = given_of h.answer h.is_answer in
-    let ms = opening_marks (name_of names) u bs g.0 o in
+    let ms = front_marks (name_of names) u bs g.0 c in
     let version = same_version v names bs in
     let spells : Spells names ms (h.answer ++ (heading_text (version_of u) names bs ++ body_text names u c)) =
     g.3 names (heading_marks (name_of names) u bs ++ body_marks (name_of names) u g.0 c) (heading_text (version_of u) names bs ++ body_text names u c)
     (put_both names (heading_marks (name_of names) u bs) (body_marks (name_of names) u g.0 c) (heading_text (version_of u) names bs) (body_text names u c)
     (spelt_heading u names bs (heading_with v names c h.left h.are_left))
-    (spelt_body c names u g.0 (short_with v names c h.left h.are_left) (ap (λ (b : Bool). is_answer b g.0) (told_is o []) ∙ g.2) h.within)) in
+    (spelt_body c names u g.0 (short_with v names c h.left h.are_left) (ap (λ (b : Bool). is_answer b g.0) (told_is o es) ∙ g.2) h.within)) in
     let text : bytes ≡ marks_text ms ++ h.rest =
     h.text ∙ ap (λ (w : Version). h.answer ++ (heading_text w names bs ++ (body_text names u c ++ h.rest))) (sym version)
     ∙ parts_behind h.answer (heading_text (version_of u) names bs) (body_text names u c) h.rest ∙ ap (λ (w : List ℕ). w ++ h.rest) (sym spells.text) in
@@ -160,15 +164,37 @@ opened names bytes o end h =
       answer = g.0;
       allowed = subst (λ (w : Version). IsOfVersion w c) (sym version) h.allowed;
       spells = record { passed = spells.passed; named = spells.named; text = refl };
-      pass_shared = opening_pass o names u bs g.0 (heading_with v names c h.left h.are_left) (new_with v names c h.left h.are_left) (uses_with_left v names c h.left h.are_left);
+      pass_shared = front_pass c names u bs g.0 (heading_with v names c h.left h.are_left) (new_with v names c h.left h.are_left) (uses_with_left v names c h.left h.are_left);
       rest = h.rest;
       text = text;
       place = (let place = h.place in omega (arith, long, place));
     }
 
+pub gone_rest : (names : NameTable) (bytes : List ℕ) (o : Opening) (es : List PairEntry) (end : ℕ) → (h : IsRead names bytes o es end) → (gone names bytes o es end h).rest ≡ h.rest
+unfolding gone
+gone_rest names bytes o es end h = refl
+
+-- ---- an opening alone
+
+pub record Opened (names : NameTable) (bytes : List ℕ) (o : Opening) (end : ℕ) : Type 0 where
+  pub uses : Uses
+  pub shared : List Automaton
+  pub answer : Option Bool
+  pub allowed : IsOfVersion (version_of uses) (certificate_for o [])
+  pub spells : Spells names (opening_marks (name_of names) uses shared answer o) (marks_text (opening_marks (name_of names) uses shared answer o))
+  pub pass_shared : PassShares nothing_shared (opening_marks (name_of names) uses shared answer o)
+  pub rest : List ℕ
+  pub text : bytes ≡ marks_text (opening_marks (name_of names) uses shared answer o) ++ rest
+  pub place : length (marks_text (opening_marks (name_of names) uses shared answer o)) ≡ end
+
+pub opened : (names : NameTable) (bytes : List ℕ) (o : Opening) (end : ℕ) → IsRead names bytes o [] end → Opened names bytes o end
+opened names bytes o end h =
+    let g = gone names bytes o [] end h in
+    record { uses = g.uses; shared = g.shared; answer = g.answer; allowed = g.allowed; spells = g.spells; pass_shared = g.pass_shared; rest = g.rest; text = g.text; place = g.place }
+
 pub opened_rest : (names : NameTable) (bytes : List ℕ) (o : Opening) (end : ℕ) → (h : IsRead names bytes o [] end) → (opened names bytes o end h).rest ≡ h.rest
 unfolding opened
-opened_rest names bytes o end h = refl
+opened_rest names bytes o end h = gone_rest names bytes o [] end h
 
 -- with the last line it is a text of the grammar
 skeleton : (names : NameTable) (bytes : List ℕ) (o : Opening) (end : ℕ) → Opened names bytes o end → Skeleton

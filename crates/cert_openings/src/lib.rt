@@ -3,7 +3,6 @@
 //! The calls are laws: their clauses are the theorems, and the calls do nothing.
 #![tactic(auto)]
 
-ghost use Rattle.cert_openings.specs.FirstLaws as first;
 ghost use Rattle.cert_openings.specs.Laws.{OpeningsPass, BadOpeningsAreRefused, OpeningsEnd, OneOpeningEnd, PeaksHaveNoEnd, WholeIsText, TextIsWhole, EntryIsTaken, OneReading, NumbersTell};
 
 /// A text whose opening is read is refused behind it, if it is.
@@ -38,21 +37,4 @@ pub fn entries_are_taken()
     ensures taken { EntryIsTaken }
     ensures one { OneReading }
     ensures told { NumbersTell }
-{}
-
-/// What the code reads: all bytes are the text of one certificate of the first version, or have one refusal.
-pub fn first_version_alone()
-    ensures some { first.TextOrRefused }
-    ensures never_both { first.NeverBoth }
-    ensures refusal { first.OneRefusal }
-    ensures within { first.PlacesAreWithin }
-    ensures certificate { first.OneCertificate }
-{}
-
-/// Its openings.
-pub fn first_openings()
-    ensures pass { first.OpeningsPass }
-    ensures bad { first.BadOpeningsAreRefused }
-    ensures end { first.OpeningsEnd }
-    ensures one { first.OneOpeningEnd }
 {}

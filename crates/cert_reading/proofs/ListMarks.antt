@@ -1,13 +1,15 @@
 -- The marks of lists whose items are counted, one item behind another.
 use Rattle.std.proofs.Common.{◌≡◌, ◌+◌, ℕ, suc, List, [], ◌∷◌, ◌++◌, length, map, codes, refl, sym, ap, ◌∙◌, arith, subst, append_assoc}
 use Rattle.std.proofs.lemmas.List.{append-nil}
-use Rattle.certificates.specs.Certificates.{PairEntry, LinearEntry, Redex}
+use Rattle.rewriting.specs.Unraveling.{Head}
+use Rattle.certificates.specs.Certificates.{PairEntry, LinearEntry, Redex, Simplification, dropped, inlined}
 use Rattle.cert_grammar.specs.Words.{largest}
-use Rattle.cert_reading.specs.Plain.{IsPlainInfeasibility, IsPlainEvidence, ArePlainPairs, ArePlainRedexes}
+use Rattle.certificates.specs.Evidence.{Automaton}
+use Rattle.cert_grammar.specs.Versions.{Version, Uses, in_full}
+use Rattle.cert_reading.specs.Plain.{HasUsed, EvidenceUses, PairsUse, RedexesUse, StepsUse}
 use Rattle.cert_grammar.specs.Marks.{Naming, Mark, fixed, word, numbers, pairs, redexes, in_range, is_few}
 use Rattle.cert_grammar.specs.WordMarks.{numeral, number, position}
-use Rattle.cert_grammar.specs.CertificateMarks.{coefficients_marks, entries_marks}
-use Rattle.cert_grammar.specs.FirstVersion.{infeasibility_marks, evidence_marks, pairs_marks, redexes_marks}
+use Rattle.cert_grammar.specs.CertificateMarks.{coefficients_marks, entries_marks, heads_marks, simplifications_marks, infeasibility_marks, evidence_marks, pairs_marks, redexes_marks}
 
 abbrev pub coefficient_marks : ℕ → ℕ → List Mark
 coefficient_marks n k = fixed (codes " ") ∷ word (numeral k) (in_range 0 0 (suc largest) k ∷ is_few numbers n ∷ []) ∷ []
@@ -25,43 +27,83 @@ push f marks none more n m (b ∷ done) a e =
     ∙ ap (λ (ms : List Mark). marks n (f b ∷ []) ++ ms) (push f marks none more (suc n) m done a (omega (arith, e))) ∙ sym (more n (f b) (map f (done ++ a ∷ [])))
 
 -- the line of an overlap, and that of a redex
+abbrev pub pair_line_by : Naming → Uses → ℕ → PairEntry → List Mark
+pair_line_by u w n p = word (codes "pair") (is_few pairs n ∷ []) ∷ fixed (codes " ") ∷ number p.inner ∷ fixed (codes " ") ∷ position p.position ∷ fixed (codes " ") ∷ number p.outer ∷ fixed (codes " ") ∷ evidence_marks u w p.evidence
+
+abbrev pub redex_line_by : Naming → Uses → ℕ → Redex → List Mark
+redex_line_by u w n r = word (codes "redex") (is_few redexes n ∷ []) ∷ fixed (codes " ") ∷ number r.which ∷ fixed (codes " ") ∷ position r.position ∷ fixed (codes " ") ∷ number r.rule ∷ fixed (codes " ") ∷ infeasibility_marks u w r.evidence
+
+-- those of the first version
 abbrev pub pair_line : Naming → ℕ → PairEntry → List Mark
-pair_line u n p = word (codes "pair") (is_few pairs n ∷ []) ∷ fixed (codes " ") ∷ number p.inner ∷ fixed (codes " ") ∷ position p.position ∷ fixed (codes " ") ∷ number p.outer ∷ fixed (codes " ") ∷ evidence_marks u p.evidence
+pair_line u n p = pair_line_by u in_full n p
 
 abbrev pub redex_line : Naming → ℕ → Redex → List Mark
-redex_line u n r = word (codes "redex") (is_few redexes n ∷ []) ∷ fixed (codes " ") ∷ number r.which ∷ fixed (codes " ") ∷ position r.position ∷ fixed (codes " ") ∷ number r.rule ∷ fixed (codes " ") ∷ infeasibility_marks u r.evidence
+redex_line u n r = redex_line_by u in_full n r
 
 entries_first : (u : Naming) (n : ℕ) (e : LinearEntry) (es : List LinearEntry) → entries_marks u n (e ∷ es) ≡ entries_marks u n (e ∷ []) ++ entries_marks u (suc n) es
 entries_first u n e es = ap (λ (ms : List Mark). ms ++ entries_marks u (suc n) es) (sym (append-nil _))
 
-pairs_first : (u : Naming) (n : ℕ) (p : PairEntry) (ps : List PairEntry) → pairs_marks u n (p ∷ ps) ≡ pairs_marks u n (p ∷ []) ++ pairs_marks u (suc n) ps
-pairs_first u n p ps = ap (λ (ms : List Mark). ms ++ pairs_marks u (suc n) ps) (sym (append-nil (pair_line u n p)))
+heads_first : (u : Naming) (n : ℕ) (h : Head) (hs : List Head) → heads_marks u n (h ∷ hs) ≡ heads_marks u n (h ∷ []) ++ heads_marks u (suc n) hs
+heads_first u n h hs = ap (λ (ms : List Mark). ms ++ heads_marks u (suc n) hs) (sym (append-nil _))
 
-redexes_first : (u : Naming) (n : ℕ) (r : Redex) (rs : List Redex) → redexes_marks u n (r ∷ rs) ≡ redexes_marks u n (r ∷ []) ++ redexes_marks u (suc n) rs
-redexes_first u n r rs = ap (λ (ms : List Mark). ms ++ redexes_marks u (suc n) rs) (sym (append-nil (redex_line u n r)))
+pairs_first : (u : Naming) (w : Uses) (n : ℕ) (p : PairEntry) (ps : List PairEntry) → pairs_marks u w n (p ∷ ps) ≡ pairs_marks u w n (p ∷ []) ++ pairs_marks u w (suc n) ps
+pairs_first u w n p ps = ap (λ (ms : List Mark). ms ++ pairs_marks u w (suc n) ps) (sym (append-nil (pair_line_by u w n p)))
+
+redexes_first : (u : Naming) (w : Uses) (n : ℕ) (r : Redex) (rs : List Redex) → redexes_marks u w n (r ∷ rs) ≡ redexes_marks u w n (r ∷ []) ++ redexes_marks u w (suc n) rs
+redexes_first u w n r rs = ap (λ (ms : List Mark). ms ++ redexes_marks u w (suc n) rs) (sym (append-nil (redex_line_by u w n r)))
 
 pub entries_push : {A : Type 0} (f : A → LinearEntry) (u : Naming) (n m : ℕ) (done : List A) (a : A) → m ≡ n + length done → entries_marks u n (map f done) ++ entries_marks u m (f a ∷ []) ≡ entries_marks u n (map f (done ++ a ∷ []))
 entries_push f u n m done a e = push f (entries_marks u) (λ k. refl) (entries_first u) n m done a e
 
-pub pairs_push : {A : Type 0} (f : A → PairEntry) (u : Naming) (n m : ℕ) (done : List A) (a : A) → m ≡ n + length done → pairs_marks u n (map f done) ++ pairs_marks u m (f a ∷ []) ≡ pairs_marks u n (map f (done ++ a ∷ []))
-pairs_push f u n m done a e = push f (pairs_marks u) (λ k. refl) (pairs_first u) n m done a e
+pub heads_push : {A : Type 0} (f : A → Head) (u : Naming) (n m : ℕ) (done : List A) (a : A) → m ≡ n + length done → heads_marks u n (map f done) ++ heads_marks u m (f a ∷ []) ≡ heads_marks u n (map f (done ++ a ∷ []))
+heads_push f u n m done a e = push f (heads_marks u) (λ k. refl) (heads_first u) n m done a e
 
-pub redexes_push : {A : Type 0} (f : A → Redex) (u : Naming) (n m : ℕ) (done : List A) (a : A) → m ≡ n + length done → redexes_marks u n (map f done) ++ redexes_marks u m (f a ∷ []) ≡ redexes_marks u n (map f (done ++ a ∷ []))
-redexes_push f u n m done a e = push f (redexes_marks u) (λ k. refl) (redexes_first u) n m done a e
+pub pairs_push : {A : Type 0} (f : A → PairEntry) (u : Naming) (w : Uses) (n m : ℕ) (done : List A) (a : A) → m ≡ n + length done → pairs_marks u w n (map f done) ++ pairs_marks u w m (f a ∷ []) ≡ pairs_marks u w n (map f (done ++ a ∷ []))
+pairs_push f u w n m done a e = push f (pairs_marks u w) (λ k. refl) (pairs_first u w) n m done a e
 
-pub plain_pairs : {A : Type 0} (f : A → PairEntry) (done after : List A) (a : A) → after ≡ done ++ a ∷ [] → ArePlainPairs (map f done) → IsPlainEvidence (f a).evidence → ArePlainPairs (map f after)
-plain_pairs {A} f done after a e h k = subst (λ (xs : List A). ArePlainPairs (map f xs)) (sym e) (by done h)
+pub redexes_push : {A : Type 0} (f : A → Redex) (u : Naming) (w : Uses) (n m : ℕ) (done : List A) (a : A) → m ≡ n + length done → redexes_marks u w n (map f done) ++ redexes_marks u w m (f a ∷ []) ≡ redexes_marks u w n (map f (done ++ a ∷ []))
+redexes_push f u w n m done a e = push f (redexes_marks u w) (λ k. refl) (redexes_first u w) n m done a e
+
+pub plain_pairs : {A : Type 0} (v : Version) (all : List Automaton) (f : A → PairEntry) (done after : List A) (a : A) → after ≡ done ++ a ∷ [] → PairsUse v all (map f done) → EvidenceUses v all (f a).evidence → PairsUse v all (map f after)
+plain_pairs {A} v all f done after a e h k = subst (λ (xs : List A). PairsUse v all (map f xs)) (sym e) (by done h)
   where
-    by : (xs : List A) → ArePlainPairs (map f xs) → ArePlainPairs (map f (xs ++ a ∷ []))
+    by : (xs : List A) → PairsUse v all (map f xs) → PairsUse v all (map f (xs ++ a ∷ []))
     by [] p = (k, tt)
     by (x ∷ xs) p = (p.0, by xs p.1)
 
-pub plain_redexes : {A : Type 0} (f : A → Redex) (done after : List A) (a : A) → after ≡ done ++ a ∷ [] → ArePlainRedexes (map f done) → IsPlainInfeasibility (f a).evidence → ArePlainRedexes (map f after)
-plain_redexes {A} f done after a e h k = subst (λ (xs : List A). ArePlainRedexes (map f xs)) (sym e) (by done h)
+pub plain_redexes : {A : Type 0} (v : Version) (all : List Automaton) (f : A → Redex) (done after : List A) (a : A) → after ≡ done ++ a ∷ [] → RedexesUse v all (map f done) → HasUsed v all (f a).evidence → RedexesUse v all (map f after)
+plain_redexes {A} v all f done after a e h k = subst (λ (xs : List A). RedexesUse v all (map f xs)) (sym e) (by done h)
   where
-    by : (xs : List A) → ArePlainRedexes (map f xs) → ArePlainRedexes (map f (xs ++ a ∷ []))
+    by : (xs : List A) → RedexesUse v all (map f xs) → RedexesUse v all (map f (xs ++ a ∷ []))
     by [] p = (k, tt)
     by (x ∷ xs) p = (p.0, by xs p.1)
+
+-- steps that simplify the system
+steps_first : (u : Naming) (w : Uses) (s : Simplification) (ss : List Simplification) → simplifications_marks u w (s ∷ ss) ≡ simplifications_marks u w (s ∷ []) ++ simplifications_marks u w ss
+steps_first u w (dropped rule e) ss = ap (λ (ms : List Mark). ms ++ simplifications_marks u w ss) (sym (append-nil (fixed (codes "drop ") ∷ number rule ∷ fixed (codes " ") ∷ infeasibility_marks u w e)))
+steps_first u w (inlined rule condition) ss = refl
+
+pub steps_push : {A : Type 0} (f : A → Simplification) (u : Naming) (w : Uses) (done : List A) (a : A) → simplifications_marks u w (map f done) ++ simplifications_marks u w (f a ∷ []) ≡ simplifications_marks u w (map f (done ++ a ∷ []))
+steps_push f u w [] a = refl
+steps_push f u w (b ∷ done) a =
+    ap (λ (ms : List Mark). ms ++ simplifications_marks u w (f a ∷ [])) (steps_first u w (f b) (map f done))
+    ∙ append_assoc (simplifications_marks u w (f b ∷ [])) (simplifications_marks u w (map f done)) (simplifications_marks u w (f a ∷ []))
+    ∙ ap (λ (ms : List Mark). simplifications_marks u w (f b ∷ []) ++ ms) (steps_push f u w done a) ∙ sym (steps_first u w (f b) (map f (done ++ a ∷ [])))
+
+plain_first : (v : Version) (all : List Automaton) (s : Simplification) (ss : List Simplification) → StepsUse v all (s ∷ []) → StepsUse v all ss → StepsUse v all (s ∷ ss)
+plain_first v all (dropped rule e) ss h k = (h.0, k)
+plain_first v all (inlined rule condition) ss h k = k
+
+plain_one : (v : Version) (all : List Automaton) (s : Simplification) (ss : List Simplification) → StepsUse v all (s ∷ ss) → StepsUse v all (s ∷ []) × StepsUse v all ss
+plain_one v all (dropped rule e) ss h = ((h.0, tt), h.1)
+plain_one v all (inlined rule condition) ss h = (tt, h)
+
+pub plain_steps : {A : Type 0} (v : Version) (all : List Automaton) (f : A → Simplification) (done after : List A) (a : A) → after ≡ done ++ a ∷ [] → StepsUse v all (map f done) → StepsUse v all (f a ∷ []) → StepsUse v all (map f after)
+plain_steps {A} v all f done after a e h k = subst (λ (xs : List A). StepsUse v all (map f xs)) (sym e) (by done h)
+  where
+    by : (xs : List A) → StepsUse v all (map f xs) → StepsUse v all (map f (xs ++ a ∷ []))
+    by [] p = k
+    by (x ∷ xs) p = let q = plain_one v all (f x) (map f xs) p in plain_first v all (f x) (map f (xs ++ a ∷ [])) q.0 (by xs q.1)
 
 pub peak_parts : (t d e a z : List Mark) (m : Mark) → (t ++ (m ∷ [])) ++ (d ++ (e ++ (a ++ z))) ≡ (t ++ (m ∷ (d ++ (e ++ a)))) ++ z
 peak_parts t d e a z m = simp append_assoc

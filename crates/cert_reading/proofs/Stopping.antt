@@ -1,18 +1,18 @@
 -- Parts one behind another, with the places where they are refused.
-use Rattle.std.proofs.Common.{inl, inr, codes, ◌≡◌, ◌≤◌, ◌-◌, ◌<◌, ℕ, suc, List, [], ◌∷◌, ◌++◌, length, Option, Some, None, IfSome, refl, sym, ap, ◌∙◌, subst, arith}
+use Rattle.std.proofs.Common.{inl, inr, codes, ◌≡◌, ◌≤◌, ℕ, suc, List, [], ◌∷◌, ◌++◌, Option, Some, None, IfSome, refl, sym, ◌∙◌, subst, arith}
 use Rattle.std.proofs.lemmas.List.{append-nil}
 use Rattle.cops_names.specs.NameTable.{NameTable}
 use Rattle.cert_grammar.specs.Words.{name_of}
 use Rattle.cert_grammar.specs.Marks.{CertificateCause, Naming, Mark}
-use Rattle.cert_grammar.specs.Items.{Item, between, line}
-use Rattle.cert_grammar.specs.FirstVersion.{pairs_from}
+use Rattle.cert_grammar.specs.Items.{Item, between, line, pairs_from}
+use Rattle.cert_grammar.specs.Versions.{Version}
 use Rattle.cert_words.specs.declared.error.CertError.{CertError}
 use Rattle.cert_words.specs.declared.reading.Reading.{Reading}
 use Rattle.cert_words.specs.Words.{told}
 use Rattle.cert_grammar.specs.Sharing.{Shared}
-use Rattle.cert_words.specs.Walks.{left_at, Walks, tagged, AreFound, Keeps, Run, IsStuckAt, IsStopped, ReadsOn, Reads}
-use Rattle.cert_words.proofs.Walking.{walks_then, walks_shorter, stops_then, run_then, framed_on}
-use Rattle.cert_reading.specs.Stops.{Place, StopsWhere, IsStoppedWhere, ReadsOnWhere, ReadsWhere, Anywhere, lowest, IsLater, AreLater, IsList, IsUnopened, IsInEntry}
+use Rattle.cert_words.specs.Walks.{left_at, Walks, tagged, AreFound, Keeps, Run, IsStuckAt, IsStuckBehind, IsStopped, ReadsOn, IsFront, Reads}
+use Rattle.cert_words.proofs.Walking.{walks_then, walks_shorter, stops_then, run_then, framed_on, front_same, front_then, open_before, read_run}
+use Rattle.cert_reading.specs.Stops.{Place, IsStoppedWhere, ReadsOnWhere, ReadsWhere, Anywhere, lowest, IsBehind, AreBehind, WithinOpening, WithinEntry}
 
 module _ (P : Place) (names : NameTable) (end : ℕ) where
   -- with nothing behind
@@ -76,6 +76,16 @@ module _ (P : Place) (names : NameTable) (end : ℕ) where
   behind_on i to f b r sa sb (Some d) None p h x = absurd x
   behind_on i to f b r sa sb (Some d) (Some e) p h x = x
 
+  -- a word that is judged behind others, which is refused where it stands
+  sealed_stop : (from : List Item) (i : Item) (f : Naming → List Mark) (b q : List ℕ) (sa sb : Shared) (t : Option (CertificateCause × ℕ)) → P (i ∷ []) q → Run names end from f (i ∷ []) b q sa sb → IsStuckBehind names end i (f (name_of names)) b q sa t → IsStoppedWhere P names end from b sa t
+  sealed_stop from i f b q sa sb None p x h = tt
+  sealed_stop from i f b q sa sb (Some e) p x h = λ le. record { marks = f (name_of names); item = i; more = []; rest = q; walks = alone (f (name_of names)) from (i ∷ []) b q (x.walks le []); stops = λ k. ((x.shares le k).0, h le [] k); place = p }
+
+  sealed_on : (from to : List Item) (i : Item) (f g : Naming → List Mark) (b q r : List ℕ) (sa sb sc : Shared) (s t : Option CertError) → s ≡ None → P (i ∷ []) q → Run names end from f (i ∷ []) b q sa sb → IfSome t (λ e. IsStuckBehind names end i (f (name_of names)) b q sa (told e)) → ReadsOn names end from g to b r sa sc s t → ReadsOnWhere P names end from g to b r sa sc s t
+  sealed_on from to i f g b q r sa sb sc None None none p x h y = y
+  sealed_on from to i f g b q r sa sb sc None (Some e) none p x h y = sealed_stop from i f b q sa sb (told e) p x h
+  sealed_on from to i f g b q r sa sb sc (Some d) t none p x h y = absurd cc
+
   -- a part with an item below it
   framed_stop : (from : List Item) (low : Item) (b : List ℕ) (sa : Shared) (t : Option (CertificateCause × ℕ)) → ((i : Item) (m : List Item) (r : List ℕ) → P (i ∷ (m ++ low ∷ [])) r) → IsStopped names end from b sa t → IsStoppedWhere P names end (from ++ low ∷ []) b sa t
   framed_stop from low b sa None p x = tt
@@ -99,11 +109,11 @@ module _ (P : Place) (names : NameTable) (end : ℕ) where
 
 -- a part behind another
 pub then_where : {P : Place} {names : NameTable} {end : ℕ} {from mid to : List Item} {f g : Naming → List Mark} {s t u : Reading} → ReadsWhere P names end from f mid s t → ReadsWhere P names end mid g to t u → ReadsWhere P names end from (λ v. f v ++ g v) to s u
-then_where {P} {names} {end} {from} {mid} {to} {f} {g} {s} {t} {u} x y = record { on = on_behind P names end from mid to f g s.left.now t.left.now u.left.now s.shares t.shares u.shares s.refused t.refused u.refused x.on y.on }
+then_where {P} {names} {end} {from} {mid} {to} {f} {g} {s} {t} {u} x y = record { front = front_then s.shares.texts t.shares.texts u.shares.texts x.front y.front; on = on_behind P names end from mid to f g s.left.now t.left.now u.left.now s.shares t.shares u.shares s.refused t.refused u.refused x.on y.on }
 
 -- other marks and items, where they are the same if nothing is refused
 pub as_where : {P : Place} {names : NameTable} {end : ℕ} {from to other : List Item} {f g : Naming → List Mark} {s t : Reading} → ((t.refused ≡ None) → (to ≡ other) × ((u : Naming) → f u ≡ g u)) → ReadsWhere P names end from f to s t → ReadsWhere P names end from g other s t
-as_where {P} {names} {end} {from} {to} {other} {f} {g} {s} {t} e x = record { on = as_on P names end from to other f g s.left.now t.left.now s.shares t.shares s.refused t.refused e x.on }
+as_where {P} {names} {end} {from} {to} {other} {f} {g} {s} {t} e x = record { front = x.front; on = as_on P names end from to other f g s.left.now t.left.now s.shares t.shares s.refused t.refused e x.on }
 
 pub as_marks_where : {P : Place} {names : NameTable} {end : ℕ} {from to : List Item} {f g : Naming → List Mark} {s t : Reading} → ((t.refused ≡ None) → (u : Naming) → f u ≡ g u) → ReadsWhere P names end from f to s t → ReadsWhere P names end from g to s t
 as_marks_where e x = as_where (λ none. (refl, e none)) x
@@ -114,7 +124,7 @@ then_nothing_where {f = f} x y = as_marks_where (λ none v. append-nil (f v)) (t
 
 -- where the text is refused nothing is said of a value
 pub already_where : {P : Place} {names : NameTable} {end : ℕ} {from to other : List Item} {f g : Naming → List Mark} {s t : Reading} (e : CertError) → t.refused ≡ Some e → ReadsWhere P names end from f to s t → ReadsWhere P names end from g other s t
-already_where {P} {names} {end} {from} {to} {other} {f} {g} {s} {t} e q x = record { on = any_on P names end from to other f g s.left.now t.left.now s.shares t.shares s.refused t.refused e q x.on }
+already_where {P} {names} {end} {from} {to} {other} {f} {g} {s} {t} e q x = record { front = x.front; on = any_on P names end from to other f g s.left.now t.left.now s.shares t.shares s.refused t.refused e q x.on }
 
 -- where nothing is refused nothing was
 pub open_before_where : {P : Place} {names : NameTable} {end : ℕ} {from to : List Item} {f : Naming → List Mark} {s t : Reading} → ReadsWhere P names end from f to s t → t.refused ≡ None → s.refused ≡ None
@@ -122,21 +132,40 @@ open_before_where {P} {names} {end} {from} {to} {f} {s} {t} x e = none_before P 
 
 -- a word
 pub word_where : {P : Place} {names : NameTable} {end : ℕ} {i : Item} {to : List Item} {f : Naming → List Mark} {s t : Reading} → ((t.refused ≡ None → ⊥) → P (i ∷ []) s.left.now) → (s.refused ≡ None → IfSome t.refused (λ e. IsStuckAt names end i s.left.now s.shares (told e))) → Reads names end (i ∷ []) f to s t → ReadsWhere P names end (i ∷ []) f to s t
-word_where {P} {names} {end} {i} {to} {f} {s} {t} p h x = record { on = word_on P names end i to f s.left.now t.left.now s.shares t.shares s.refused t.refused p h x.on }
+word_where {P} {names} {end} {i} {to} {f} {s} {t} p h x = record { front = x.front; on = word_on P names end i to f s.left.now t.left.now s.shares t.shares s.refused t.refused p h x.on }
 
 -- a word behind what is not refused
 pub word_behind : {P : Place} {names : NameTable} {end : ℕ} {i : Item} {to : List Item} {f : Naming → List Mark} {s t : Reading} → (s.refused ≡ None → P (i ∷ []) s.left.now) → (s.refused ≡ None → IfSome t.refused (λ e. IsStuckAt names end i s.left.now s.shares (told e))) → Reads names end (i ∷ []) f to s t → ReadsWhere P names end (i ∷ []) f to s t
-word_behind {P} {names} {end} {i} {to} {f} {s} {t} p h x = record { on = behind_on P names end i to f s.left.now t.left.now s.shares t.shares s.refused t.refused p h x.on }
+word_behind {P} {names} {end} {i} {to} {f} {s} {t} p h x = record { front = x.front; on = behind_on P names end i to f s.left.now t.left.now s.shares t.shares s.refused t.refused p h x.on }
+
+-- a word that is judged behind others
+pub sealed_where : {P : Place} {names : NameTable} {end : ℕ} {i : Item} {from to : List Item} {f g : Naming → List Mark} {a s t : Reading} → P (i ∷ []) s.left.now → s.refused ≡ None → IfSome t.refused (λ e. IsStuckBehind names end i (f (name_of names)) a.left.now s.left.now a.shares (told e)) → Reads names end from f (i ∷ []) a s → Reads names end from g to a t → ReadsWhere P names end from g to a t
+sealed_where {P} {names} {end} {i} {from} {to} {f} {g} {a} {s} {t} p none h x y = record { front = y.front; on = sealed_on P names end from to i f g a.left.now s.left.now t.left.now a.shares s.shares t.shares a.refused t.refused (open_before x none) p (read_run none x) h y.on }
 
 -- a part with an item below it
 pub low_where : {P : Place} {names : NameTable} {end : ℕ} {from to : List Item} {f : Naming → List Mark} {s t : Reading} (low : Item) → ((i : Item) (m : List Item) (q : List ℕ) → P (i ∷ (m ++ low ∷ [])) q) → Reads names end from f to s t → ReadsWhere P names end (from ++ low ∷ []) f (to ++ low ∷ []) s t
-low_where {P} {names} {end} {from} {to} {f} {s} {t} low p x = record { on = low_on P names end from to low f s.left.now t.left.now s.shares t.shares s.refused t.refused p x.on }
+low_where {P} {names} {end} {from} {to} {f} {s} {t} low p x = record { front = x.front; on = low_on P names end from to low f s.left.now t.left.now s.shares t.shares s.refused t.refused p x.on }
 
 pub nothing_where : {P : Place} {names : NameTable} {end : ℕ} {from : List Item} {s : Reading} → ReadsWhere P names end from (λ u. []) from s s
-nothing_where {P} {names} {end} {from} {s} = record { on = nothing_on P names end from s.left.now s.shares s.refused }
+nothing_where {P} {names} {end} {from} {s} = record { front = front_same s.shares.texts s.shares.texts refl; on = nothing_on P names end from s.left.now s.shares s.refused }
 
 pub stays_where : {P : Place} {names : NameTable} {end : ℕ} {from to : List Item} {f : Naming → List Mark} {s : Reading} (e : CertError) → s.refused ≡ Some e → ReadsWhere P names end from f to s s
-stays_where {P} {names} {end} {from} {to} {f} {s} e q = record { on = stays_on P names end from to f s.left.now s.shares s.refused e q }
+stays_where {P} {names} {end} {from} {to} {f} {s} e q = record { front = front_same s.shares.texts s.shares.texts refl; on = stays_on P names end from to f s.left.now s.shares s.refused e q }
+
+-- ---- at a place of which less is said
+
+other_stop : (P Q : Place) → ((items : List Item) (q : List ℕ) → P items q → Q items q) → (names : NameTable) (end : ℕ) (from : List Item) (b : List ℕ) (sa : Shared) (t : Option (CertificateCause × ℕ)) → IsStoppedWhere P names end from b sa t → IsStoppedWhere Q names end from b sa t
+other_stop P Q f names end from b sa None x = tt
+other_stop P Q f names end from b sa (Some e) x = λ le. let there = x le in record { marks = there.marks; item = there.item; more = there.more; rest = there.rest; walks = there.walks; stops = there.stops; place = f (there.item ∷ there.more) there.rest there.place }
+
+other_place : (P Q : Place) → ((items : List Item) (q : List ℕ) → P items q → Q items q) → (names : NameTable) (end : ℕ) (from to : List Item) (f : Naming → List Mark) (b r : List ℕ) (sa sb : Shared) (s t : Option CertError) → ReadsOnWhere P names end from f to b r sa sb s t → ReadsOnWhere Q names end from f to b r sa sb s t
+other_place P Q g names end from to f b r sa sb None None x = x
+other_place P Q g names end from to f b r sa sb None (Some e) x = other_stop P Q g names end from b sa (told e) x
+other_place P Q g names end from to f b r sa sb (Some d) None x = absurd x
+other_place P Q g names end from to f b r sa sb (Some d) (Some e) x = x
+
+pub elsewhere : {P Q : Place} {names : NameTable} {end : ℕ} {from to : List Item} {f : Naming → List Mark} {s t : Reading} → ((items : List Item) (q : List ℕ) → P items q → Q items q) → ReadsWhere P names end from f to s t → ReadsWhere Q names end from f to s t
+elsewhere {P} {Q} {names} {end} {from} {to} {f} {s} {t} g x = record { front = x.front; on = other_place P Q g names end from to f s.left.now t.left.now s.shares t.shares s.refused t.refused x.on }
 
 -- ---- anywhere
 
@@ -151,7 +180,7 @@ any_place P names end from to f b r sa sb (Some d) None x = absurd x
 any_place P names end from to f b r sa sb (Some d) (Some e) x = x
 
 pub anywhere : {P : Place} {names : NameTable} {end : ℕ} {from to : List Item} {f : Naming → List Mark} {s t : Reading} → ReadsWhere P names end from f to s t → ReadsWhere Anywhere names end from f to s t
-anywhere {P} {names} {end} {from} {to} {f} {s} {t} x = record { on = any_place P names end from to f s.left.now t.left.now s.shares t.shares s.refused t.refused x.on }
+anywhere {P} {names} {end} {from} {to} {f} {s} {t} x = record { front = x.front; on = any_place P names end from to f s.left.now t.left.now s.shares t.shares s.refused t.refused x.on }
 
 stop_anywhere : (names : NameTable) (end : ℕ) (from : List Item) (b : List ℕ) (sa : Shared) (t : Option (CertificateCause × ℕ)) → IsStopped names end from b sa t → IsStoppedWhere Anywhere names end from b sa t
 stop_anywhere names end from b sa None x = tt
@@ -166,7 +195,7 @@ reads_place names end from to f b r sa sb (Some d) None x = absurd x
 reads_place names end from to f b r sa sb (Some d) (Some e) x = x
 
 pub reads_anywhere : {names : NameTable} {end : ℕ} {from to : List Item} {f : Naming → List Mark} {s t : Reading} → Reads names end from f to s t → ReadsWhere Anywhere names end from f to s t
-reads_anywhere {names} {end} {from} {to} {f} {s} {t} x = record { on = reads_place names end from to f s.left.now t.left.now s.shares t.shares s.refused t.refused x.on }
+reads_anywhere {names} {end} {from} {to} {f} {s} {t} x = record { front = x.front; on = reads_place names end from to f s.left.now t.left.now s.shares t.shares s.refused t.refused x.on }
 
 -- ---- the places
 
@@ -178,34 +207,38 @@ behind_some : (i j : Item) (m : List Item) (low : Item) → i ∷ (m ++ low ∷ 
 behind_some i j [] low e = cc
 behind_some i j (k ∷ m) low e = cc
 
-low_early : (n : ℕ) (low : Item) → (IsLater n low → ⊥) → (i : Item) (m : List Item) → AreLater n (i ∷ (m ++ low ∷ [])) → ⊥
-low_early n low e i m (inl h) = e (subst (IsLater n) (lowest_is i m low) h)
-low_early n low e i m (inr s) = behind_some i (between line) m low s
+low_early : (v : Version) (n : ℕ) (low : Item) → (IsBehind v n low → ⊥) → (i : Item) (m : List Item) → AreBehind v n (i ∷ (m ++ low ∷ [])) → ⊥
+low_early v n low e i m (inl h) = e (subst (IsBehind v n) (lowest_is i m low) h)
+low_early v n low e i m (inr s) = behind_some i (between line) m low s
 
-pub low_unopened : (low : Item) → (IsLater 1 low → ⊥) → (i : Item) (m : List Item) (q : List ℕ) → IsUnopened (i ∷ (m ++ low ∷ [])) q
-low_unopened low e i m q = record { early = λ h. low_early 1 low e i m h; closed = λ j s h b. behind_some i j m low s }
+pub low_unopened : (v : Version) (low : Item) → (IsBehind v 1 low → ⊥) → (i : Item) (m : List Item) (q : List ℕ) → WithinOpening v (i ∷ (m ++ low ∷ [])) q
+low_unopened v low e i m q = record { early = λ h. low_early v 1 low e i m h; closed = λ j s h b. behind_some i j m low s }
 
-pub low_entry : (n : ℕ) (b : List ℕ) (low : Item) → (IsLater (suc n) low → ⊥) → (i : Item) (m : List Item) (q : List ℕ) → IsInEntry n b (i ∷ (m ++ low ∷ [])) q
-low_entry n b low e i m q = record { early = λ h. absurd (low_early (suc n) low e i m h); going = λ s. behind_some i (pairs_from (suc n)) m low s }
+pub low_entry : (v : Version) (n : ℕ) (b : List ℕ) (low : Item) → (IsBehind v (suc n) low → ⊥) → (i : Item) (m : List Item) (q : List ℕ) → WithinEntry v n b (i ∷ (m ++ low ∷ [])) q
+low_entry v n b low e i m q = record { early = λ h. absurd (low_early v (suc n) low e i m h); going = λ s. behind_some i (pairs_from v (suc n)) m low s }
 
-same_number : (n m : ℕ) → pairs_from n ≡ pairs_from m → n ≡ m
-same_number n m e = cc
+same_number : (v : Version) (n m : ℕ) → pairs_from v n ≡ pairs_from v m → n ≡ m
+same_number v n m e = cc
 
-pub pair_later : (n m : ℕ) → n ≤ m → IsLater m (pairs_from n) → ⊥
-pair_later n m le h = let same : n ≡ h.0 = same_number n h.0 h.1 in let less = h.2 in omega (arith, le, same, less)
+pub pair_later : (v : Version) (n m : ℕ) → n ≤ m → IsBehind v m (pairs_from v n) → ⊥
+pair_later v n m le h = let same : n ≡ h.0 = same_number v n h.0 h.1 in let less = h.2 in omega (arith, le, same, less)
 
 -- behind the word of the last line
-pub line_entry : (n : ℕ) (b q : List ℕ) → b ≡ codes "end" ++ q → IsInEntry n b (between line ∷ []) q
-line_entry n b q text = record { early = λ h. text; going = λ e. cc }
+pub line_entry : (v : Version) (n : ℕ) (b q : List ℕ) → b ≡ codes "end" ++ q → WithinEntry v n b (between line ∷ []) q
+line_entry v n b q text = record { early = λ h. text; going = λ e. cc }
 
-first_early : (n : ℕ) → AreLater (suc n) (pairs_from n ∷ []) → ⊥
-first_early n (inl h) = pair_later n (suc n) (omega arith) h
-first_early n (inr s) = cc
+first_early : (v : Version) (n : ℕ) → AreBehind v (suc n) (pairs_from v n ∷ []) → ⊥
+first_early v n (inl h) = pair_later v n (suc n) (omega arith) h
+first_early v n (inr s) = cc
 
-pub first_entry : (n : ℕ) (b q : List ℕ) → IsInEntry n b (pairs_from n ∷ []) q
-first_entry n b q = record { early = λ h. absurd (first_early n h); going = λ e. let same : n ≡ suc n = cc in absurd (omega (arith, same)) }
+pub first_entry : (v : Version) (n : ℕ) (b q : List ℕ) → WithinEntry v n b (pairs_from v n ∷ []) q
+first_entry v n b q = record { early = λ h. absurd (first_early v n h); going = λ e. let same : n ≡ suc n = cc in absurd (omega (arith, same)) }
 
 -- ---- what is known of a reading that began with nothing refused
+
+-- texts of shared automata that stand there stay in front
+pub where_front : {P : Place} {names : NameTable} {end : ℕ} {from to : List Item} {f : Naming → List Mark} {s t : Reading} → ReadsWhere P names end from f to s t → IsFront s.shares.texts t.shares.texts
+where_front x = x.front
 
 ran_on : (P : Place) (names : NameTable) (end : ℕ) (from to : List Item) (f : Naming → List Mark) (b r : List ℕ) (sa sb : Shared) (s t : Option CertError) → s ≡ None → t ≡ None → ReadsOnWhere P names end from f to b r sa sb s t → Run names end from f to b r sa sb
 ran_on P names end from to f b r sa sb None None p q x = x

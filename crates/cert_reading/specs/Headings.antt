@@ -1,22 +1,37 @@
 -- The words with which certificates of each kind begin.
-use Rattle.std.specs.Prelude.{ℕ, suc, length, Bool, true, false, Option, List, [], ◌∷◌, ◌++◌, codes}
-use Rattle.certificates.specs.Certificates.{MeasureCertificate, linear_measure, precedence_measure}
-use Rattle.cert_grammar.specs.Marks.{Mark, fixed, word, fits_answer}
-use Rattle.cert_grammar.specs.CertificateMarks.{answer_marks}
-use Rattle.cert_grammar.specs.Items.{Item, between, line}
-use Rattle.cert_grammar.specs.FirstVersion.{pairs_from, measure, start_line}
+use Rattle.std.specs.Prelude.{ℕ, suc, ◌≡◌, length, Bool, true, false, Option, List, [], ◌∷◌, ◌++◌, codes}
+use Rattle.certificates.specs.Certificates.{MeasureCertificate, linear_measure, precedence_measure, Certificate, ortho_certificate, quasi_certificate, peak_certificate, simplified_certificate}
+use Rattle.cert_grammar.specs.Versions.{Version, first_version, second_version, Uses}
+use Rattle.cert_grammar.specs.Marks.{Naming, Mark, fixed, word, fits_answer}
+use Rattle.cert_grammar.specs.CertificateMarks.{answer_marks, pairs_marks, measure_marks, peak_marks}
+use Rattle.cert_grammar.specs.Items.{Item, shared_line, body, pairs_from, entries_from, heads_from, measure, start_line}
 use Rattle.cert_reading.specs.declared.headings.Kind.{Kind}
 use Rattle.cert_reading.specs.declared.headings.Kind.TheVariants.{Ortho, Quasi, Peak}
+
+-- the first line, of the second version or of the first, and what is behind it
+abbrev pub version_mark : Bool → Mark
+version_mark true = fixed (codes "concon 2\n")
+version_mark false = fixed (codes "concon 1\n")
+
+abbrev pub behind_version : Bool → Option Bool → Item
+behind_version true given = shared_line given
+behind_version false given = body first_version given
+
+abbrev pub first_marks : Option Bool → Bool → List Mark
+first_marks given second = answer_marks given ++ (version_mark second ∷ [])
 
 abbrev pub kind_mark : Option Bool → Kind → Mark
 kind_mark given Ortho = word (codes "ortho") (fits_answer true given ∷ [])
 kind_mark given Quasi = word (codes "quasi") (fits_answer true given ∷ [])
 kind_mark given Peak = word (codes "peak") (fits_answer false given ∷ [])
 
+abbrev pub item_by : Version → Kind → Item
+item_by v Ortho = pairs_from v 1
+item_by v Quasi = measure v
+item_by v Peak = start_line v
+
 abbrev pub item_of : Kind → Item
-item_of Ortho = pairs_from 1
-item_of Quasi = measure
-item_of Peak = start_line
+item_of kind = item_by first_version kind
 
 -- the lines before the body
 abbrev pub heading_marks : Option Bool → Kind → List Mark
@@ -26,3 +41,22 @@ heading_marks given kind = answer_marks given ++ (fixed (codes "concon 1\n") ∷
 abbrev pub entries_of : MeasureCertificate → ℕ
 entries_of (linear_measure es) = suc (length es)
 entries_of (precedence_measure order) = 0
+
+-- what is left behind a measure: its next entry, or an overlap
+abbrev pub behind_measure : Version → MeasureCertificate → Item
+behind_measure first_version m = entries_from first_version (entries_of m)
+behind_measure second_version (linear_measure es) = entries_from second_version (suc (length es))
+behind_measure second_version (precedence_measure order) = heads_from (suc (length order))
+
+-- a certificate of this kind, and its marks behind the line of its kind
+abbrev pub IsOfKind : Kind → Certificate → Type 0
+IsOfKind kind (ortho_certificate ps) = kind ≡ Ortho
+IsOfKind kind (quasi_certificate m ps) = kind ≡ Quasi
+IsOfKind kind (peak_certificate p) = kind ≡ Peak
+IsOfKind kind (simplified_certificate steps c) = ⊥
+
+abbrev pub behind_kind : Naming → Uses → Certificate → List Mark
+behind_kind u w (ortho_certificate ps) = pairs_marks u w 1 ps
+behind_kind u w (quasi_certificate m ps) = measure_marks u m ++ pairs_marks u w 1 ps
+behind_kind u w (peak_certificate p) = peak_marks u w p
+behind_kind u w (simplified_certificate steps c) = []

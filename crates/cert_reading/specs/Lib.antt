@@ -1,3 +1,7 @@
 pub mod Stops
 pub mod Plain
 pub mod Headings
+pub mod Shared
+pub mod Uses
+pub mod Measures
+pub mod Whole

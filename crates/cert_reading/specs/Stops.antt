@@ -2,15 +2,15 @@
 use Rattle.std.specs.Prelude.{◌++◌, codes, ◌≡◌, ◌⊎◌, ◌≤◌, ◌<◌, ℕ, suc, List, [], ◌∷◌, length, Option, Some, None}
 use Rattle.cops_names.specs.NameTable.{NameTable}
 use Rattle.cert_grammar.specs.Marks.{CertificateCause, Naming, Mark}
-use Rattle.cert_grammar.specs.Items.{Item, between, line}
-use Rattle.cert_grammar.specs.FirstVersion.{pairs_from, entries_from}
+use Rattle.cert_grammar.specs.Items.{Item, between, line, pairs_from, entries_from, heads_from}
+use Rattle.cert_grammar.specs.Versions.{Version, first_version, second_version}
 use Rattle.cert_grammar.specs.Sharing.{Shared, behind_marks, PassShares}
 use Rattle.cert_shares.specs.SharesView.{with_begun}
 use Rattle.cert_openings.specs.Openings.{BeginsEntry}
 use Rattle.cert_words.specs.declared.error.CertError.{CertError}
 use Rattle.cert_words.specs.declared.reading.Reading.{Reading}
 use Rattle.cert_words.specs.Words.{told}
-use Rattle.cert_words.specs.Walks.{left_at, Walks, Run, RefusesAt}
+use Rattle.cert_words.specs.Walks.{left_at, Walks, Run, RefusesAt, IsFront}
 
 -- what is true of the items and of the bytes that are left
 abbrev pub Place : Type 1
@@ -38,6 +38,7 @@ ReadsOnWhere P names end from marks to bytes rest s t None (Some e) = IsStoppedW
 ReadsOnWhere P names end from marks to bytes rest s t (Some d) (Some e) = told e ≡ told d
 
 pub record ReadsWhere (P : Place) (names : NameTable) (end : ℕ) (from : List Item) (marks : Naming → List Mark) (to : List Item) (old new : Reading) : Type 0 where
+  pub front : IsFront old.shares.texts new.shares.texts
   pub on : ReadsOnWhere P names end from marks to old.left.now new.left.now old.shares new.shares old.refused new.refused
 
 abbrev pub Anywhere : Place
@@ -49,24 +50,45 @@ lowest i [] = i
 lowest i (j ∷ items) = lowest j items
 
 -- what stands from an overlap on behind the one with this number
-abbrev pub IsLater : ℕ → Item → Type 0
-IsLater n i = (m : ℕ) × (i ≡ pairs_from m) × (n < m)
+abbrev pub IsBehind : Version → ℕ → Item → Type 0
+IsBehind v n i = (m : ℕ) × (i ≡ pairs_from v m) × (n < m)
 
 -- nothing more is left, or that; or the end of the last line alone
-abbrev pub AreLater : ℕ → List Item → Type 0
-AreLater n [] = Unit {0}
-AreLater n (i ∷ items) = IsLater n (lowest i items) ⊎ (i ∷ items ≡ between line ∷ [])
+abbrev pub AreBehind : Version → ℕ → List Item → Type 0
+AreBehind v n [] = Unit {0}
+AreBehind v n (i ∷ items) = IsBehind v n (lowest i items) ⊎ (i ∷ items ≡ between line ∷ [])
 
--- entries, or overlaps
-abbrev pub IsList : Item → Type 0
-IsList i = ((n : ℕ) × (i ≡ entries_from n)) ⊎ ((n : ℕ) × (i ≡ pairs_from (suc n)))
+-- entries, or overlaps; in the second version the symbols of a precedence too
+abbrev pub BeginsList : Version → Item → Type 0
+BeginsList first_version i = ((n : ℕ) × (i ≡ entries_from first_version n)) ⊎ ((n : ℕ) × (i ≡ pairs_from first_version (suc n)))
+BeginsList second_version i = ((n : ℕ) × (i ≡ entries_from second_version n)) ⊎ (((n : ℕ) × (i ≡ pairs_from second_version (suc n))) ⊎ ((n : ℕ) × (i ≡ heads_from n)))
 
 -- within an opening: no overlap has begun, and none nor the last line may begin
-pub record IsUnopened (items : List Item) (bytes : List ℕ) : Type 0 where
-  pub early : AreLater 1 items → ⊥
-  pub closed : (i : Item) → items ≡ i ∷ [] → IsList i → BeginsEntry bytes → ⊥
+pub record WithinOpening (v : Version) (items : List Item) (bytes : List ℕ) : Type 0 where
+  pub early : AreBehind v 1 items → ⊥
+  pub closed : (i : Item) → items ≡ i ∷ [] → BeginsList v i → BeginsEntry bytes → ⊥
+
+-- the same in either version
+abbrev pub BeforeEntries : Place
+BeforeEntries items bytes = (v : Version) → WithinOpening v items bytes
 
 -- within the entry with this number, which begins with these bytes: it has no end yet; or the last line stands there, and its word is read
-pub record IsInEntry (n : ℕ) (begun : List ℕ) (items : List Item) (bytes : List ℕ) : Type 0 where
-  pub early : AreLater (suc n) items → begun ≡ codes "end" ++ bytes
-  pub going : items ≡ pairs_from (suc n) ∷ [] → ⊥
+pub record WithinEntry (v : Version) (n : ℕ) (begun : List ℕ) (items : List Item) (bytes : List ℕ) : Type 0 where
+  pub early : AreBehind v (suc n) items → begun ≡ codes "end" ++ bytes
+  pub going : items ≡ pairs_from v (suc n) ∷ [] → ⊥
+
+-- in the first version
+abbrev pub IsLater : ℕ → Item → Type 0
+IsLater n i = IsBehind first_version n i
+
+abbrev pub AreLater : ℕ → List Item → Type 0
+AreLater n items = AreBehind first_version n items
+
+abbrev pub IsList : Item → Type 0
+IsList i = BeginsList first_version i
+
+abbrev pub IsUnopened : Place
+IsUnopened = WithinOpening first_version
+
+abbrev pub IsInEntry : ℕ → List ℕ → Place
+IsInEntry n begun = WithinEntry first_version n begun

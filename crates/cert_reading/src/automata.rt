@@ -8,6 +8,7 @@ ghost use Rattle.cert_grammar.specs.Marks.{has_arity, fixed, behind};
 ghost use Rattle.cert_grammar.specs.CertificateMarks as marks;
 ghost use Rattle.cert_grammar.specs.Items as spec;
 ghost use Rattle.cert_words.specs.Walks.{Reads, HasNoStates, AreWithoutStates};
+ghost use Rattle.cert_reading.specs.Shared.{behind_states};
 
 use cert_model::{Automaton, Transition};
 use cert_words::{
@@ -110,12 +111,11 @@ fn transitions(
     transitions
 }
 
-/// An automaton.
-pub fn automaton(alloc: Global, names: &Names, end: usize, at: &mut Reading) -> Automaton
+/// An automaton behind its first word.
+pub(crate) fn behind_word(alloc: Global, names: &Names, end: usize, at: &mut Reading) -> Automaton
     ensures plain { at.new.refused ≡ None → AreWithoutStates (automaton_view result).transitions }
-    ensures read { Reads names.now end (spec.states_line ∷ []) (λ u. marks.automaton_marks u (automaton_view result)) [] at.old at.new }
+    ensures read { Reads names.now end (spec.between spec.space ∷ spec.state_count ∷ []) (λ u. behind_states u (automaton_view result)) [] at.old at.new }
 {
-    begins(end, at, b"states");
     text(end, at, b" ");
     let states = counted(end, at, 1, CertCount::States);
     text(end, at, b"\naccepting");
@@ -128,4 +128,13 @@ pub fn automaton(alloc: Global, names: &Names, end: usize, at: &mut Reading) -> 
         accepting,
         transitions,
     }
+}
+
+/// An automaton.
+pub fn automaton(alloc: Global, names: &Names, end: usize, at: &mut Reading) -> Automaton
+    ensures plain { at.new.refused ≡ None → AreWithoutStates (automaton_view result).transitions }
+    ensures read { Reads names.now end (spec.states_line ∷ []) (λ u. marks.automaton_marks u (automaton_view result)) [] at.old at.new }
+{
+    begins(end, at, b"states");
+    behind_word(alloc, names, end, at)
 }

@@ -2,13 +2,14 @@
 
 ghost use Rattle.std.specs.Prelude.{◌≡◌, [], ◌∷◌, None};
 ghost use Rattle.cert_model.specs.EvidenceView.{inf_evidence_view, pair_evidence_view};
-ghost use Rattle.cert_grammar.specs.FirstVersion.{infeasibility_marks, evidence_marks};
-ghost use Rattle.cert_grammar.specs.FirstVersion as first;
+ghost use Rattle.cert_grammar.specs.CertificateMarks.{infeasibility_marks, evidence_marks};
+ghost use Rattle.cert_grammar.specs.Items as spec;
 ghost use Rattle.cert_words.specs.Walks.{Reads};
-ghost use Rattle.cert_reading.specs.Plain.{IsPlainInfeasibility, IsPlainEvidence};
+ghost use Rattle.cert_reading.specs.Plain.{HasUsed, EvidenceUses};
+ghost use Rattle.cert_reading.specs.Uses.{version_by, automata_by, uses_by, AreKnown};
 
-use crate::automata::automaton;
 use crate::derivations::derivation;
+use crate::uses::{Uses, used_automaton};
 use cert_model::{InfEvidence, PairEvidence};
 use cert_words::{Lead, Reading, choose, either, number, text};
 use cops_names::Names;
@@ -17,23 +18,36 @@ use std::alloc::Global;
 const BOUND: u64 = 4_294_967_296;
 
 /// The evidence that conditions are never met.
-pub fn infeasibility(alloc: Global, names: &Names, end: usize, at: &mut Reading) -> InfEvidence
-    ensures plain { at.new.refused ≡ None → IsPlainInfeasibility (inf_evidence_view result) }
-    ensures read { Reads names.now end (first.infeasibility ∷ []) (λ u. infeasibility_marks u (inf_evidence_view result)) [] at.old at.new }
+pub fn infeasibility(
+    alloc: Global,
+    names: &Names,
+    uses: Uses,
+    end: usize,
+    at: &mut Reading,
+) -> InfEvidence
+    requires { AreKnown names.now uses end at.old }
+    ensures plain { at.new.refused ≡ None → HasUsed (version_by uses.entry) (automata_by uses.entry) (inf_evidence_view result) }
+    ensures read { Reads names.now end (spec.infeasibility (version_by uses.entry) ∷ []) (λ u. infeasibility_marks u (uses_by names.now uses.entry) (inf_evidence_view result)) [] at.old at.new }
 {
     if either(end, at, b"tcap\n", b"auto ") {
         return InfEvidence::Tcap;
     }
     let cond = number(end, at, 0, BOUND);
-    text(end, at, b"\n");
-    let automaton = automaton(alloc, names, end, at);
+    let automaton = used_automaton(alloc, names, uses, end, at);
     InfEvidence::Auto { cond, automaton }
 }
 
 /// The evidence for an overlap.
-pub fn evidence(alloc: Global, names: &Names, end: usize, at: &mut Reading) -> PairEvidence
-    ensures plain { at.new.refused ≡ None → IsPlainEvidence (pair_evidence_view result) }
-    ensures read { Reads names.now end (first.evidence ∷ []) (λ u. evidence_marks u (pair_evidence_view result)) [] at.old at.new }
+pub fn evidence(
+    alloc: Global,
+    names: &Names,
+    uses: Uses,
+    end: usize,
+    at: &mut Reading,
+) -> PairEvidence
+    requires { AreKnown names.now uses end at.old }
+    ensures plain { at.new.refused ≡ None → EvidenceUses (version_by uses.entry) (automata_by uses.entry) (pair_evidence_view result) }
+    ensures read { Reads names.now end (spec.evidence (version_by uses.entry) ∷ []) (λ u. evidence_marks u (uses_by names.now uses.entry) (pair_evidence_view result)) [] at.old at.new }
 {
     let kinds = [
         Lead::Text(b"trivial\n"),
@@ -71,8 +85,7 @@ pub fn evidence(alloc: Global, names: &Names, end: usize, at: &mut Reading) -> P
         4 => PairEvidence::Infeasible(InfEvidence::Tcap),
         5 => {
             let cond = number(end, at, 0, BOUND);
-            text(end, at, b"\n");
-            let automaton = automaton(alloc, names, end, at);
+            let automaton = used_automaton(alloc, names, uses, end, at);
             PairEvidence::Infeasible(InfEvidence::Auto { cond, automaton })
         }
         _ => PairEvidence::Trivial,

@@ -1,18 +1,19 @@
 //! The lines before the body of a certificate.
 
-ghost use Rattle.std.specs.Prelude.{◌≡◌, ◌++◌, ◌↔◌, true, false, [], ◌∷◌, None, Some, codes, IsTrue};
+ghost use Rattle.std.specs.Prelude.{◌≡◌, ◌++◌, ◌↔◌, ℕ, true, false, [], ◌∷◌, None, Some, Option, Bool, codes, IsTrue, IfSome, IfNone};
 ghost use Rattle.cops_names.specs.NameTable.{NameTable};
 ghost use Rattle.cert_openings.specs.Openings.{BeginsEntry};
+ghost use Rattle.cert_grammar.specs.Versions.{Version};
+ghost use Rattle.cert_grammar.specs.Versions as versions;
 ghost use Rattle.cert_grammar.specs.Marks.{is_answer, fixed};
-ghost use Rattle.cert_grammar.specs.CertificateMarks.{answer_marks};
+ghost use Rattle.cert_grammar.specs.Items.{Item, leads, body_leads};
 ghost use Rattle.cert_grammar.specs.Items as spec;
-ghost use Rattle.cert_grammar.specs.FirstVersion as first;
-ghost use Rattle.cert_grammar.specs.FirstVersion.{second_at};
+ghost use Rattle.cert_grammar.specs.FirstRefusal.{first_there};
 ghost use Rattle.cert_words.specs.declared.error.CertError.TheVariants as refused;
-ghost use Rattle.cert_reading.specs.Stops.{ReadsWhere, IsUnopened};
-ghost use Rattle.cert_reading.specs.Headings.{kind_mark, item_of, heading_marks};
+ghost use Rattle.cert_reading.specs.Stops.{ReadsWhere, WithinOpening, BeforeEntries};
+ghost use Rattle.cert_reading.specs.Headings.{version_mark, behind_version, first_marks, kind_mark, item_by};
 
-use cert_words::{CertError, Lead, Reading, choose, front, stuck, text};
+use cert_words::{CertError, Lead, Reading, choose, front, stuck};
 
 /// Of what kind a certificate is.
 #[derive(Clone, Copy, Debug, Drop)]
@@ -28,25 +29,20 @@ pub enum Kind {
 // The first lines of both versions.
 const FIRST_LINES: [Lead; 2] = [Lead::Text(b"concon 1\n"), Lead::Text(b"concon 2\n")];
 
-/// Where the number of the second version stands, which is not read yet.
-pub fn second_version(bytes: &[u8]) -> Option<usize>
-    ensures { result ≡ second_at bytes.now }
+// The first line behind an answer: whether it is that of the second version.
+fn version_line(end: usize, at: &mut Reading) -> bool
+    ensures { (names : NameTable) (given : Option Bool) → ReadsWhere BeforeEntries names end (spec.heading given ∷ []) (λ u. version_mark result ∷ []) (behind_version result given ∷ []) at.old at.new }
 {
-    if front(Lead::Text(b"concon 2\n"), bytes).is_some() {
-        return Some(7);
+    match choose(end, at, &FIRST_LINES) {
+        0 => false,
+        1 => true,
+        _ => false,
     }
-    if front(Lead::Text(b"YES\nconcon 2\n"), bytes).is_some() {
-        return Some(11);
-    }
-    if front(Lead::Text(b"NO\nconcon 2\n"), bytes).is_some() {
-        return Some(10);
-    }
-    None
 }
 
-// The answer before the first line, if there is one, and that line.
-fn answer(end: usize, at: &mut Reading) -> Option<bool>
-    ensures { second_at at.old.left.now ≡ None → (names : NameTable) → ReadsWhere IsUnopened names end (spec.opening ∷ []) (λ u. answer_marks result ++ (fixed (codes "concon 1\n") ∷ [])) (first.body result ∷ []) at.old at.new }
+/// The answer before the first line, if there is one, and whether that line is of the second version.
+pub fn first_line(end: usize, at: &mut Reading) -> (Option<bool>, bool)
+    ensures { (names : NameTable) → ReadsWhere BeforeEntries names end (spec.opening ∷ []) (λ u. first_marks result.0 result.1) (behind_version result.1 result.0 ∷ []) at.old at.new }
 {
     let lines = [
         Lead::Text(b"YES\n"),
@@ -56,15 +52,16 @@ fn answer(end: usize, at: &mut Reading) -> Option<bool>
     ];
     match choose(end, at, &lines) {
         0 => {
-            choose(end, at, &FIRST_LINES);
-            Some(true)
+            let second = version_line(end, at);
+            (Some(true), second)
         }
         1 => {
-            choose(end, at, &FIRST_LINES);
-            Some(false)
+            let second = version_line(end, at);
+            (Some(false), second)
         }
-        2 => None,
-        _ => None,
+        2 => (None, false),
+        3 => (None, true),
+        _ => (None, false),
     }
 }
 
@@ -81,7 +78,7 @@ fn fits(told: bool, given: Option<bool>) -> bool
 // Goes on behind the word, or refuses the answer before it, at its first byte.
 fn judged<'a>(at: &mut Reading<'a>, rest: &'a [u8], met: bool)
     ensures goes { met ≡ true → (at.new.left.now ≡ rest.now) × (at.new.refused ≡ at.old.refused) × (at.new.shares ≡ at.old.shares) }
-    ensures refused { met ≡ false → (at.new.left.now ≡ at.old.left.now) × (at.new.refused ≡ Some (refused.CertSyntax 0)) }
+    ensures refused { met ≡ false → (at.new.left.now ≡ at.old.left.now) × (at.new.refused ≡ Some (refused.CertSyntax 0)) × (at.new.shares ≡ at.old.shares) }
 {
     if met {
         at.left = rest;
@@ -90,42 +87,72 @@ fn judged<'a>(at: &mut Reading<'a>, rest: &'a [u8], met: bool)
     }
 }
 
-// The kind of the certificate, behind this answer.
-fn kind_word(end: usize, at: &mut Reading, given: Option<bool>) -> Kind
-    ensures { (names : NameTable) → ReadsWhere IsUnopened names end (first.body given ∷ []) (λ u. kind_mark given result ∷ []) (spec.between spec.line ∷ item_of result ∷ []) at.old at.new }
+// The kind whose word is there, behind this answer.
+fn kind_there(at: &mut Reading, given: Option<bool>) -> Option<Kind>
+    requires { at.old.refused ≡ None }
+    ensures there { IfSome result (λ k. (names : NameTable) (end : ℕ) (v : Version) (i : Item) → first_there (leads i) at.old.left.now ≡ first_there (body_leads v given) at.old.left.now → BeforeEntries (i ∷ []) at.old.left.now → ReadsWhere BeforeEntries names end (i ∷ []) (λ u. kind_mark given k ∷ []) (spec.between spec.line ∷ item_by v k ∷ []) at.old at.new) }
+    ensures none { IfNone result ((v : Version) → first_there (body_leads v given) at.old.left.now ≡ None) }
+    ensures kept { IfNone result (at.new.shares ≡ at.old.shares) }
+{
+    if let Some((_, rest)) = front(Lead::Keyword(b"ortho"), at.left) {
+        judged(at, rest, fits(true, given));
+        return Some(Kind::Ortho);
+    }
+    if let Some((_, rest)) = front(Lead::Keyword(b"quasi"), at.left) {
+        judged(at, rest, fits(true, given));
+        return Some(Kind::Quasi);
+    }
+    if let Some((_, rest)) = front(Lead::Keyword(b"peak"), at.left) {
+        judged(at, rest, fits(false, given));
+        return Some(Kind::Peak);
+    }
+    None
+}
+
+/// The kind of the certificate, behind this answer.
+pub fn kind_word(end: usize, at: &mut Reading, given: Option<bool>) -> Kind
+    ensures { (names : NameTable) (v : Version) → ReadsWhere BeforeEntries names end (spec.body v given ∷ []) (λ u. kind_mark given result ∷ []) (spec.between spec.line ∷ item_by v result ∷ []) at.old at.new }
 {
     if at.refused.is_some() {
         return Kind::Ortho;
     }
-    if let Some((_, rest)) = front(Lead::Keyword(b"ortho"), at.left) {
-        judged(at, rest, fits(true, given));
-        return Kind::Ortho;
-    }
-    if let Some((_, rest)) = front(Lead::Keyword(b"quasi"), at.left) {
-        judged(at, rest, fits(true, given));
-        return Kind::Quasi;
-    }
-    if let Some((_, rest)) = front(Lead::Keyword(b"peak"), at.left) {
-        judged(at, rest, fits(false, given));
-        return Kind::Peak;
+    let left = at.left;
+    if let Some(kind) = kind_there(at, given) {
+        return kind;
     }
     let kinds = [
         Lead::Keyword(b"ortho"),
         Lead::Keyword(b"quasi"),
         Lead::Keyword(b"peak"),
     ];
-    at.refused = Some(stuck(&kinds, at.left, end));
+    at.refused = Some(stuck(&kinds, left, end));
     Kind::Ortho
 }
 
-/// The lines before the body: the answer, if it is there, and the kind.
-pub fn heading(end: usize, at: &mut Reading) -> (Option<bool>, Kind)
-    ensures { second_at at.old.left.now ≡ None → (names : NameTable) → ReadsWhere IsUnopened names end (spec.opening ∷ []) (λ u. heading_marks result.0 result.1) (item_of result.1 ∷ []) at.old at.new }
+/// The same where steps that simplify the system may come first: none, where they do.
+pub fn simplified_word(end: usize, at: &mut Reading, given: Option<bool>) -> Option<Kind>
+    ensures kind { IfSome result (λ k. (names : NameTable) → ReadsWhere BeforeEntries names end (spec.simplified given ∷ []) (λ u. kind_mark given k ∷ []) (spec.between spec.line ∷ item_by versions.second_version k ∷ []) at.old at.new) }
+    ensures steps { IfNone result ((names : NameTable) → ReadsWhere BeforeEntries names end (spec.simplified given ∷ []) (λ u. fixed (codes "simplify ") ∷ []) (spec.simplification_count ∷ spec.body versions.second_version given ∷ []) at.old at.new) }
 {
-    let given = answer(end, at);
-    let kind = kind_word(end, at, given);
-    text(end, at, b"\n");
-    (given, kind)
+    if at.refused.is_some() {
+        return Some(Kind::Ortho);
+    }
+    if let Some((_, rest)) = front(Lead::Text(b"simplify "), at.left) {
+        at.left = rest;
+        return None;
+    }
+    let left = at.left;
+    if let Some(kind) = kind_there(at, given) {
+        return Some(kind);
+    }
+    let words = [
+        Lead::Text(b"simplify "),
+        Lead::Keyword(b"ortho"),
+        Lead::Keyword(b"quasi"),
+        Lead::Keyword(b"peak"),
+    ];
+    at.refused = Some(stuck(&words, left, end));
+    Some(Kind::Ortho)
 }
 
 /// Whether an overlap or the last line may begin here.
@@ -137,7 +164,7 @@ pub fn begins_entry(bytes: &[u8]) -> bool
 
 /// Nothing, where an overlap or the last line may begin; else the text is refused.
 pub fn entries_begin(end: usize, at: &mut Reading)
-    ensures read { (names : NameTable) → ReadsWhere IsUnopened names end (first.pairs_from 1 ∷ []) (λ u. []) (first.pairs_from 1 ∷ []) at.old at.new }
+    ensures read { (names : NameTable) (v : Version) → ReadsWhere (WithinOpening v) names end (spec.pairs_from v 1 ∷ []) (λ u. []) (spec.pairs_from v 1 ∷ []) at.old at.new }
     ensures begins { at.new.refused ≡ None → BeginsEntry at.new.left.now }
 {
     if at.refused.is_some() {

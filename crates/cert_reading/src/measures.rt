@@ -5,16 +5,19 @@ ghost use Rattle.cops_names.specs.NameTable.{NameTable};
 ghost use Rattle.cert_model.specs.CertificateView.{head_view, linear_entry_view, measure_view};
 ghost use Rattle.cert_openings.specs.Openings.{BeginsEntry};
 ghost use Rattle.cert_grammar.specs.Marks.{is_few, entries, fixed, word};
-ghost use Rattle.cert_grammar.specs.CertificateMarks.{coefficients_marks, measured_marks, entries_marks, measure_marks};
-ghost use Rattle.cert_grammar.specs.Versions.{HasMeasure, first_version};
+ghost use Rattle.cert_grammar.specs.CertificateMarks.{coefficients_marks, measured_marks, entries_marks, heads_marks, measure_marks};
+ghost use Rattle.cert_grammar.specs.Versions.{Version, HasMeasure, first_version, second_version};
+ghost use Rattle.cert_grammar.specs.Items.{Item};
 ghost use Rattle.cert_grammar.specs.Items as spec;
-ghost use Rattle.cert_grammar.specs.FirstVersion as first;
 ghost use Rattle.cert_words.specs.Walks.{Reads};
-ghost use Rattle.cert_reading.specs.Stops.{ReadsWhere, IsUnopened};
-ghost use Rattle.cert_reading.specs.Headings.{entries_of};
+ghost use Rattle.cert_reading.specs.Stops.{ReadsWhere, WithinOpening};
+ghost use Rattle.cert_reading.specs.Headings.{behind_measure};
+ghost use Rattle.cert_reading.specs.Measures.{SymbolAt};
+ghost use Rattle.cert_reading.specs.Uses.{version_by};
 ghost use Rattle.cert_reading.specs.declared.measures.Measured.TheVariants as measured;
 
 use crate::headings::begins_entry;
+use crate::uses::Uses;
 use cert_grammar::MOST_ENTRIES;
 use cert_model::{Head, Linear, LinearEntry, MeasureCert};
 use cert_words::{
@@ -34,11 +37,11 @@ enum Measured {
     Nothing,
 }
 
-// The first word of the entry with this number; nothing, where an overlap or the last line may begin.
+// The first word of the symbol's line with this number; nothing, where an overlap or the last line may begin.
 fn entry_word(end: usize, at: &mut Reading, n: usize) -> Measured
-    ensures symbol { result ≡ measured.Symbol → (names : NameTable) → ReadsWhere IsUnopened names end (first.entries_from n ∷ []) (λ u. word (codes "fun") (is_few entries n ∷ []) ∷ []) (spec.between spec.space ∷ spec.measured_name ∷ first.entries_from (suc n) ∷ []) at.old at.new }
-    ensures condition { result ≡ measured.Condition → (names : NameTable) → ReadsWhere IsUnopened names end (first.entries_from n ∷ []) (λ u. word (codes "aux") (is_few entries n ∷ []) ∷ []) (spec.between spec.space ∷ spec.any_number spec.space ∷ spec.measured_condition ∷ first.entries_from (suc n) ∷ []) at.old at.new }
-    ensures nothing { result ≡ measured.Nothing → (names : NameTable) → ReadsWhere IsUnopened names end (first.entries_from n ∷ []) (λ u. []) (first.entries_from n ∷ []) at.old at.new }
+    ensures symbol { result ≡ measured.Symbol → (names : NameTable) (v : Version) (i low behind : Item) → (s : SymbolAt v n i low behind) → ReadsWhere (WithinOpening v) names end (i ∷ []) (λ u. word (codes "fun") (is_few entries n ∷ []) ∷ []) (spec.between spec.space ∷ s.name ∷ low ∷ []) at.old at.new }
+    ensures condition { result ≡ measured.Condition → (names : NameTable) (v : Version) (i low behind : Item) → (s : SymbolAt v n i low behind) → ReadsWhere (WithinOpening v) names end (i ∷ []) (λ u. word (codes "aux") (is_few entries n ∷ []) ∷ []) (spec.between spec.space ∷ spec.any_number spec.space ∷ s.condition ∷ low ∷ []) at.old at.new }
+    ensures nothing { result ≡ measured.Nothing → (names : NameTable) (v : Version) (i low behind : Item) → SymbolAt v n i low behind → ReadsWhere (WithinOpening v) names end (i ∷ []) (λ u. []) (i ∷ []) at.old at.new }
     ensures begins { result ≡ measured.Nothing → at.new.refused ≡ None → BeginsEntry at.new.left.now }
     ensures few { (result ≡ measured.Nothing → ⊥) → at.new.refused ≡ None → n ≤ 25000 }
 {
@@ -80,10 +83,10 @@ fn entry_word(end: usize, at: &mut Reading, n: usize) -> Measured
     Measured::Nothing
 }
 
-// What the entry with this number is for, up to its numbers; none, where an overlap or the last line may begin.
+// The symbol on the line with this number; none, where an overlap or the last line may begin.
 fn head(names: &Names, end: usize, at: &mut Reading, n: usize) -> Option<Head>
-    ensures head { IfSome result (λ h. ReadsWhere IsUnopened names.now end (first.entries_from n ∷ []) (λ u. measured_marks u n (head_view h)) (spec.coefficients_behind 0 ∷ first.entries_from (suc n) ∷ []) at.old at.new) }
-    ensures none { IfNone result (ReadsWhere IsUnopened names.now end (first.entries_from n ∷ []) (λ u. []) (first.entries_from n ∷ []) at.old at.new) }
+    ensures head { IfSome result (λ h. (v : Version) (i low behind : Item) → SymbolAt v n i low behind → ReadsWhere (WithinOpening v) names.now end (i ∷ []) (λ u. measured_marks u n (head_view h)) (behind ∷ low ∷ []) at.old at.new) }
+    ensures none { IfNone result ((v : Version) (i low behind : Item) → SymbolAt v n i low behind → ReadsWhere (WithinOpening v) names.now end (i ∷ []) (λ u. []) (i ∷ []) at.old at.new) }
     ensures begins { IfNone result (at.new.refused ≡ None → BeginsEntry at.new.left.now) }
     ensures few { IfSome result (λ h. at.new.refused ≡ None → n ≤ 25000) }
 {
@@ -124,8 +127,8 @@ fn next_entry(
     at: &mut Reading,
     n: usize,
 ) -> Option<LinearEntry>
-    ensures entry { IfSome result (λ e. ReadsWhere IsUnopened names.now end (first.entries_from n ∷ []) (λ u. entries_marks u n (linear_entry_view e ∷ [])) (first.entries_from (suc n) ∷ []) at.old at.new) }
-    ensures none { IfNone result (ReadsWhere IsUnopened names.now end (first.entries_from n ∷ []) (λ u. []) (first.entries_from n ∷ []) at.old at.new) }
+    ensures entry { IfSome result (λ e. (v : Version) → ReadsWhere (WithinOpening v) names.now end (spec.entries_from v n ∷ []) (λ u. entries_marks u n (linear_entry_view e ∷ [])) (spec.entries_from v (suc n) ∷ []) at.old at.new) }
+    ensures none { IfNone result ((v : Version) → ReadsWhere (WithinOpening v) names.now end (spec.entries_from v n ∷ []) (λ u. []) (spec.entries_from v n ∷ []) at.old at.new) }
     ensures begins { IfNone result (at.new.refused ≡ None → BeginsEntry at.new.left.now) }
     ensures few { IfSome result (λ e. at.new.refused ≡ None → n ≤ 25000) }
 {
@@ -138,7 +141,7 @@ fn next_entry(
 
 // The entries, up to an overlap or the last line.
 fn entries(alloc: Global, names: &Names, end: usize, at: &mut Reading) -> Vec<LinearEntry>
-    ensures read { ReadsWhere IsUnopened names.now end (first.entries_from 1 ∷ []) (λ u. entries_marks u 1 (map linear_entry_view result.items)) (first.entries_from (suc (length (map linear_entry_view result.items))) ∷ []) at.old at.new }
+    ensures read { (v : Version) → ReadsWhere (WithinOpening v) names.now end (spec.entries_from v 1 ∷ []) (λ u. entries_marks u 1 (map linear_entry_view result.items)) (spec.entries_from v (suc (length (map linear_entry_view result.items))) ∷ []) at.old at.new }
     ensures begins { at.new.refused ≡ None → BeginsEntry at.new.left.now }
 {
     let mut entries = Vec::new(alloc);
@@ -151,13 +154,75 @@ fn entries(alloc: Global, names: &Names, end: usize, at: &mut Reading) -> Vec<Li
     entries
 }
 
-/// The measure, up to an overlap or the last line.
-pub fn measure(alloc: Global, names: &Names, end: usize, at: &mut Reading) -> MeasureCert
-    ensures read { ReadsWhere IsUnopened names.now end (first.measure ∷ []) (λ u. measure_marks u (measure_view result)) (first.entries_from (entries_of (measure_view result)) ∷ []) at.old at.new }
+// The symbol of a precedence with this number, and its line's end; none, where an overlap or the last line may begin.
+fn next_head(names: &Names, end: usize, at: &mut Reading, n: usize) -> Option<Head>
+    ensures head { IfSome result (λ h. ReadsWhere (WithinOpening second_version) names.now end (spec.heads_from n ∷ []) (λ u. heads_marks u n (head_view h ∷ [])) (spec.heads_from (suc n) ∷ []) at.old at.new) }
+    ensures none { IfNone result (ReadsWhere (WithinOpening second_version) names.now end (spec.heads_from n ∷ []) (λ u. []) (spec.heads_from n ∷ []) at.old at.new) }
+    ensures begins { IfNone result (at.new.refused ≡ None → BeginsEntry at.new.left.now) }
+    ensures few { IfSome result (λ h. at.new.refused ≡ None → n ≤ 25000) }
+{
+    let Some(head) = head(names, end, at, n) else {
+        return None;
+    };
+    text(end, at, b"\n");
+    Some(head)
+}
+
+// The symbols of a precedence, up to an overlap or the last line.
+fn precedence(alloc: Global, names: &Names, end: usize, at: &mut Reading) -> Vec<Head>
+    ensures read { ReadsWhere (WithinOpening second_version) names.now end (spec.heads_from 1 ∷ []) (λ u. heads_marks u 1 (map head_view result.items)) (spec.heads_from (suc (length (map head_view result.items))) ∷ []) at.old at.new }
+    ensures begins { at.new.refused ≡ None → BeginsEntry at.new.left.now }
+{
+    let mut order = Vec::new(alloc);
+    'order: while let Some(next) = next_head(names, end, at, order.len() + 1) {
+        put(at, &mut order, next);
+        if at.refused.is_some() {
+            return order;
+        }
+    }
+    order
+}
+
+// A measure of the first version.
+fn first_measure(alloc: Global, names: &Names, end: usize, at: &mut Reading) -> MeasureCert
+    ensures read { ReadsWhere (WithinOpening first_version) names.now end (spec.measure first_version ∷ []) (λ u. measure_marks u (measure_view result)) (behind_measure first_version (measure_view result) ∷ []) at.old at.new }
     ensures begins { at.new.refused ≡ None → BeginsEntry at.new.left.now }
     ensures first { HasMeasure first_version (measure_view result) }
 {
     choose(end, at, &[Lead::Text(b"linear\n")]);
     let entries = entries(alloc, names, end, at);
     MeasureCert::Linear(Linear { entries })
+}
+
+// A measure of the second version.
+fn second_measure(alloc: Global, names: &Names, end: usize, at: &mut Reading) -> MeasureCert
+    ensures read { ReadsWhere (WithinOpening second_version) names.now end (spec.measure second_version ∷ []) (λ u. measure_marks u (measure_view result)) (behind_measure second_version (measure_view result) ∷ []) at.old at.new }
+    ensures begins { at.new.refused ≡ None → BeginsEntry at.new.left.now }
+    ensures second { HasMeasure second_version (measure_view result) }
+{
+    let kinds = [Lead::Text(b"linear\n"), Lead::Text(b"lpo\n")];
+    if choose(end, at, &kinds) == 1 {
+        let order = precedence(alloc, names, end, at);
+        return MeasureCert::Lpo(order);
+    }
+    let entries = entries(alloc, names, end, at);
+    MeasureCert::Linear(Linear { entries })
+}
+
+/// The measure, up to an overlap or the last line.
+pub fn measure(
+    alloc: Global,
+    names: &Names,
+    uses: Uses,
+    end: usize,
+    at: &mut Reading,
+) -> MeasureCert
+    ensures read { ReadsWhere (WithinOpening (version_by uses.entry)) names.now end (spec.measure (version_by uses.entry) ∷ []) (λ u. measure_marks u (measure_view result)) (behind_measure (version_by uses.entry) (measure_view result) ∷ []) at.old at.new }
+    ensures begins { at.new.refused ≡ None → BeginsEntry at.new.left.now }
+    ensures first { HasMeasure (version_by uses.entry) (measure_view result) }
+{
+    match uses {
+        Uses::InFull => first_measure(alloc, names, end, at),
+        Uses::ByNumber(_) => second_measure(alloc, names, end, at),
+    }
 }

@@ -2,14 +2,15 @@
 
 ghost use Rattle.std.specs.Prelude.{◌≡◌, ◌≤◌, ◌++◌, ℕ, suc, [], ◌∷◌, None, map, length, codes, IfSome, IfNone};
 ghost use Rattle.cert_model.specs.CertificateView.{pair_entry_view};
-ghost use Rattle.cert_grammar.specs.CertificateMarks.{closing};
-ghost use Rattle.cert_grammar.specs.FirstVersion.{pairs_marks};
-ghost use Rattle.cert_grammar.specs.FirstVersion as first;
+ghost use Rattle.cert_grammar.specs.CertificateMarks.{pairs_marks, closing};
+ghost use Rattle.cert_grammar.specs.Items as spec;
 ghost use Rattle.cert_words.specs.Walks.{Reads};
-ghost use Rattle.cert_reading.specs.Plain.{IsPlainEvidence, ArePlainPairs};
-ghost use Rattle.cert_reading.specs.Stops.{ReadsWhere, Anywhere, IsInEntry};
+ghost use Rattle.cert_reading.specs.Plain.{EvidenceUses, PairsUse};
+ghost use Rattle.cert_reading.specs.Uses.{version_by, automata_by, uses_by, AreKnown};
+ghost use Rattle.cert_reading.specs.Stops.{ReadsWhere, Anywhere, WithinEntry};
 
 use crate::evidence::evidence;
+use crate::uses::Uses;
 use cert_model::PairEntry;
 use cert_words::{CertCount, Lead, Reading, choose, counted_or, number, position, put, text};
 use cops_names::Names;
@@ -21,13 +22,16 @@ const BOUND: u64 = 4_294_967_296;
 pub fn next_pair(
     alloc: Global,
     names: &Names,
+    uses: Uses,
     end: usize,
     at: &mut Reading,
     n: usize,
 ) -> Option<PairEntry>
-    ensures pair { IfSome result (λ p. ReadsWhere (IsInEntry n at.old.left.now) names.now end (first.pairs_from n ∷ []) (λ u. pairs_marks u n (pair_entry_view p ∷ [])) (first.pairs_from (suc n) ∷ []) at.old at.new) }
-    ensures last { IfNone result (ReadsWhere (IsInEntry n at.old.left.now) names.now end (first.pairs_from n ∷ []) (λ u. closing) [] at.old at.new) }
-    ensures plain { IfSome result (λ p. at.new.refused ≡ None → IsPlainEvidence (pair_entry_view p).evidence) }
+    requires { AreKnown names.now uses end at.old }
+    ensures pair { IfSome result (λ p. ReadsWhere (WithinEntry (version_by uses.entry) n at.old.left.now) names.now end (spec.pairs_from (version_by uses.entry) n ∷ []) (λ u. pairs_marks u (uses_by names.now uses.entry) n (pair_entry_view p ∷ [])) (spec.pairs_from (version_by uses.entry) (suc n) ∷ []) at.old at.new) }
+    ensures last { IfNone result (ReadsWhere (WithinEntry (version_by uses.entry) n at.old.left.now) names.now end (spec.pairs_from (version_by uses.entry) n ∷ []) (λ u. closing) [] at.old at.new) }
+    ensures plain { IfSome result (λ p. at.new.refused ≡ None → EvidenceUses (version_by uses.entry) (automata_by uses.entry) (pair_entry_view p).evidence) }
+    ensures known { IfSome result (λ p. AreKnown names.now uses.entry end at.new) }
     ensures few { IfSome result (λ p. at.new.refused ≡ None → n ≤ 20000) }
 {
     if !counted_or(end, at, b"pair", CertCount::Pairs, n, b"end") {
@@ -41,7 +45,7 @@ pub fn next_pair(
     text(end, at, b" ");
     let outer = number(end, at, 0, BOUND);
     text(end, at, b" ");
-    let evidence = evidence(alloc, names, end, at);
+    let evidence = evidence(alloc, names, uses, end, at);
     Some(PairEntry {
         inner,
         pos,
@@ -51,12 +55,19 @@ pub fn next_pair(
 }
 
 /// The overlaps up to the last line, which is read too.
-pub fn all_pairs(alloc: Global, names: &Names, end: usize, at: &mut Reading) -> Vec<PairEntry>
-    ensures read { ReadsWhere Anywhere names.now end (first.pairs_from 1 ∷ []) (λ u. pairs_marks u 1 (map pair_entry_view result.items) ++ closing) [] at.old at.new }
-    ensures plain { at.new.refused ≡ None → ArePlainPairs (map pair_entry_view result.items) }
+pub fn all_pairs(
+    alloc: Global,
+    names: &Names,
+    uses: Uses,
+    end: usize,
+    at: &mut Reading,
+) -> Vec<PairEntry>
+    requires { AreKnown names.now uses end at.old }
+    ensures read { ReadsWhere Anywhere names.now end (spec.pairs_from (version_by uses.entry) 1 ∷ []) (λ u. pairs_marks u (uses_by names.now uses.entry) 1 (map pair_entry_view result.items) ++ closing) [] at.old at.new }
+    ensures plain { at.new.refused ≡ None → PairsUse (version_by uses.entry) (automata_by uses.entry) (map pair_entry_view result.items) }
 {
     let mut pairs = Vec::new(alloc);
-    'pairs: while let Some(next) = next_pair(alloc, names, end, at, pairs.len() + 1) {
+    'pairs: while let Some(next) = next_pair(alloc, names, uses, end, at, pairs.len() + 1) {
         put(at, &mut pairs, next);
         if at.refused.is_some() {
             return pairs;

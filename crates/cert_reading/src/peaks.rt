@@ -2,15 +2,16 @@
 
 ghost use Rattle.std.specs.Prelude.{◌≡◌, ◌≤◌, ◌++◌, ℕ, suc, [], ◌∷◌, None, map, length, codes, IfSome, IfNone};
 ghost use Rattle.cert_model.specs.CertificateView.{redex_view, apart_view, peak_view};
-ghost use Rattle.cert_grammar.specs.CertificateMarks.{closing};
-ghost use Rattle.cert_grammar.specs.FirstVersion.{redexes_marks, apart_marks, peak_marks};
-ghost use Rattle.cert_grammar.specs.FirstVersion as first;
+ghost use Rattle.cert_grammar.specs.CertificateMarks.{redexes_marks, apart_marks, peak_marks, closing};
+ghost use Rattle.cert_grammar.specs.Items as spec;
 ghost use Rattle.cert_words.specs.Walks.{Reads};
-ghost use Rattle.cert_reading.specs.Plain.{IsPlainInfeasibility, ArePlainRedexes, IsPlainApart};
+ghost use Rattle.cert_reading.specs.Plain.{HasUsed, RedexesUse, ApartUses};
+ghost use Rattle.cert_reading.specs.Uses.{version_by, automata_by, uses_by, AreKnown};
 
 use crate::derivations::derivation;
 use crate::evidence::infeasibility;
 use crate::terms::start_term;
+use crate::uses::Uses;
 use cert_model::{NonJoin, Peak, Redex};
 use cert_words::{
     CertCount, Lead, Reading, choose, counted_or, either, last_word, number, position, put, text,
@@ -21,10 +22,19 @@ use std::alloc::Global;
 const BOUND: u64 = 4_294_967_296;
 
 // The redex with this number; none at the last line, which is read then.
-fn next_redex(alloc: Global, names: &Names, end: usize, at: &mut Reading, n: usize) -> Option<Redex>
-    ensures redex { IfSome result (λ r. Reads names.now end (first.redexes_from n ∷ []) (λ u. redexes_marks u n (redex_view r ∷ [])) (first.redexes_from (suc n) ∷ []) at.old at.new) }
-    ensures last { IfNone result (Reads names.now end (first.redexes_from n ∷ []) (λ u. closing) [] at.old at.new) }
-    ensures plain { IfSome result (λ r. at.new.refused ≡ None → IsPlainInfeasibility (redex_view r).evidence) }
+fn next_redex(
+    alloc: Global,
+    names: &Names,
+    uses: Uses,
+    end: usize,
+    at: &mut Reading,
+    n: usize,
+) -> Option<Redex>
+    requires { AreKnown names.now uses end at.old }
+    ensures redex { IfSome result (λ r. Reads names.now end (spec.redexes_from (version_by uses.entry) n ∷ []) (λ u. redexes_marks u (uses_by names.now uses.entry) n (redex_view r ∷ [])) (spec.redexes_from (version_by uses.entry) (suc n) ∷ []) at.old at.new) }
+    ensures last { IfNone result (Reads names.now end (spec.redexes_from (version_by uses.entry) n ∷ []) (λ u. closing) [] at.old at.new) }
+    ensures plain { IfSome result (λ r. at.new.refused ≡ None → HasUsed (version_by uses.entry) (automata_by uses.entry) (redex_view r).evidence) }
+    ensures known { IfSome result (λ r. AreKnown names.now uses.entry end at.new) }
     ensures few { IfSome result (λ r. at.new.refused ≡ None → n ≤ 20000) }
 {
     if !counted_or(end, at, b"redex", CertCount::Redexes, n, b"end") {
@@ -38,7 +48,7 @@ fn next_redex(alloc: Global, names: &Names, end: usize, at: &mut Reading, n: usi
     text(end, at, b" ");
     let rule = number(end, at, 0, BOUND);
     text(end, at, b" ");
-    let evidence = infeasibility(alloc, names, end, at);
+    let evidence = infeasibility(alloc, names, uses, end, at);
     Some(Redex {
         which,
         pos,
@@ -48,12 +58,13 @@ fn next_redex(alloc: Global, names: &Names, end: usize, at: &mut Reading, n: usi
 }
 
 // The redexes up to the last line, which is read too.
-fn redexes(alloc: Global, names: &Names, end: usize, at: &mut Reading) -> Vec<Redex>
-    ensures read { Reads names.now end (first.redexes_from 1 ∷ []) (λ u. redexes_marks u 1 (map redex_view result.items) ++ closing) [] at.old at.new }
-    ensures plain { at.new.refused ≡ None → ArePlainRedexes (map redex_view result.items) }
+fn redexes(alloc: Global, names: &Names, uses: Uses, end: usize, at: &mut Reading) -> Vec<Redex>
+    requires { AreKnown names.now uses end at.old }
+    ensures read { Reads names.now end (spec.redexes_from (version_by uses.entry) 1 ∷ []) (λ u. redexes_marks u (uses_by names.now uses.entry) 1 (map redex_view result.items) ++ closing) [] at.old at.new }
+    ensures plain { at.new.refused ≡ None → RedexesUse (version_by uses.entry) (automata_by uses.entry) (map redex_view result.items) }
 {
     let mut redexes = Vec::new(alloc);
-    'redexes: while let Some(next) = next_redex(alloc, names, end, at, redexes.len() + 1) {
+    'redexes: while let Some(next) = next_redex(alloc, names, uses, end, at, redexes.len() + 1) {
         put(at, &mut redexes, next);
         if at.refused.is_some() {
             return redexes;
@@ -63,12 +74,13 @@ fn redexes(alloc: Global, names: &Names, end: usize, at: &mut Reading) -> Vec<Re
 }
 
 // Why the ends have no common reduct, and the last line.
-fn apart(alloc: Global, names: &Names, end: usize, at: &mut Reading) -> NonJoin
-    ensures read { Reads names.now end (first.apart ∷ []) (λ u. apart_marks u (apart_view result) ++ closing) [] at.old at.new }
-    ensures plain { at.new.refused ≡ None → IsPlainApart (apart_view result) }
+fn apart(alloc: Global, names: &Names, uses: Uses, end: usize, at: &mut Reading) -> NonJoin
+    requires { AreKnown names.now uses end at.old }
+    ensures read { Reads names.now end (spec.apart (version_by uses.entry) ∷ []) (λ u. apart_marks u (uses_by names.now uses.entry) (apart_view result) ++ closing) [] at.old at.new }
+    ensures plain { at.new.refused ≡ None → ApartUses (version_by uses.entry) (automata_by uses.entry) (apart_view result) }
 {
     if either(end, at, b"normal\n", b"caps\n") {
-        let redexes = redexes(alloc, names, end, at);
+        let redexes = redexes(alloc, names, uses, end, at);
         return NonJoin::Normal(redexes);
     }
     last_word(end, at, b"end");
@@ -77,15 +89,16 @@ fn apart(alloc: Global, names: &Names, end: usize, at: &mut Reading) -> NonJoin
 }
 
 /// The peak, and the last line.
-pub fn peak(alloc: Global, names: &Names, end: usize, at: &mut Reading) -> Peak
-    ensures read { Reads names.now end (first.start_line ∷ []) (λ u. peak_marks u (peak_view result) ++ closing) [] at.old at.new }
-    ensures plain { at.new.refused ≡ None → IsPlainApart (apart_view result.apart) }
+pub fn peak(alloc: Global, names: &Names, uses: Uses, end: usize, at: &mut Reading) -> Peak
+    requires { AreKnown names.now uses end at.old }
+    ensures read { Reads names.now end (spec.start_line (version_by uses.entry) ∷ []) (λ u. peak_marks u (uses_by names.now uses.entry) (peak_view result) ++ closing) [] at.old at.new }
+    ensures plain { at.new.refused ≡ None → ApartUses (version_by uses.entry) (automata_by uses.entry) (apart_view result.apart) }
 {
     text(end, at, b"start ");
     let start = start_term(alloc, names, end, at);
     let first = derivation(alloc, end, at, 1);
     let second = derivation(alloc, end, at, 1);
-    let apart = apart(alloc, names, end, at);
+    let apart = apart(alloc, names, uses, end, at);
     Peak {
         start,
         first,

@@ -1,5 +1,5 @@
 //! The shared automata of a text, as they are read: which texts stand there already, how far their uses have come, and what they unfold to.
-ghost use Rattle.std.specs.Prelude.{◌≡◌, IfOk, OnOk, OnErr};
+ghost use Rattle.std.specs.Prelude.{◌≡◌, IfOk, OnOk, OnErr, length, take};
 ghost use Rattle.cert_grammar.specs.Sharing.{nothing_shared, holds};
 ghost use Rattle.cert_grammar.specs.Marks.{automaton_ends, all_used};
 ghost use Rattle.cert_shares.specs.SharesView.{with_begun, behind_end, IsJudged};
@@ -19,6 +19,17 @@ pub enum Share {
     Bad,
     /// With its bytes the bytes of all uses are too many.
     Heavy,
+}
+
+/// How many texts there are, and how far uses have come.
+#[derive(Clone, Copy, Debug, Drop)]
+pub struct SoFar {
+    /// How many texts.
+    pub texts: usize,
+    /// The greatest number of a use.
+    pub used: usize,
+    /// The bytes of all uses.
+    pub unfolds_to: usize,
 }
 
 /// The texts of the automata that are read, the greatest number of a use, and the bytes of all uses.
@@ -92,5 +103,25 @@ impl<'a> Shares<'a> {
         ensures { result ≡ holds self.now all_used }
     {
         self.used == self.texts.len()
+    }
+
+    /// What `go_back` goes back to.
+    pub fn so_far(&self) -> SoFar
+        ensures { result ≡ record { texts = length self.now.texts; used = self.now.used; unfolds_to = self.now.unfolds_to } }
+    {
+        SoFar {
+            texts: self.texts.len(),
+            used: self.used,
+            unfolds_to: self.unfolded,
+        }
+    }
+
+    /// Lets go of later texts, and of all that was used since.
+    pub fn go_back(&mut self, then: SoFar)
+        ensures { self.new ≡ record { texts = take then.texts self.old.texts; begun = self.old.begun; used = then.used; unfolds_to = then.unfolds_to } }
+    {
+        self.texts.truncate(then.texts);
+        self.used = then.used;
+        self.unfolded = then.unfolds_to;
     }
 }

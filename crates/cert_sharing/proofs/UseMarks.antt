@@ -79,7 +79,7 @@ places_still [] skip = tt
 places_still (k ∷ p) skip = places_still p (skip + length (numeral k) + 1)
 
 mutual
-  term_still : (t : Term) (x : Naming) (level n : ℕ) → AreStill (term_marks x level n t)
+  pub term_still : (t : Term) (x : Naming) (level n : ℕ) → AreStill (term_marks x level n t)
   term_still (var a) x level n = (tt, tt)
   term_still (app f ts) x level n = (tt, still_both (arguments_marks x (suc level) (suc n) ts) _ (arguments_still ts x (suc level) (suc n)) (tt, tt))
 
@@ -104,7 +104,7 @@ mutual
   derivations_still no_derivations level = tt
   derivations_still (first_derivation d ds) level = (tt, (tt, (tt, (tt, still_both (steps_marks level d) _ (steps_still d level) (derivations_still ds level)))))
 
-derivation_still : (d : Derivation) → AreStill (derivation_marks d)
+pub derivation_still : (d : Derivation) → AreStill (derivation_marks d)
 derivation_still d = (tt, (tt, (tt, (tt, steps_still d 1))))
 
 accepting_still : (qs : List ℕ) (bound : ℕ) → AreStill (accepting_marks bound qs)
@@ -143,7 +143,7 @@ heads_still : (hs : List Head) (x : Naming) (n : ℕ) → AreStill (heads_marks 
 heads_still [] x n = tt
 heads_still (h ∷ hs) x n = still_both (measured_marks x n h ++ _) (heads_marks x (suc n) hs) (still_both (measured_marks x n h) _ (measured_still h x n) (tt, tt)) (heads_still hs x (suc n))
 
-measure_still : (m : MeasureCertificate) (x : Naming) → AreStill (measure_marks x m)
+pub measure_still : (m : MeasureCertificate) (x : Naming) → AreStill (measure_marks x m)
 measure_still (linear_measure es) x = (tt, entries_still es x 1)
 measure_still (precedence_measure hs) x = (tt, heads_still hs x 1)
 
@@ -349,7 +349,7 @@ counts_automaton a x = record {
 counts_mapped : (u : Uses) (a b : List Automaton) (ms ns : List Mark) → Counts ms (numbers_of u a) → Counts ns (numbers_of u b) → Counts (ms ++ ns) (numbers_of u (a ++ b))
 counts_mapped u a b ms ns h k = subst (Counts (ms ++ ns)) (sym (numbers_both u a b)) (counts_both ms ns (numbers_of u a) (numbers_of u b) h k)
 
-counts_infeasibility : (e : InfeasibilityEvidence) (x : Naming) (u : Uses) → Counts (infeasibility_marks x u e) (numbers_of u (used_by e))
+pub counts_infeasibility : (e : InfeasibilityEvidence) (x : Naming) (u : Uses) → Counts (infeasibility_marks x u e) (numbers_of u (used_by e))
 counts_infeasibility by_caps x u = no_numbers u (fixed (codes "tcap\n") ∷ []) (tt, tt)
 counts_infeasibility (by_automaton k a) x in_full = counts_put _ _ [] tt (counts_put _ _ [] tt (counts_put _ _ [] tt (counts_automaton a x)))
 counts_infeasibility (by_automaton k a) x (by_number f) =
@@ -366,13 +366,13 @@ counts_evidence (unfeasible_pair k d e) x u = no_numbers u _ (tt, (tt, (tt, stil
 counts_front : (front ms : List Mark) (ns : List ℕ) → AreStill front → Counts ms ns → Counts (front ++ ms) ns
 counts_front front ms ns h k = counts_both front ms [] ns (counts_still front h) k
 
-counts_pairs : (ps : List PairEntry) (x : Naming) (u : Uses) (n : ℕ) → Counts (pairs_marks x u n ps) (numbers_of u (used_by_pairs ps))
+pub counts_pairs : (ps : List PairEntry) (x : Naming) (u : Uses) (n : ℕ) → Counts (pairs_marks x u n ps) (numbers_of u (used_by_pairs ps))
 counts_pairs [] x u n = no_numbers u [] tt
 counts_pairs (p ∷ ps) x u n =
     counts_front (word (codes "pair") (is_few Counted.pairs n ∷ []) ∷ fixed (codes " ") ∷ number p.inner ∷ fixed (codes " ") ∷ position p.position ∷ fixed (codes " ") ∷ number p.outer ∷ fixed (codes " ") ∷ []) _ _ (tt, (tt, (tt, (tt, (places_still p.position 0, (tt, (tt, (tt, tt))))))))
     (counts_mapped u (used_by_evidence p.evidence) (used_by_pairs ps) (evidence_marks x u p.evidence) (pairs_marks x u (suc n) ps) (counts_evidence p.evidence x u) (counts_pairs ps x u (suc n)))
 
-counts_redexes : (rs : List Redex) (x : Naming) (u : Uses) (n : ℕ) → Counts (redexes_marks x u n rs) (numbers_of u (used_by_redexes rs))
+pub counts_redexes : (rs : List Redex) (x : Naming) (u : Uses) (n : ℕ) → Counts (redexes_marks x u n rs) (numbers_of u (used_by_redexes rs))
 counts_redexes [] x u n = no_numbers u [] tt
 counts_redexes (r ∷ rs) x u n =
     counts_front (word (codes "redex") (is_few Counted.redexes n ∷ []) ∷ fixed (codes " ") ∷ number r.which ∷ fixed (codes " ") ∷ position r.position ∷ fixed (codes " ") ∷ number r.rule ∷ fixed (codes " ") ∷ []) _ _ (tt, (tt, (tt, (tt, (places_still r.position 0, (tt, (tt, (tt, tt))))))))
@@ -382,7 +382,7 @@ counts_apart : (a : Apartness) (x : Naming) (u : Uses) → Counts (apart_marks x
 counts_apart (by_normal_forms rs) x u = counts_put _ _ _ tt (counts_redexes rs x u 1)
 counts_apart by_rigid_caps x u = no_numbers u _ (tt, tt)
 
-counts_steps : (ss : List Simplification) (x : Naming) (u : Uses) → Counts (simplifications_marks x u ss) (numbers_of u (used_by_steps ss))
+pub counts_steps : (ss : List Simplification) (x : Naming) (u : Uses) → Counts (simplifications_marks x u ss) (numbers_of u (used_by_steps ss))
 counts_steps [] x u = no_numbers u [] tt
 counts_steps (dropped r e ∷ ss) x u =
     counts_front (fixed (codes "drop ") ∷ number r ∷ fixed (codes " ") ∷ []) _ _ (tt, (tt, (tt, tt)))

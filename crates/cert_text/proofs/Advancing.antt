@@ -1,66 +1,95 @@
 -- What one call of `Pairs::next` reads, or refuses.
-use Rattle.std.proofs.Common.{◌≡◌, inl, inr, ◌≤◌, ℕ, suc, List, [], ◌∷◌, ◌++◌, length, Option, Some, None, IfSome, IfNone, refl, sym, ap, ◌∙◌, subst, arith}
+use Rattle.std.proofs.Common.{◌≡◌, inl, inr, ◌≤◌, ◌==◌, ℕ, zero, suc, Bool, true, false, cond, List, [], ◌∷◌, ◌++◌, length, drop, take, Option, Some, None, IfSome, IfNone, refl, sym, ap, ◌∙◌, subst, arith, eqb-true}
 use Rattle.std.proofs.lemmas.List.{length_push}
+use Rattle.certificates.specs.Evidence.{Automaton}
 use Rattle.certificates.specs.Certificates as math
-use Rattle.certificates.specs.Certificates.{Certificate}
+use Rattle.certificates.specs.Certificates.{Certificate, quasi_certificate}
 use Rattle.cops_names.specs.NameTable.{NameTable}
 use Rattle.cert_model.specs.declared.model.PairEntry.{PairEntry}
 use Rattle.cert_model.specs.CertificateView.{pair_entry_view}
 use Rattle.cert_grammar.specs.Words.{name_of}
-use Rattle.cert_grammar.specs.CertificateMarks.{closing}
-use Rattle.cert_grammar.specs.FirstVersion.{second_at, pairs_text, IsCertificateText, pairs_marks, IsCertificateRefused, pairs_from, entries_from}
-use Rattle.cert_grammar.specs.Marks.{CertificateCause, syntax, Naming, Mark}
+use Rattle.cert_grammar.specs.Versions.{Version, first_version, second_version, CanSimplify}
+use Rattle.cert_grammar.specs.CertificateMarks.{pairs_marks, closing}
+use Rattle.cert_grammar.specs.CertificateText.{IsCertificateText}
+use Rattle.cert_grammar.specs.Marks.{CertificateCause, syntax, bad_share, Naming, Mark}
+use Rattle.cert_grammar.specs.Refusals.{IsCertificateRefused}
 use Rattle.cert_grammar.specs.Items as Items
-use Rattle.cert_grammar.specs.Items.{Item}
-use Rattle.cert_openings.proofs.FirstVersion.{never_both}
-use Rattle.cert_openings.proofs.FirstEnds.{read_first}
-use Rattle.cert_openings.specs.Openings.{Opening, certificate_for}
-use Rattle.cert_openings.specs.FirstOpenings.{IsRead}
+use Rattle.cert_grammar.specs.Items.{Item, pairs_from}
+use Rattle.cert_grammar.specs.Sharing.{Shared, nothing_shared, first_of}
+use Rattle.cert_sharing.proofs.FirstUses.{texts_length}
+use Rattle.cert_sharing.proofs.Whole.{never_both}
+use Rattle.cert_openings.specs.Openings.{BeginsEntry, Opening, ortho_opening, quasi_opening, simplified_opening, certificate_for, uses_with, IsRead}
+use Rattle.cert_openings.specs.Laws.{IsReadTo}
+use Rattle.cert_shares.specs.SharesView.{with_begun}
+use Rattle.cert_shares.specs.declared.shares.SoFar.{SoFar}
+use Rattle.cert_openings.proofs.Entries.{whole_is_text, text_is_whole}
+use Rattle.cert_openings.proofs.OneReading.{one_reading}
 use Rattle.cert_openings.proofs.Lines.{bytes_apart}
 use Rattle.cert_words.specs.declared.error.CertError.{CertError}
 use Rattle.cert_words.specs.declared.reading.Reading as code
 use Rattle.cert_words.specs.Words.{told}
 use Rattle.cert_words.specs.CertRefusals.{IsRefusedAs}
-use Rattle.cert_grammar.specs.Sharing.{Shared, nothing_shared}
-use Rattle.cert_words.specs.Walks.{left_at, Walks, tagged, AreFound, Keeps, Run}
+use Rattle.cert_words.specs.Walks.{left_at, Walks, tagged, AreFound, Keeps, Run, IsFront}
 use Rattle.cert_words.proofs.Walking.{run_then}
 use Rattle.cert_words.proofs.Whole.{walks_text}
-use Rattle.cert_reading.specs.Plain.{ArePlainPairs, IsPlainEvidence}
-use Rattle.cert_reading.specs.Stops.{AreLater, IsInEntry, IsStoppedWhere, ReadsWhere}
+use Rattle.cert_reading.specs.declared.uses.Uses as uses_code
+use Rattle.cert_reading.specs.Uses.{version_by, automata_by, AreShared}
+use Rattle.cert_reading.specs.Shared.{IsKnown}
+use Rattle.cert_reading.specs.Plain.{EvidenceUses, PairsUse, IsPlainBy}
+use Rattle.cert_reading.specs.Stops.{AreBehind, WithinEntry, IsStoppedWhere, ReadsWhere}
+use Rattle.cert_reading.proofs.Opening.{entry_at, head_at}
+use Rattle.cert_sharing.proofs.UseMarks.{counts_pairs}
 use Rattle.cert_reading.proofs.Stopping.{stop_behind, any_stop, stopped_where}
-use Rattle.cert_reading.proofs.EntryItems.{stopped_same, run_same}
+use Rattle.cert_reading.proofs.EntryItems.{IsSame, symbol_same, symbol_stopped, symbol_run}
 use Rattle.cert_text.specs.Reading.{Reading, HasRead, IsAll, ReadsOn, IsAtEnd}
-use Rattle.cert_text.specs.ReadingView.{place_of, IsNext, read_marks, IsUpTo}
-use Rattle.cert_text.proofs.Entries.{last_line, read_same, read_whole, whole_read, entries_behind}
+use Rattle.cert_text.specs.ReadingView.{place_of, EndsMeasure, IsNext, read_marks, IsUpTo}
 use Rattle.cert_text.proofs.Ends.{read_more}
 use Rattle.cert_text.proofs.Runs.{run_read, refused_as, refused_as_told, refused_behind}
-use Rattle.cert_text.proofs.Unshared.{unshared}
-use Rattle.cert_text.proofs.Begun.{first_of, in_entry}
+use Rattle.cert_text.proofs.EntryStops.{one_rest, entry_stands, in_entry}
 
 -- the reading of a text with these bytes left
 abbrev pub up_to : NameTable → List ℕ → List ℕ → Reading
 up_to names bytes left = record { names = names; bytes = bytes; place = place_of bytes left }
 
--- ---- from the overlap that is next
+abbrev last_line : List ℕ
+last_line = 101 ∷ 110 ∷ 100 ∷ 10 ∷ []
 
-entry_early : (k : ℕ) → AreLater 2 (entries_from k ∷ []) → ⊥
-entry_early k (inl h) = let e = h.1 in cc
-entry_early k (inr s) = cc
+-- ---- behind a measure the text goes on as behind nothing
 
-entry_place : (k : ℕ) (b q : List ℕ) → IsInEntry 1 b (entries_from k ∷ []) q
-entry_place k b q = record { early = λ h. absurd (entry_early k h); going = λ e. cc }
+same_at : (v : Version) (item : Item) → EndsMeasure v item → (b : List ℕ) → BeginsEntry b → IsSame v item b
+same_at first_version item x b h = subst (λ (i : Item). IsSame first_version i b) (sym x.1) (symbol_same first_version x.0 _ _ _ (entry_at first_version x.0) b h)
+same_at second_version item (inl x) b h = subst (λ (i : Item). IsSame second_version i b) (sym x.1) (symbol_same second_version x.0 _ _ _ (entry_at second_version x.0) b h)
+same_at second_version item (inr x) b h = subst (λ (i : Item). IsSame second_version i b) (sym x.1) (symbol_same second_version x.0 _ _ _ (head_at x.0) b h)
 
-next_stop : (names : NameTable) (end n : ℕ) (item : Item) (b : List ℕ) (sa : Shared) (t : Option (CertificateCause × ℕ)) → IsNext item n b → IsStoppedWhere (IsInEntry n b) names end (pairs_from n ∷ []) b sa t → IsStoppedWhere (IsInEntry n b) names end (item ∷ []) b sa t
-next_stop names end n item b sa t (inl e) h = subst (λ (i : Item). IsStoppedWhere (IsInEntry n b) names end (i ∷ []) b sa t) (sym e) h
-next_stop names end n item b sa t (inr x) h =
-    subst (λ (i : Item). IsStoppedWhere (IsInEntry n b) names end (i ∷ []) b sa t) (sym x.1)
-    (subst (λ (k : ℕ). IsStoppedWhere (IsInEntry k b) names end (entries_from x.0 ∷ []) b sa t) (sym x.2)
-    (stopped_same names end x.0 b x.3 (IsInEntry 1 b) sa t (entry_place x.0 b b) (subst (λ (k : ℕ). IsStoppedWhere (IsInEntry k b) names end (pairs_from k ∷ []) b sa t) x.2 h)))
+no_overlap : (v : Version) (item : Item) (m : ℕ) → EndsMeasure v item → item ≡ pairs_from v m → ⊥
+no_overlap first_version item m x e = let q = sym x.1 ∙ e in cc
+no_overlap second_version item m (inl x) e = let q = sym x.1 ∙ e in cc
+no_overlap second_version item m (inr x) e = let q = sym x.1 ∙ e in cc
 
-next_run : (names : NameTable) (end n : ℕ) (item : Item) (f : Naming → List Mark) (to : List Item) (b r : List ℕ) (sa sb : Shared) → IsNext item n b → (f (name_of names) ≡ [] → ⊥) → Run names end (pairs_from n ∷ []) f to b r sa sb → Run names end (item ∷ []) f to b r sa sb
-next_run names end n item f to b r sa sb (inl e) some h = subst (λ (i : Item). Run names end (i ∷ []) f to b r sa sb) (sym e) h
-next_run names end n item f to b r sa sb (inr x) some h =
-    subst (λ (i : Item). Run names end (i ∷ []) f to b r sa sb) (sym x.1) (run_same names end x.0 b x.3 f to r sa sb some (subst (λ (k : ℕ). Run names end (pairs_from k ∷ []) f to b r sa sb) x.2 h))
+no_line : (v : Version) (item : Item) → EndsMeasure v item → item ∷ [] ≡ Items.between Items.line ∷ [] → ⊥
+no_line first_version item x e = let q : item ≡ Items.between Items.line = cc in let p = sym x.1 ∙ q in cc
+no_line second_version item (inl x) e = let q : item ≡ Items.between Items.line = cc in let p = sym x.1 ∙ q in cc
+no_line second_version item (inr x) e = let q : item ≡ Items.between Items.line = cc in let p = sym x.1 ∙ q in cc
+
+measure_early : (v : Version) (item : Item) → EndsMeasure v item → AreBehind v 2 (item ∷ []) → ⊥
+measure_early v item x (inl h) = no_overlap v item h.0 x h.1
+measure_early v item x (inr s) = no_line v item x s
+
+one_item : (i j : Item) → i ∷ [] ≡ j ∷ [] → i ≡ j
+one_item i j e = cc
+
+measure_place : (v : Version) (item : Item) (b q : List ℕ) → EndsMeasure v item → WithinEntry v 1 b (item ∷ []) q
+measure_place v item b q x = record { early = λ h. absurd (measure_early v item x h); going = λ e. no_overlap v item 2 x (one_item item (pairs_from v 2) e) }
+
+next_stop : (names : NameTable) (end : ℕ) (v : Version) (n : ℕ) (item : Item) (b : List ℕ) (sa : Shared) (t : Option (CertificateCause × ℕ)) → IsNext v item n b → IsStoppedWhere (WithinEntry v n b) names end (pairs_from v n ∷ []) b sa t → IsStoppedWhere (WithinEntry v n b) names end (item ∷ []) b sa t
+next_stop names end v n item b sa t (inl e) h = subst (λ (i : Item). IsStoppedWhere (WithinEntry v n b) names end (i ∷ []) b sa t) (sym e) h
+next_stop names end v n item b sa t (inr x) h =
+    subst (λ (k : ℕ). IsStoppedWhere (WithinEntry v k b) names end (item ∷ []) b sa t) (sym x.1)
+    (symbol_stopped names end v item b (same_at v item x.0 b x.2) (WithinEntry v 1 b) sa t (measure_place v item b b x.0) (subst (λ (k : ℕ). IsStoppedWhere (WithinEntry v k b) names end (pairs_from v k ∷ []) b sa t) x.1 h))
+
+next_run : (names : NameTable) (end : ℕ) (v : Version) (n : ℕ) (item : Item) (f : Naming → List Mark) (to : List Item) (b r : List ℕ) (sa sb : Shared) → IsNext v item n b → (f (name_of names) ≡ [] → ⊥) → Run names end (pairs_from v n ∷ []) f to b r sa sb → Run names end (item ∷ []) f to b r sa sb
+next_run names end v n item f to b r sa sb (inl e) some h = subst (λ (i : Item). Run names end (i ∷ []) f to b r sa sb) (sym e) h
+next_run names end v n item f to b r sa sb (inr x) some h = symbol_run names end v item b (same_at v item x.0 b x.2) f to r sa sb some (subst (λ (k : ℕ). Run names end (pairs_from v k ∷ []) f to b r sa sb) x.1 h)
 
 pub run_as : (names : NameTable) (end : ℕ) (from to : List Item) (f g : Naming → List Mark) (b r : List ℕ) (sa sb : Shared) → ((u : Naming) → f u ≡ g u) → Run names end from f to b r sa sb → Run names end from g to b r sa sb
 run_as names end from to f g b r sa sb e x = record {
@@ -69,59 +98,145 @@ run_as names end from to f g b r sa sb e x = record {
   shares = λ le. subst (λ (ms : List Mark). Keeps sa ms sb) (e (name_of names)) (x.shares le);
 }
 
-abbrev pub Pair : NameTable → ℕ → ℕ → code.Reading → code.Reading → PairEntry → Type 0
-Pair names end n s t p = ReadsWhere (IsInEntry n s.left.now) names end (pairs_from n ∷ []) (λ u. pairs_marks u n (pair_entry_view p ∷ [])) (pairs_from (suc n) ∷ []) s t
+-- ---- from what the code says
 
-abbrev pub Last : NameTable → ℕ → ℕ → code.Reading → code.Reading → Type 0
-Last names end n s t = ReadsWhere (IsInEntry n s.left.now) names end (pairs_from n ∷ []) (λ u. closing) [] s t
+abbrev pub Pair : NameTable → Version → List Automaton → ℕ → ℕ → code.Reading → code.Reading → PairEntry → Type 0
+Pair names v shared end n s t p = ReadsWhere (WithinEntry v n s.left.now) names end (pairs_from v n ∷ []) (λ u. pairs_marks u (uses_with v names shared) n (pair_entry_view p ∷ [])) (pairs_from v (suc n) ∷ []) s t
 
-pub next_refused : (names : NameTable) (end n : ℕ) (s t : code.Reading) (found : Option PairEntry) (e : CertError) → s.refused ≡ None → t.refused ≡ Some e → IfSome found (Pair names end n s t) → IfNone found (Last names end n s t) → IsStoppedWhere (IsInEntry n s.left.now) names end (pairs_from n ∷ []) s.left.now s.shares (told e)
-next_refused names end n s t None e none q h k = stopped_where e none q k
-next_refused names end n s t (Some p) e none q h k = stopped_where e none q h
+abbrev pub Last : NameTable → Version → ℕ → ℕ → code.Reading → code.Reading → Type 0
+Last names v end n s t = ReadsWhere (WithinEntry v n s.left.now) names end (pairs_from v n ∷ []) (λ u. closing) [] s t
 
-module _ (names : NameTable) (bytes left : List ℕ) (count n : ℕ) (u : IsUpTo names bytes left count) (is_n : n ≡ suc count) (sa : Shared) (fresh : sa ≡ nothing_shared) where
-  next : IsNext u.item n left
-  next = subst (λ (k : ℕ). IsNext u.item k left) (sym is_n) u.next
+pub next_refused : (names : NameTable) (v : Version) (shared : List Automaton) (end n : ℕ) (s t : code.Reading) (found : Option PairEntry) (e : CertError) → s.refused ≡ None → t.refused ≡ Some e → IfSome found (Pair names v shared end n s t) → IfNone found (Last names v end n s t) → IsStoppedWhere (WithinEntry v n s.left.now) names end (pairs_from v n ∷ []) s.left.now s.shares (told e)
+next_refused names v shared end n s t None e none q h k = stopped_where e none q k
+next_refused names v shared end n s t (Some p) e none q h k = stopped_where e none q h
 
-  none : second_at bytes ≡ None
-  none = read_first names bytes u.opening u.entries (place_of bytes left) u.read
+pub front_kept : (names : NameTable) (v : Version) (shared : List Automaton) (end n : ℕ) (s t : code.Reading) (found : Option PairEntry) → IfSome found (Pair names v shared end n s t) → IfNone found (Last names v end n s t) → IsFront s.shares.texts t.shares.texts
+front_kept names v shared end n s t None h k = k.front
+front_kept names v shared end n s t (Some p) h k = h.front
+
+-- as the code holds the version and the shared automata
+pub by_uses : (w : uses_code.Uses) (v : Version) (shared : List Automaton) (names : NameTable) (bytes left : List ℕ) (count : ℕ) (now : Shared) → version_by w ≡ v → automata_by w ≡ shared → IsUpTo v shared names bytes left count now → IsUpTo (version_by w) (automata_by w) names bytes left count now
+by_uses w v shared names bytes left count now e f u = subst (λ (x : Version). IsUpTo x (automata_by w) names bytes left count now) (sym e) (subst (λ (l : List Automaton). IsUpTo v l names bytes left count now) (sym f) u)
+
+pub from_uses : (w : uses_code.Uses) (v : Version) (shared : List Automaton) (names : NameTable) (bytes left : List ℕ) (count : ℕ) (now : Shared) → version_by w ≡ v → automata_by w ≡ shared → IsUpTo (version_by w) (automata_by w) names bytes left count now → IsUpTo v shared names bytes left count now
+from_uses w v shared names bytes left count now e f u = subst (λ (x : Version). IsUpTo x shared names bytes left count now) e (subst (λ (l : List Automaton). IsUpTo (version_by w) l names bytes left count now) f u)
+
+-- ---- shares
+
+-- whatever was begun of an automaton
+held_begun : (v : Version) (shared : List Automaton) (names : NameTable) (bytes left : List ℕ) (count : ℕ) (now then : Shared) → then.texts ≡ now.texts → then.used ≡ now.used → then.unfolds_to ≡ now.unfolds_to → IsUpTo v shared names bytes left count now → IsUpTo v shared names bytes left count then
+held_begun v shared names bytes left count now then texts used weight u = record {
+  opening = u.opening;
+  entries = u.entries;
+  given = u.given;
+  item = u.item;
+  read = subst (λ (n : ℕ). IsReadTo names bytes u.opening u.entries (place_of bytes left) v (drop n shared) left) (sym used) u.read;
+  counted = u.counted;
+  can_share = u.can_share;
+  known = (u.known.0, texts ∙ u.known.1);
+  plain = u.plain;
+  plain_shared = u.plain_shared;
+  run = record { walks = u.run.walks; found = u.run.found; shares = λ le b. let k = u.run.shares le b in (k.0, k.1 ∙ sym same) };
+  next = u.next;
+}
+  where
+    same : with_begun [] then ≡ with_begun [] now
+    same = let a = texts in let b = used in let c = weight in cc
+
+take_front : {A : Type 0} (a b : List A) → take (length a) (a ++ b) ≡ a
+take_front [] b = refl
+take_front (x ∷ a) b = ap (λ (l : List _). x ∷ l) (take_front a b)
+
+-- what came behind is let go of
+pub held_back : (v : Version) (shared : List Automaton) (names : NameTable) (bytes left : List ℕ) (count : ℕ) (now after back : Shared) (known : SoFar) → IsFront now.texts after.texts → known ≡ record { texts = length now.texts; used = now.used; unfolds_to = now.unfolds_to }
+    → back ≡ record { texts = take known.texts after.texts; begun = after.begun; used = known.used; unfolds_to = known.unfolds_to } → IsUpTo v shared names bytes left count now → IsUpTo v shared names bytes left count back
+held_back v shared names bytes left count now after back known front is kept u =
+    let size = ap (λ (k : SoFar). k.texts) is in
+    held_begun v shared names bytes left count now back (ap (λ (z : Shared). z.texts) kept ∙ ap (λ (n : ℕ). take n after.texts) size ∙ ap (take (length now.texts)) front.1 ∙ take_front now.texts front.0)
+    (ap (λ (z : Shared). z.used) kept ∙ ap (λ (k : SoFar). k.used) is) (ap (λ (z : Shared). z.unfolds_to) kept ∙ ap (λ (k : SoFar). k.unfolds_to) is) u
+
+are_shared : (v : Version) (names : NameTable) (all : List Automaton) (end : ℕ) (r : code.Reading) → length r.left.now ≤ end → IsKnown names all r.shares → AreShared v names all end r
+are_shared first_version names all end r le k = tt
+are_shared second_version names all end r le k = λ none. (le, k)
+
+-- ---- one entry more
+
+pairs_use : (v : Version) (all : List Automaton) (es : List math.PairEntry) (p : math.PairEntry) → PairsUse v all es → EvidenceUses v all p.evidence → PairsUse v all (es ++ p ∷ [])
+pairs_use v all [] p h k = (k, tt)
+pairs_use v all (x ∷ es) p h k = (h.0, pairs_use v all es p h.1 k)
+
+can_simplify : (v : Version) (o : Opening) (es fs : List math.PairEntry) → CanSimplify v (certificate_for o es) → CanSimplify v (certificate_for o fs)
+can_simplify first_version o es fs h = absurd h
+can_simplify second_version ortho_opening es fs h = tt
+can_simplify second_version (quasi_opening m) es fs h = tt
+can_simplify second_version (simplified_opening ss o) es fs h = absurd h
+
+plain_more : (v : Version) (all : List Automaton) (o : Opening) (es : List math.PairEntry) (p : math.PairEntry) → IsPlainBy v all (certificate_for o es) → EvidenceUses v all p.evidence → IsPlainBy v all (certificate_for o (es ++ p ∷ []))
+plain_more v all ortho_opening es p h k = pairs_use v all es p h k
+plain_more v all (quasi_opening m) es p h k = (h.0, pairs_use v all es p h.1 k)
+plain_more v all (simplified_opening ss o) es p h k = (can_simplify v o es (es ++ p ∷ []) h.0, h.1, plain_more v all o es p h.2 k)
+
+drop_whole : {A : Type 0} (a : List A) (n : ℕ) → n ≡ length a → drop n a ≡ []
+drop_whole [] zero e = refl
+drop_whole [] (suc n) e = refl
+drop_whole (x ∷ a) zero e = absurd cc
+drop_whole (x ∷ a) (suc n) e = drop_whole a n (let q : suc n ≡ suc (length a) = e in omega arith)
+
+-- a demand alone
+alone : (t : Bool) (x : CertificateCause × ℕ) → first_of (cond {A = Option (CertificateCause × ℕ)} t None (Some x)) None ≡ None → t ≡ true
+alone true x e = refl
+alone false x e = absurd cc
+
+module _ (v : Version) (shared : List Automaton) (names : NameTable) (bytes left : List ℕ) (count n : ℕ) (now : Shared) (u : IsUpTo v shared names bytes left count now) (is_n : n ≡ suc count) where
+  next : IsNext v u.item n left
+  next = subst (λ (k : ℕ). IsNext v u.item k left) (sym is_n) u.next
 
   within : length left ≤ length bytes
-  within = let place = u.read.place in let rest = ap length u.rest in omega (arith, place, rest)
+  within = let place = u.read.read.place in let rest = ap length u.read.is_rest in omega (arith, place, rest)
+
+  pub known_here : (r : code.Reading) → r.left.now ≡ left → r.shares ≡ now → AreShared v names shared (length bytes) r
+  known_here r e f = are_shared v names shared (length bytes) r (subst (λ (b : List ℕ). length b ≤ length bytes) (sym e) within) (subst (λ (z : Shared). IsKnown names shared z) (sym f) u.known)
 
   -- an opening and entries that are read up to here leave these bytes, and are those
   left_there : (o : Opening) (es : List math.PairEntry) (r : IsRead names bytes o es (place_of bytes left)) → (o ≡ u.opening) × (es ≡ u.entries) × (r.rest ≡ left)
-  left_there o es r = let same = read_same names bytes o u.opening es u.entries (place_of bytes left) r u.read in (same.0, same.1, same.2 ∙ u.rest)
+  left_there o es r = let same = one_reading names bytes o u.opening es u.entries (place_of bytes left) r u.read.read in (same.opening, same.entries, same.rest ∙ u.read.is_rest)
 
   -- an entry is read
-  longer : (p : math.PairEntry) (rest : List ℕ) (sb : Shared) → Run names (length bytes) (pairs_from n ∷ []) (λ v. pairs_marks v n (p ∷ [])) (pairs_from (suc n) ∷ []) left rest sa sb → Run names (length bytes) (Items.opening ∷ []) (λ v. read_marks v u.given u.opening (u.entries ++ p ∷ [])) (pairs_from (suc n) ∷ []) bytes rest nothing_shared nothing_shared
+  longer : (p : math.PairEntry) (rest : List ℕ) (sb : Shared) → Run names (length bytes) (pairs_from v n ∷ []) (λ x. pairs_marks x (uses_with v names shared) n (p ∷ [])) (pairs_from v (suc n) ∷ []) left rest now sb
+      → Run names (length bytes) (Items.opening ∷ []) (λ x. read_marks x (uses_with v names shared) shared u.given u.opening (u.entries ++ p ∷ [])) (pairs_from v (suc n) ∷ []) bytes rest nothing_shared sb
   longer p rest sb r =
+      let w = uses_with v names shared in
       let number : n ≡ suc (length u.entries) = is_n ∙ ap suc (sym u.counted) in
-      unshared u.given u.opening (u.entries ++ p ∷ []) (run_as names (length bytes) (Items.opening ∷ []) (pairs_from (suc n) ∷ []) _ _ bytes rest nothing_shared sb
-      (λ v. ap (λ (k : ℕ). read_marks v u.given u.opening u.entries ++ pairs_marks v k (p ∷ [])) number ∙ read_more v u.given u.opening u.entries p)
-      (run_then names (length bytes) (Items.opening ∷ []) (u.item ∷ []) (pairs_from (suc n) ∷ []) (λ v. read_marks v u.given u.opening u.entries) (λ v. pairs_marks v n (p ∷ [])) bytes left rest nothing_shared nothing_shared sb u.run (next_run names (length bytes) n u.item (λ v. pairs_marks v n (p ∷ [])) (pairs_from (suc n) ∷ []) left rest nothing_shared sb next (λ e. cc) (subst (λ (z : Shared). Run names (length bytes) (pairs_from n ∷ []) (λ v. pairs_marks v n (p ∷ [])) (pairs_from (suc n) ∷ []) left rest z sb) fresh r))))
+      run_as names (length bytes) (Items.opening ∷ []) (pairs_from v (suc n) ∷ []) _ _ bytes rest nothing_shared sb
+      (λ x. ap (λ (k : ℕ). read_marks x w shared u.given u.opening u.entries ++ pairs_marks x w k (p ∷ [])) number ∙ read_more x w shared u.given u.opening u.entries p)
+      (run_then names (length bytes) (Items.opening ∷ []) (u.item ∷ []) (pairs_from v (suc n) ∷ []) (λ x. read_marks x w shared u.given u.opening u.entries) (λ x. pairs_marks x w n (p ∷ [])) bytes left rest nothing_shared now sb u.run
+      (next_run names (length bytes) v n u.item (λ x. pairs_marks x w n (p ∷ [])) (pairs_from v (suc n) ∷ []) left rest now sb next (λ e. cc) r))
 
-  pub held_on : {sb : Shared} (p : math.PairEntry) (rest : List ℕ) (count_then : ℕ) → IsPlainEvidence p.evidence → count_then ≡ n → Run names (length bytes) (pairs_from n ∷ []) (λ v. pairs_marks v n (p ∷ [])) (pairs_from (suc n) ∷ []) left rest sa sb → IsUpTo names bytes rest count_then
+  -- its marks change no text of a shared automaton
+  texts_kept : (p : math.PairEntry) (rest : List ℕ) (sb : Shared) → Run names (length bytes) (pairs_from v n ∷ []) (λ x. pairs_marks x (uses_with v names shared) n (p ∷ [])) (pairs_from v (suc n) ∷ []) left rest now sb → sb.texts ≡ now.texts
+  texts_kept p rest sb r =
+      let keeps = r.shares within [] in
+      let counts = (counts_pairs (p ∷ []) (name_of names) (uses_with v names shared) n).after now.texts [] now.used now.unfolds_to in
+      sym (ap (λ (z : Shared). z.texts) keeps.1) ∙ ap (λ (z : Shared). z.texts) counts.1
+
+  pub held_on : {sb : Shared} (p : math.PairEntry) (rest : List ℕ) (count_then : ℕ) → EvidenceUses v shared p.evidence → count_then ≡ n → Run names (length bytes) (pairs_from v n ∷ []) (λ x. pairs_marks x (uses_with v names shared) n (p ∷ [])) (pairs_from v (suc n) ∷ []) left rest now sb → IsUpTo v shared names bytes rest count_then sb
   held_on {sb} p rest count_then plain e r =
       let run = longer p rest sb r in
-      let plains = plain_more u.entries u.plain in
-      let there = run_read names bytes rest u.given u.opening (u.entries ++ p ∷ []) (pairs_from (suc n) ∷ []) (first_of names u.opening u.entries u.read.spelt) plains run in
+      let plains = plain_more v shared u.opening u.entries p u.plain plain in
       record {
         opening = u.opening;
         entries = u.entries ++ p ∷ [];
         given = u.given;
-        item = pairs_from (suc n);
-        read = there.0;
-        rest = there.1;
+        item = pairs_from v (suc n);
+        read = run_read v shared names bytes rest u.given u.opening (u.entries ++ p ∷ []) (pairs_from v (suc n) ∷ []) u.can_share plains u.plain_shared run;
         counted = (let long = length_push u.entries p in let old = u.counted in omega (arith, long, old, is_n, e));
+        can_share = u.can_share;
+        known = (u.known.0, texts_kept p rest sb r ∙ u.known.1);
         plain = plains;
+        plain_shared = u.plain_shared;
         run = run;
-        next = inl (ap (λ (k : ℕ). pairs_from (suc k)) (sym e));
+        next = inl (ap (λ (k : ℕ). pairs_from v (suc k)) (sym e));
       }
-    where
-      plain_more : (es : List math.PairEntry) → ArePlainPairs es → ArePlainPairs (es ++ p ∷ [])
-      plain_more [] h = (plain, tt)
-      plain_more (x ∷ es) h = (h.0, plain_more es h.1)
 
   module _ (old : Reading) (is : up_to names bytes left ≡ old) where
     read_here : (o : Opening) (es : List math.PairEntry) → HasRead old o es → IsRead names bytes o es (place_of bytes left)
@@ -133,39 +248,47 @@ module _ (names : NameTable) (bytes left : List ℕ) (count n : ℕ) (u : IsUpTo
     after_here : (o : Opening) (es : List math.PairEntry) (place : ℕ) → IsRead old.names old.bytes o es place → IsRead names bytes o es place
     after_here o es place h = subst (λ (q : Reading). IsRead q.names q.bytes o es place) (sym is) h
 
-    pub reads_on : {sb : Shared} (p : math.PairEntry) (rest : List ℕ) → IsPlainEvidence p.evidence → Run names (length bytes) (pairs_from n ∷ []) (λ v. pairs_marks v n (p ∷ [])) (pairs_from (suc n) ∷ []) left rest sa sb → ReadsOn old p (up_to names bytes rest)
-    unfolding held_on
-    reads_on p rest plain r o es h =
+    pub reads_on : {sb : Shared} (p : math.PairEntry) (rest : List ℕ) → EvidenceUses v shared p.evidence → Run names (length bytes) (pairs_from v n ∷ []) (λ x. pairs_marks x (uses_with v names shared) n (p ∷ [])) (pairs_from v (suc n) ∷ []) left rest now sb → ReadsOn old p (up_to names bytes rest)
+    reads_on {sb} p rest plain r o es h =
         let there = left_there o es (read_here o es h) in
-        let held = held_on p rest n plain refl r in
-        subst (λ (x : Opening). IsRead names bytes x (es ++ p ∷ []) (place_of bytes rest)) (sym there.0) (subst (λ (x : List math.PairEntry). IsRead names bytes u.opening (x ++ p ∷ []) (place_of bytes rest)) (sym there.1) held.read)
+        let read = run_read v shared names bytes rest u.given u.opening (u.entries ++ p ∷ []) (pairs_from v (suc n) ∷ []) u.can_share (plain_more v shared u.opening u.entries p u.plain plain) u.plain_shared (longer p rest sb r) in
+        subst (λ (x : Opening). IsRead names bytes x (es ++ p ∷ []) (place_of bytes rest)) (sym there.0) (subst (λ (x : List math.PairEntry). IsRead names bytes u.opening (x ++ p ∷ []) (place_of bytes rest)) (sym there.1) read.read)
+
+    rest_as : (o : Opening) (es : List math.PairEntry) (at : ℕ) → o ≡ u.opening → es ≡ u.entries → (r : IsRead names bytes o es at) → r.rest ≡ left
+    rest_as o es at e f r = by (u.opening) e (u.entries) f (λ r. one_rest v shared names bytes left count now u at r)
+      where
+        by : (x : Opening) → o ≡ x → (xs : List math.PairEntry) → es ≡ xs → ((q : IsRead names bytes x xs at) → q.rest ≡ left) → r.rest ≡ left
+        by x e xs f each = (subst (λ (x : Opening). ((q : IsRead names bytes x es at) → q.rest ≡ left)) (sym e) (subst (λ (xs : List math.PairEntry). ((q : IsRead names bytes x xs at) → q.rest ≡ left)) (sym f) each)) r
 
     -- what is left is the last line
     left_last : (o : Opening) (es : List math.PairEntry) → HasRead old o es → IsAll old o es → left ≡ last_line
-    left_last o es h k = let here = read_here o es h in sym (left_there o es here).2 ∙ whole_read names bytes o es (place_of bytes left) here (text_here (certificate_for o es) k)
+    left_last o es h k =
+        let there = left_there o es (read_here o es h) in
+        let whole = text_is_whole names bytes o es (text_here (certificate_for o es) k) in
+        sym (rest_as o es whole.at there.0 there.1 whole.read) ∙ whole.last
 
-    pub never_whole : {sb : Shared} (p : math.PairEntry) (rest : List ℕ) → Run names (length bytes) (pairs_from n ∷ []) (λ v. pairs_marks v n (p ∷ [])) (pairs_from (suc n) ∷ []) left rest sa sb → (o : Opening) (es : List math.PairEntry) → HasRead old o es → IsAll old o es → ⊥
-    never_whole p rest r o es h k = bytes_apart 112 101 _ _ refl (sym (walks_text names (pairs_marks (name_of names) n (p ∷ [])) _ _ (r.walks within [])) ∙ left_last o es h k)
+    pub never_whole : {sb : Shared} (p : math.PairEntry) (rest : List ℕ) → Run names (length bytes) (pairs_from v n ∷ []) (λ x. pairs_marks x (uses_with v names shared) n (p ∷ [])) (pairs_from v (suc n) ∷ []) left rest now sb → (o : Opening) (es : List math.PairEntry) → HasRead old o es → IsAll old o es → ⊥
+    never_whole p rest r o es h k = bytes_apart 112 101 _ _ refl (sym (walks_text names (pairs_marks (name_of names) (uses_with v names shared) n (p ∷ [])) _ _ (r.walks within [])) ∙ left_last o es h k)
 
-    -- an entry stands where the last line does not
-    entry_left : (o : Opening) (es : List math.PairEntry) (p : math.PairEntry) (place : ℕ) → HasRead old o es → IsRead old.names old.bytes o (es ++ p ∷ []) place → (rest : List ℕ) × (left ≡ pairs_text names (p ∷ []) ++ rest)
-    entry_left o es p place h k =
-        let here = read_here o es h in
-        let after = after_here o (es ++ p ∷ []) place k in
-        (after.rest, sym (left_there o es here).2 ∙ entries_behind names bytes o es (p ∷ []) (place_of bytes left) place here after)
-
-    module _ (rest : List ℕ) (sb : Shared) (r : Run names (length bytes) (pairs_from n ∷ []) (λ v. closing) [] left rest sa sb) where
+    module _ (rest : List ℕ) (sb : Shared) (r : Run names (length bytes) (pairs_from v n ∷ []) (λ x. closing) [] left rest now sb) where
       left_text : left ≡ last_line ++ rest
       left_text = walks_text names closing _ _ (r.walks within [])
+
+      -- each shared automaton is used there
+      none_left : drop now.used shared ≡ []
+      none_left =
+          let used = eqb-true now.used (length now.texts) (alone (now.used == length now.texts) (bad_share, 0) (r.shares within []).0.0) in
+          drop_whole shared now.used (used ∙ ap length u.known.1 ∙ texts_length names shared)
 
       pub at_end : rest ≡ [] → IsAtEnd old
       at_end e o es h =
           let here = read_here o es h in
-          let whole = read_whole names bytes o es (place_of bytes left) here ((left_there o es here).2 ∙ left_text ∙ ap (λ (w : List ℕ). last_line ++ w) e) in
+          let same = one_reading names bytes o u.opening es u.entries (place_of bytes left) here u.read.read in
+          let whole = whole_is_text names bytes o es (place_of bytes left) here (same.left ∙ u.read.is_left ∙ none_left) ((left_there o es here).2 ∙ left_text ∙ ap (λ (w : List ℕ). last_line ++ w) e) in
           subst (λ (q : Reading). IsCertificateText q.names q.bytes (certificate_for o es)) is whole
 
       pub no_entry : (o : Opening) (es : List math.PairEntry) (p : math.PairEntry) (place : ℕ) → HasRead old o es → IsRead old.names old.bytes o (es ++ p ∷ []) place → ⊥
-      no_entry o es p place h k = let there = entry_left o es p place h k in bytes_apart 112 101 _ _ refl (sym there.1 ∙ left_text)
+      no_entry o es p place h k = entry_stands v shared names bytes left count now u o es p place (read_here o es h) (after_here o (es ++ p ∷ []) place k) _ left_text
 
       pub not_whole : (rest ≡ [] → ⊥) → (o : Opening) (es : List math.PairEntry) → HasRead old o es → IsAll old o es → ⊥
       not_whole some o es h k = by rest some (sym left_text ∙ left_last o es h k)
@@ -176,18 +299,19 @@ module _ (names : NameTable) (bytes left : List ℕ) (count n : ℕ) (u : IsUpTo
 
       pub behind_refused : (at : ℕ) → (rest ≡ [] → ⊥) → at ≡ place_of bytes rest → IsCertificateRefused old.names old.bytes syntax at
       behind_refused at some e =
-          let run = run_then names (length bytes) (Items.opening ∷ []) (u.item ∷ []) [] (λ v. read_marks v u.given u.opening u.entries) (λ v. closing) bytes left rest nothing_shared nothing_shared sb u.run (next_run names (length bytes) n u.item (λ v. closing) [] left rest nothing_shared sb next (λ q. cc) (subst (λ (z : Shared). Run names (length bytes) (pairs_from n ∷ []) (λ v. closing) [] left rest z sb) fresh r)) in
-          subst (λ (q : Reading). IsCertificateRefused q.names q.bytes syntax at) is (refused_behind names bytes rest (λ v. read_marks v u.given u.opening u.entries ++ closing) at none refl some e run)
+          let w = uses_with v names shared in
+          let run = run_then names (length bytes) (Items.opening ∷ []) (u.item ∷ []) [] (λ x. read_marks x w shared u.given u.opening u.entries) (λ x. closing) bytes left rest nothing_shared now sb u.run (next_run names (length bytes) v n u.item (λ x. closing) [] left rest now sb next (λ q. cc) r) in
+          subst (λ (q : Reading). IsCertificateRefused q.names q.bytes syntax at) is (refused_behind names bytes rest (λ x. read_marks x w shared u.given u.opening u.entries ++ closing) at refl some e run)
 
-    module _ (e : CertError) (s : IsStoppedWhere (IsInEntry n left) names (length bytes) (pairs_from n ∷ []) left sa (told e)) where
-      stop : IsStoppedWhere (IsInEntry n left) names (length bytes) (u.item ∷ []) left nothing_shared (told e)
-      stop = next_stop names (length bytes) n u.item left nothing_shared (told e) next (subst (λ (z : Shared). IsStoppedWhere (IsInEntry n left) names (length bytes) (pairs_from n ∷ []) left z (told e)) fresh s)
+    module _ (e : CertError) (s : IsStoppedWhere (WithinEntry v n left) names (length bytes) (pairs_from v n ∷ []) left now (told e)) where
+      stop : IsStoppedWhere (WithinEntry v n left) names (length bytes) (u.item ∷ []) left now (told e)
+      stop = next_stop names (length bytes) v n u.item left now (told e) next s
 
       refused_here : IsRefusedAs names bytes e
       refused_here =
-          refused_as names bytes e none refl
-          (any_stop (IsInEntry n left) names (length bytes) (Items.opening ∷ []) bytes nothing_shared (told e)
-          (stop_behind (IsInEntry n left) names (length bytes) (Items.opening ∷ []) (u.item ∷ []) (λ v. read_marks v u.given u.opening u.entries) bytes left nothing_shared nothing_shared (told e) u.run stop))
+          refused_as names bytes e refl
+          (any_stop (WithinEntry v n left) names (length bytes) (Items.opening ∷ []) bytes nothing_shared (told e)
+          (stop_behind (WithinEntry v n left) names (length bytes) (Items.opening ∷ []) (u.item ∷ []) (λ x. read_marks x (uses_with v names shared) shared u.given u.opening u.entries) bytes left nothing_shared now (told e) u.run stop))
 
       pub refused_there : IsRefusedAs old.names old.bytes e
       refused_there = subst (λ (q : Reading). IsRefusedAs q.names q.bytes e) is refused_here
@@ -206,5 +330,6 @@ module _ (names : NameTable) (bytes left : List ℕ) (count n : ℕ) (u : IsUpTo
           by : (t : Option (CertificateCause × ℕ)) → told e ≡ t → told e ≡ None
           by None q = q
           by (Some x) q =
-              let at_item = subst (IsStoppedWhere (IsInEntry n left) names (length bytes) (u.item ∷ []) left nothing_shared) q stop in
-              absurd (in_entry names bytes left count u x (subst (λ (m : ℕ). IsStoppedWhere (IsInEntry m left) names (length bytes) (u.item ∷ []) left nothing_shared (Some x)) is_n at_item within) o es p place (read_here o es h) (after_here o (es ++ p ∷ []) place k))
+              let at_item = subst (IsStoppedWhere (WithinEntry v n left) names (length bytes) (u.item ∷ []) left now) q stop in
+              let there = subst (λ (m : ℕ). IsStoppedWhere (WithinEntry v m left) names (length bytes) (u.item ∷ []) left now (Some x)) is_n at_item in
+              absurd (in_entry v shared names bytes left count now u x (there within) o es p place (read_here o es h) (after_here o (es ++ p ∷ []) place k))

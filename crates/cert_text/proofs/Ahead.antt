@@ -1,12 +1,12 @@
 -- A reader goes along what stands there, and never stops before its end.
-use Rattle.std.proofs.Common.{◌≡◌, inl, inr, ◌<◌, ℕ, suc, List, [], ◌∷◌, ◌++◌, take, Option, Some, None, codes, refl, sym, ap, ◌∙◌, subst, arith, append_assoc}
+use Rattle.std.proofs.Common.{◌≡◌, ◌⊎◌, inl, inr, ◌<◌, ℕ, suc, List, [], ◌∷◌, ◌++◌, take, Option, Some, None, codes, refl, sym, ap, ◌∙◌, subst, arith, append_assoc}
 use Rattle.std.proofs.lemmas.List.{append_cancel_left}
 use Rattle.cops_names.specs.NameTable.{NameTable}
-use Rattle.cert_grammar.specs.Marks.{CertificateCause, Mark, fixed, mark_text, marks_text, demands_of, verdict}
+use Rattle.cert_grammar.specs.Marks.{CertificateCause, Demand, Mark, fixed, word, mark_text, marks_text, demands_of, verdict}
 use Rattle.cert_grammar.specs.Refusals.{Pass}
 use Rattle.cert_grammar.specs.Scans.{Scan, scan}
-use Rattle.cert_grammar.specs.Items.{Item, between, line, Lead, text, check, at_once, keyword, numeral_lead, position_lead, variable_lead, name_lead, leads}
-use Rattle.cert_grammar.specs.FirstVersion.{pairs_from, entries_from}
+use Rattle.cert_grammar.specs.Items.{Item, between, line, pairs_from, entries_from, heads_from, Lead, text, check, at_once, keyword, numeral_lead, position_lead, variable_lead, name_lead, leads}
+use Rattle.cert_grammar.specs.Versions.{Version, first_version, second_version}
 use Rattle.cert_grammar.specs.FirstRefusal as machine
 use Rattle.cert_grammar.specs.FirstRefusal.{mode_of, first_there, taken, mark_of, items_of, Left, behind_lead, judged, step_lead}
 use Rattle.cert_grammar.specs.FirstRefusal.{Reading as Answer}
@@ -16,7 +16,7 @@ use Rattle.cert_grammar.proofs.ScanLaws.{IsWordOf}
 use Rattle.cert_laws.proofs.LeadTables.{In}
 use Rattle.cert_laws.proofs.OneRefusal.{passed_anywhere}
 use Rattle.cert_laws.proofs.PassTerms.{pass_append}
-use Rattle.cert_laws.proofs.Paths.{Takes, Path, text_is, lead_scan, first_complete, take_front}
+use Rattle.cert_laws.proofs.Paths.{Takes, Path, lead_scan, first_complete, take_front}
 use Rattle.cert_laws.proofs.Moves.{There, takes_along}
 use Rattle.cert_laws.proofs.Reached.{Move, Moves, same_taken}
 use Rattle.cert_openings.specs.Openings.{BeginsEntry}
@@ -24,7 +24,7 @@ use Rattle.cert_openings.proofs.Lines.{apart}
 use Rattle.cert_sharing.proofs.UseMarks.{pass_split}
 use Rattle.cert_words.specs.Walks.{left_at, RefusesAt}
 use Rattle.cert_words.proofs.Walking.{step_on}
-use Rattle.cert_reading.specs.Stops.{lowest, IsLater, AreLater}
+use Rattle.cert_reading.specs.Stops.{lowest, IsBehind, AreBehind, BeginsList}
 
 -- ---- from a path to moves
 
@@ -104,6 +104,20 @@ stops_ahead names end f g s t b r i more q a z e h p w k is x = by (meet f g s t
         let there = (pass_split g (m ∷ ms) a (subst (PassShares a) v w)).1.0 in
         absurd (never_refused names end i more m q y.1 y.0 (behind_marks g a) e y.2 (pass_append names g (m ∷ ms) (subst (Pass names) v p)).1.0 there (subst (λ (c : Shared). RefusesAt names (left_at end (i ∷ more) q) c e) is x))
 
+-- ---- the items behind a mark, by each lead of an item
+
+abbrev pub Each : (List Item → Type 0) → Mark → List Lead → Type 0
+Each P m [] = Unit {0}
+Each P m (a ∷ others) = ((w : List ℕ) → m ≡ mark_of a w → P (items_of a w)) × Each P m others
+
+each_in : (P : List Item → Type 0) (m : Mark) (ls : List Lead) (a : Lead) (w : List ℕ) → In a ls → m ≡ mark_of a w → Each P m ls → P (items_of a w)
+each_in P m [] a w n e h = absurd n
+each_in P m (b ∷ ls) a w (inl q) e h = subst (λ (x : Lead). P (items_of x w)) (sym q) (h.0 w (e ∙ ap (λ (x : Lead). mark_of x w) q))
+each_in P m (b ∷ ls) a w (inr n) e h = each_in P m ls a w n e h.1
+
+pub step_by : (P : List Item → Type 0) (i : Item) (m : Mark) (new : List Item) → Takes i m new → Each P m (leads i) → P new
+step_by P i m new h each = subst P (sym h.items) (each_in P m (leads i) h.lead h.word_of h.among h.mark each)
+
 -- ---- what stands below
 
 pub lowest_behind : (k : Item) (ks : List Item) (j : Item) (s : List Item) → lowest k (ks ++ j ∷ s) ≡ lowest j s
@@ -111,36 +125,27 @@ lowest_behind k [] j s = refl
 lowest_behind k (l ∷ ks) j s = lowest_behind l ks j s
 
 -- an overlap is read, or the last line
-pub pair_step : (n k : ℕ) (m : Mark) (new : List Item) → n < suc k → Takes (pairs_from k) m new → AreLater n (new ++ [])
-pair_step n k m new less h = by h.among
-  where
-    by : In h.lead (leads (pairs_from k)) → AreLater n (new ++ [])
-    by (inl e) = subst (λ (x : List Item). AreLater n (x ++ [])) (sym (h.items ∙ ap (λ (a : Lead). items_of a h.word_of) e)) (inl (suc k, refl, less))
-    by (inr (inl e)) = subst (λ (x : List Item). AreLater n (x ++ [])) (sym (h.items ∙ ap (λ (a : Lead). items_of a h.word_of) e)) (inr refl)
-    by (inr (inr x)) = absurd x
+pub pair_step : (v : Version) (n k : ℕ) (m : Mark) (new : List Item) → n < suc k → Takes (pairs_from v k) m new → AreBehind v n (new ++ [])
+pair_step v n k m new less h = step_by (λ (x : List Item). AreBehind v n (x ++ [])) (pairs_from v k) m new h ((λ w e. inl (suc k, refl, less)), ((λ w e. inr refl), tt))
 
 -- behind the end of the last line nothing is left
-line_step : (n : ℕ) (m : Mark) (new : List Item) → Takes (between line) m new → AreLater n (new ++ [])
-line_step n m new h = by h.among
-  where
-    by : In h.lead (leads (between line)) → AreLater n (new ++ [])
-    by (inl e) = subst (λ (x : List Item). AreLater n (x ++ [])) (sym (h.items ∙ ap (λ (a : Lead). items_of a h.word_of) e)) tt
-    by (inr x) = absurd x
+pub line_step : (v : Version) (n : ℕ) (m : Mark) (new : List Item) → Takes (between line) m new → AreBehind v n (new ++ [])
+line_step v n m new h = step_by (λ (x : List Item). AreBehind v n (x ++ [])) (between line) m new h ((λ w e. tt), tt)
 
-first_is : (i j : Item) → i ∷ [] ≡ j ∷ [] → i ≡ j
+pub first_is : (i j : Item) → i ∷ [] ≡ j ∷ [] → i ≡ j
 first_is i j e = cc
 
-later_step : (n : ℕ) (i : Item) (s : List Item) (m : Mark) (new : List Item) → Takes i m new → AreLater n (i ∷ s) → AreLater n (new ++ s)
-later_step n i [] m new h (inl x) = let less = x.2 in pair_step n x.0 m new (omega (arith, less)) (subst (λ (j : Item). Takes j m new) x.1 h)
-later_step n i [] m new h (inr x) = line_step n m new (subst (λ (j : Item). Takes j m new) (first_is i (between line) x) h)
-later_step n i (j ∷ s) m [] h (inl x) = inl x
-later_step n i (j ∷ s) m (k ∷ ks) h (inl x) = inl (subst (IsLater n) (sym (lowest_behind k ks j s)) x)
-later_step n i (j ∷ s) m new h (inr x) = absurd cc
+later_step : (v : Version) (n : ℕ) (i : Item) (s : List Item) (m : Mark) (new : List Item) → Takes i m new → AreBehind v n (i ∷ s) → AreBehind v n (new ++ s)
+later_step v n i [] m new h (inl x) = let less = x.2 in pair_step v n x.0 m new (omega (arith, less)) (subst (λ (j : Item). Takes j m new) x.1 h)
+later_step v n i [] m new h (inr x) = line_step v n m new (subst (λ (j : Item). Takes j m new) (first_is i (between line) x) h)
+later_step v n i (j ∷ s) m [] h (inl x) = inl x
+later_step v n i (j ∷ s) m (k ∷ ks) h (inl x) = inl (subst (IsBehind v n) (sym (lowest_behind k ks j s)) x)
+later_step v n i (j ∷ s) m new h (inr x) = absurd cc
 
-pub later_moves : (n : ℕ) (ms : List Mark) (s t : List Item) (b r : List ℕ) → Moves ms s b t r → AreLater n s → AreLater n t
-later_moves n [] s t b r h x = subst (AreLater n) h.0 x
-later_moves n (m ∷ ms) [] t b r h x = absurd h
-later_moves n (m ∷ ms) (i ∷ s) t b r h x = later_moves n ms (h.0 ++ s) t h.1 r h.3 (later_step n i s m h.0 h.2.takes x)
+pub later_moves : (v : Version) (n : ℕ) (ms : List Mark) (s t : List Item) (b r : List ℕ) → Moves ms s b t r → AreBehind v n s → AreBehind v n t
+later_moves v n [] s t b r h x = subst (AreBehind v n) h.0 x
+later_moves v n (m ∷ ms) [] t b r h x = absurd h
+later_moves v n (m ∷ ms) (i ∷ s) t b r h x = later_moves v n ms (h.0 ++ s) t h.1 r h.3 (later_step v n i s m h.0 h.2.takes x)
 
 -- ---- behind an opening
 
@@ -149,13 +154,25 @@ no_entry a w [] rest h e p q = h
 no_entry a w (c ∷ b) rest (inl x) e p q = let same : c ≡ a = cc in p (sym same ∙ x)
 no_entry a w (c ∷ b) rest (inr x) e p q = let same : c ≡ a = cc in q (sym same ∙ x)
 
--- where an overlap or the last line begins, it is read
-pub entry_step : (k : ℕ) (m : Mark) (b behind : List ℕ) (new : List Item) → BeginsEntry b → Move (entries_from k) m b behind new → AreLater 1 (new ++ [])
-entry_step k m b behind new begins h = by h.takes.among
-  where
-    by : In h.takes.lead (leads (entries_from k)) → AreLater 1 (new ++ [])
-    by (inl e) = absurd (no_entry 102 (codes "un") b h.there.rest begins (h.there.parts ∙ ap (λ (w : List ℕ). w ++ h.there.rest) (text_is (codes "fun") h.takes.word_of (subst (λ (a : Lead). IsWordOf (mode_of a) h.takes.word_of) e h.takes.spelt))) (apart 102 112 refl) (apart 102 101 refl))
-    by (inr (inl e)) = absurd (no_entry 97 (codes "ux") b h.there.rest begins (h.there.parts ∙ ap (λ (w : List ℕ). w ++ h.there.rest) (text_is (codes "aux") h.takes.word_of (subst (λ (a : Lead). IsWordOf (mode_of a) h.takes.word_of) e h.takes.spelt))) (apart 97 112 refl) (apart 97 101 refl))
-    by (inr (inr (inl e))) = subst (λ (x : List Item). AreLater 1 (x ++ [])) (sym (h.takes.items ∙ ap (λ (a : Lead). items_of a h.takes.word_of) e)) (inl (2, refl, omega arith))
-    by (inr (inr (inr (inl e)))) = subst (λ (x : List Item). AreLater 1 (x ++ [])) (sym (h.takes.items ∙ ap (λ (a : Lead). items_of a h.takes.word_of) e)) (inr refl)
-    by (inr (inr (inr (inr x)))) = absurd x
+-- where an overlap or the last line begins no symbol is read
+no_symbol : (m : Mark) (b behind : List ℕ) (ds : List Demand) → BeginsEntry b → b ≡ mark_text m ++ behind → (m ≡ word (codes "fun") ds) ⊎ (m ≡ word (codes "aux") ds) → ⊥
+no_symbol m b behind ds begins e (inl q) = no_entry 102 (codes "un") b behind begins (e ∙ ap (λ (x : Mark). mark_text x ++ behind) q) (apart 102 112 refl) (apart 102 101 refl)
+no_symbol m b behind ds begins e (inr q) = no_entry 97 (codes "ux") b behind begins (e ∙ ap (λ (x : Mark). mark_text x ++ behind) q) (apart 97 112 refl) (apart 97 101 refl)
+
+pub entry_step : (v : Version) (k : ℕ) (m : Mark) (b behind : List ℕ) (new : List Item) → BeginsEntry b → Move (entries_from v k) m b behind new → AreBehind v 1 (new ++ [])
+entry_step v k m b behind new begins h =
+    step_by (λ (x : List Item). AreBehind v 1 (x ++ [])) (entries_from v k) m new h.takes
+    ((λ w e. absurd (no_symbol m b behind _ begins h.text (inl e))), ((λ w e. absurd (no_symbol m b behind _ begins h.text (inr e))), ((λ w e. inl (2, refl, omega arith)), ((λ w e. inr refl), tt))))
+
+pub head_step : (k : ℕ) (m : Mark) (b behind : List ℕ) (new : List Item) → BeginsEntry b → Move (heads_from k) m b behind new → AreBehind second_version 1 (new ++ [])
+head_step k m b behind new begins h =
+    step_by (λ (x : List Item). AreBehind second_version 1 (x ++ [])) (heads_from k) m new h.takes
+    ((λ w e. absurd (no_symbol m b behind _ begins h.text (inl e))), ((λ w e. absurd (no_symbol m b behind _ begins h.text (inr e))), ((λ w e. inl (2, refl, omega arith)), ((λ w e. inr refl), tt))))
+
+-- where a list stands, and an overlap or the last line begins
+pub list_step : (v : Version) (i : Item) (m : Mark) (b behind : List ℕ) (new : List Item) → BeginsList v i → BeginsEntry b → Move i m b behind new → AreBehind v 1 (new ++ [])
+list_step first_version i m b behind new (inl x) begins h = entry_step first_version x.0 m b behind new begins (subst (λ (j : Item). Move j m b behind new) x.1 h)
+list_step first_version i m b behind new (inr x) begins h = pair_step first_version 1 (suc x.0) m new (omega arith) (subst (λ (j : Item). Takes j m new) x.1 h.takes)
+list_step second_version i m b behind new (inl x) begins h = entry_step second_version x.0 m b behind new begins (subst (λ (j : Item). Move j m b behind new) x.1 h)
+list_step second_version i m b behind new (inr (inl x)) begins h = pair_step second_version 1 (suc x.0) m new (omega arith) (subst (λ (j : Item). Takes j m new) x.1 h.takes)
+list_step second_version i m b behind new (inr (inr x)) begins h = head_step x.0 m b behind new begins (subst (λ (j : Item). Move j m b behind new) x.1 h)

@@ -10,12 +10,11 @@ use Rattle.cert_grammar.specs.Words.{largest}
 use Rattle.cert_grammar.specs.Marks.{Naming, steps, states, transitions, fits_answer, in_range, is_few, is_shallow, simplifications, automaton_begins, shares, Mark, fixed, word}
 use Rattle.cert_grammar.specs.Marks as marks
 use Rattle.cert_grammar.specs.WordMarks.{numeral, number, number_for, position, steps_mark, rule_mark, steps_marks, step_marks, derivations_marks, derivation_marks}
-use Rattle.cert_grammar.specs.CertificateMarks.{state, accepting_marks, head_marks, transitions_marks, automaton_marks, measure_marks, simplifications_marks, answer_marks}
-use Rattle.cert_grammar.specs.FirstVersion.{body_marks, infeasibility_marks, evidence_marks, pairs_marks}
-use Rattle.cert_grammar.specs.Versions.{in_full}
+use Rattle.cert_grammar.specs.CertificateMarks.{state, accepting_marks, head_marks, transitions_marks, automaton_marks, use_mark, infeasibility_marks, evidence_marks, pairs_marks, measure_marks, simplifications_marks, body_marks, answer_marks, heading_marks}
+use Rattle.cert_grammar.specs.Versions.{Uses, in_full, by_number}
 use Rattle.cert_openings.specs.Openings.{Opening, ortho_opening, quasi_opening, simplified_opening, certificate_for}
 use Rattle.cert_openings.proofs.OpeningMarks.{opening_marks, EndsInBytes, ends_behind, opening_ends}
-use Rattle.cert_reading.proofs.ListMarks.{pair_line}
+use Rattle.cert_reading.proofs.ListMarks.{pair_line_by}
 use Rattle.cert_text.specs.ReadingView.{read_marks}
 
 line_end : (level n : ℕ) → EndsInBytes (steps_mark level n)
@@ -50,50 +49,53 @@ automaton_end a x =
     (ends_behind (accepting_marks a.states a.accepting) _
     (transitions_end a.transitions x a.states (fixed (codes "\ntransitions ") ∷ number_for transitions (length a.transitions) ∷ fixed (codes "\n") ∷ []) (fixed (codes "\ntransitions ") ∷ number_for transitions (length a.transitions) ∷ [], 10, [], refl)))
 
-infeasibility_end : (e : InfeasibilityEvidence) (x : Naming) → EndsInBytes (infeasibility_marks x e)
-infeasibility_end by_caps x = ([], 116, codes "cap\n", refl)
-infeasibility_end (by_automaton k a) x = ends_behind (fixed (codes "auto ") ∷ number k ∷ fixed (codes "\n") ∷ []) (automaton_marks x a) (automaton_end a x)
+infeasibility_end : (e : InfeasibilityEvidence) (x : Naming) (u : Uses) → EndsInBytes (infeasibility_marks x u e)
+infeasibility_end by_caps x u = ([], 116, codes "cap\n", refl)
+infeasibility_end (by_automaton k a) x in_full = ends_behind (fixed (codes "auto ") ∷ number k ∷ fixed (codes "\n") ∷ []) (automaton_marks x a) (automaton_end a x)
+infeasibility_end (by_automaton k a) x (by_number f) = (fixed (codes "auto ") ∷ number k ∷ fixed (codes " ") ∷ use_mark (f a) ∷ [], 10, [], refl)
 
-evidence_end : (e : PairEvidence) (x : Naming) → EndsInBytes (evidence_marks x e)
-evidence_end trivial_pair x = ([], 116, codes "rivial\n", refl)
-evidence_end (infeasible_pair e) x = infeasibility_end e x
-evidence_end (conflicting_pair a b) x = (fixed (codes "conflict ") ∷ number a ∷ fixed (codes " ") ∷ number b ∷ [], 10, [], refl)
-evidence_end (joined_pair d e) x = ends_behind (fixed (codes "join\n") ∷ derivation_marks d) (derivation_marks e) (derivation_end e)
-evidence_end (unfeasible_pair k d e) x = ends_behind (fixed (codes "unfeasible ") ∷ number k ∷ fixed (codes "\n") ∷ derivation_marks d) (derivation_marks e) (derivation_end e)
+evidence_end : (e : PairEvidence) (x : Naming) (u : Uses) → EndsInBytes (evidence_marks x u e)
+evidence_end trivial_pair x u = ([], 116, codes "rivial\n", refl)
+evidence_end (infeasible_pair e) x u = infeasibility_end e x u
+evidence_end (conflicting_pair a b) x u = (fixed (codes "conflict ") ∷ number a ∷ fixed (codes " ") ∷ number b ∷ [], 10, [], refl)
+evidence_end (joined_pair d e) x u = ends_behind (fixed (codes "join\n") ∷ derivation_marks d) (derivation_marks e) (derivation_end e)
+evidence_end (unfeasible_pair k d e) x u = ends_behind (fixed (codes "unfeasible ") ∷ number k ∷ fixed (codes "\n") ∷ derivation_marks d) (derivation_marks e) (derivation_end e)
 
-pairs_end : (ps : List PairEntry) (x : Naming) (n : ℕ) (a : List Mark) → EndsInBytes a → EndsInBytes (a ++ pairs_marks x n ps)
-pairs_end [] x n a h = subst EndsInBytes (sym (append-nil a)) h
-pairs_end (p ∷ ps) x n a h =
+pairs_end : (ps : List PairEntry) (x : Naming) (u : Uses) (n : ℕ) (a : List Mark) → EndsInBytes a → EndsInBytes (a ++ pairs_marks x u n ps)
+pairs_end [] x u n a h = subst EndsInBytes (sym (append-nil a)) h
+pairs_end (p ∷ ps) x u n a h =
     let line = word (codes "pair") (is_few marks.pairs n ∷ []) ∷ fixed (codes " ") ∷ number p.inner ∷ fixed (codes " ") ∷ position p.position ∷ fixed (codes " ") ∷ number p.outer ∷ fixed (codes " ") ∷ [] in
-    ends_behind a _ (pairs_end ps x (suc n) (line ++ evidence_marks x p.evidence) (ends_behind line (evidence_marks x p.evidence) (evidence_end p.evidence x)))
+    ends_behind a _ (pairs_end ps x u (suc n) (line ++ evidence_marks x u p.evidence) (ends_behind line (evidence_marks x u p.evidence) (evidence_end p.evidence x u)))
 
 -- an opening, and entries behind it
-body_parts : (o : Opening) (x : Naming) (g : Option Bool) (es : List PairEntry) → body_marks x g (certificate_for o es) ≡ body_marks x g (certificate_for o []) ++ pairs_marks x 1 es
-body_parts ortho_opening x g es = refl
-body_parts (quasi_opening m) x g es = ap (λ (ms : List Mark). word (codes "quasi") (fits_answer true g ∷ []) ∷ fixed (codes "\n") ∷ (ms ++ pairs_marks x 1 es)) (sym (append-nil (measure_marks x m)))
-body_parts (simplified_opening ss o) x g es =
-    let steps = simplifications_marks x in_full ss in
-    let body = body_marks x g (certificate_for o []) in
+body_parts : (o : Opening) (x : Naming) (u : Uses) (g : Option Bool) (es : List PairEntry) → body_marks x u g (certificate_for o es) ≡ body_marks x u g (certificate_for o []) ++ pairs_marks x u 1 es
+body_parts ortho_opening x u g es = refl
+body_parts (quasi_opening m) x u g es = ap (λ (ms : List Mark). word (codes "quasi") (fits_answer true g ∷ []) ∷ fixed (codes "\n") ∷ (ms ++ pairs_marks x u 1 es)) (sym (append-nil (measure_marks x m)))
+body_parts (simplified_opening ss o) x u g es =
+    let steps = simplifications_marks x u ss in
+    let body = body_marks x u g (certificate_for o []) in
     ap (λ (ms : List Mark). fixed (codes "simplify ") ∷ word (numeral (length ss)) (in_range 0 1 (suc largest) (length ss) ∷ is_few simplifications (length ss) ∷ []) ∷ fixed (codes "\n") ∷ ms)
-    (ap (λ (ms : List Mark). steps ++ ms) (body_parts o x g es) ∙ sym (append_assoc steps body (pairs_marks x 1 es)))
+    (ap (λ (ms : List Mark). steps ++ ms) (body_parts o x u g es) ∙ sym (append_assoc steps body (pairs_marks x u 1 es)))
 
-pub read_parts : (x : Naming) (g : Option Bool) (o : Opening) (es : List PairEntry) → read_marks x g o es ≡ opening_marks x in_full [] g o ++ pairs_marks x 1 es
-read_parts x g o es =
-    let body = body_marks x g (certificate_for o []) in
-    ap (λ (ms : List Mark). answer_marks g ++ (fixed (codes "concon 1\n") ∷ ms)) (body_parts o x g es) ∙ sym (append_assoc (answer_marks g) (fixed (codes "concon 1\n") ∷ body) (pairs_marks x 1 es))
+pub read_parts : (x : Naming) (u : Uses) (bs : List Automaton) (g : Option Bool) (o : Opening) (es : List PairEntry) → read_marks x u bs g o es ≡ opening_marks x u bs g o ++ pairs_marks x u 1 es
+read_parts x u bs g o es =
+    let heading = heading_marks x u bs in
+    let body = body_marks x u g (certificate_for o []) in
+    ap (λ (ms : List Mark). answer_marks g ++ (heading ++ ms)) (body_parts o x u g es) ∙ ap (λ (ms : List Mark). answer_marks g ++ ms) (sym (append_assoc heading body (pairs_marks x u 1 es)))
+    ∙ sym (append_assoc (answer_marks g) (heading ++ body) (pairs_marks x u 1 es))
 
-pub read_end : (x : Naming) (g : Option Bool) (o : Opening) (es : List PairEntry) → EndsInBytes (read_marks x g o es)
-read_end x g o es = subst EndsInBytes (sym (read_parts x g o es)) (pairs_end es x 1 (opening_marks x in_full [] g o) (opening_ends x in_full [] g o))
+pub read_end : (x : Naming) (u : Uses) (bs : List Automaton) (g : Option Bool) (o : Opening) (es : List PairEntry) → EndsInBytes (read_marks x u bs g o es)
+read_end x u bs g o es = subst EndsInBytes (sym (read_parts x u bs g o es)) (pairs_end es x u 1 (opening_marks x u bs g o) (opening_ends x u bs g o))
 
-pairs_more : (x : Naming) (n m : ℕ) (ps : List PairEntry) (p : PairEntry) → m ≡ n + length ps → pairs_marks x n ps ++ pairs_marks x m (p ∷ []) ≡ pairs_marks x n (ps ++ p ∷ [])
-pairs_more x n m [] p e = let q : m ≡ n = omega (arith, e) in ap (λ (k : ℕ). pairs_marks x k (p ∷ [])) q
-pairs_more x n m (q ∷ ps) p e =
-    append_assoc (pair_line x n q) (pairs_marks x (suc n) ps) (pairs_marks x m (p ∷ [])) ∙ ap (λ (ms : List Mark). pair_line x n q ++ ms) (pairs_more x (suc n) m ps p (omega (arith, e)))
+pairs_more : (x : Naming) (u : Uses) (n m : ℕ) (ps : List PairEntry) (p : PairEntry) → m ≡ n + length ps → pairs_marks x u n ps ++ pairs_marks x u m (p ∷ []) ≡ pairs_marks x u n (ps ++ p ∷ [])
+pairs_more x u n m [] p e = let q : m ≡ n = omega (arith, e) in ap (λ (k : ℕ). pairs_marks x u k (p ∷ [])) q
+pairs_more x u n m (q ∷ ps) p e =
+    append_assoc (pair_line_by x u n q) (pairs_marks x u (suc n) ps) (pairs_marks x u m (p ∷ [])) ∙ ap (λ (ms : List Mark). pair_line_by x u n q ++ ms) (pairs_more x u (suc n) m ps p (omega (arith, e)))
 
 -- one entry more
-pub read_more : (x : Naming) (g : Option Bool) (o : Opening) (es : List PairEntry) (p : PairEntry) → read_marks x g o es ++ pairs_marks x (suc (length es)) (p ∷ []) ≡ read_marks x g o (es ++ p ∷ [])
-read_more x g o es p =
-    ap (λ (ms : List Mark). ms ++ pairs_marks x (suc (length es)) (p ∷ [])) (read_parts x g o es)
-    ∙ append_assoc (opening_marks x in_full [] g o) (pairs_marks x 1 es) (pairs_marks x (suc (length es)) (p ∷ []))
-    ∙ ap (λ (ms : List Mark). opening_marks x in_full [] g o ++ ms) (pairs_more x 1 (suc (length es)) es p (omega arith))
-    ∙ sym (read_parts x g o (es ++ p ∷ []))
+pub read_more : (x : Naming) (u : Uses) (bs : List Automaton) (g : Option Bool) (o : Opening) (es : List PairEntry) (p : PairEntry) → read_marks x u bs g o es ++ pairs_marks x u (suc (length es)) (p ∷ []) ≡ read_marks x u bs g o (es ++ p ∷ [])
+read_more x u bs g o es p =
+    ap (λ (ms : List Mark). ms ++ pairs_marks x u (suc (length es)) (p ∷ [])) (read_parts x u bs g o es)
+    ∙ append_assoc (opening_marks x u bs g o) (pairs_marks x u 1 es) (pairs_marks x u (suc (length es)) (p ∷ []))
+    ∙ ap (λ (ms : List Mark). opening_marks x u bs g o ++ ms) (pairs_more x u 1 (suc (length es)) es p (omega arith))
+    ∙ sym (read_parts x u bs g o (es ++ p ∷ []))

@@ -1,9 +1,13 @@
-pub mod Entries
 pub mod Runs
 pub mod Ends
-pub mod Unshared
 pub mod Ahead
+pub mod Peakless
+pub mod Low
 pub mod Begun
 pub mod Advancing
+pub mod OpenedViews
+pub mod Fronts
 pub mod Openings
 pub mod Refusing
+pub mod SameMarks
+pub mod EntryStops

@@ -1,82 +1,277 @@
--- A text that is read up to its entries.
-use Rattle.std.proofs.Common.{◌≡◌, ℕ, Bool, true, false, List, [], ◌∷◌, ◌++◌, length, Option, Some, None, codes, refl, sym, ap, ◌∙◌, subst, arith, append_assoc}
+-- A text that is read up to its entries, or a whole peak.
+use Rattle.std.proofs.Common.{◌≡◌, inl, inr, ℕ, suc, Bool, true, false, List, [], ◌∷◌, ◌++◌, length, drop, Option, Some, None, Result, Ok, Err, IfOk, codes, refl, sym, ap, ◌∙◌, subst, arith, append_assoc}
 use Rattle.std.proofs.lemmas.List.{append-nil}
-use Rattle.certificates.specs.Certificates.{MeasureCertificate}
+use Rattle.certificates.specs.Evidence.{Automaton}
+use Rattle.certificates.specs.Certificates.{MeasureCertificate, linear_measure, precedence_measure, Simplification, Apartness, Peak, Certificate, peak_certificate}
 use Rattle.cops_names.specs.NameTable.{NameTable}
-use Rattle.cert_grammar.specs.FirstVersion.{start_line}
-use Rattle.cert_grammar.specs.Marks.{CertificateCause, Naming, Mark, fixed, marks_text}
-use Rattle.cert_grammar.specs.CertificateMarks.{answer_marks, measure_marks}
+use Rattle.cert_grammar.specs.Words.{name_of, largest}
+use Rattle.cert_grammar.specs.Versions.{Version, first_version, second_version, in_full, by_number, HasMeasure, IsUnsimplified}
+use Rattle.cert_grammar.specs.SharedText.{number_in}
+use Rattle.cert_grammar.specs.CertificateText.{IsCertificateText}
+use Rattle.cert_grammar.specs.Marks.{in_range, is_few, simplifications, Mark, fixed, word}
+use Rattle.cert_grammar.specs.WordMarks.{numeral}
+use Rattle.cert_grammar.specs.CertificateMarks.{answer_marks, heading_marks, measure_marks, peak_marks, simplifications_marks, closing, certificate_marks}
 use Rattle.cert_grammar.specs.Items as Items
-use Rattle.cert_grammar.specs.Items.{Item}
-use Rattle.cert_openings.specs.Openings.{BeginsEntry, Opening, quasi_opening}
-use Rattle.cert_openings.specs.FirstOpenings.{IsOpened, IsOpeningEnd}
-use Rattle.cert_openings.proofs.Lines.{bytes_apart}
-use Rattle.cert_openings.proofs.OneEnd.{answer_text, first_line, Kind, plain, measured, kind_text, lexed, same_answer}
-use Rattle.cert_openings.proofs.FirstEnds.{openings_end}
-use Rattle.cert_words.specs.declared.error.CertError.{CertError}
-use Rattle.cert_words.specs.declared.reading.Reading.{Reading}
-use Rattle.cert_words.specs.Words.{told}
+use Rattle.cert_grammar.specs.Items.{Item, pairs_from}
 use Rattle.cert_grammar.specs.Sharing.{Shared, nothing_shared}
-use Rattle.cert_words.specs.Walks.{Run, ReadsOn, Reads}
-use Rattle.cert_words.proofs.Whole.{walks_text}
-use Rattle.cert_reading.specs.Headings.{kind_mark, item_of, heading_marks}
+use Rattle.cert_sharing.proofs.UseMarks.{AreStill, Counts, counts_still, counts_both, counts_body, measure_still}
+use Rattle.cert_sharing.proofs.Whole.{never_both}
+use Rattle.cert_openings.specs.Laws.{IsReadTo}
+use Rattle.cert_openings.specs.Openings.{Opening, ortho_opening, quasi_opening, certificate_for, uses_with, BeginsEntry, IsOpened}
+use Rattle.cert_openings.proofs.Passes.{openings_pass}
+use Rattle.cert_words.specs.declared.reading.Reading as words
+use Rattle.cert_words.specs.Walks.{Run, Reads}
+use Rattle.cert_words.proofs.Walking.{open_before}
+use Rattle.cert_reading.specs.Headings.{behind_measure, behind_version, first_marks, kind_mark, item_by}
 use Rattle.cert_reading.specs.declared.headings.Kind as kinds_of
 use Rattle.cert_reading.specs.declared.headings.Kind.TheVariants as kinds
-use Rattle.cert_reading.specs.Stops.{Place, ReadsWhere, ReadsOnWhere, IsStoppedWhere, IsUnopened}
-use Rattle.cert_text.specs.ReadingView.{place_of, IsNext, read_marks, IsFirst, IsUpTo}
-use Rattle.cert_text.proofs.Runs.{run_read}
-use Rattle.cert_text.proofs.Unshared.{unshared}
-use Rattle.cert_text.proofs.Begun.{unopened}
+use Rattle.cert_reading.specs.Plain.{StepsUse, ApartUses, IsPlainBy}
+use Rattle.cert_reading.specs.Shared.{shared_marks, IsKnown, ArePlainAutomata}
+use Rattle.cert_reading.specs.Stops.{Place, ReadsWhere, WithinOpening, BeforeEntries, Anywhere}
+use Rattle.cert_reading.specs.Uses.{AreShared}
+use Rattle.cert_reading.specs.Whole.{CanShare}
+use Rattle.cert_reading.proofs.KindMarks.{kind_still, first_still}
+use Rattle.cert_reading.proofs.Stopping.{then_where, as_marks_where, low_where, low_unopened, open_before_where}
+use Rattle.cert_reading.proofs.UseReads.{known_behind, known_where}
+use Rattle.cert_text.specs.Reading.{Reading}
+use Rattle.cert_text.specs.ReadingView.{place_of, EndsMeasure, IsNext, read_marks, IsUpTo}
+use Rattle.cert_text.specs.OpenedText.{OpenedText, at_entries, whole, IsOpenedAs, IsRefusedBehind, HasNoEndAtWhole}
+use Rattle.cert_text.specs.Front.{steps_marks, opening_behind, opened_behind, CanStep, IsBegun}
+use Rattle.cert_text.proofs.Runs.{run_read, whole_found}
+use Rattle.cert_text.proofs.Fronts.{begun_on, certificate_behind, read_behind, whole_behind, run_of}
 
--- the lines of a heading, of a kind that is known
-pub kinded : {P : Place} {names : NameTable} {end : ℕ} {s t : Reading} (given : Option Bool) (kind k : kinds_of.Kind) → kind ≡ k → ReadsWhere P names end (Items.opening ∷ []) (λ u. heading_marks given kind) (item_of kind ∷ []) s t → ReadsWhere P names end (Items.opening ∷ []) (λ u. heading_marks given k) (item_of k ∷ []) s t
-kinded {P} {names} {end} {s} {t} given kind k e h = subst (λ (x : kinds_of.Kind). ReadsWhere P names end (Items.opening ∷ []) (λ u. heading_marks given x) (item_of x ∷ []) s t) e h
+-- ---- what follows for each text that is opened
 
-pub up_to_entries : {s t : Shared} (names : NameTable) (bytes rest : List ℕ) (given : Option Bool) (o : Opening) (item : Item) → IsFirst o → IsNext item 1 rest → Run names (length bytes) (Items.opening ∷ []) (λ u. read_marks u given o []) (item ∷ []) bytes rest s t → IsUpTo names bytes rest 0
-up_to_entries names bytes rest given o item first next run =
-    let there = run_read names bytes rest given o [] (item ∷ []) first tt run in
-    record { opening = o; entries = []; given = given; item = item; read = there.0; rest = there.1; counted = refl; plain = tt; run = unshared given o [] run; next = next }
+pub refused_late : (names : NameTable) (bytes : List ℕ) (t : OpenedText) → IsOpenedAs names bytes t → IsRefusedBehind names bytes t
+refused_late names bytes (at_entries o r) h = λ e at k. openings_pass names bytes o r.place e at h.2 k
+refused_late names bytes (whole c) h = λ e at k. never_both names bytes c e at h k
 
-pub opened : {s t : Shared} (names : NameTable) (bytes rest : List ℕ) (given : Option Bool) (o : Opening) (item : Item) → IsFirst o → BeginsEntry rest → Run names (length bytes) (Items.opening ∷ []) (λ u. read_marks u given o []) (item ∷ []) bytes rest s t → IsOpened names bytes o (place_of bytes rest)
-opened names bytes rest given o item first b run = let there = run_read names bytes rest given o [] (item ∷ []) first tt run in record { read = there.0; begins = subst BeginsEntry (sym there.1) b }
+pub behind_whole : (bytes : List ℕ) (steps : Option (List Simplification)) (t : OpenedText) → HasNoEndAtWhole bytes t → HasNoEndAtWhole bytes (opened_behind steps t)
+behind_whole bytes None t h = h
+behind_whole bytes (Some ss) (at_entries o r) h = tt
+behind_whole bytes (Some ss) (whole c) h = h
 
--- the marks of a heading and of a measure
-pub measured_marks_are : (u : Naming) (given : Option Bool) (m : MeasureCertificate) → heading_marks given kinds.Quasi ++ measure_marks u m ≡ read_marks u given (quasi_opening m) []
-measured_marks_are u given m =
-    append_assoc (answer_marks given) (fixed (codes "concon 1\n") ∷ kind_mark given kinds.Quasi ∷ fixed (codes "\n") ∷ []) (measure_marks u m)
-    ∙ ap (λ (ms : List Mark). answer_marks given ++ (fixed (codes "concon 1\n") ∷ kind_mark given kinds.Quasi ∷ fixed (codes "\n") ∷ ms)) (sym (append-nil (measure_marks u m)))
+pub if_ok : {A E : Type 0} (P Q : A → Type 0) (r : Result A E) → ((a : A) → P a → Q a) → IfOk r P → IfOk r Q
+if_ok P Q (Ok a) f h = f a h
+if_ok P Q (Err e) f h = tt
 
--- ---- peaks
+-- ---- the entries behind an opening
 
-peak_text : (g : Option Bool) (r : List ℕ) → marks_text (heading_marks g kinds.Peak) ++ r ≡ answer_text g ++ (first_line ++ (codes "peak\n" ++ r))
-peak_text None r = refl
-peak_text (Some true) r = refl
-peak_text (Some false) r = refl
+ready : (names : NameTable) (bytes rest : List ℕ) (steps : Option (List Simplification)) (o : Opening) → IsOpened names bytes (opening_behind steps o) (place_of bytes rest) → IsOpenedAs names bytes (opened_behind steps (at_entries o (record { names = names; bytes = bytes; place = place_of bytes rest })))
+ready names bytes rest None o h = (refl, refl, h)
+ready names bytes rest (Some ss) o h = (refl, refl, h)
 
-no_kind : (k : Kind) (x y : List ℕ) → codes "peak\n" ++ x ≡ kind_text k ++ y → ⊥
-no_kind plain x y e = bytes_apart 112 111 _ _ refl e
-no_kind measured x y e = bytes_apart 112 113 _ _ refl e
+whole_there : (names : NameTable) (bytes : List ℕ) (steps : Option (List Simplification)) (c : Certificate) → IsCertificateText names bytes (certificate_behind steps c) → IsOpenedAs names bytes (opened_behind steps (whole c))
+whole_there names bytes None c h = h
+whole_there names bytes (Some ss) c h = h
 
--- what begins as a peak does has no end of an opening
-pub no_end : {s t : Shared} (names : NameTable) (bytes rest : List ℕ) (given : Option Bool) (to : List Item) → Run names (length bytes) (Items.opening ∷ []) (λ u. heading_marks given kinds.Peak) to bytes rest s t → (end : ℕ) → IsOpeningEnd bytes end → ⊥
-no_end names bytes rest given to run end h =
-    let l = lexed bytes end h in
-    let text = walks_text names (heading_marks given kinds.Peak) _ _ (run.walks (omega arith) []) in
-    no_kind l.kind _ _ (same_answer given l.given _ _ (sym (peak_text given rest) ∙ sym text ∙ l.text)).1
+answer_still : (given : Option Bool) → AreStill (answer_marks given)
+answer_still None = tt
+answer_still (Some true) = (tt, tt)
+answer_still (Some false) = (tt, tt)
 
--- ---- where no opening is read, none is there
+-- nothing is known of shared automata in the first version
+known_then : (v : Version) (shared : List Automaton) (names : NameTable) (bytes : List ℕ) (given : Option Bool) (o : Opening) (to : List Item) (t : words.Reading) → CanShare v shared → AreShared v names shared (length bytes) t → t.refused ≡ None
+    → Run names (length bytes) (Items.opening ∷ []) (λ u. read_marks u (uses_with v names shared) shared given o []) to bytes t.left.now nothing_shared t.shares → IsKnown names shared t.shares
+known_then second_version shared names bytes given o to t can known none run = (known none).1
+known_then first_version shared names bytes given o to t can known none run =
+    let counts : Counts (read_marks (name_of names) in_full shared given o []) [] =
+    counts_both (answer_marks given) _ [] _ (counts_still (answer_marks given) (answer_still given)) (counts_both (fixed (codes "concon 1\n") ∷ []) _ [] _ (counts_still (fixed (codes "concon 1\n") ∷ []) (tt, tt)) (counts_body (certificate_for o []) (name_of names) in_full given)) in
+    let texts : t.shares.texts ≡ [] = sym (ap (λ (z : Shared). z.texts) (run.shares (omega arith) []).1) ∙ ap (λ (z : Shared). z.texts) (counts.after [] [] 0 0).1 in
+    subst (λ (all : List Automaton). IsKnown names all t.shares) (sym can) (tt, texts)
 
-pub none_opened : (names : NameTable) (bytes : List ℕ) (e : CertError) → {sa : Shared} → sa ≡ nothing_shared → IsStoppedWhere IsUnopened names (length bytes) (Items.opening ∷ []) bytes sa (told e) → (t : CertificateCause × ℕ) → told e ≡ Some t → (o : Opening) (end : ℕ) → IsOpened names bytes o end → ⊥
-none_opened names bytes e fresh s t q o end h = unopened names bytes t (subst (IsStoppedWhere IsUnopened names (length bytes) (Items.opening ∷ []) bytes nothing_shared) q (subst (λ (z : Shared). IsStoppedWhere IsUnopened names (length bytes) (Items.opening ∷ []) bytes z (told e)) fresh s) (omega arith)) o end h
+-- what is plain behind steps
+plain_behind : (v : Version) (shared : List Automaton) (steps : Option (List Simplification)) (c : Certificate) → IsUnsimplified c → CanStep v shared steps → IsPlainBy v shared c → IsPlainBy v shared (certificate_behind steps c)
+plain_behind v shared None c u h p = p
+plain_behind first_version shared (Some ss) c u h p = let e = h.0 in absurd cc
+plain_behind second_version shared (Some ss) c u h p = (u, h.1, p)
 
-peak_on : (names : NameTable) (bytes b r : List ℕ) (sa sb sc : Shared) → sa ≡ nothing_shared → (given : Option Bool) (f : Naming → List Mark) (to : List Item) (s : Option CertError) (e : CertError) → ReadsOnWhere IsUnopened names (length bytes) (Items.opening ∷ []) (λ u. heading_marks given kinds.Peak) (start_line ∷ []) bytes b sa sb None s → ReadsOn names (length bytes) (start_line ∷ []) f to b r sb sc s (Some e)
-    → (t : CertificateCause × ℕ) → told e ≡ Some t → (o : Opening) (end : ℕ) → IsOpened names bytes o end → ⊥
-peak_on names bytes b r sa sb sc fresh given f to None e h p t q o end i = no_end names bytes b given (start_line ∷ []) h end (openings_end names bytes o end i)
-peak_on names bytes b r sa sb sc fresh given f to (Some d) e h p t q o end i = none_opened names bytes d fresh h t (sym p ∙ q) o end i
+plain_opening : (v : Version) (shared : List Automaton) (steps : Option (List Simplification)) (o : Opening) → IsUnsimplified (certificate_for o []) → CanStep v shared steps → IsPlainBy v shared (certificate_for o []) → IsPlainBy v shared (certificate_for (opening_behind steps o) [])
+plain_opening v shared None o u h p = plain_behind v shared None (certificate_for o []) u h p
+plain_opening v shared (Some ss) o u h p = plain_behind v shared (Some ss) (certificate_for o []) u h p
 
-pub none_at_peak : (names : NameTable) (bytes : List ℕ) (given : Option Bool) (f : Naming → List Mark) (to : List Item) (s t u : Reading) (e : CertError) → s.left.now ≡ bytes → s.shares ≡ nothing_shared → s.refused ≡ None → u.refused ≡ Some e → ReadsWhere IsUnopened names (length bytes) (Items.opening ∷ []) (λ u. heading_marks given kinds.Peak) (start_line ∷ []) s t → Reads names (length bytes) (start_line ∷ []) f to t u
-    → (x : CertificateCause × ℕ) → told e ≡ Some x → (o : Opening) (end : ℕ) → IsOpened names bytes o end → ⊥
-none_at_peak names bytes given f to s t u e same fresh none some h p =
-    peak_on names bytes t.left.now u.left.now s.shares t.shares u.shares fresh given f to t.refused e
-    (subst (λ (x : List ℕ). ReadsOnWhere IsUnopened names (length bytes) (Items.opening ∷ []) (λ u. heading_marks given kinds.Peak) (start_line ∷ []) x t.left.now s.shares t.shares None t.refused) same (subst (λ (o : Option CertError). ReadsOnWhere IsUnopened names (length bytes) (Items.opening ∷ []) (λ u. heading_marks given kinds.Peak) (start_line ∷ []) s.left.now t.left.now s.shares t.shares o t.refused) none h.on))
-    (subst (λ (o : Option CertError). ReadsOn names (length bytes) (start_line ∷ []) f to t.left.now u.left.now t.shares u.shares t.refused o) some p.on)
+measure_end : (v : Version) (m : MeasureCertificate) → HasMeasure v m → EndsMeasure v (behind_measure v m)
+measure_end first_version m h = (_, refl)
+measure_end second_version (linear_measure es) h = inl (_, refl)
+measure_end second_version (precedence_measure order) h = inr (_, refl)
+
+module _ {names : NameTable} {bytes : List ℕ} {v : Version} {shared : List Automaton} {given : Option Bool} {steps : Option (List Simplification)} {further : List Mark} {items : List Item} {s : words.Reading} (b : IsBegun names bytes v shared given steps further items s) where
+  -- an opening that is read up to an item, with nothing refused
+  module _ {t : words.Reading} (o : Opening) (item : Item) (none : t.refused ≡ None) (was : s.refused ≡ None) (known : AreShared v names shared (length bytes) t) (simple : IsUnsimplified (certificate_for o [])) (plain : IsPlainBy v shared (certificate_for o [])) (h : ReadsWhere (WithinOpening v) names (length bytes) (Items.opening ∷ []) (λ u. read_marks u (uses_with v names shared) shared given (opening_behind steps o) []) (item ∷ []) b.start t) where
+    read_there : IsReadTo names bytes (opening_behind steps o) [] (place_of bytes t.left.now) v (drop t.shares.used shared) t.left.now
+    read_there = run_read v shared names bytes t.left.now given (opening_behind steps o) [] (item ∷ []) b.can_share (plain_opening v shared steps o simple (b.can_step was) plain) (b.plain_shared was) (run_of b none h)
+
+    pub up_to : IsNext v item 1 t.left.now → IsUpTo v shared names bytes t.left.now 0 t.shares
+    up_to next = record {
+      opening = opening_behind steps o;
+      entries = [];
+      given = given;
+      item = item;
+      read = read_there;
+      counted = refl;
+      can_share = b.can_share;
+      known = known_then v shared names bytes given (opening_behind steps o) (item ∷ []) t b.can_share known none (run_of b none h);
+      plain = plain_opening v shared steps o simple (b.can_step was) plain;
+      plain_shared = b.plain_shared was;
+      run = run_of b none h;
+      next = next;
+    }
+
+    pub opened_there : (q : Reading) → BeginsEntry t.left.now → q ≡ record { names = names; bytes = bytes; place = place_of bytes t.left.now } → IsOpenedAs names bytes (opened_behind steps (at_entries o q))
+    opened_there q begins e =
+        subst (λ (r : Reading). IsOpenedAs names bytes (opened_behind steps (at_entries o r))) (sym e)
+        (ready names bytes t.left.now steps o (record { read = read_there.read; begins = subst BeginsEntry (sym read_there.is_rest) begins }))
+
+  -- a peak that is read to the end
+  pub peak_there : {t : words.Reading} (p : Peak) → t.refused ≡ None → s.refused ≡ None → t.left.now ≡ [] → ApartUses v shared p.apart → {P : Place} → ReadsWhere P names (length bytes) (Items.opening ∷ []) (λ u. certificate_marks u (uses_with v names shared) shared given (certificate_behind steps (peak_certificate p))) [] b.start t
+      → IsOpenedAs names bytes (opened_behind steps (whole (peak_certificate p)))
+  peak_there {t} p none was ends plain h =
+      let c = peak_certificate p in
+      whole_there names bytes steps c
+      (whole_found v (certificate_behind steps c) names shared given bytes nothing_shared t.shares refl b.can_share (plain_behind v shared steps c tt (b.can_step was) plain) (b.plain_shared was)
+      (subst (λ (r : List ℕ). Run names (length bytes) (Items.opening ∷ []) (λ u. certificate_marks u (uses_with v names shared) shared given (certificate_behind steps c)) [] bytes r nothing_shared t.shares) ends (run_of b none h)))
+
+-- ---- by kinds
+
+abbrev pub line_of_kind : Option Bool → kinds_of.Kind → List Mark
+line_of_kind given kind = kind_mark given kind ∷ fixed (codes "\n") ∷ []
+
+module _ {names : NameTable} {bytes : List ℕ} {v : Version} {shared : List Automaton} {given : Option Bool} {steps : Option (List Simplification)} {s t : words.Reading} where
+  module _ (b : IsBegun names bytes v shared given steps (line_of_kind given kinds.Ortho) (pairs_from v 1 ∷ []) s) (h : ReadsWhere (WithinOpening v) names (length bytes) (pairs_from v 1 ∷ []) (λ u. []) (pairs_from v 1 ∷ []) s t) where
+    pub ortho_read : ReadsWhere (WithinOpening v) names (length bytes) (Items.opening ∷ []) (λ u. read_marks u (uses_with v names shared) shared given (opening_behind steps ortho_opening) []) (pairs_from v 1 ∷ []) b.start t
+    ortho_read = read_behind b ortho_opening (λ is q p. p v) (λ u. refl) h
+
+    pub ortho_up_to : t.refused ≡ None → IsUpTo v shared names bytes t.left.now 0 t.shares
+    ortho_up_to none = up_to b ortho_opening (pairs_from v 1) none (open_before_where h none) (known_where v shared h [] (counts_still [] tt) b.known) tt tt ortho_read (inl refl)
+
+    pub ortho_there : t.refused ≡ None → (q : Reading) → BeginsEntry t.left.now → q ≡ record { names = names; bytes = bytes; place = place_of bytes t.left.now } → IsOpenedAs names bytes (opened_behind steps (at_entries ortho_opening q))
+    ortho_there none q begins e = opened_there b ortho_opening (pairs_from v 1) none (open_before_where h none) (known_where v shared h [] (counts_still [] tt) b.known) tt tt ortho_read q begins e
+
+  module _ (m : MeasureCertificate) (b : IsBegun names bytes v shared given steps (line_of_kind given kinds.Quasi) (Items.measure v ∷ []) s) (h : ReadsWhere (WithinOpening v) names (length bytes) (Items.measure v ∷ []) (λ u. measure_marks u m) (behind_measure v m ∷ []) s t) where
+    pub quasi_read : ReadsWhere (WithinOpening v) names (length bytes) (Items.opening ∷ []) (λ u. read_marks u (uses_with v names shared) shared given (opening_behind steps (quasi_opening m)) []) (behind_measure v m ∷ []) b.start t
+    quasi_read = read_behind b (quasi_opening m) (λ is q p. p v) (λ u. ap (λ (ms : List Mark). kind_mark given kinds.Quasi ∷ fixed (codes "\n") ∷ ms) (sym (append-nil (measure_marks u m)))) h
+
+    quasi_known : AreShared v names shared (length bytes) t
+    quasi_known = known_where v shared h [] (counts_still (measure_marks (name_of names) m) (measure_still m (name_of names))) b.known
+
+    pub quasi_up_to : HasMeasure v m → t.refused ≡ None → BeginsEntry t.left.now → IsUpTo v shared names bytes t.left.now 0 t.shares
+    quasi_up_to has none begins = up_to b (quasi_opening m) (behind_measure v m) none (open_before_where h none) quasi_known tt (has, tt) quasi_read (inr (measure_end v m has, refl, begins))
+
+    pub quasi_there : HasMeasure v m → t.refused ≡ None → (q : Reading) → BeginsEntry t.left.now → q ≡ record { names = names; bytes = bytes; place = place_of bytes t.left.now } → IsOpenedAs names bytes (opened_behind steps (at_entries (quasi_opening m) q))
+    quasi_there has none q begins e = opened_there b (quasi_opening m) (behind_measure v m) none (open_before_where h none) quasi_known tt (has, tt) quasi_read q begins e
+
+  pub peak_read : (p : Peak) → (b : IsBegun names bytes v shared given steps (line_of_kind given kinds.Peak) (Items.start_line v ∷ []) s) → Reads names (length bytes) (Items.start_line v ∷ []) (λ u. peak_marks u (uses_with v names shared) p ++ closing) [] s t
+      → ReadsWhere Anywhere names (length bytes) (Items.opening ∷ []) (λ u. certificate_marks u (uses_with v names shared) shared given (certificate_behind steps (peak_certificate p))) [] b.start t
+  peak_read p b h = whole_behind b (peak_certificate p) (λ u. refl) h
+
+-- how uses are written
+pub measure_by : {names : NameTable} {end : ℕ} {s t : words.Reading} (m : MeasureCertificate) (w v : Version) → w ≡ v → ReadsWhere (WithinOpening w) names end (Items.measure w ∷ []) (λ u. measure_marks u m) (behind_measure w m ∷ []) s t → ReadsWhere (WithinOpening v) names end (Items.measure v ∷ []) (λ u. measure_marks u m) (behind_measure v m ∷ []) s t
+measure_by {names} {end} {s} {t} m w v e h = subst (λ (x : Version). ReadsWhere (WithinOpening x) names end (Items.measure x ∷ []) (λ u. measure_marks u m) (behind_measure x m ∷ []) s t) e h
+
+pub peak_by : {names : NameTable} {end : ℕ} {s t : words.Reading} (p : Peak) (w v : Version) (all shared : List Automaton) → w ≡ v → all ≡ shared → Reads names end (Items.start_line w ∷ []) (λ u. peak_marks u (uses_with w names all) p ++ closing) [] s t → Reads names end (Items.start_line v ∷ []) (λ u. peak_marks u (uses_with v names shared) p ++ closing) [] s t
+peak_by {names} {end} {s} {t} p w v all shared e q h =
+    subst (λ (x : List Automaton). Reads names end (Items.start_line v ∷ []) (λ u. peak_marks u (uses_with v names x) p ++ closing) [] s t) q
+    (subst (λ (x : Version). Reads names end (Items.start_line x ∷ []) (λ u. peak_marks u (uses_with x names all) p ++ closing) [] s t) e h)
+
+pub known_by : (names : NameTable) (end : ℕ) (s : words.Reading) (w v : Version) (all shared : List Automaton) → w ≡ v → all ≡ shared → AreShared v names shared end s → AreShared w names all end s
+known_by names end s w v all shared e q h = subst (λ (x : List Automaton). AreShared w names x end s) (sym q) (subst (λ (x : Version). AreShared x names shared end s) (sym e) h)
+
+pub apart_by : (a : Apartness) (w v : Version) (all shared : List Automaton) → w ≡ v → all ≡ shared → ApartUses w all a → ApartUses v shared a
+apart_by a w v all shared e q h = subst (λ (x : List Automaton). ApartUses v x a) q (subst (λ (x : Version). ApartUses x all a) e h)
+
+-- ---- from the first line on
+
+line_here : (second : Bool) (a : Bool) (given : Option Bool) {names : NameTable} {end : ℕ} {s t : words.Reading} → second ≡ a → ReadsWhere BeforeEntries names end (Items.opening ∷ []) (λ u. first_marks given second) (behind_version second given ∷ []) s t → ReadsWhere BeforeEntries names end (Items.opening ∷ []) (λ u. first_marks given a) (behind_version a given ∷ []) s t
+line_here second a given {names} {end} {s} {t} e h = subst (λ (x : Bool). ReadsWhere BeforeEntries names end (Items.opening ∷ []) (λ u. first_marks given x) (behind_version x given ∷ []) s t) e h
+
+-- a text of the first version, behind the word of its kind
+pub first_begun : {names : NameTable} {bytes : List ℕ} {given : Option Bool} {second : Bool} {s t u : words.Reading} (kind : kinds_of.Kind) → s.left.now ≡ bytes → s.shares ≡ nothing_shared → s.refused ≡ None → second ≡ false
+    → ReadsWhere BeforeEntries names (length bytes) (Items.opening ∷ []) (λ u. first_marks given second) (behind_version second given ∷ []) s t
+    → ReadsWhere BeforeEntries names (length bytes) (Items.body first_version given ∷ []) (λ u. kind_mark given kind ∷ []) (Items.between Items.line ∷ item_by first_version kind ∷ []) t u
+    → IsBegun names bytes first_version [] given None (kind_mark given kind ∷ []) (Items.between Items.line ∷ item_by first_version kind ∷ []) u
+first_begun {given = given} {second = second} {s = s} kind all fresh none is first next =
+    record { can_share = refl; start = s; all_left = all; fresh = fresh; not_refused = none; read = then_where (line_here second false given is first) next; known = tt; plain_shared = λ x. tt; can_step = λ x. tt }
+
+shared_front : (a h m : List Mark) (l : Mark) → h ≡ l ∷ m → (a ++ (l ∷ [])) ++ m ≡ (a ++ (h ++ [])) ++ []
+shared_front a h m l e = append_assoc a (l ∷ []) m ∙ ap (λ (z : List Mark). a ++ z) (sym e ∙ sym (append-nil h)) ∙ sym (append-nil (a ++ (h ++ [])))
+
+-- a text of the second version, behind its shared automata
+pub second_begun : {names : NameTable} {bytes : List ℕ} {given : Option Bool} {second : Bool} {s t u : words.Reading} (all : List Automaton) → s.left.now ≡ bytes → s.shares ≡ nothing_shared → s.refused ≡ None → second ≡ true
+    → ReadsWhere BeforeEntries names (length bytes) (Items.opening ∷ []) (λ u. first_marks given second) (behind_version second given ∷ []) s t
+    → ReadsWhere BeforeEntries names (length bytes) (Items.shared_line given ∷ []) (λ u. shared_marks u all) (Items.simplified given ∷ []) t u
+    → (AreShared second_version names [] (length bytes) t → AreShared second_version names all (length bytes) u) → (u.refused ≡ None → ArePlainAutomata all) → IsBegun names bytes second_version all given None [] (Items.simplified given ∷ []) u
+second_begun {names} {bytes} {given} {second} {s} {t} {u} all begins fresh none is line shared known plain =
+    let before : AreShared second_version names [] (length bytes) s = λ x. ((let long = ap length begins in omega (arith, long)), (tt, ap (λ (z : Shared). z.texts) fresh)) in
+    record {
+      can_share = tt;
+      start = s;
+      all_left = begins;
+      fresh = fresh;
+      not_refused = none;
+      read = as_marks_where (λ r x. shared_front (answer_marks given) (heading_marks x (uses_with second_version names all) all) (shared_marks x all) (fixed (codes "concon 2\n")) refl) (then_where (line_here second true given is line) shared);
+      known = known (known_where second_version [] line [] (counts_still (first_marks given second) (first_still given second)) before);
+      plain_shared = plain;
+      can_step = λ r. tt;
+    }
+
+-- ---- steps before the body
+
+pub word_begun : {names : NameTable} {bytes : List ℕ} {v : Version} {shared : List Automaton} {given : Option Bool} {items : List Item} {s t : words.Reading} (kind : kinds_of.Kind) → IsBegun names bytes v shared given None [] items s
+    → ReadsWhere BeforeEntries names (length bytes) items (λ u. kind_mark given kind ∷ []) (Items.between Items.line ∷ item_by v kind ∷ []) s t → IsBegun names bytes v shared given None (kind_mark given kind ∷ []) (Items.between Items.line ∷ item_by v kind ∷ []) t
+word_begun {v = v} {given = given} kind b h = begun_on (kind_mark given kind ∷ []) (Items.between Items.line ∷ item_by v kind ∷ []) b (kind_still given kind) h
+
+steps_front : (a h s k : List Mark) → ((a ++ (h ++ [])) ++ []) ++ (s ++ k) ≡ (a ++ (h ++ s)) ++ k
+steps_front a h s k =
+    ap (λ (z : List Mark). z ++ (s ++ k)) (append-nil (a ++ (h ++ [])) ∙ ap (λ (z : List Mark). a ++ z) (append-nil h)) ∙ append_assoc a h (s ++ k)
+    ∙ sym (append_assoc a (h ++ s) k ∙ ap (λ (z : List Mark). a ++ z) (append_assoc h s k))
+
+abbrev pub count_marks : ℕ → List Mark
+count_marks n = word (numeral n) (in_range 0 1 (suc largest) n ∷ is_few simplifications n ∷ []) ∷ fixed (codes "\n") ∷ []
+
+body_low : (given : Option Bool) (i : Item) (m : List Item) (q : List ℕ) → BeforeEntries (i ∷ (m ++ Items.body second_version given ∷ [])) q
+body_low given i m q = λ w. low_unopened w (Items.body second_version given) (λ h. let e = h.1 in cc) i m q
+
+pub steps_begin : {names : NameTable} {bytes : List ℕ} {shared : List Automaton} {given : Option Bool} {s s1 s2 s3 t : words.Reading} (n : ℕ) (ss : List Simplification) (kind : kinds_of.Kind) → IsBegun names bytes second_version shared given None [] (Items.simplified given ∷ []) s
+    → ReadsWhere BeforeEntries names (length bytes) (Items.simplified given ∷ []) (λ u. fixed (codes "simplify ") ∷ []) (Items.simplification_count ∷ Items.body second_version given ∷ []) s s1
+    → Reads names (length bytes) (Items.simplification_count ∷ []) (λ u. count_marks n) (Items.simplifications_of n) s1 s2
+    → Reads names (length bytes) (Items.simplifications_of n) (λ u. simplifications_marks u (by_number (number_in names shared)) ss) [] s2 s3
+    → (s3.refused ≡ None → length ss ≡ n) → (s3.refused ≡ None → StepsUse second_version shared ss) → AreShared second_version names shared (length bytes) s3
+    → ReadsWhere BeforeEntries names (length bytes) (Items.body second_version given ∷ []) (λ u. kind_mark given kind ∷ []) (Items.between Items.line ∷ item_by second_version kind ∷ []) s3 t
+    → IsBegun names bytes second_version shared given (Some ss) (kind_mark given kind ∷ []) (Items.between Items.line ∷ item_by second_version kind ∷ []) t
+steps_begin {names} {bytes} {shared} {given} {s} {s1} {s2} {s3} {t} n ss kind b first count steps counted plain known next =
+    let low = Items.body second_version given in
+    let was : t.refused ≡ None → s.refused ≡ None = λ none. open_before_where first (open_before count (open_before steps (open_before_where next none))) in
+    record {
+      can_share = tt;
+      start = b.start;
+      all_left = b.all_left;
+      fresh = b.fresh;
+      not_refused = b.not_refused;
+      read = as_marks_where (λ none u.
+          ap (λ (k : ℕ). ((answer_marks given ++ (heading_marks u (by_number (number_in names shared)) shared ++ [])) ++ []) ++ (fixed (codes "simplify ") ∷ (count_marks k ++ (simplifications_marks u (by_number (number_in names shared)) ss ++ (kind_mark given kind ∷ [])))))
+          (sym (counted (open_before_where next none)))
+          ∙ steps_front (answer_marks given) (heading_marks u (by_number (number_in names shared)) shared) (steps_marks u (by_number (number_in names shared)) (Some ss)) (kind_mark given kind ∷ []))
+          (then_where b.read (then_where first (then_where (low_where low (body_low given) count) (then_where (low_where low (body_low given) steps) next))));
+      known = known_where second_version shared next [] (counts_still (kind_mark given kind ∷ []) (kind_still given kind)) known;
+      plain_shared = λ none. b.plain_shared (was none);
+      can_step = λ none. (refl, plain (open_before_where next none));
+    }
+
+-- the same of automata that are the shared ones
+pub steps_begin_by : {names : NameTable} {bytes : List ℕ} {shared : List Automaton} {given : Option Bool} {s s1 s2 s3 t : words.Reading} (all : List Automaton) (n : ℕ) (ss : List Simplification) (kind : kinds_of.Kind) → all ≡ shared → IsBegun names bytes second_version shared given None [] (Items.simplified given ∷ []) s
+    → ReadsWhere BeforeEntries names (length bytes) (Items.simplified given ∷ []) (λ u. fixed (codes "simplify ") ∷ []) (Items.simplification_count ∷ Items.body second_version given ∷ []) s s1
+    → Reads names (length bytes) (Items.simplification_count ∷ []) (λ u. count_marks n) (Items.simplifications_of n) s1 s2
+    → Reads names (length bytes) (Items.simplifications_of n) (λ u. simplifications_marks u (by_number (number_in names all)) ss) [] s2 s3
+    → (s3.refused ≡ None → length ss ≡ n) → (s3.refused ≡ None → StepsUse second_version all ss) → AreShared second_version names all (length bytes) s3
+    → ReadsWhere BeforeEntries names (length bytes) (Items.body second_version given ∷ []) (λ u. kind_mark given kind ∷ []) (Items.between Items.line ∷ item_by second_version kind ∷ []) s3 t
+    → IsBegun names bytes second_version shared given (Some ss) (kind_mark given kind ∷ []) (Items.between Items.line ∷ item_by second_version kind ∷ []) t
+steps_begin_by {names} {bytes} {shared} {given} {s} {s1} {s2} {s3} {t} all n ss kind e b first count steps counted plain known next =
+    steps_begin n ss kind b first count
+    (subst (λ (x : List Automaton). Reads names (length bytes) (Items.simplifications_of n) (λ u. simplifications_marks u (by_number (number_in names x)) ss) [] s2 s3) e steps)
+    counted (subst (λ (x : List Automaton). s3.refused ≡ None → StepsUse second_version x ss) e plain) (subst (λ (x : List Automaton). AreShared second_version names x (length bytes) s3) e known) next
+
+-- the shared automata are known where the steps begin
+pub known_at_steps : {names : NameTable} {bytes : List ℕ} {shared : List Automaton} {given : Option Bool} {s s1 s2 : words.Reading} (n : ℕ) → IsBegun names bytes second_version shared given None [] (Items.simplified given ∷ []) s
+    → ReadsWhere BeforeEntries names (length bytes) (Items.simplified given ∷ []) (λ u. fixed (codes "simplify ") ∷ []) (Items.simplification_count ∷ Items.body second_version given ∷ []) s s1
+    → Reads names (length bytes) (Items.simplification_count ∷ []) (λ u. count_marks n) (Items.simplifications_of n) s1 s2 → AreShared second_version names shared (length bytes) s2
+known_at_steps {shared = shared} n b first count = known_behind second_version shared count [] (counts_still (count_marks n) (tt, (tt, tt))) (known_where second_version shared first [] (counts_still (fixed (codes "simplify ") ∷ []) (tt, tt)) b.known)

@@ -1,3 +1,4 @@
 pub mod Reading
 pub mod ReadingView
 pub mod OpenedText
+pub mod Front

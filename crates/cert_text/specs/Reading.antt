@@ -4,9 +4,8 @@ use Rattle.certificates.specs.Certificates as math
 use Rattle.certificates.specs.Certificates.{Certificate}
 use Rattle.cops_names.specs.NameTable.{NameTable}
 use Rattle.cert_model.specs.declared.model.PairEntry.{PairEntry}
-use Rattle.cert_grammar.specs.FirstVersion.{IsCertificateText}
-use Rattle.cert_openings.specs.Openings.{Opening, certificate_for}
-use Rattle.cert_openings.specs.FirstOpenings.{IsRead}
+use Rattle.cert_grammar.specs.CertificateText.{IsCertificateText}
+use Rattle.cert_openings.specs.Openings.{Opening, certificate_for, IsRead}
 use Rattle.cert_words.specs.declared.error.CertError.{CertError}
 use Rattle.cert_words.specs.Words.{told}
 

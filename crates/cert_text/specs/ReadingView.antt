@@ -1,18 +1,23 @@
 -- The reading that a `Pairs` stands for.
-use Rattle.std.specs.Prelude.{◌≡◌, ◌⊎◌, ◌-◌, ℕ, suc, Bool, List, [], ◌∷◌, ◌++◌, length, Option, codes}
+use Rattle.std.specs.Prelude.{◌≡◌, ◌⊎◌, ◌-◌, ℕ, suc, Bool, List, [], ◌∷◌, ◌++◌, length, map, drop, Option, Some, None, Vec}
+use Rattle.std.specs.Global.{Global}
+use Rattle.certificates.specs.Evidence as math
 use Rattle.certificates.specs.Certificates.{PairEntry}
 use Rattle.cops_names.specs.NameTable.{NameTable}
-use Rattle.cert_grammar.specs.Marks.{Naming, Mark, fixed}
-use Rattle.cert_grammar.specs.CertificateMarks.{answer_marks}
-use Rattle.cert_grammar.specs.FirstVersion.{body_marks, pairs_from, entries_from}
+use Rattle.cert_model.specs.declared.evidence.Automaton.{Automaton}
+use Rattle.cert_model.specs.EvidenceView.{automaton_view}
+use Rattle.cert_grammar.specs.Marks.{Naming, Mark}
+use Rattle.cert_grammar.specs.CertificateMarks.{answer_marks, heading_marks, body_marks}
 use Rattle.cert_grammar.specs.Items as Items
-use Rattle.cert_grammar.specs.Items.{Item}
-use Rattle.cert_grammar.specs.Versions.{first_version, HasMeasure}
-use Rattle.cert_grammar.specs.Sharing.{nothing_shared}
-use Rattle.cert_openings.specs.Openings.{Opening, ortho_opening, quasi_opening, simplified_opening, certificate_for, BeginsEntry}
-use Rattle.cert_openings.specs.FirstOpenings.{IsRead}
+use Rattle.cert_grammar.specs.Items.{Item, pairs_from, entries_from, heads_from}
+use Rattle.cert_grammar.specs.Versions.{Version, first_version, second_version, Uses}
+use Rattle.cert_grammar.specs.Sharing.{Shared, nothing_shared}
+use Rattle.cert_openings.specs.Openings.{Opening, certificate_for, uses_with, BeginsEntry}
+use Rattle.cert_openings.specs.Laws.{IsReadTo}
 use Rattle.cert_words.specs.Walks.{Run}
-use Rattle.cert_reading.specs.Plain.{ArePlainPairs}
+use Rattle.cert_reading.specs.Plain.{IsPlainBy}
+use Rattle.cert_reading.specs.Shared.{IsKnown, ArePlainAutomata}
+use Rattle.cert_reading.specs.Whole.{CanShare}
 use Rattle.cert_text.specs.Reading.{Reading}
 use Rattle.cert_text.specs.declared.pairs.Pairs.TheInside.{Inside}
 
@@ -21,34 +26,44 @@ abbrev pub place_of : List ℕ → List ℕ → ℕ
 place_of bytes left = length bytes - length left
 
 abbrev pub reading_view : Inside → Reading
-reading_view p = record { names = p.names.now; bytes = p.bytes.now; place = place_of p.bytes.now p.left.now }
+reading_view p = record { names = p.names.now; bytes = p.bytes.now; place = place_of p.bytes.now p.at.left.now }
+
+-- the version, and the shared automata of the second one
+abbrev pub version_with : Option (Vec Automaton Global) → Version
+version_with None = first_version
+version_with (Some automata) = second_version
+
+abbrev pub shared_in : Option (Vec Automaton Global) → List math.Automaton
+shared_in None = []
+shared_in (Some automata) = map automaton_view automata.items
+
+-- an item of a measure at which it may end
+abbrev pub EndsMeasure : Version → Item → Type 0
+EndsMeasure first_version item = (k : ℕ) × (item ≡ entries_from first_version k)
+EndsMeasure second_version item = ((k : ℕ) × (item ≡ entries_from second_version k)) ⊎ ((k : ℕ) × (item ≡ heads_from k))
 
 -- what the text goes on with: an overlap with this number; or, behind a measure, the first
-abbrev pub IsNext : Item → ℕ → List ℕ → Type 0
-IsNext item n left = (item ≡ pairs_from n) ⊎ ((k : ℕ) × (item ≡ entries_from k) × (n ≡ 1) × BeginsEntry left)
+abbrev pub IsNext : Version → Item → ℕ → List ℕ → Type 0
+IsNext v item n left = (item ≡ pairs_from v n) ⊎ (EndsMeasure v item × (n ≡ 1) × BeginsEntry left)
 
 -- the marks of an opening and of entries, behind this answer
-abbrev pub read_marks : Naming → Option Bool → Opening → List PairEntry → List Mark
-read_marks names given o es = answer_marks given ++ (fixed (codes "concon 1\n") ∷ body_marks names given (certificate_for o es))
+abbrev pub read_marks : Naming → Uses → List math.Automaton → Option Bool → Opening → List PairEntry → List Mark
+read_marks names uses shared given o es = answer_marks given ++ (heading_marks names uses shared ++ body_marks names uses given (certificate_for o es))
 
--- an opening of the first version
-abbrev pub IsFirst : Opening → Type 0
-IsFirst ortho_opening = Unit {0}
-IsFirst (quasi_opening m) = HasMeasure first_version m
-IsFirst (simplified_opening steps o) = ⊥
-
--- an opening and so many entries are read up to the bytes that are left, along their marks
-pub record IsUpTo (names : NameTable) (bytes left : List ℕ) (count : ℕ) : Type 0 where
+-- an opening and so many entries are read up to the bytes that are left, along their marks, and this is known of the shared automata
+pub record IsUpTo (v : Version) (shared : List math.Automaton) (names : NameTable) (bytes left : List ℕ) (count : ℕ) (now : Shared) : Type 0 where
   pub opening : Opening
   pub entries : List PairEntry
   pub given : Option Bool
   pub item : Item
-  pub read : IsRead names bytes opening entries (place_of bytes left)
-  pub rest : read.rest ≡ left
+  pub read : IsReadTo names bytes opening entries (place_of bytes left) v (drop now.used shared) left
   pub counted : length entries ≡ count
-  pub plain : ArePlainPairs entries
-  pub run : Run names (length bytes) (Items.opening ∷ []) (λ u. read_marks u given opening entries) (item ∷ []) bytes left nothing_shared nothing_shared
-  pub next : IsNext item (suc count) left
+  pub can_share : CanShare v shared
+  pub known : IsKnown names shared now
+  pub plain : IsPlainBy v shared (certificate_for opening entries)
+  pub plain_shared : ArePlainAutomata shared
+  pub run : Run names (length bytes) (Items.opening ∷ []) (λ u. read_marks u (uses_with v names shared) shared given opening entries) (item ∷ []) bytes left nothing_shared now
+  pub next : IsNext v item (suc count) left
 
 abbrev pub IsHeld : Inside → Type 0
-IsHeld p = IsUpTo p.names.now p.bytes.now p.left.now p.count
+IsHeld p = (p.at.refused ≡ None) × IsUpTo (version_with p.automata) (shared_in p.automata) p.names.now p.bytes.now p.at.left.now p.count p.at.shares

@@ -1,19 +1,26 @@
 //! Reads the text of a certificate up to its entries.
 
-ghost use Rattle.std.specs.Prelude.{◌≡◌, None, IfOk, IfErr};
-ghost use Rattle.cert_grammar.specs.FirstVersion.{second_at};
+ghost use Rattle.std.specs.Prelude.{[], ◌∷◌, None, map, IfOk, IfErr};
+ghost use Rattle.cert_model.specs.EvidenceView.{automaton_view};
+ghost use Rattle.cert_grammar.specs.Versions.{second_version};
+ghost use Rattle.cert_grammar.specs.Items as spec;
 ghost use Rattle.cert_words.specs.CertRefusals.{IsRefusedAs};
-ghost use Rattle.cert_text.specs.OpenedText.{IsOpenedAs, IsRefusedBehind, IsToldBefore, HasNoEndAtPeak};
+ghost use Rattle.cert_text.specs.ReadingView.{version_with, shared_in};
+ghost use Rattle.cert_text.specs.Front.{opened_behind, IsBegun, BeginsBody};
+ghost use Rattle.cert_text.specs.OpenedText.{opened_view, IsOpenedAs, IsRefusedBehind, IsToldBefore, HasNoEndAtWhole};
 
-use crate::pairs::Pairs;
-use cert_model::{MeasureCert, Peak};
-use cert_reading::{Kind, entries_begin, heading, measure, peak, second_version};
+use crate::pairs::{Pairs, uses_of};
+use cert_model::{Automaton, MeasureCert, Peak, Simp};
+use cert_reading::{
+    Kind, all_simplifications, entries_begin, first_line, kind_word, measure, peak,
+    shared_automata, simplified_word,
+};
 use cert_shares::Shares;
-use cert_words::{CertError, Reading};
+use cert_words::{CertError, Reading, counted_steps, text};
 use cops_names::Names;
 use std::alloc::Global;
 
-/// A certificate whose text is read up to its entries; a peak, which has none, is whole.
+/// A text that is read up to its entries; a peak, which has none, is whole.
 #[derive(Drop)]
 pub enum Opened<'a> {
     /// Of an almost orthogonal system.
@@ -22,6 +29,8 @@ pub enum Opened<'a> {
     Quasi(MeasureCert, Pairs<'a>),
     /// Of a system that is not confluent.
     Peak(Peak),
+    /// Behind steps that simplify the system, which are not simplified again.
+    Simplified(Vec<Simp>, Box<Opened<'a>>),
 }
 
 /// Reads a text up to its entries, a peak to its end; else its refusal.
@@ -30,26 +39,11 @@ pub fn open_cert<'a>(
     names: &'a Names,
     bytes: &'a [u8],
 ) -> Result<Opened<'a>, CertError>
-    ensures opened { IfOk result (IsOpenedAs names.now bytes.now) }
+    ensures opened { IfOk result (λ o. IsOpenedAs names.now bytes.now (opened_view o)) }
     ensures refused { IfErr result (λ e. IsRefusedAs names.now bytes.now e) }
-    ensures late { IfOk result (IsRefusedBehind names.now bytes.now) }
+    ensures late { IfOk result (λ o. IsRefusedBehind names.now bytes.now (opened_view o)) }
     ensures early { IfErr result (IsToldBefore bytes.now) }
-    ensures peak { IfOk result (HasNoEndAtPeak bytes.now) }
-{
-    match second_version(bytes) {
-        Some(at) => Err(CertError::CertSyntax { at }),
-        None => open_first(alloc, names, bytes),
-    }
-}
-
-// The same of a text that is not of the second version.
-fn open_first<'a>(alloc: Global, names: &'a Names, bytes: &'a [u8]) -> Result<Opened<'a>, CertError>
-    requires { second_at bytes.now ≡ None }
-    ensures opened { IfOk result (IsOpenedAs names.now bytes.now) }
-    ensures refused { IfErr result (λ e. IsRefusedAs names.now bytes.now e) }
-    ensures late { IfOk result (IsRefusedBehind names.now bytes.now) }
-    ensures early { IfErr result (IsToldBefore bytes.now) }
-    ensures peak { IfOk result (HasNoEndAtPeak bytes.now) }
+    ensures peak { IfOk result (λ o. HasNoEndAtWhole bytes.now (opened_view o)) }
 {
     let end = bytes.len();
     let shares = Shares::new(alloc);
@@ -58,24 +52,81 @@ fn open_first<'a>(alloc: Global, names: &'a Names, bytes: &'a [u8]) -> Result<Op
         refused: None,
         shares,
     };
-    let (_, kind) = heading(end, &mut at);
+    let (given, second) = first_line(end, &mut at);
+    if second {
+        let automata = shared_automata(alloc, names, end, &mut at);
+        return open_second(alloc, names, bytes, automata, at, given);
+    }
+    let kind = kind_word(end, &mut at, given);
+    open_body(alloc, names, bytes, None, at, kind)
+}
+
+// The rest of a text of the second version, behind its shared automata.
+fn open_second<'a>(
+    alloc: Global,
+    names: &'a Names,
+    bytes: &'a [u8],
+    automata: Vec<Automaton>,
+    at: Reading<'a>,
+    given: Option<bool>,
+) -> Result<Opened<'a>, CertError>
+    requires { IsBegun names.now bytes.now second_version (map automaton_view automata.items) given None [] (spec.simplified given ∷ []) at }
+    ensures opened { IfOk result (λ o. IsOpenedAs names.now bytes.now (opened_view o)) }
+    ensures refused { IfErr result (λ e. IsRefusedAs names.now bytes.now e) }
+    ensures early { IfErr result (IsToldBefore bytes.now) }
+    ensures peak { IfOk result (λ o. HasNoEndAtWhole bytes.now (opened_view o)) }
+{
+    let end = bytes.len();
+    let mut at = at;
+    if let Some(kind) = simplified_word(end, &mut at, given) {
+        return open_body(alloc, names, bytes, Some(automata), at, kind);
+    }
+    let count = counted_steps(end, &mut at);
+    text(end, &mut at, b"\n");
+    let steps = all_simplifications(alloc, names, &automata, end, &mut at, count);
+    let kind = kind_word(end, &mut at, given);
+    let body = open_body(alloc, names, bytes, Some(automata), at, kind)?;
+    match Box::new(alloc, body) {
+        Ok(body) => Ok(Opened::Simplified(steps, body)),
+        Err(_) => Err(CertError::NoMemory),
+    }
+}
+
+// The rest of a text behind the word of its kind.
+fn open_body<'a>(
+    alloc: Global,
+    names: &'a Names,
+    bytes: &'a [u8],
+    automata: Option<Vec<Automaton>>,
+    at: Reading<'a>,
+    kind: Kind,
+) -> Result<Opened<'a>, CertError>
+    requires { BeginsBody names.now bytes.now (version_with automata) (shared_in automata) kind at }
+    ensures opened { (begun : BeginsBody names.now bytes.now (version_with automata) (shared_in automata) kind at.entry) → IfOk result (λ o. IsOpenedAs names.now bytes.now (opened_behind begun.steps (opened_view o))) }
+    ensures refused { IfErr result (λ e. IsRefusedAs names.now bytes.now e) }
+    ensures early { IfErr result (IsToldBefore bytes.now) }
+    ensures peak { IfOk result (λ o. HasNoEndAtWhole bytes.now (opened_view o)) }
+{
+    let end = bytes.len();
+    let mut at = at;
+    text(end, &mut at, b"\n");
     match kind {
         Kind::Ortho => {
             entries_begin(end, &mut at);
             match at.refused {
                 Some(refused) => Err(refused),
-                None => Ok(Opened::Ortho(Pairs::behind(names, bytes, at.left))),
+                None => Ok(Opened::Ortho(Pairs::behind(names, bytes, automata, at))),
             }
         }
         Kind::Quasi => {
-            let measure = measure(alloc, names, end, &mut at);
+            let measure = measure(alloc, names, uses_of(&automata), end, &mut at);
             match at.refused {
                 Some(refused) => Err(refused),
-                None => Ok(Opened::Quasi(measure, Pairs::behind(names, bytes, at.left))),
+                None => Ok(Opened::Quasi(measure, Pairs::behind(names, bytes, automata, at))),
             }
         }
         Kind::Peak => {
-            let peak = peak(alloc, names, end, &mut at);
+            let peak = peak(alloc, names, uses_of(&automata), end, &mut at);
             if let Some(refused) = at.refused {
                 return Err(refused);
             }

@@ -3,16 +3,15 @@
 ghost use Rattle.std.specs.Prelude.{◌≡◌, ◌++◌, ℕ, List, [], ◌∷◌, IfOk, IfErr, IfSome, IfNone};
 ghost use Rattle.certificates.specs.Certificates as math;
 ghost use Rattle.cert_model.specs.CertificateView.{pair_entry_view};
-ghost use Rattle.cert_openings.specs.Openings.{Opening};
-ghost use Rattle.cert_openings.specs.FirstOpenings.{IsRead};
+ghost use Rattle.cert_openings.specs.Openings.{Opening, IsRead};
 ghost use Rattle.cert_words.specs.CertRefusals.{IsRefusedAs};
-ghost use Rattle.cert_text.specs.Reading.{Reading, HasRead, IsAll, ReadsOn, IsAtEnd, HasTextOf, GivesNone, GivesSome, StaysWithout};
-ghost use Rattle.cert_text.specs.ReadingView.{place_of, IsUpTo};
+ghost use Rattle.cert_reading.specs.Uses.{version_by, automata_by};
+ghost use Rattle.cert_text.specs.Reading.{HasRead, IsAll, ReadsOn, IsAtEnd, HasTextOf, GivesNone, GivesSome, StaysWithout};
+ghost use Rattle.cert_text.specs.ReadingView.{place_of, version_with, shared_in, IsUpTo};
 
-use cert_model::PairEntry;
-use cert_reading::next_pair;
-use cert_shares::Shares;
-use cert_words::CertError;
+use cert_model::{Automaton, PairEntry};
+use cert_reading::{Uses, next_pair};
+use cert_words::{CertError, Reading};
 use cops_names::Names;
 use std::alloc::Global;
 use std::marker::Model;
@@ -23,8 +22,11 @@ use std::marker::Model;
 pub struct Pairs<'a> {
     names: &'a Names,
     bytes: &'a [u8],
-    left: &'a [u8],
+    // What is left; nothing of it is refused yet.
+    at: Reading<'a>,
     count: u32,
+    // None in the first version, which has none.
+    automata: Option<Vec<Automaton>>,
 }
 
 impl<'a> Model for Pairs<'a> {
@@ -39,17 +41,38 @@ impl<'a> Model for Pairs<'a> {
     ghost invariant = { IsHeld };
 }
 
+// How uses are written.
+pub(crate) fn uses_of(automata: &Option<Vec<Automaton>>) -> Uses<'_>
+    ensures version { version_by result ≡ version_with automata.now }
+    ensures automata { automata_by result ≡ shared_in automata.now }
+{
+    match automata {
+        Some(automata) => Uses::ByNumber(automata),
+        None => Uses::InFull,
+    }
+}
+
 impl<'a> Pairs<'a> {
     // The entries behind an opening.
-    pub(crate) fn behind(names: &'a Names, bytes: &'a [u8], left: &'a [u8]) -> Pairs<'a>
-        requires { IsUpTo names.now bytes.now left.now 0 }
-        ensures { result ≡ record { names = names.now; bytes = bytes.now; place = place_of bytes.now left.now } }
+    pub(crate) fn behind(
+        names: &'a Names,
+        bytes: &'a [u8],
+        automata: Option<Vec<Automaton>>,
+        at: Reading<'a>,
+    ) -> Pairs<'a>
+        requires { IsUpTo (version_with automata) (shared_in automata) names.now bytes.now at.left.now 0 at.shares }
+        ensures { result ≡ record { names = names.now; bytes = bytes.now; place = place_of bytes.now at.entry.left.now } }
     {
         Pairs {
             names,
             bytes,
-            left,
+            at: Reading {
+                left: at.left,
+                refused: None,
+                shares: at.shares,
+            },
             count: 0,
+            automata,
         }
     }
 
@@ -66,26 +89,32 @@ impl<'a> Pairs<'a> {
         ensures text { HasTextOf self.old self.new }
     {
         let end = self.bytes.len();
-        let shares = Shares::new(alloc);
-        let mut at = cert_words::Reading {
-            left: self.left,
-            refused: None,
-            shares,
-        };
-        let found = next_pair(alloc, self.names, end, &mut at, self.count as usize + 1);
-        if let Some(refused) = at.refused {
+        let left = self.at.left;
+        let known = self.at.shares.so_far();
+        let uses = uses_of(&self.automata);
+        let number = self.count as usize + 1;
+        let found = next_pair(alloc, self.names, uses, end, &mut self.at, number);
+        if let Some(refused) = self.at.refused.take() {
+            self.at.left = left;
+            self.at.shares.go_back(known);
             return Err(refused);
         }
         match found {
             Some(entry) => {
-                self.left = at.left;
                 self.count += 1;
                 Ok(Some(entry))
             }
-            None if at.left.is_empty() => Ok(None),
-            None => Err(CertError::CertSyntax {
-                at: end.saturating_sub(at.left.len()),
-            }),
+            None => {
+                let more = self.at.left.len();
+                self.at.left = left;
+                self.at.shares.go_back(known);
+                if more == 0 {
+                    return Ok(None);
+                }
+                Err(CertError::CertSyntax {
+                    at: end.saturating_sub(more),
+                })
+            }
         }
     }
 }

@@ -1,34 +1,22 @@
 //! Reads the text of a certificate whole.
 
-ghost use Rattle.std.specs.Prelude.{◌≡◌, ℕ, List, None, IfOk, IfErr};
+ghost use Rattle.std.specs.Prelude.{◌≡◌, ℕ, List, IfOk, IfErr};
 ghost use Rattle.certificates.specs.Certificates as math;
 ghost use Rattle.cops_names.specs.NameTable.{NameTable};
 ghost use Rattle.cert_model.specs.CertificateView.{certificate_view};
-ghost use Rattle.cert_grammar.specs.FirstVersion.{IsCertificateText, second_at};
+ghost use Rattle.cert_grammar.specs.CertificateText.{IsCertificateText};
 ghost use Rattle.cert_words.specs.CertRefusals.{IsRefusedAs};
 
 use cert_model::Certificate;
-use cert_reading::{certificate, second_version};
+use cert_reading::certificate;
 use cert_shares::Shares;
 use cert_words::{CertError, Reading};
 use cops_names::Names;
 use std::alloc::Global;
 
-/// The certificate that the bytes are the text of, with its answer line or without one; else why there is
-/// none, and at which place.
+/// The certificate that the bytes are the text of, in either version, with its answer line or without one; else why
+/// there is none, and at which place.
 pub fn read_cert(alloc: Global, names: &Names, bytes: &[u8]) -> Result<Certificate, CertError>
-    ensures found { IfOk result (λ c. IsCertificateText names.now bytes.now (certificate_view c)) }
-    ensures refused { IfErr result (λ e. IsRefusedAs names.now bytes.now e) }
-{
-    match second_version(bytes) {
-        Some(at) => Err(CertError::CertSyntax { at }),
-        None => read_first(alloc, names, bytes),
-    }
-}
-
-// The same of a text that is not of the second version.
-fn read_first(alloc: Global, names: &Names, bytes: &[u8]) -> Result<Certificate, CertError>
-    requires { second_at bytes.now ≡ None }
     ensures found { IfOk result (λ c. IsCertificateText names.now bytes.now (certificate_view c)) }
     ensures refused { IfErr result (λ e. IsRefusedAs names.now bytes.now e) }
 {

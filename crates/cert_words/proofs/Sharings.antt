@@ -1,8 +1,8 @@
 -- Words at which shared automata are judged.
-use Rattle.std.proofs.Common.{◌≡◌, ◌≤◌, ◌<◌, ◌+◌, ◌-◌, max, nat_le, nat_lt, ℕ, suc, Bool, true, false, not, cond, ◌&&◌, List, [], ◌∷◌, ◌++◌, length, take, Option, Some, None, refl, sym, ap, ◌∙◌, subst, arith, length-append}
+use Rattle.std.proofs.Common.{◌≡◌, ◌≤◌, ◌-◌, nat_le, nat_lt, ℕ, suc, Bool, true, false, not, cond, ◌&&◌, List, [], ◌∷◌, ◌++◌, length, take, Option, Some, None, refl, sym, ap, ◌∙◌, subst, arith, length-append}
 use Rattle.cops_names.specs.NameTable.{NameTable}
 use Rattle.cert_grammar.specs.Words.{largest, name_of}
-use Rattle.cert_grammar.specs.Marks.{CertificateCause, bad_share, too_many, unfolded, Share, automaton_begins, automaton_ends, is_use, is_light, all_used, Demand, shares, Naming, Mark, word, closed, demands_of, marks_text, verdict}
+use Rattle.cert_grammar.specs.Marks.{CertificateCause, bad_share, too_many, unfolded, automaton_begins, automaton_ends, is_use, is_light, all_used, Demand, shares, Naming, Mark, word, closed, marks_text, verdict}
 use Rattle.cert_grammar.specs.WordMarks.{numeral}
 use Rattle.cert_grammar.specs.CertificateMarks.{use_mark}
 use Rattle.cert_grammar.specs.Scans.{value}
@@ -16,9 +16,9 @@ use Rattle.cert_sharing.proofs.UseMarks.{behind_both, pass_join, alone_met}
 use Rattle.cert_words.specs.declared.error.CertError.{CertError}
 use Rattle.cert_words.specs.declared.reading.Reading.{Reading}
 use Rattle.cert_words.specs.Words.{IsLeadRead, told}
-use Rattle.cert_words.specs.Walks.{left_at, Walks, tagged, AreFound, Keeps, Run, RefusesAt, IsStuckAt, IsStopped, Reads, BeginsAnew}
-use Rattle.cert_words.proofs.Walking.{walks_then, walks_shorter, same_begun, found_then, went, stopped, open_before, read_run}
-use Rattle.cert_words.proofs.Stepping.{first_one, one_walk, keyword_keeps, number_keeps, shared_stop, in_range_then}
+use Rattle.cert_words.specs.Walks.{left_at, tagged, Keeps, Run, RefusesAt, IsStuckAt, IsStopped, IsFront, Reads, BeginsAnew, IsStuckBehind}
+use Rattle.cert_words.proofs.Walking.{walks_then, walks_shorter, same_begun, found_then, front_same, front_then, went, stopped, open_before, read_run}
+use Rattle.cert_words.proofs.Stepping.{first_one, one_walk, number_keeps, shared_stop, in_range_then}
 use Rattle.cert_words.proofs.Whole.{walks_text}
 
 -- ---- the first word of an automaton, and the last line
@@ -67,7 +67,7 @@ module _ (names : NameTable) (end : ℕ) (s : Reading) (i : Item) (v : List ℕ)
   pub use_read : (t : Reading) → leads i ≡ use_lead new ∷ [] → s.refused ≡ None → t.refused ≡ None → IsLeadRead (numeral_lead (λ k. []) (λ k. [])) s.left.now v t.left.now → (n ≡ value v) × ((nat_le 0 (value v) && nat_lt (value v) (suc largest)) ≡ true)
       → (holds s.shares (is_use n) ≡ true) × (holds s.shares (is_light n) ≡ true) × (t.shares ≡ share_effect (is_light n) (share_effect (is_use n) s.shares))
       → Reads names end (i ∷ []) (λ u. use_mark n ∷ []) (new n) s t
-  use_read t e q r h k m = went q r (number_keeps names end s.left.now s.shares i use_demands new v t.left.now n (use_first e h.there) h k.0 (use_met names (value v) n k.0 k.1) t.shares (use_keeps (numeral n) n s.shares t.shares m.0 m.1 m.2))
+  use_read t e q r h k m = went q r (front_same s.shares.texts t.shares.texts (ap (λ (z : Shared). z.texts) m.2)) (number_keeps names end s.left.now s.shares i use_demands new v t.left.now n (use_first e h.there) h k.0 (use_met names (value v) n k.0 k.1) t.shares (use_keeps (numeral n) n s.shares t.shares m.0 m.1 m.2))
 
   out : (x : CertificateCause × ℕ) (rest : List ℕ) → leads i ≡ use_lead new ∷ [] → IsLeadRead (numeral_lead (λ k. []) (λ k. [])) s.left.now v rest → (n ≡ value v) × ((nat_le 0 (value v) && nat_lt (value v) (suc largest)) ≡ true)
       → ((b : List ℕ) → share_verdict (with_begun b s.shares) (end - length s.left.now) (use_demands n) ≡ Some x) → IsStuckAt names end i s.left.now s.shares (Some x)
@@ -97,6 +97,14 @@ is_again v w e f = sym e ∙ f
 with_new_text : (text : List ℕ) (s : Shared) → is_among text s.texts ≡ false → behind_end text s ≡ record { texts = s.texts ++ text ∷ []; begun = s.begun; used = s.used; unfolds_to = s.unfolds_to }
 with_new_text text s e = ap (λ (v : Bool). record { texts = cond {A = List (List ℕ)} v s.texts (s.texts ++ text ∷ []); begun = s.begun; used = s.used; unfolds_to = s.unfolds_to }) e
 
+front_if : (v : Bool) (text : List ℕ) (ts : List (List ℕ)) → IsFront ts (cond {A = List (List ℕ)} v ts (ts ++ text ∷ []))
+front_if true text ts = front_same ts ts refl
+front_if false text ts = (text ∷ [], refl)
+
+-- texts that stand there stay in front of one that ends
+pub front_ended : (text : List ℕ) (s t : Shared) → t ≡ behind_end text s → IsFront s.texts t.texts
+front_ended text s t e = subst (λ (z : Shared). IsFront s.texts z.texts) (sym e) (front_if (is_among text s.texts) text s.texts)
+
 module _ (names : NameTable) (end : ℕ) (from : List Item) (f : Naming → List Mark) (i : Item) (new : List Item) (a s : Reading) where
   abbrev done : List Mark
   done = f (name_of names)
@@ -122,7 +130,7 @@ module _ (names : NameTable) (end : ℕ) (from : List Item) (f : Naming → List
   pub end_read : (text : List ℕ) (t : Reading) (good : Bool) → leads i ≡ at_once (shares automaton_ends) new ∷ [] → s.refused ≡ None → t.refused ≡ None → t.left.now ≡ s.left.now → text ≡ take (length a.left.now - length s.left.now) a.left.now → good ≡ holds (with_begun text s.shares) automaton_ends → good ≡ true → t.shares ≡ behind_end text s.shares → BeginsAnew done
       → Reads names end from f (i ∷ []) a s → Reads names end from (λ u. f u ++ closed (shares automaton_ends) ∷ []) new a t
   end_read text t good e none still left cut g kept known anew x =
-      went (open_before x none) still (subst (λ (r : List ℕ). Run names end from (λ u. f u ++ closed (shares automaton_ends) ∷ []) new a.left.now r a.shares t.shares) (sym left) (record {
+      went (open_before x none) still (front_then a.shares.texts s.shares.texts t.shares.texts x.front (front_ended text s.shares t.shares known)) (subst (λ (r : List ℕ). Run names end from (λ u. f u ++ closed (shares automaton_ends) ∷ []) new a.left.now r a.shares t.shares) (sym left) (record {
         walks = λ le items.
             let first = run.walks le items in
             let less = walks_shorter names done _ _ first in
@@ -144,26 +152,29 @@ module _ (names : NameTable) (end : ℕ) (from : List Item) (f : Naming → List
       run : Run names end from f (i ∷ []) a.left.now s.left.now a.shares s.shares
       run = read_run none x
 
-  pub end_stopped : (text : List ℕ) (t : Reading) (good : Bool) (e : CertError) (at : ℕ) → leads i ≡ at_once (shares automaton_ends) new ∷ [] → s.refused ≡ None → t.refused ≡ Some e → told e ≡ Some (bad_share, at) → at ≡ end - length a.left.now → text ≡ take (length a.left.now - length s.left.now) a.left.now → good ≡ holds (with_begun text s.shares) automaton_ends → good ≡ false → BeginsAnew done
-      → Reads names end from f (i ∷ []) a s → Reads names end from (λ u. f u ++ closed (shares automaton_ends) ∷ []) new a t
-  end_stopped text t good e at is_end none some tells place cut g missed anew x =
-      stopped e (open_before x none) some (subst (IsStopped names end from a.left.now a.shares) (sym tells) (λ le items.
-      let first = run.walks le items in
+  pub end_stuck : (text : List ℕ) (good : Bool) (at : ℕ) → leads i ≡ at_once (shares automaton_ends) new ∷ [] → s.refused ≡ None → at ≡ end - length a.left.now → text ≡ take (length a.left.now - length s.left.now) a.left.now → good ≡ holds (with_begun text s.shares) automaton_ends → good ≡ false → BeginsAnew done
+      → Reads names end from f (i ∷ []) a s → IsStuckBehind names end i done a.left.now s.left.now a.shares (Some (bad_share, at))
+  end_stuck text good at is_end none place cut g missed anew x = λ le items b.
       let is = text_is text run le cut in
       let long = ap length (since run le) ∙ length-append (marks_text done) s.left.now in
       let there : (end - length s.left.now) - length (marks_text done) ≡ at = omega (arith, long, place) in
-      record {
+      subst (λ (z : Shared). RefusesAt names (left_at end (i ∷ items) s.left.now) z (bad_share, at)) (sym (behind_all run le anew b))
+      (shared_stop names end s.left.now s.shares i (at_once (shares automaton_ends) new) [] s.left.now (bad_share, at) items (with_begun (marks_text done) s.shares) (record { first = first_is is_end; word = refl; rest = refl; within = omega arith }) refl
+      (alone_missed (not (is_among (marks_text done) s.shares.texts)) (bad_share, (end - length s.left.now) - length (marks_text done)) (subst (λ (w : List ℕ). not (is_among w s.shares.texts) ≡ false) is (is_again good (is_among text s.shares.texts) g missed)) ∙ ap (λ (k : ℕ). Some (bad_share, k)) there))
+    where
+      run : Run names end from f (i ∷ []) a.left.now s.left.now a.shares s.shares
+      run = read_run none x
+
+  pub end_stopped : (text : List ℕ) (t : Reading) (good : Bool) (e : CertError) (at : ℕ) → leads i ≡ at_once (shares automaton_ends) new ∷ [] → s.refused ≡ None → t.refused ≡ Some e → told e ≡ Some (bad_share, at) → at ≡ end - length a.left.now → text ≡ take (length a.left.now - length s.left.now) a.left.now → good ≡ holds (with_begun text s.shares) automaton_ends → good ≡ false → t.shares ≡ behind_end text s.shares → BeginsAnew done
+      → Reads names end from f (i ∷ []) a s → Reads names end from (λ u. f u ++ closed (shares automaton_ends) ∷ []) new a t
+  end_stopped text t good e at is_end none some tells place cut g missed known anew x =
+      stopped e (open_before x none) some (front_then a.shares.texts s.shares.texts t.shares.texts x.front (front_ended text s.shares t.shares known)) (subst (IsStopped names end from a.left.now a.shares) (sym tells) (λ le items. record {
         marks = done;
         item = i;
         more = [];
         rest = s.left.now;
-        walks = first;
-        stops = λ b. (
-          (run.shares le b).0,
-          subst (λ (z : Shared). RefusesAt names (left_at end (i ∷ items) s.left.now) z (bad_share, at)) (sym (behind_all run le anew b))
-              (shared_stop names end s.left.now s.shares i (at_once (shares automaton_ends) new) [] s.left.now (bad_share, at) items (with_begun (marks_text done) s.shares) (record { first = first_is is_end; word = refl; rest = refl; within = omega arith }) refl
-              (alone_missed (not (is_among (marks_text done) s.shares.texts)) (bad_share, (end - length s.left.now) - length (marks_text done)) (subst (λ (w : List ℕ). not (is_among w s.shares.texts) ≡ false) is (is_again good (is_among text s.shares.texts) g missed)) ∙ ap (λ (k : ℕ). Some (bad_share, k)) there)),
-        );
+        walks = run.walks le items;
+        stops = λ b. ((run.shares le b).0, end_stuck text good at is_end none place cut g missed anew x le items b);
       }))
     where
       run : Run names end from f (i ∷ []) a.left.now s.left.now a.shares s.shares

@@ -25,7 +25,7 @@ use Rattle.cert_words.specs.declared.reading.Reading.{Reading}
 use Rattle.cert_words.specs.Words.{IsLeadRead, told, IsTold, counted_view}
 use Rattle.cert_words.specs.Nodes.{IsBarNumber}
 use Rattle.cert_words.specs.Walks.{left_at, Walks, tagged, AreFound, Keeps, Run, RefusesAt, IsStuckAt, IsStopped, Reads}
-use Rattle.cert_words.proofs.Walking.{went, stopped}
+use Rattle.cert_words.proofs.Walking.{front_same, went, stopped}
 
 same_left : (m n : ℕ) (s t : List Item) (b c : List ℕ) → m ≡ n → s ≡ t → b ≡ c → ◌≡◌ {A = Left} (record { at = m; items = s; bytes = b }) (record { at = n; items = t; bytes = c })
 same_left m n s t b c p q r = cc
@@ -246,10 +246,10 @@ module _ (names : NameTable) (end : ℕ) (bytes : List ℕ) (s : Shared) (i : It
 
 module _ {names : NameTable} {end : ℕ} {from to : List Item} {marks : Naming → List Mark} {s : Reading} where
   pub go : (rest : Bor (List ℕ)) → s.refused ≡ None → Run names end from marks to s.left.now rest.now s.shares s.shares → Reads names end from marks to s (record { left = rest; refused = s.refused; shares = s.shares })
-  go rest e r = went e e r
+  go rest e r = went e e (front_same s.shares.texts s.shares.texts refl) r
 
   pub stay_here : s.refused ≡ None → Run names end from marks to s.left.now s.left.now s.shares s.shares → Reads names end from marks to s s
-  stay_here e r = went e e r
+  stay_here e r = went e e (front_same s.shares.texts s.shares.texts refl) r
 
 -- a refusal at the first item
 pub stuck_stops : (names : NameTable) (end : ℕ) (i : Item) (bytes : List ℕ) (s : Shared) (t : Option (CertificateCause × ℕ)) → IsStuckAt names end i bytes s t → IsStopped names end (i ∷ []) bytes s t
@@ -257,7 +257,7 @@ stuck_stops names end i bytes s None h = tt
 stuck_stops names end i bytes s (Some e) h = λ le items. record { marks = []; item = i; more = []; rest = bytes; walks = refl; stops = λ b. (tt, h items b) }
 
 pub stop : {names : NameTable} {end : ℕ} {i : Item} {to : List Item} {marks : Naming → List Mark} {s : Reading} (e : CertError) → s.refused ≡ None → IsStuckAt names end i s.left.now s.shares (told e) → Reads names end (i ∷ []) marks to s (record { left = s.left; refused = Some e; shares = s.shares })
-stop {names} {end} {i} {to} {marks} {s} e q h = stopped e q refl (stuck_stops names end i s.left.now s.shares (told e) h)
+stop {names} {end} {i} {to} {marks} {s} e q h = stopped e q refl (front_same s.shares.texts s.shares.texts refl) (stuck_stops names end i s.left.now s.shares (told e) h)
 
 -- ---- demands that are met, or not
 

@@ -5,7 +5,7 @@ use Rattle.cops_names.specs.NameTable.{NameTable}
 use Rattle.cert_grammar.specs.Words.{name_of}
 use Rattle.cert_grammar.specs.Marks.{CertificateCause, Naming, Mark, fixed, word, symbol, behind, closed, demands_of}
 use Rattle.cert_grammar.specs.Items.{Item, Lead}
-use Rattle.cert_grammar.specs.FirstRefusal.{taken, Left, goes_on, behind_lead, judged, step, step_lead, step_items}
+use Rattle.cert_grammar.specs.FirstRefusal.{taken, Left, goes_on, behind_lead, judged, step_lead, step_items}
 use Rattle.cert_grammar.specs.Sharing.{Shared, share_verdict, behind_mark, behind_marks, PassShares}
 use Rattle.cert_grammar.specs.SharedReader.{next_lead, further, shared_judged, behind_lead_shared, after_step, shared_step}
 use Rattle.cert_shares.specs.SharesView.{with_begun}
@@ -14,7 +14,7 @@ use Rattle.cert_sharing.proofs.OneShared.{shares_anywhere}
 use Rattle.cert_words.specs.declared.error.CertError.{CertError}
 use Rattle.cert_words.specs.declared.reading.Reading.{Reading}
 use Rattle.cert_words.specs.Words.{told}
-use Rattle.cert_words.specs.Walks.{left_at, StepsOver, Walks, tagged, AreFound, Keeps, Run, RefusesAt, IsStopped, ReadsOn, Reads}
+use Rattle.cert_words.specs.Walks.{left_at, StepsOver, Walks, tagged, AreFound, Keeps, Run, RefusesAt, IsStopped, ReadsOn, IsFront, Reads}
 
 pub walks_then : (names : NameTable) (ms ns : List Mark) (l k j : Left) → Walks names ms l k → Walks names ns k j → Walks names (ms ++ ns) l j
 walks_then names [] ns l k j w v = subst (λ (x : Left). Walks names ns x j) (sym w) v
@@ -153,35 +153,42 @@ module _ (names : NameTable) (end : ℕ) where
   stays_on from to f b x None e q = absurd cc
   stays_on from to f b x (Some d) e q = refl
 
+-- texts of shared automata in front of others
+pub front_same : (s t : List (List ℕ)) → t ≡ s → IsFront s t
+front_same s t e = ([], e ∙ sym (append-nil s))
+
+pub front_then : (s t u : List (List ℕ)) → IsFront s t → IsFront t u → IsFront s u
+front_then s t u x y = (x.0 ++ y.0, y.1 ∙ ap (λ (w : List (List ℕ)). w ++ y.0) x.1 ∙ append_assoc s x.0 y.0)
+
 -- a part behind another
 pub then_reads : {names : NameTable} {end : ℕ} {from mid to : List Item} {f g : Naming → List Mark} {s t u : Reading} → Reads names end from f mid s t → Reads names end mid g to t u → Reads names end from (λ v. f v ++ g v) to s u
-then_reads {names} {end} {from} {mid} {to} {f} {g} {s} {t} {u} x y = record { on = reads_on names end from mid to f g s.left.now t.left.now u.left.now s.shares t.shares u.shares s.refused t.refused u.refused x.on y.on }
+then_reads {names} {end} {from} {mid} {to} {f} {g} {s} {t} {u} x y = record { front = front_then s.shares.texts t.shares.texts u.shares.texts x.front y.front; on = reads_on names end from mid to f g s.left.now t.left.now u.left.now s.shares t.shares u.shares s.refused t.refused u.refused x.on y.on }
 
 -- items that stand behind all that is read
 pub framed : {names : NameTable} {end : ℕ} {from to : List Item} {f : Naming → List Mark} {s t : Reading} (more : List Item) → Reads names end from f to s t → Reads names end (from ++ more) f (to ++ more) s t
-framed {names} {end} {from} {to} {f} {s} {t} more x = record { on = framed_on names end from to more f s.left.now t.left.now s.shares t.shares s.refused t.refused x.on }
+framed {names} {end} {from} {to} {f} {s} {t} more x = record { front = x.front; on = framed_on names end from to more f s.left.now t.left.now s.shares t.shares s.refused t.refused x.on }
 
 -- where the text is refused nothing is said of a value
 pub already : {names : NameTable} {end : ℕ} {from to other : List Item} {f g : Naming → List Mark} {s t : Reading} (e : CertError) → t.refused ≡ Some e → Reads names end from f to s t → Reads names end from g other s t
-already {names} {end} {from} {to} {other} {f} {g} {s} {t} e q x = record { on = any_on names end from to other f g s.left.now t.left.now s.shares t.shares s.refused t.refused e q x.on }
+already {names} {end} {from} {to} {other} {f} {g} {s} {t} e q x = record { front = x.front; on = any_on names end from to other f g s.left.now t.left.now s.shares t.shares s.refused t.refused e q x.on }
 
 nothing_on : (names : NameTable) (end : ℕ) (from : List Item) (b : List ℕ) (x : Shared) (r : Option CertError) → ReadsOn names end from (λ u. []) from b b x x r r
 nothing_on names end from b x None = record { walks = λ le items. refl; found = tt; shares = λ le k. (tt, refl) }
 nothing_on names end from b x (Some e) = refl
 
 pub reads_nothing : {names : NameTable} {end : ℕ} {from : List Item} {s : Reading} → Reads names end from (λ u. []) from s s
-reads_nothing {names} {end} {from} {s} = record { on = nothing_on names end from s.left.now s.shares s.refused }
+reads_nothing {names} {end} {from} {s} = record { front = front_same s.shares.texts s.shares.texts refl; on = nothing_on names end from s.left.now s.shares s.refused }
 
 -- what is refused stays so
 pub stays : {names : NameTable} {end : ℕ} {from to : List Item} {f : Naming → List Mark} {s : Reading} (e : CertError) → s.refused ≡ Some e → Reads names end from f to s s
-stays {names} {end} {from} {to} {f} {s} e q = record { on = stays_on names end from to f s.left.now s.shares s.refused e q }
+stays {names} {end} {from} {to} {f} {s} e q = record { front = front_same s.shares.texts s.shares.texts refl; on = stays_on names end from to f s.left.now s.shares s.refused e q }
 
 -- what is read, or refused, where nothing was refused
-pub went : {names : NameTable} {end : ℕ} {from to : List Item} {f : Naming → List Mark} {s t : Reading} → s.refused ≡ None → t.refused ≡ None → Run names end from f to s.left.now t.left.now s.shares t.shares → Reads names end from f to s t
-went {names} {end} {from} {to} {f} {s} {t} e g r = record { on = subst (λ (x : Option CertError). ReadsOn names end from f to s.left.now t.left.now s.shares t.shares x t.refused) (sym e) (subst (ReadsOn names end from f to s.left.now t.left.now s.shares t.shares None) (sym g) r) }
+pub went : {names : NameTable} {end : ℕ} {from to : List Item} {f : Naming → List Mark} {s t : Reading} → s.refused ≡ None → t.refused ≡ None → IsFront s.shares.texts t.shares.texts → Run names end from f to s.left.now t.left.now s.shares t.shares → Reads names end from f to s t
+went {names} {end} {from} {to} {f} {s} {t} e g k r = record { front = k; on = subst (λ (x : Option CertError). ReadsOn names end from f to s.left.now t.left.now s.shares t.shares x t.refused) (sym e) (subst (ReadsOn names end from f to s.left.now t.left.now s.shares t.shares None) (sym g) r) }
 
-pub stopped : {names : NameTable} {end : ℕ} {from to : List Item} {f : Naming → List Mark} {s t : Reading} (e : CertError) → s.refused ≡ None → t.refused ≡ Some e → IsStopped names end from s.left.now s.shares (told e) → Reads names end from f to s t
-stopped {names} {end} {from} {to} {f} {s} {t} e g h r = record { on = subst (λ (x : Option CertError). ReadsOn names end from f to s.left.now t.left.now s.shares t.shares x t.refused) (sym g) (subst (ReadsOn names end from f to s.left.now t.left.now s.shares t.shares None) (sym h) r) }
+pub stopped : {names : NameTable} {end : ℕ} {from to : List Item} {f : Naming → List Mark} {s t : Reading} (e : CertError) → s.refused ≡ None → t.refused ≡ Some e → IsFront s.shares.texts t.shares.texts → IsStopped names end from s.left.now s.shares (told e) → Reads names end from f to s t
+stopped {names} {end} {from} {to} {f} {s} {t} e g h k r = record { front = k; on = subst (λ (x : Option CertError). ReadsOn names end from f to s.left.now t.left.now s.shares t.shares x t.refused) (sym g) (subst (ReadsOn names end from f to s.left.now t.left.now s.shares t.shares None) (sym h) r) }
 
 as_on : (names : NameTable) (end : ℕ) (from to other : List Item) (f g : Naming → List Mark) (b r : List ℕ) (x y : Shared) (s t : Option CertError) → ((t ≡ None) → (to ≡ other) × ((u : Naming) → f u ≡ g u)) → ReadsOn names end from f to b r x y s t → ReadsOn names end from g other b r x y s t
 as_on names end from to other f g b r x y None None e h =
@@ -197,7 +204,7 @@ as_on names end from to other f g b r x y (Some c) (Some d) e h = h
 
 -- other marks and items, where they are the same if nothing is refused
 pub as_reads : {names : NameTable} {end : ℕ} {from to other : List Item} {f g : Naming → List Mark} {s t : Reading} → ((t.refused ≡ None) → (to ≡ other) × ((u : Naming) → f u ≡ g u)) → Reads names end from f to s t → Reads names end from g other s t
-as_reads {names} {end} {from} {to} {other} {f} {g} {s} {t} e x = record { on = as_on names end from to other f g s.left.now t.left.now s.shares t.shares s.refused t.refused e x.on }
+as_reads {names} {end} {from} {to} {other} {f} {g} {s} {t} e x = record { front = x.front; on = as_on names end from to other f g s.left.now t.left.now s.shares t.shares s.refused t.refused e x.on }
 
 -- other marks
 pub as_marks : {names : NameTable} {end : ℕ} {from to : List Item} {f g : Naming → List Mark} {s t : Reading} → ((t.refused ≡ None) → (u : Naming) → f u ≡ g u) → Reads names end from f to s t → Reads names end from g to s t
@@ -221,6 +228,10 @@ run_on : (names : NameTable) (end : ℕ) (from to : List Item) (f : Naming → L
 run_on names end from to f b r x y None None e h = h
 run_on names end from to f b r x y (Some d) None e h = absurd h
 run_on names end from to f b r x y s (Some d) e h = absurd cc
+
+-- texts of shared automata that stand there stay in front
+pub read_front : {names : NameTable} {end : ℕ} {from to : List Item} {f : Naming → List Mark} {s t : Reading} → Reads names end from f to s t → IsFront s.shares.texts t.shares.texts
+read_front x = x.front
 
 pub read_run : {names : NameTable} {end : ℕ} {from to : List Item} {f : Naming → List Mark} {s t : Reading} → t.refused ≡ None → Reads names end from f to s t → Run names end from f to s.left.now t.left.now s.shares t.shares
 read_run {names} {end} {from} {to} {f} {s} {t} e x = run_on names end from to f s.left.now t.left.now s.shares t.shares s.refused t.refused e x.on

@@ -1,6 +1,5 @@
 -- A text that is read whole, or refused.
 use Rattle.std.proofs.Common.{◌≡◌, ◌-◌, ℕ, List, [], ◌∷◌, ◌++◌, length, drop, Option, Some, None, refl, sym, ap, ◌∙◌, subst, arith, append_assoc}
-use Rattle.std.proofs.lemmas.List.{append-nil}
 use Rattle.cops_names.specs.NameTable.{NameTable}
 use Rattle.cert_grammar.specs.Marks.{CertificateCause, Mark, mark_text, marks_text, demands_of, verdict}
 use Rattle.cert_grammar.specs.Refusals.{Pass, IsCertificateRefused}
@@ -11,7 +10,7 @@ use Rattle.cert_laws.proofs.Paths.{first_sound}
 use Rattle.cert_laws.proofs.FirstRefusals.{move_text}
 use Rattle.cert_sharing.proofs.ExactShared.{At, IsSharedStepOf, shared_step_is}
 use Rattle.cert_grammar.specs.Sharing.{Shared, nothing_shared, behind_mark, behind_marks, PassShares}
-use Rattle.cert_words.specs.Walks.{left_at, StepsOver, Walks, Run, RefusesAt}
+use Rattle.cert_words.specs.Walks.{left_at, StepsOver, Walks, RefusesAt}
 use Rattle.cert_words.proofs.Walking.{goes_where, step_on}
 
 -- what the marks spell

@@ -74,6 +74,11 @@ abbrev pub IsStuckAt : NameTable → ℕ → Item → List ℕ → Shared → Op
 IsStuckAt names end i bytes s None = Unit {0}
 IsStuckAt names end i bytes s (Some e) = (items : List Item) (b : List ℕ) → RefusesAt names (left_at end (i ∷ items) bytes) (with_begun b s) e
 
+-- the same behind marks, which begin with these bytes
+abbrev pub IsStuckBehind : NameTable → ℕ → Item → List Mark → List ℕ → List ℕ → Shared → Option (CertificateCause × ℕ) → Type 0
+IsStuckBehind names end i marks begun bytes s None = Unit {0}
+IsStuckBehind names end i marks begun bytes s (Some e) = length begun ≤ end → (items : List Item) (b : List ℕ) → RefusesAt names (left_at end (i ∷ items) bytes) (behind_marks marks (with_begun b s)) e
+
 -- a refusal before the items behind these
 pub record StopsAt (names : NameTable) (end : ℕ) (from items : List Item) (bytes : List ℕ) (s : Shared) (e : CertificateCause × ℕ) : Type 0 where
   pub marks : List Mark
@@ -95,7 +100,12 @@ ReadsOn names end from marks to bytes rest s t (Some d) None = ⊥
 ReadsOn names end from marks to bytes rest s t None (Some e) = IsStopped names end from bytes s (told e)
 ReadsOn names end from marks to bytes rest s t (Some d) (Some e) = told e ≡ told d
 
+-- texts of shared automata stay in front of those that come
+abbrev pub IsFront : List (List ℕ) → List (List ℕ) → Type 0
+IsFront old new = (more : List (List ℕ)) × (new ≡ old ++ more)
+
 pub record Reads (names : NameTable) (end : ℕ) (from : List Item) (marks : Naming → List Mark) (to : List Item) (old new : Reading) : Type 0 where
+  pub front : IsFront old.shares.texts new.shares.texts
   pub on : ReadsOn names end from marks to old.left.now new.left.now old.shares new.shares old.refused new.refused
 
 -- the number that digits spell, where it is in a range

@@ -1,6 +1,6 @@
 //! The words at which shared automata are judged.
 
-ghost use Rattle.std.specs.Prelude.{◌≡◌, ◌++◌, ℕ, suc, List, [], ◌∷◌, None, length, true};
+ghost use Rattle.std.specs.Prelude.{◌≡◌, ◌++◌, ℕ, suc, List, [], ◌∷◌, None, length, true, IfSome};
 ghost use Rattle.cops_names.specs.NameTable.{NameTable};
 ghost use Rattle.cert_grammar.specs.Words.{name_of};
 ghost use Rattle.cert_grammar.specs.Marks.{Naming, Mark, word, closed, automaton_begins, automaton_ends, is_use, is_light, all_used, shares};
@@ -9,7 +9,8 @@ ghost use Rattle.cert_grammar.specs.Sharing.{holds, share_effect};
 ghost use Rattle.cert_grammar.specs.Items.{Item, leads, is_short};
 ghost use Rattle.cert_grammar.specs.Items as spec;
 ghost use Rattle.cert_words.specs.declared.reading.Reading as read;
-ghost use Rattle.cert_words.specs.Walks.{Reads, BeginsAnew};
+ghost use Rattle.cert_words.specs.Words.{told};
+ghost use Rattle.cert_words.specs.Walks.{Reads, IsStuckAt, BeginsAnew, IsStuckBehind};
 
 use crate::error::{CertCount, CertError};
 use crate::leads::{Lead, front, stuck};
@@ -19,7 +20,8 @@ use cert_shares::Share;
 
 /// The word with which an automaton begins.
 pub fn begins(end: usize, at: &mut Reading, bytes: &'static [u8])
-    ensures { (names : NameTable) (i : Item) (new : List Item) → leads i ≡ spec.keyword bytes.now (shares automaton_begins ∷ []) new ∷ [] → Reads names end (i ∷ []) (λ u. word bytes.now (shares automaton_begins ∷ []) ∷ []) new at.old at.new }
+    ensures read { (names : NameTable) (i : Item) (new : List Item) → leads i ≡ spec.keyword bytes.now (shares automaton_begins ∷ []) new ∷ [] → Reads names end (i ∷ []) (λ u. word bytes.now (shares automaton_begins ∷ []) ∷ []) new at.old at.new }
+    ensures here { at.old.refused ≡ None → (names : NameTable) (i : Item) (new : List Item) → leads i ≡ spec.keyword bytes.now (shares automaton_begins ∷ []) new ∷ [] → IfSome at.new.refused (λ e. IsStuckAt names end i at.old.left.now at.old.shares (told e)) }
 {
     if at.refused.is_some() {
         return;
@@ -87,7 +89,8 @@ pub fn used(end: usize, at: &mut Reading) -> u32
 
 /// The end of an automaton that began where these bytes were left: it differs from those before.
 pub fn ended<'a>(end: usize, at: &mut Reading<'a>, begun: &'a [u8])
-    ensures { (names : NameTable) (from : List Item) (f : Naming → List Mark) (i : Item) (new : List Item) (a : read.Reading) → a.left.now ≡ begun.now → BeginsAnew (f (name_of names)) → leads i ≡ spec.at_once (shares automaton_ends) new ∷ [] → Reads names end from f (i ∷ []) a at.old → Reads names end from (λ u. f u ++ closed (shares automaton_ends) ∷ []) new a at.new }
+    ensures read { (names : NameTable) (from : List Item) (f : Naming → List Mark) (i : Item) (new : List Item) (a : read.Reading) → a.left.now ≡ begun.now → BeginsAnew (f (name_of names)) → leads i ≡ spec.at_once (shares automaton_ends) new ∷ [] → Reads names end from f (i ∷ []) a at.old → Reads names end from (λ u. f u ++ closed (shares automaton_ends) ∷ []) new a at.new }
+    ensures here { at.old.refused ≡ None → (names : NameTable) (from : List Item) (f : Naming → List Mark) (i : Item) (new : List Item) (a : read.Reading) → a.left.now ≡ begun.now → BeginsAnew (f (name_of names)) → leads i ≡ spec.at_once (shares automaton_ends) new ∷ [] → Reads names end from f (i ∷ []) a at.old → IfSome at.new.refused (λ e. IsStuckBehind names end i (f (name_of names)) a.left.now at.old.left.now a.shares (told e)) }
 {
     if at.refused.is_some() {
         return;

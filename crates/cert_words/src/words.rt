@@ -27,7 +27,8 @@ pub(crate) fn place(end: usize, left: &[u8]) -> usize
 
 /// These bytes alone.
 pub fn text(end: usize, at: &mut Reading, bytes: &'static [u8])
-    ensures { (names : NameTable) (i : Item) (new : List Item) → leads i ≡ spec.text bytes.now new ∷ [] → Reads names end (i ∷ []) (λ u. fixed bytes.now ∷ []) new at.old at.new }
+    ensures read { (names : NameTable) (i : Item) (new : List Item) → leads i ≡ spec.text bytes.now new ∷ [] → Reads names end (i ∷ []) (λ u. fixed bytes.now ∷ []) new at.old at.new }
+    ensures here { at.old.refused ≡ None → (names : NameTable) (i : Item) (new : List Item) → leads i ≡ spec.text bytes.now new ∷ [] → IfSome at.new.refused (λ e. IsStuckAt names end i at.old.left.now at.old.shares (told e)) }
 {
     if at.refused.is_some() {
         return;
@@ -101,7 +102,8 @@ pub fn number(end: usize, at: &mut Reading, least: u32, bound: u64) -> u32
 
 /// A number that is at least the one, and tells how many follow.
 pub fn counted(end: usize, at: &mut Reading, least: u32, what: CertCount) -> u32
-    ensures { (names : NameTable) (i : Item) (new : ℕ → List Item) → leads i ≡ spec.numeral_lead (λ n. in_range 0 least (suc largest) n ∷ is_few (counted_view what) n ∷ []) new ∷ [] → Reads names end (i ∷ []) (λ u. word (numeral result) (in_range 0 least (suc largest) result ∷ is_few (counted_view what) result ∷ []) ∷ []) (new result) at.old at.new }
+    ensures read { (names : NameTable) (i : Item) (new : ℕ → List Item) → leads i ≡ spec.numeral_lead (λ n. in_range 0 least (suc largest) n ∷ is_few (counted_view what) n ∷ []) new ∷ [] → Reads names end (i ∷ []) (λ u. word (numeral result) (in_range 0 least (suc largest) result ∷ is_few (counted_view what) result ∷ []) ∷ []) (new result) at.old at.new }
+    ensures here { at.old.refused ≡ None → (names : NameTable) (i : Item) (new : ℕ → List Item) → leads i ≡ spec.numeral_lead (λ n. in_range 0 least (suc largest) n ∷ is_few (counted_view what) n ∷ []) new ∷ [] → IfSome at.new.refused (λ e. IsStuckAt names end i at.old.left.now at.old.shares (told e)) }
 {
     few(end, at, least, what, limit(what))
 }
@@ -121,7 +123,8 @@ pub fn counted_steps(end: usize, at: &mut Reading) -> u32
 
 // The same of what has this limit, and is told as that.
 fn few(end: usize, at: &mut Reading, least: u32, what: CertCount, most: usize) -> u32
-    ensures { (names : NameTable) (i : Item) (new : ℕ → List Item) (c : Counted) → counted_as c ≡ counted_view what → most_of c ≡ most → leads i ≡ spec.numeral_lead (λ n. in_range 0 least (suc largest) n ∷ is_few c n ∷ []) new ∷ [] → Reads names end (i ∷ []) (λ u. word (numeral result) (in_range 0 least (suc largest) result ∷ is_few c result ∷ []) ∷ []) (new result) at.old at.new }
+    ensures read { (names : NameTable) (i : Item) (new : ℕ → List Item) (c : Counted) → counted_as c ≡ counted_view what → most_of c ≡ most → leads i ≡ spec.numeral_lead (λ n. in_range 0 least (suc largest) n ∷ is_few c n ∷ []) new ∷ [] → Reads names end (i ∷ []) (λ u. word (numeral result) (in_range 0 least (suc largest) result ∷ is_few c result ∷ []) ∷ []) (new result) at.old at.new }
+    ensures here { at.old.refused ≡ None → (names : NameTable) (i : Item) (new : ℕ → List Item) (c : Counted) → counted_as c ≡ counted_view what → most_of c ≡ most → leads i ≡ spec.numeral_lead (λ n. in_range 0 least (suc largest) n ∷ is_few c n ∷ []) new ∷ [] → IfSome at.new.refused (λ e. IsStuckAt names end i at.old.left.now at.old.shares (told e)) }
 {
     if at.refused.is_some() {
         return 0;

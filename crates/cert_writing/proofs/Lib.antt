@@ -1,3 +1,4 @@
 pub mod Writing
 pub mod WritingSteps
 pub mod WritingBodies
+pub mod SharedTexts

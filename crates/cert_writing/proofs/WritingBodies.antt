@@ -2,10 +2,10 @@
 use Rattle.std.proofs.Common.{◌≡◌, List, ◌∷◌, ◌++◌, refl}
 use Rattle.certificates.specs.Certificates.{Simplification, dropped, inlined}
 use Rattle.cops_names.specs.NameTable.{NameTable}
-use Rattle.cert_grammar.specs.Versions.{in_full}
+use Rattle.cert_grammar.specs.Versions.{Uses}
 use Rattle.cert_grammar.specs.CertificateText.{simplifications_text}
 use Rattle.cert_writing.specs.WrittenParts.{step_text}
 
-pub steps_first : (names : NameTable) (s : Simplification) (ss : List Simplification) → simplifications_text names in_full (s ∷ ss) ≡ step_text names s ++ simplifications_text names in_full ss
-steps_first names (dropped rule e) ss = refl
-steps_first names (inlined rule condition) ss = refl
+pub steps_first : (names : NameTable) (uses : Uses) (s : Simplification) (ss : List Simplification) → simplifications_text names uses (s ∷ ss) ≡ step_text names uses s ++ simplifications_text names uses ss
+steps_first names uses (dropped rule e) ss = refl
+steps_first names uses (inlined rule condition) ss = refl

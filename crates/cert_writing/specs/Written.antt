@@ -18,6 +18,6 @@ pub record IsWritten (old : List ℕ) (was_refused : Bool) (text new : List ℕ)
 abbrev pub greatest : ℕ
 greatest = 18446744073709551615
 
--- a count that stops at the greatest
-abbrev pub IsCounted : ℕ → List ℕ → ℕ → Type 0
-IsCounted old text new = old ≤ greatest → new ≡ min (old + length text) greatest
+-- a count that stops at the greatest, unless memory was refused
+abbrev pub IsCounted : ℕ → Bool → List ℕ → ℕ → Bool → Type 0
+IsCounted old was_refused text new refused = refused ≡ false → (was_refused ≡ false) × (old ≤ greatest → new ≡ min (old + length text) greatest)

@@ -25,8 +25,8 @@ written_parts s sr t true u ur a b x y = record {
   ended = λ h. ((y.ended refl).0, (y.ended refl).1 ∙ (x.ended h).1);
 }
 
-pub counted_nothing : (n : ℕ) → IsCounted n [] n
-counted_nothing n = λ h. omega arith
+pub counted_nothing : (n : ℕ) (refused : Bool) → IsCounted n refused [] n refused
+counted_nothing n refused = λ r. (r, λ h. omega arith)
 
-pub counted_parts : (n m k : ℕ) (a b : List ℕ) → IsCounted n a m → IsCounted m b k → IsCounted n (a ++ b) k
-counted_parts n m k a b x y = λ h. let e = x h in let f = y (omega arith) in omega (arith, e, f, length-append a b)
+pub counted_parts : (n : ℕ) (nr : Bool) (m : ℕ) (mr : Bool) (k : ℕ) (kr : Bool) (a b : List ℕ) → IsCounted n nr a m mr → IsCounted m mr b k kr → IsCounted n nr (a ++ b) k kr
+counted_parts n nr m mr k kr a b x y = λ r. let q = y r in let p = x q.0 in (p.0, λ h. let e = p.1 h in let f = q.1 (omega (arith, e)) in omega (arith, e, f, length-append a b))

@@ -5,11 +5,12 @@ ghost use Rattle.cert_model.specs.DerivationView.{derivation_view};
 ghost use Rattle.cert_model.specs.EvidenceView.{inf_evidence_view};
 ghost use Rattle.cert_grammar.specs.Words.{term_text};
 ghost use Rattle.cert_grammar.specs.Steps.{derivation_text};
-ghost use Rattle.cert_grammar.specs.FirstVersion.{infeasibility_text};
+ghost use Rattle.cert_grammar.specs.Versions.{in_full};
+ghost use Rattle.cert_grammar.specs.EvidenceText.{infeasibility_text};
 ghost use Rattle.cert_writing.specs.Written.{GrewByFront};
 
 use crate::output::Writer;
-use crate::written_evidence::put_infeasibility;
+use crate::written_evidence::{Uses, put_infeasibility};
 use crate::written_steps::put_derivation;
 use crate::written_terms::put_term;
 use cert_model::{Derivation, InfEvidence};
@@ -80,10 +81,10 @@ pub fn write_inf(
     e: &InfEvidence,
     out: &mut Vec<u8>,
 ) -> Result<(), NoMemory>
-    ensures written { OnOk result (out.new.items ≡ out.old.items ++ infeasibility_text names.now (inf_evidence_view e.now)) }
-    ensures front { OnErr result (GrewByFront out.old.items (infeasibility_text names.now (inf_evidence_view e.now)) out.new.items) }
+    ensures written { OnOk result (out.new.items ≡ out.old.items ++ infeasibility_text names.now in_full (inf_evidence_view e.now)) }
+    ensures front { OnErr result (GrewByFront out.old.items (infeasibility_text names.now in_full (inf_evidence_view e.now)) out.new.items) }
 {
     let mut writer = begin(alloc, out);
-    put_infeasibility(&mut writer, names, e);
+    put_infeasibility(&mut writer, names, &Uses::InFull, e);
     finish(writer, out)
 }

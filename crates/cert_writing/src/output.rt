@@ -12,6 +12,10 @@ pub trait Output {
     fn put(&mut self, bytes: &[u8])
         ensures { took self.old bytes.now self.new };
 
+    /// Takes nothing more, since what was to come could not be made.
+    fn refuse(&mut self)
+        ensures { (text : List ℕ) → took self.old text self.new };
+
     /// To take no bytes changes nothing.
     ghost nothing: { (s : Self) → took s [] s };
 
@@ -41,26 +45,35 @@ impl Output for Writer {
             self.refused = self.bytes.extend_from_slice(bytes).is_err();
         }
     }
+
+    fn refuse(&mut self) {
+        self.refused = true;
+    }
 }
 
-/// Counts bytes, and stops at the greatest number.
+/// Counts bytes, and stops at the greatest number; the count says nothing where memory was refused.
 #[derive(Drop)]
 pub struct Counter {
     pub count: u64,
+    pub refused: bool,
 }
 
 impl Output for Counter {
     ghost use Rattle.cert_writing.specs.Written.{IsCounted};
     ghost use Rattle.cert_writing.specs.WrittenLaws.{counted_nothing, counted_parts};
 
-    ghost took = { λ s text t. IsCounted s.count text t.count };
+    ghost took = { λ s text t. IsCounted s.count s.refused text t.count t.refused };
 
-    ghost nothing = { λ s. counted_nothing s.count };
+    ghost nothing = { λ s. counted_nothing s.count s.refused };
 
-    ghost parts = { λ s t u a b. counted_parts s.count t.count u.count a b };
+    ghost parts = { λ s t u a b. counted_parts s.count s.refused t.count t.refused u.count u.refused a b };
 
     fn put(&mut self, bytes: &[u8]) {
         self.count = self.count.saturating_add(bytes.len() as u64);
+    }
+
+    fn refuse(&mut self) {
+        self.refused = true;
     }
 }
 

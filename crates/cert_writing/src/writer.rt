@@ -1,19 +1,23 @@
 //! The text of a certificate with its measure, overlaps or peak, and how many bytes it has.
-ghost use Rattle.std.specs.Prelude.{◌≡◌, length, map, min};
+ghost use Rattle.std.specs.Prelude.{◌≡◌, ◌++◌, length, map, min, codes, decimal, IfOk};
 ghost use Rattle.term_core.specs.HeadView.{head_view};
 ghost use Rattle.cert_model.specs.CertificateView.{linear_entry_view, measure_view, redex_view, apart_view, peak_view, simp_view, certificate_view};
 ghost use Rattle.cert_writing.specs.Written.{greatest};
 ghost use Rattle.cert_writing.specs.WrittenParts.{entry_text, head_line_text, redex_text, step_text};
-ghost use Rattle.cert_grammar.specs.CertificateText.{measured_text, entries_text, heads_text, measure_text, simplifications_text};
-ghost use Rattle.cert_grammar.specs.Versions.{in_full};
-ghost use Rattle.cert_grammar.specs.FirstVersion.{redexes_text, apart_text, peak_text, body_text, certificate_text};
+ghost use Rattle.cert_grammar.specs.CertificateText.{measured_text, entries_text, heads_text, measure_text, redexes_text, apart_text, peak_text, simplifications_text, body_text, certificate_text};
+ghost use Rattle.cert_grammar.specs.Versions.{second_version};
+ghost use Rattle.cert_writing.specs.WrittenUses.{uses_view};
+ghost use Rattle.cert_writing.specs.SharedAutomata.{joined};
 
+use crate::numbers::{AutomatonTexts, put_texts};
 use crate::output::{Counter, Output, put_number};
-use crate::written_evidence::{put_infeasibility, put_numbers, put_pairs};
+use crate::written_evidence::{Uses, put_infeasibility, put_numbers, put_pairs};
 use crate::written_steps::put_derivation;
 use crate::written_terms::{put_name, put_position, put_term};
 use cert_model::{Certificate, Head, LinearEntry, MeasureCert, NonJoin, Peak, Redex, Simp};
 use cops_names::Names;
+use std::alloc::Global;
+use term_core::NoMemory;
 
 // A symbol of the file, or the symbol that a rule has for one of its conditions.
 fn put_measured<O: Output>(to: &mut O, names: &Names, head: &Head)
@@ -79,8 +83,8 @@ fn put_measure<O: Output>(to: &mut O, names: &Names, measure: &MeasureCert)
     }
 }
 
-fn put_redex<O: Output>(to: &mut O, names: &Names, redex: &Redex)
-    ensures { O.took to.old (redex_text names.now (redex_view redex.now)) to.new }
+fn put_redex<O: Output>(to: &mut O, names: &Names, uses: &Uses<'_>, redex: &Redex)
+    ensures { O.took to.old (redex_text names.now (uses_view names.now uses.now) (redex_view redex.now)) to.new }
 {
     to.put(b"redex ");
     put_number(to, redex.which as usize);
@@ -89,49 +93,49 @@ fn put_redex<O: Output>(to: &mut O, names: &Names, redex: &Redex)
     to.put(b" ");
     put_number(to, redex.rule as usize);
     to.put(b" ");
-    put_infeasibility(to, names, &redex.evidence);
+    put_infeasibility(to, names, uses, &redex.evidence);
 }
 
-fn put_redexes<O: Output>(to: &mut O, names: &Names, redexes: &[Redex])
-    ensures { O.took to.old (redexes_text names.now (map redex_view redexes.now)) to.new }
+fn put_redexes<O: Output>(to: &mut O, names: &Names, uses: &Uses<'_>, redexes: &[Redex])
+    ensures { O.took to.old (redexes_text names.now (uses_view names.now uses.now) (map redex_view redexes.now)) to.new }
 {
     'redexes: for redex in redexes {
-        put_redex(to, names, redex);
+        put_redex(to, names, uses, redex);
     }
 }
 
-fn put_apart<O: Output>(to: &mut O, names: &Names, apart: &NonJoin)
-    ensures { O.took to.old (apart_text names.now (apart_view apart.now)) to.new }
+fn put_apart<O: Output>(to: &mut O, names: &Names, uses: &Uses<'_>, apart: &NonJoin)
+    ensures { O.took to.old (apart_text names.now (uses_view names.now uses.now) (apart_view apart.now)) to.new }
 {
     match apart {
         NonJoin::Normal(redexes) => {
             to.put(b"normal\n");
-            put_redexes(to, names, redexes);
+            put_redexes(to, names, uses, redexes);
         }
         NonJoin::Caps => to.put(b"caps\n"),
     }
 }
 
-fn put_peak<O: Output>(to: &mut O, names: &Names, peak: &Peak)
-    ensures { O.took to.old (peak_text names.now (peak_view peak.now)) to.new }
+fn put_peak<O: Output>(to: &mut O, names: &Names, uses: &Uses<'_>, peak: &Peak)
+    ensures { O.took to.old (peak_text names.now (uses_view names.now uses.now) (peak_view peak.now)) to.new }
 {
     to.put(b"start ");
     put_term(to, names, &peak.start);
     to.put(b"\n");
     put_derivation(to, &peak.first);
     put_derivation(to, &peak.second);
-    put_apart(to, names, &peak.apart);
+    put_apart(to, names, uses, &peak.apart);
 }
 
-fn put_step<O: Output>(to: &mut O, names: &Names, step: &Simp)
-    ensures { O.took to.old (step_text names.now (simp_view step.now)) to.new }
+fn put_step<O: Output>(to: &mut O, names: &Names, uses: &Uses<'_>, step: &Simp)
+    ensures { O.took to.old (step_text names.now (uses_view names.now uses.now) (simp_view step.now)) to.new }
 {
     match step {
         Simp::Drop { rule, evidence } => {
             to.put(b"drop ");
             put_number(to, *rule as usize);
             to.put(b" ");
-            put_infeasibility(to, names, evidence);
+            put_infeasibility(to, names, uses, evidence);
         }
         Simp::Inline { rule, cond } => {
             to.put(b"inline ");
@@ -143,56 +147,78 @@ fn put_step<O: Output>(to: &mut O, names: &Names, step: &Simp)
     }
 }
 
-fn put_steps<O: Output>(to: &mut O, names: &Names, steps: &[Simp])
-    ensures { O.took to.old (simplifications_text names.now in_full (map simp_view steps.now)) to.new }
+fn put_steps<O: Output>(to: &mut O, names: &Names, uses: &Uses<'_>, steps: &[Simp])
+    ensures { O.took to.old (simplifications_text names.now (uses_view names.now uses.now) (map simp_view steps.now)) to.new }
 {
     'steps: for step in steps {
-        put_step(to, names, step);
+        put_step(to, names, uses, step);
     }
 }
 
 #[cycle(put_body)]
-fn put_body<O: Output>(to: &mut O, names: &Names, cert: &Certificate)
-    ensures { O.took to.old (body_text names.now (certificate_view cert.now)) to.new }
+fn put_body<O: Output>(to: &mut O, names: &Names, uses: &Uses<'_>, cert: &Certificate)
+    ensures { O.took to.old (body_text names.now (uses_view names.now uses.now) (certificate_view cert.now)) to.new }
 {
     match cert {
         Certificate::Ortho(pairs) => {
             to.put(b"ortho\n");
-            put_pairs(to, names, pairs);
+            put_pairs(to, names, uses, pairs);
         }
         Certificate::Quasi(measure, pairs) => {
             to.put(b"quasi\n");
             put_measure(to, names, measure);
-            put_pairs(to, names, pairs);
+            put_pairs(to, names, uses, pairs);
         }
         Certificate::Peak(peak) => {
             to.put(b"peak\n");
-            put_peak(to, names, peak);
+            put_peak(to, names, uses, peak);
         }
         Certificate::Simplified { steps, body } => {
             to.put(b"simplify ");
             put_number(to, steps.len());
             to.put(b"\n");
-            put_steps(to, names, steps);
-            put_body(to, names, body);
+            put_steps(to, names, uses, steps);
+            put_body(to, names, uses, body);
         }
     }
 }
 
-/// Puts the text of a certificate, without an answer line.
-pub fn put_certificate<O: Output>(to: &mut O, names: &Names, cert: &Certificate)
-    ensures { O.took to.old (certificate_text names.now (certificate_view cert.now)) to.new }
+// The lines before the body.
+fn put_heading<O: Output>(to: &mut O, texts: &AutomatonTexts)
+    ensures { O.took to.old (codes "concon 2\nshared " ++ (decimal (length texts.now) ++ (codes "\n" ++ joined texts.now))) to.new }
 {
-    to.put(b"concon 1\n");
-    put_body(to, names, cert);
-    to.put(b"end\n");
+    to.put(b"concon 2\nshared ");
+    put_number(to, texts.len());
+    to.put(b"\n");
+    put_texts(to, texts);
+}
+
+/// Puts the text of a certificate, without an answer line. To number its automata memory is taken; where that is refused, the
+/// output takes nothing more.
+pub fn put_certificate<O: Output>(alloc: Global, to: &mut O, names: &Names, cert: &Certificate)
+    ensures { O.took to.old (certificate_text second_version names.now (certificate_view cert.now)) to.new }
+{
+    match AutomatonTexts::of(alloc, names, cert) {
+        Ok(texts) => {
+            put_heading(to, &texts);
+            put_body(to, names, &Uses::ByNumber(&texts), cert);
+            to.put(b"end\n");
+        }
+        Err(_) => to.refuse(),
+    }
 }
 
 /// The number of bytes of the certificate's text, or the greatest number where there are more.
-pub fn text_len(names: &Names, cert: &Certificate) -> u64
-    ensures { result ≡ min (length (certificate_text names.now (certificate_view cert.now))) greatest }
+pub fn text_len(alloc: Global, names: &Names, cert: &Certificate) -> Result<u64, NoMemory>
+    ensures { IfOk result (λ n. n ≡ min (length (certificate_text second_version names.now (certificate_view cert.now))) greatest) }
 {
-    let mut counter = Counter { count: 0 };
-    put_certificate(&mut counter, names, cert);
-    counter.count
+    let mut counter = Counter {
+        count: 0,
+        refused: false,
+    };
+    put_certificate(alloc, &mut counter, names, cert);
+    if counter.refused {
+        return Err(NoMemory);
+    }
+    Ok(counter.count)
 }

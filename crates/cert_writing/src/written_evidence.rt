@@ -3,9 +3,10 @@ ghost use Rattle.std.specs.Prelude.{map};
 ghost use Rattle.cert_model.specs.EvidenceView.{transition_view, automaton_view, inf_evidence_view, pair_evidence_view};
 ghost use Rattle.cert_model.specs.CertificateView.{pair_entry_view};
 ghost use Rattle.cert_writing.specs.WrittenParts.{transition_text, pair_text};
-ghost use Rattle.cert_grammar.specs.EvidenceText.{numbers_text, further_states_text, states_text, head_text, transitions_text, automaton_text};
-ghost use Rattle.cert_grammar.specs.FirstVersion.{infeasibility_text, evidence_text, pairs_text};
+ghost use Rattle.cert_grammar.specs.EvidenceText.{numbers_text, further_states_text, states_text, head_text, transitions_text, automaton_text, use_text, infeasibility_text, evidence_text, pairs_text};
+ghost use Rattle.cert_writing.specs.WrittenUses.{uses_view};
 
+use crate::numbers::AutomatonTexts;
 use crate::output::{Output, put_number};
 use crate::written_steps::put_derivation;
 use crate::written_terms::{put_name, put_position};
@@ -74,7 +75,8 @@ fn put_transitions<O: Output>(to: &mut O, names: &Names, transitions: &[Transiti
     }
 }
 
-fn put_automaton<O: Output>(to: &mut O, names: &Names, automaton: &Automaton)
+/// An automaton.
+pub fn put_automaton<O: Output>(to: &mut O, names: &Names, automaton: &Automaton)
     ensures { O.took to.old (automaton_text names.now (automaton_view automaton.now)) to.new }
 {
     to.put(b"states ");
@@ -87,27 +89,60 @@ fn put_automaton<O: Output>(to: &mut O, names: &Names, automaton: &Automaton)
     put_transitions(to, names, &automaton.transitions);
 }
 
+/// How a use of an automaton is written.
+#[derive(Drop)]
+pub enum Uses<'a> {
+    /// With all of it.
+    InFull,
+    /// By its number among these texts.
+    ByNumber(&'a AutomatonTexts),
+}
+
+// A use of an automaton, behind the number of its condition.
+fn put_use<O: Output>(to: &mut O, names: &Names, uses: &Uses<'_>, automaton: &Automaton)
+    ensures { O.took to.old (use_text names.now (uses_view names.now uses.now) (automaton_view automaton.now)) to.new }
+{
+    match uses {
+        Uses::InFull => {
+            to.put(b"\n");
+            put_automaton(to, names, automaton);
+        }
+        Uses::ByNumber(texts) => match texts.number(names, automaton) {
+            Ok(number) => {
+                to.put(b" ");
+                put_number(to, number);
+                to.put(b"\n");
+            }
+            Err(_) => to.refuse(),
+        },
+    }
+}
+
 /// Evidence that conditions are never met.
-pub fn put_infeasibility<O: Output>(to: &mut O, names: &Names, evidence: &InfEvidence)
-    ensures { O.took to.old (infeasibility_text names.now (inf_evidence_view evidence.now)) to.new }
+pub fn put_infeasibility<O: Output>(
+    to: &mut O,
+    names: &Names,
+    uses: &Uses<'_>,
+    evidence: &InfEvidence,
+)
+    ensures { O.took to.old (infeasibility_text names.now (uses_view names.now uses.now) (inf_evidence_view evidence.now)) to.new }
 {
     match evidence {
         InfEvidence::Tcap => to.put(b"tcap\n"),
         InfEvidence::Auto { cond, automaton } => {
             to.put(b"auto ");
             put_number(to, *cond as usize);
-            to.put(b"\n");
-            put_automaton(to, names, automaton);
+            put_use(to, names, uses, automaton);
         }
     }
 }
 
-fn put_evidence<O: Output>(to: &mut O, names: &Names, evidence: &PairEvidence)
-    ensures { O.took to.old (evidence_text names.now (pair_evidence_view evidence.now)) to.new }
+fn put_evidence<O: Output>(to: &mut O, names: &Names, uses: &Uses<'_>, evidence: &PairEvidence)
+    ensures { O.took to.old (evidence_text names.now (uses_view names.now uses.now) (pair_evidence_view evidence.now)) to.new }
 {
     match evidence {
         PairEvidence::Trivial => to.put(b"trivial\n"),
-        PairEvidence::Infeasible(evidence) => put_infeasibility(to, names, evidence),
+        PairEvidence::Infeasible(evidence) => put_infeasibility(to, names, uses, evidence),
         PairEvidence::Conflict { inner, outer } => {
             to.put(b"conflict ");
             put_number(to, *inner as usize);
@@ -134,8 +169,8 @@ fn put_evidence<O: Output>(to: &mut O, names: &Names, evidence: &PairEvidence)
     }
 }
 
-fn put_pair<O: Output>(to: &mut O, names: &Names, pair: &PairEntry)
-    ensures { O.took to.old (pair_text names.now (pair_entry_view pair.now)) to.new }
+fn put_pair<O: Output>(to: &mut O, names: &Names, uses: &Uses<'_>, pair: &PairEntry)
+    ensures { O.took to.old (pair_text names.now (uses_view names.now uses.now) (pair_entry_view pair.now)) to.new }
 {
     to.put(b"pair ");
     put_number(to, pair.inner as usize);
@@ -144,14 +179,14 @@ fn put_pair<O: Output>(to: &mut O, names: &Names, pair: &PairEntry)
     to.put(b" ");
     put_number(to, pair.outer as usize);
     to.put(b" ");
-    put_evidence(to, names, &pair.evidence);
+    put_evidence(to, names, uses, &pair.evidence);
 }
 
 /// Overlaps with their evidence.
-pub fn put_pairs<O: Output>(to: &mut O, names: &Names, pairs: &[PairEntry])
-    ensures { O.took to.old (pairs_text names.now (map pair_entry_view pairs.now)) to.new }
+pub fn put_pairs<O: Output>(to: &mut O, names: &Names, uses: &Uses<'_>, pairs: &[PairEntry])
+    ensures { O.took to.old (pairs_text names.now (uses_view names.now uses.now) (map pair_entry_view pairs.now)) to.new }
 {
     'pairs: for pair in pairs {
-        put_pair(to, names, pair);
+        put_pair(to, names, uses, pair);
     }
 }

@@ -57,7 +57,9 @@ fn told(
 }
 
 fn read(alloc: Global, names: &Names, cert: &Certificate) -> Result<String, AllocError> {
-    let length = text_len(names, cert);
+    let Ok(length) = text_len(alloc, names, cert) else {
+        return Err(AllocError);
+    };
     if length > LONGEST {
         return format!(in alloc; "read, {length} bytes");
     }

@@ -2,7 +2,7 @@
 ghost use Rattle.std.specs.Prelude.{◌≡◌, IfOk, map};
 ghost use Rattle.certificates.specs.Certificates.{simplified_certificate};
 ghost use Rattle.cert_model.specs.CertificateView.{simp_view, certificate_view};
-ghost use Rattle.cert_grammar.specs.FirstVersion.{CanBeSpelt};
+ghost use Rattle.cert_grammar.specs.CertificateText.{IsWithin};
 
 use cert_check::{CheckError, Verdict, check};
 use cert_model::{Certificate, InfEvidence, Simp};
@@ -55,7 +55,7 @@ fn judged(
     body: Certificate,
 ) -> Result<Verdict, CheckError>
     requires named { sys.now.arities ≡ map (λ s. s.1) names.now.symbols }
-    requires spelt { CanBeSpelt names.now (certificate_view body) }
+    requires spelt { IsWithin names.now (certificate_view body) }
 {
     // That the system is one as files give it is known of its rules.
     let _rules = sys.rules();

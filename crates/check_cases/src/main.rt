@@ -1,7 +1,7 @@
 //! Prints what is judged of systems and certificates that no run of the program judges: by a measure that is no interpretation,
 //! of an interpretation of a system that is not deterministic, of the first entries of an interpretation, of a conflict by
 //! a right side that rules contract, since a certificate with it is rejected for its class, of a peak that ends at a term
-//! with a symbol that is not the file's, and of certificates behind steps. The cases of `run_cases` have all else.
+//! with a symbol that is not the file's, of certificates behind steps, and of their texts. The cases of `run_cases` have all else.
 //!
 //! A case is a line `CALL: SYSTEM` of `data/cases.txt`. Other lines are printed as they are.
 #![tactic(auto)]
@@ -10,6 +10,7 @@ mod behind;
 mod foreign;
 mod measures;
 mod prefixes;
+mod texts;
 
 use behind::print_behind;
 use cert_model::PairEvidence;
@@ -25,6 +26,7 @@ use quasi_check::check_quasi;
 use rule_index::IndexedSystem;
 use std::{fs, io};
 use term_core::System;
+use texts::print_text;
 
 // What is said of a conflict of the first conditions at the only overlap.
 fn print_conflict(rt: &HostRuntime, sys: &System) -> io::Result<()> {
@@ -56,6 +58,9 @@ fn print_case(rt: &HostRuntime, line: &str) -> io::Result<()> {
     }
     if call == "foreign" {
         return print_foreign(rt, text);
+    }
+    if call == "text" {
+        return print_text(rt, text);
     }
     let Ok((sys, _)) = read_system(rt.alloc(), text.as_bytes()) else {
         return println!(rt; "no system");

@@ -5,17 +5,21 @@ use Rattle.rewriting.specs.Rules.{System}
 use Rattle.rewriting.specs.Confluence.{IsConfluent}
 use Rattle.join_systems.specs.FileRelation.{IsFromFile, IsFileConfluent}
 use Rattle.certificates.specs.Certificates.{Certificate, ortho_certificate, quasi_certificate, peak_certificate, simplified_certificate}
+use Rattle.certificates.specs.Reasons.{Rejection, simplification_fails}
 use Rattle.valid_certificates.specs.CarriedBack.{IsPeakApart}
 use Rattle.cops_read.specs.NameTable.{NameTable}
 use Rattle.cc_io.specs.Faults.{Rose}
 use Rattle.cc_io.specs.Errors.{IsTooLong}
 use Rattle.cc_io.specs.declared.shelf.ReadAllError.{ReadAllError}
 use Rattle.cc_io.specs.declared.shelf.ReadAllError.TheVariants as reading
+use Rattle.cert_model.specs.ReasonView.{rejected_view}
 use Rattle.cert_model.specs.declared.reasons.Rejected as reasons
-use Rattle.cert_grammar.specs.FirstVersion.{CanBeSpelt, IsCertificateText}
+use Rattle.cert_grammar.specs.CertificateText.{IsCertificateText}
 use Rattle.cert_grammar.specs.Marks as marks
+use Rattle.cert_check.proofs.BodyReasons.{of_body, body_is_bare}
+use Rattle.cert_check.specs.Kinds.{IsOfStep}
 use Rattle.cert_check.specs.Answers.{OnYes, OnNo}
-use Rattle.cert_check.specs.Bytes.{BytesAnswers}
+use Rattle.cert_check.specs.Bytes.{BytesAnswers, IsOfOwnRules}
 use Rattle.cert_check.specs.declared.Verdict.{Verdict}
 use Rattle.cert_check.specs.declared.Verdict.TheVariants.{Yes, No}
 use Rattle.cert_check.specs.declared.bytes.BytesError.{BytesError}
@@ -26,7 +30,7 @@ use Rattle.concon_run.specs.CertRefusals.{CertRefusal, long_certificate, no_cert
 use Rattle.concon_run.specs.Run.{ShelfRun, Run, HasFailed, BeginsAtMost}
 use Rattle.concon_run.specs.Said.{Said, IsSaidIfMemory, Tells, TellsIfMemory}
 use Rattle.concon_run.specs.Systems.{Bytes, told_or_any, bytes_of, SpellsSystem}
-use Rattle.concon_run.specs.Check.{IsCheck, names_judged, IsRefusedCertificate, CheckOutcome, no_system, no_certificate, rejected, shown, IsTrueOf, CheckAnswer, checked, file_unread, cert_unread, said_of_check, said_of_outcome, IsCheckAnswer, CalmlyComesTo}
+use Rattle.concon_run.specs.Check.{IsCheck, names_behind, names_judged, IsRefusedCertificate, CheckOutcome, no_system, no_certificate, rejected, shown, IsTrueOf, CheckAnswer, checked, file_unread, cert_unread, said_of_check, said_of_outcome, IsCheckAnswer, CalmlyComesTo}
 use Rattle.concon_run.specs.Checking.{CertificateAnswers, IsShownBy, check_answer}
 use Rattle.concon_run.specs.Files.{SystemAnswers, no_system_said}
 use Rattle.concon_run.specs.Refusals.{refused_said}
@@ -58,12 +62,22 @@ cert_not_read told failed sys names reading.ReadFault fault long = fault refl
 cert_not_read told failed sys names (reading.TooLong n) fault long = no_certificate_beyond told names (long tt)
 cert_not_read told failed sys names reading.NoMemory fault long = tt
 
--- no text has steps before the body, so names tell the variables of what it is judged for
-pub named : (names : NameTable) (c : Certificate) → CanBeSpelt names c → Some names ≡ names_judged names c
-named names (ortho_certificate pairs) h = refl
-named names (quasi_certificate measure pairs) h = refl
-named names (peak_certificate peak) h = refl
-named names (simplified_certificate steps c) h = absurd h
+-- names tell the variables of the system's own rules
+named : (names : NameTable) (c : Certificate) (reason : Rejection) → IsOfOwnRules c reason → Some names ≡ names_judged names c reason
+named names (ortho_certificate pairs) reason h = refl
+named names (quasi_certificate measure pairs) reason h = refl
+named names (peak_certificate peak) reason h = refl
+named names (simplified_certificate steps c) reason (inl h) = absurd h
+named names (simplified_certificate steps c) reason (inr h) = of_step reason h
+  where
+    of_step : (r : Rejection) → IsOfStep r → Some names ≡ names_behind names r
+    of_step (simplification_fails n why) h = refl
+    of_step r h = absurd h
+
+-- and none those of the rules that good steps leave
+unnamed : (names : NameTable) (reason : Rejection) → (IsOfStep reason → ⊥) → ◌≡◌ {A = Option NameTable} None (names_behind names reason)
+unnamed names (simplification_fails n why) h = absurd (h tt)
+unnamed names reason h = refl
 
 -- the answer to the bytes of a certificate is one to its file
 module _ (cert : Bytes) (failed : Type 0) (sys : System) (names : NameTable) (bytes : List ℕ) (f : cert bytes) (short : length bytes ≤ most_cert_bytes) where
@@ -78,7 +92,11 @@ module _ (cert : Bytes) (failed : Type 0) (sys : System) (names : NameTable) (by
   cert_refused cert_causes.NoMemory h = tt
 
   pub cert_rejected : (reason : reasons.Rejected) → BytesAnswers sys names bytes (Err (bytes_error.Rejected reason)) → CertificateAnswers cert failed sys names (Err (no_verdict.Rejected (Some names) reason))
-  cert_rejected reason h = (h.0, (bytes, f, short, h.1), h.2, named names h.0 h.1.spelt)
+  cert_rejected reason h = (h.0, (bytes, f, short, h.1), h.2, named names h.0 (rejected_view reason) h.3)
+
+  pub body_rejected : (reason : reasons.Rejected) → BytesAnswers sys names bytes (Err (bytes_error.RejectedBehindSteps reason)) → CertificateAnswers cert failed sys names (Err (no_verdict.Rejected None reason))
+  body_rejected reason (steps, body, last, text, good, h) =
+      (simplified_certificate steps body, (bytes, f, short, text), inr (last, good, h), unnamed names (rejected_view reason) (of_body last body (rejected_view reason) (body_is_bare text.0 body text.1.spelt.0) h))
 
   module _ (from : IsFromFile sys) where
     shown_by : (v : Verdict) → OnYes {E = BytesError} (Ok v) (IsConfluent sys) → OnYes {E = BytesError} (Ok v) (IsFromFile sys → IsFileConfluent sys)

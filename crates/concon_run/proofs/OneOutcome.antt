@@ -7,9 +7,9 @@ use Rattle.valid_certificates.specs.Certificates.{IsRejected, IsValid}
 use Rattle.valid_certificates.specs.Laws.{CertificatesHaveOneAnswer}
 use Rattle.cert_check.specs.Kinds.{verdict_of}
 use Rattle.cops_read.specs.NameTable.{NameTable}
-use Rattle.cert_grammar.specs.FirstVersion.{IsCertificateText}
-use Rattle.cert_openings.specs.FirstLaws as texts
-use Rattle.cert_openings.proofs.FirstVersion.{one_certificate}
+use Rattle.cert_grammar.specs.CertificateText.{IsCertificateText}
+use Rattle.cert_sharing.specs.SharedLaws as texts
+use Rattle.cert_sharing.proofs.OneCertificate.{one_certificate}
 use Rattle.concon_run.specs.CertRefusals.{CertRefusal, long_certificate, no_certificate_text, most_cert_bytes, IsCertRefused}
 use Rattle.concon_run.specs.Systems.{told_or_any}
 use Rattle.concon_run.specs.Check.{names_judged, CheckOutcome, no_system, no_certificate, rejected, shown, SpellsCertificate, IsRefusedCertificate, ComesTo}
@@ -54,10 +54,11 @@ module _ (systems : KnownSystems) (k : KnownCertificates) (file cert : Option (L
       refused_once names x.0 r s x.2 (subst₂ (λ n b. IsCertRefused n b s) (sym e) (same_bytes cert x.0 y.0 x.1 y.1) y.2)
 
   same_rejection : (names others : NameTable) (judged given : Option NameTable) (reason other : Rejection) (sys third : System) (c d : Certificate)
-      → names ≡ others → sys ≡ third → c ≡ d → IsRejected sys c reason × (judged ≡ names_judged names c) → IsRejected third d other × (given ≡ names_judged others d)
+      → names ≡ others → sys ≡ third → c ≡ d → IsRejected sys c reason × (judged ≡ names_judged names c reason) → IsRejected third d other × (given ≡ names_judged others d other)
       → rejected judged reason ≡ rejected given other
   same_rejection names others judged given reason other sys third c d e f g x y =
-      ap₂ rejected (x.1 ∙ (ap₂ names_judged e g ∙ sym y.1)) ((k.answers third d).one_reason reason other (subst₂ (λ s p. IsRejected s p reason) f g x.0) y.0)
+      let same = (k.answers third d).one_reason reason other (subst₂ (λ s p. IsRejected s p reason) f g x.0) y.0 in
+      ap₂ rejected (x.1 ∙ (ap₂ (λ n p. names_judged n p reason) e g ∙ (ap (names_judged others d) same ∙ sym y.1))) same
 
   pub one_outcome : (o p : CheckOutcome) → ComesTo (Told file) (Told cert) o → ComesTo (told_or_any file) (told_or_any cert) p → o ≡ p
   one_outcome (no_system r) (no_system s) x y = ap no_system (one_refused systems file r s x y)

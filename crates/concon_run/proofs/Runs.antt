@@ -2,7 +2,7 @@
 use Rattle.std.proofs.Common.{◌⊎◌, ℕ, List, inl, inr}
 use Rattle.valid_certificates.specs.Laws.{CertificatesHaveOneAnswer}
 use Rattle.cops_read.specs.Answers.{OneSystem, OneRefusal, NeverSystemAndRefusal}
-use Rattle.cert_openings.specs.FirstLaws as texts
+use Rattle.cert_sharing.specs.SharedLaws as texts
 use Rattle.quasi_space.specs.AllSpaces.{all_spaces, pruned_spaces}
 use Rattle.quasi_space.specs.Laws.{AllSpacesAreSearchable, AllPrunedSpacesAreSearchable, AllPrunedSearchesAreSearches}
 use Rattle.concon_run.specs.Run.{Run}

@@ -67,7 +67,7 @@ module _ (names : NameTable) (sys : System) where
     wholly h = record { file = files sys from h; system = h }
 
     peak_shown : (peak : Peak) → HasText names (peak_certificate peak) → IsValid sys (peak_certificate peak) → IsShown sys (peak_certificate peak) (verdict_of (peak_certificate peak))
-    peak_shown peak text valid = peak_apart sys peak (apart sys peak good (spelt_over names sys.arities named peak.start text.0.0) valid)
+    peak_shown peak text valid = peak_apart sys peak (apart sys peak good (spelt_over names sys.arities named peak.start text.0.1.0) valid)
 
     given_shown : (item : PeakItem) (c : Certificate) → GivesPeak names sys item c → IsShown sys c (verdict_of c)
     given_shown (make_listing n) c h = absurd h.0

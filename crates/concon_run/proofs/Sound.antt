@@ -3,8 +3,8 @@ use Rattle.std.proofs.Common.{◌≡◌, ◌⊎◌, ℕ, zero, suc, List, [], �
 use Rattle.std.proofs.lemmas.List.{append-nil, append_cancel_left}
 use Rattle.cc_io.specs.Bytes.{appended}
 use Rattle.certificates.specs.Certificates.{Certificate, ortho_certificate, quasi_certificate, peak_certificate, simplified_certificate}
-use Rattle.cert_grammar.specs.CertificateText.{answer_line}
-use Rattle.cert_grammar.specs.FirstVersion.{certificate_text}
+use Rattle.cert_grammar.specs.Versions.{second_version}
+use Rattle.cert_grammar.specs.CertificateText.{answer_line, certificate_text}
 use Rattle.cert_check.specs.Kinds.{verdict_of}
 use Rattle.concon_run.specs.Verdicts.{IsShown}
 use Rattle.cert_check.specs.declared.Verdict.TheVariants.{Yes, No}
@@ -51,7 +51,7 @@ module _ (run : Run) (rest : List ℕ) where
   prove_by_n file budget form (searched (found names (simplified_certificate steps c))) h e = by (says c)
     where
       by : ((verdict_of c ≡ Yes) × (answer_line c ≡ codes "YES\n")) ⊎ ((verdict_of c ≡ No) × (answer_line c ≡ codes "NO\n")) → NamesPeakApart run
-      by (inl a) = absurd (begins 89 78 _ rest (sym (ap (λ (w : List ℕ). w ++ certificate_text names (simplified_certificate steps c)) a.1) ∙ e) (λ q. omega (arith, q)))
+      by (inl a) = absurd (begins 89 78 _ rest (sym (ap (λ (w : List ℕ). w ++ certificate_text second_version names (simplified_certificate steps c)) a.1) ∙ e) (λ q. omega (arith, q)))
       by (inr a) = inr (file, budget, form, (h.right.0, names, simplified_certificate steps c, h.right.1, subst (IsShown h.right.0 (simplified_certificate steps c)) a.0 h.right.2))
   prove_by_n file budget form (searched (found names (peak_certificate peak))) h e = inr (file, budget, form, (h.right.0, names, peak_certificate peak, h.right.1, h.right.2))
   prove_by_n file budget form (searched over_budget) h e = absurd (begins 77 78 _ rest e (λ q. omega (arith, q)))
@@ -93,7 +93,7 @@ module _ (run : Run) (rest : List ℕ) where
     where
       by : ((verdict_of c ≡ Yes) × (answer_line c ≡ codes "YES\n")) ⊎ ((verdict_of c ≡ No) × (answer_line c ≡ codes "NO\n")) → NamesConfluentSystem run
       by (inl a) = (file, inr (budget, form), (h.right.0, names, h.right.1, subst (IsShown h.right.0 (simplified_certificate steps c)) a.0 h.right.2))
-      by (inr a) = absurd (begins 78 89 _ rest (sym (ap (λ (w : List ℕ). w ++ certificate_text names (simplified_certificate steps c)) a.1) ∙ e) (λ q. omega (arith, q)))
+      by (inr a) = absurd (begins 78 89 _ rest (sym (ap (λ (w : List ℕ). w ++ certificate_text second_version names (simplified_certificate steps c)) a.1) ∙ e) (λ q. omega (arith, q)))
   prove_by_y file budget form (searched (found names (peak_certificate peak))) h e = absurd (begins 78 89 _ rest e (λ q. omega (arith, q)))
   prove_by_y file budget form (searched over_budget) h e = absurd (begins 77 89 _ rest e (λ q. omega (arith, q)))
   prove_by_y file budget form (searched exhausted) h e = absurd (begins 77 89 _ rest e (λ q. omega (arith, q)))

@@ -17,8 +17,9 @@ use Rattle.cops_systems.specs.File.{IsFile, no_tokens, no_tree, no_meaning}
 use Rattle.cops_systems.specs.declared.errors.ReadError.{ReadError}
 use Rattle.cops_systems.specs.declared.errors.ReadError.TheVariants as unread
 use Rattle.cops_write.specs.Text.{system_text}
-use Rattle.cert_grammar.specs.FirstVersion.{IsCertificateText, CanBeSpelt, certificate_text}
-use Rattle.cert_openings.specs.FirstLaws.{NeverBoth}
+use Rattle.cert_grammar.specs.Versions.{second_version}
+use Rattle.cert_grammar.specs.CertificateText.{certificate_text, CanBeSpelt, IsCertificateText}
+use Rattle.cert_sharing.specs.SharedLaws.{NeverBoth}
 use Rattle.cert_model.specs.CertificateView.{certificate_view}
 use Rattle.cert_model.specs.declared.model.Certificate.{Certificate}
 use Rattle.cert_words.specs.CertRefusals.{IsRefusedAs}
@@ -51,10 +52,10 @@ pub written_file : (n : ℕ) (start bytes : List ℕ) (made : System) (names : N
 written_file n start bytes made names none text e f file =
     subst (λ b. IsFile b (generated n) (generated_names n)) (sym (text ∙ ap (λ (s : List ℕ). s ++ system_text names made) none ∙ ap₂ system_text f e)) file
 
-pub written_cert : (names : NameTable) (c : math.Certificate) (start bytes : List ℕ) → start ≡ [] → bytes ≡ start ++ certificate_text names c
-    → IsCertificateText names (certificate_text names c) c → IsCertificateText names bytes c
+pub written_cert : (names : NameTable) (c : math.Certificate) (start bytes : List ℕ) → start ≡ [] → bytes ≡ start ++ certificate_text second_version names c
+    → IsCertificateText names (certificate_text second_version names c) c → IsCertificateText names bytes c
 written_cert names c start bytes none text spelt =
-    subst (λ b. IsCertificateText names b c) (sym (text ∙ ap (λ (s : List ℕ). s ++ certificate_text names c) none)) spelt
+    subst (λ b. IsCertificateText names b c) (sym (text ∙ ap (λ (s : List ℕ). s ++ certificate_text second_version names c) none)) spelt
 
 -- a text that spells a system is not refused, and nor is that of a certificate
 pub never_refused : NeverSystemAndRefusal → (bytes : List ℕ) (sys : System) (names : NameTable) → IsFile bytes sys names → (e : ReadError) → (e ≡ unread.NoMemory → ⊥) → IsRefusedFor bytes e → ⊥
@@ -112,8 +113,8 @@ module _ (names : NameTable) (n : ℕ) (most : n ≤ 200) where
   pub certificate_found : CertificatesAreFound → (sys : System) → sys ≡ generated n → (ortho_space names sys).Finds (generated_certificate n) (3 * n)
   certificate_found law sys e = subst (λ s. (ortho_space names s).Finds (generated_certificate n) (3 * n)) (sym e) (law names n (omega arith))
 
-  pub certificate_spelt : CertificatesHaveTexts → (c : math.Certificate) → c ≡ generated_certificate n → CanBeSpelt names c
-  certificate_spelt law c e = subst (CanBeSpelt names) (sym e) (law names n (omega arith)).0
+  pub certificate_spelt : CertificatesHaveTexts → (c : math.Certificate) → c ≡ generated_certificate n → CanBeSpelt second_version names c
+  certificate_spelt law c e = subst (CanBeSpelt second_version names) (sym e) (law names n (omega arith)).0
 
 entries_short : (a m : ℕ) → ArePairsShort (map (λ k. entry_for (overlap_for k) conflict) (range_with_len a m))
 entries_short a zero = tt

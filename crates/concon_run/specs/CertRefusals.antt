@@ -2,7 +2,7 @@
 use Rattle.std.specs.Prelude.{◌≤◌, ◌<◌, ℕ, List, length, Option, Some, None, option_map, codes}
 use Rattle.cops_read.specs.NameTable.{NameTable}
 use Rattle.cert_grammar.specs.Marks as marks
-use Rattle.cert_grammar.specs.FirstVersion.{IsCertificateRefused}
+use Rattle.cert_grammar.specs.Refusals.{IsCertificateRefused}
 use Rattle.cert_words.specs.Words.{counted_view}
 use Rattle.cert_words.specs.declared.error.CertError.{CertError}
 use Rattle.cert_words.specs.declared.error.CertError.TheVariants.{CertSyntax, UnknownName, WrongArity, BadNumber, BadShare, CertTooDeep, TooMany, NoMemory}
@@ -10,7 +10,7 @@ use Rattle.concon_run.specs.FileRefusals.{refused_line}
 
 -- no certificate is longer
 abbrev pub most_cert_bytes : ℕ
-most_cert_bytes = 16777216
+most_cert_bytes = 67108864
 
 -- it is too long, or refused for a cause at a place
 pub data CertRefusal : Type 0 where

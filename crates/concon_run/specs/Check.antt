@@ -2,14 +2,14 @@
 use Rattle.std.specs.Prelude.{◌≡◌, ◌⊎◌, ◌≤◌, ℕ, List, [], ◌∷◌, Option, Some, None, length, codes}
 use Rattle.rewriting.specs.Rules.{System}
 use Rattle.certificates.specs.Certificates.{Certificate, ortho_certificate, quasi_certificate, peak_certificate, simplified_certificate}
-use Rattle.certificates.specs.Reasons.{Rejection}
+use Rattle.certificates.specs.Reasons.{Rejection, simplification_fails}
 use Rattle.valid_certificates.specs.Certificates.{IsValid, IsRejected}
 use Rattle.valid_certificates.specs.CarriedBack.{IsPeakApart}
 use Rattle.cert_check.specs.Kinds.{verdict_of}
 use Rattle.cert_check.specs.declared.Verdict.{Verdict}
 use Rattle.cert_check.specs.declared.Verdict.TheVariants as verdict
 use Rattle.cops_read.specs.NameTable.{NameTable}
-use Rattle.cert_grammar.specs.FirstVersion.{IsCertificateText}
+use Rattle.cert_grammar.specs.CertificateText.{IsCertificateText}
 use Rattle.concon_run.specs.Rejections.{rejected_line}
 use Rattle.concon_run.specs.FileRefusals.{FileRefusal, file_refused_line}
 use Rattle.concon_run.specs.CertRefusals.{CertRefusal, most_cert_bytes, IsCertRefused, cert_refused_line}
@@ -31,12 +31,17 @@ SpellsCertificate cert names c = (bytes : List ℕ) × cert bytes × (length byt
 abbrev pub IsRefusedCertificate : Bytes → NameTable → CertRefusal → Type 0
 IsRefusedCertificate cert names refusal = (bytes : List ℕ) × cert bytes × IsCertRefused names bytes refusal
 
--- the names that tell the variables of the rules for which a certificate is judged: behind steps there are none
-abbrev pub names_judged : NameTable → Certificate → Option NameTable
-names_judged names (ortho_certificate pairs) = Some names
-names_judged names (quasi_certificate measure pairs) = Some names
-names_judged names (peak_certificate peak) = Some names
-names_judged names (simplified_certificate steps c) = None
+-- the names that tell the variables of the rules of which the rejection of a certificate with steps speaks: where it is one of the body there are none
+abbrev pub names_behind : NameTable → Rejection → Option NameTable
+names_behind names (simplification_fails n why) = Some names
+names_behind names reason = None
+
+-- the same of any certificate: without steps they are those of the file
+abbrev pub names_judged : NameTable → Certificate → Rejection → Option NameTable
+names_judged names (ortho_certificate pairs) reason = Some names
+names_judged names (quasi_certificate measure pairs) reason = Some names
+names_judged names (peak_certificate peak) reason = Some names
+names_judged names (simplified_certificate steps c) reason = names_behind names reason
 
 -- what the two texts come to
 pub data CheckOutcome : Type 0 where
@@ -52,7 +57,7 @@ ComesTo file cert (no_system refusal) = IsRefusedFile file refusal
 ComesTo file cert (no_certificate refusal) = (sys : System) × (names : NameTable) × SpellsSystem file sys names × IsRefusedCertificate cert names refusal
 ComesTo file cert (rejected judged reason) =
     (sys : System) × (names : NameTable) × (c : Certificate) × SpellsSystem file sys names × SpellsCertificate cert names c × IsRejected sys c reason
-    × (judged ≡ names_judged names c)
+    × (judged ≡ names_judged names c reason)
 ComesTo file cert (shown verdict) =
     (sys : System) × (names : NameTable) × (c : Certificate) × SpellsSystem file sys names × SpellsCertificate cert names c × IsValid sys c
     × (verdict ≡ verdict_of c)

@@ -34,7 +34,7 @@ CertificateAnswers cert failed sys names (Err (why.CertUnread (reading.TooLong n
 CertificateAnswers cert failed sys names (Err (why.CertUnread reading.NoMemory)) = Unit {0}
 CertificateAnswers cert failed sys names (Err (why.CertRefused e)) = IfSome (cert_refusal_of e) (IsRefusedCertificate cert names)
 CertificateAnswers cert failed sys names (Err (why.Rejected judged reason)) =
-    (c : math.Certificate) × SpellsCertificate cert names c × IsRejected sys c (rejected_view reason) × (judged ≡ names_judged names c)
+    (c : math.Certificate) × SpellsCertificate cert names c × IsRejected sys c (rejected_view reason) × (judged ≡ names_judged names c (rejected_view reason))
 CertificateAnswers cert failed sys names (Err why.NoMemory) = Unit {0}
 CertificateAnswers cert failed sys names (Err (why.NoSystem e)) = ⊥
 

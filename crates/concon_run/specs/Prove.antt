@@ -6,8 +6,8 @@ use Rattle.valid_certificates.specs.Certificates.{IsValid}
 use Rattle.first_found.specs.Spaces.{Space, IsDearer}
 use Rattle.quasi_space.specs.AllSpaces.{all_spaces, pruned_spaces}
 use Rattle.cops_names.specs.NameTable.{NameTable}
-use Rattle.cert_grammar.specs.CertificateText.{answer_line}
-use Rattle.cert_grammar.specs.FirstVersion.{certificate_text}
+use Rattle.cert_grammar.specs.Versions.{second_version}
+use Rattle.cert_grammar.specs.CertificateText.{answer_line, certificate_text}
 use Rattle.cert_check.specs.Kinds.{verdict_of}
 use Rattle.concon_run.specs.Words.{usual_budget, IsBudget}
 use Rattle.concon_run.specs.FileRefusals.{FileRefusal, file_refused_line}
@@ -62,9 +62,9 @@ SearchMustComeTo spaces file budget exhausted =
     (sys : System) × (names : NameTable) × (n : ℕ) × SpellsSystem file sys names × HoldsNone names sys × (spaces names sys).Costs n × (n ≤ budget)
 SearchMustComeTo spaces file budget over_budget = ⊥
 
--- the answer, and below it the certificate
+-- the answer, and below it the certificate in the second version
 abbrev pub proof_text : NameTable → Certificate → List ℕ
-proof_text names c = answer_line c ++ certificate_text names c
+proof_text names c = answer_line c ++ certificate_text second_version names c
 
 -- what is said of it, with the word for the file
 abbrev pub said_of_search : List ℕ → SearchOutcome → Said

@@ -9,7 +9,8 @@ use Rattle.first_found.specs.Spaces.{IsDearer}
 use Rattle.cops_names.specs.NameTable.{NameTable}
 use Rattle.cert_grammar.specs.Words.{term_text}
 use Rattle.cert_grammar.specs.Steps.{derivation_text}
-use Rattle.cert_grammar.specs.FirstVersion.{infeasibility_text}
+use Rattle.cert_grammar.specs.Versions.{in_full}
+use Rattle.cert_grammar.specs.EvidenceText.{infeasibility_text}
 use Rattle.query_text.specs.Query as text
 use Rattle.query_space.specs.Items.{QueryAnswer, never_met, met_by, IsGoodAnswer}
 use Rattle.query_space.specs.Space.{query_space, IsHeld, IsQueryPrice}
@@ -98,7 +99,7 @@ derivation_lines (d ∷ ds) = derivation_text d ++ derivation_lines ds
 
 -- the answer, and below it what shows it
 abbrev pub never_text : NameTable → InfeasibilityEvidence → List ℕ
-never_text names e = codes "YES\nconcon query 1\n" ++ (infeasibility_text names e ++ codes "end\n")
+never_text names e = codes "YES\nconcon query 1\n" ++ (infeasibility_text names in_full e ++ codes "end\n")
 
 abbrev pub met_text : NameTable → List (List ℕ) → List Term → List Derivation → List ℕ
 met_text names vs ts ds = codes "NO\nconcon query 1\n" ++ (value_lines names vs ts ++ (derivation_lines ds ++ codes "end\n"))

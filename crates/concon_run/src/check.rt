@@ -54,7 +54,7 @@ pub fn check_of<'a>(words: &[&'a str]) -> Option<Check<'a>>
 }
 
 // How many bytes a certificate may have.
-const CERT_LIMIT: u64 = 16777216;
+const CERT_LIMIT: u64 = 67108864;
 
 /// Why there is no verdict.
 #[derive(Drop)]
@@ -65,7 +65,7 @@ pub enum NoVerdict {
     CertUnread(ReadAllError),
     /// The certificate is no text of one.
     CertRefused(CertError),
-    /// The certificate is not valid; the names are those of the file, where its rules are judged: none behind steps.
+    /// The certificate is not valid; the names are those of the file, where its rules are judged: none of a body behind steps.
     Rejected(Option<Names>, Rejected),
     /// Memory was refused.
     NoMemory,
@@ -91,8 +91,8 @@ fn verdict_on<S: Shelf>(
     match check_bytes(alloc, sys, &names, &bytes) {
         Ok(verdict) => Ok(verdict),
         Err(BytesError::Cert(error)) => Err(NoVerdict::CertRefused(error)),
-        // No text of a certificate has steps before the body.
         Err(BytesError::Rejected(reason)) => Err(NoVerdict::Rejected(Some(names), reason)),
+        Err(BytesError::RejectedBehindSteps(reason)) => Err(NoVerdict::Rejected(None, reason)),
         Err(BytesError::NoMemory) => Err(NoVerdict::NoMemory),
     }
 }

@@ -3,7 +3,8 @@
 ghost use Rattle.std.specs.Prelude.{◌≡◌, ◌≤◌, ◌∷◌, ℕ, List, [], IfOk, IfSome, IfNone, MatchOption, codes, decimal};
 ghost use Rattle.certificates.specs.Certificates as math;
 ghost use Rattle.valid_certificates.specs.Certificates.{IsValid};
-ghost use Rattle.cert_grammar.specs.FirstVersion.{CanBeSpelt};
+ghost use Rattle.cert_grammar.specs.Versions.{second_version};
+ghost use Rattle.cert_grammar.specs.CertificateText.{CanBeSpelt};
 ghost use Rattle.cert_model.specs.CertificateView.{certificate_view};
 ghost use Rattle.cert_check.specs.Kinds.{verdict_of, CanBeJudged};
 ghost use Rattle.search_spaces.specs.Ortho.{ortho_space};
@@ -117,7 +118,7 @@ fn find(alloc: Global, sys: &System, names: &Names) -> Result<(Certificate, u64)
 
 // The certificate as it is read from its text.
 fn reread(alloc: Global, names: &Names, cert: &Certificate) -> Result<Certificate, NoMemory>
-    requires { CanBeSpelt names.now (certificate_view cert.now) }
+    requires { CanBeSpelt second_version names.now (certificate_view cert.now) }
     ensures { IfOk result (λ c. certificate_view c ≡ certificate_view cert.now) }
 {
     one_answer();

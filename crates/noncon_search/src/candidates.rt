@@ -171,7 +171,7 @@ pub fn candidate(
         return Ok(None);
     }
     let cert = certificate(alloc, start, first.listed, second.listed, apart)?;
-    if has_text(names, &cert) {
+    if has_text(alloc, names, &cert)? {
         Ok(Some(cert))
     } else {
         Ok(None)

@@ -53,7 +53,7 @@ fn search_open(
     match entries_for(alloc, sys, overlaps, budget) {
         Ok(Entries::Whole(pairs)) => {
             let cert = Certificate::Ortho(pairs);
-            if has_text(names, &cert) {
+            if has_text(alloc, names, &cert)? {
                 Ok(Search::Found(cert))
             } else {
                 Ok(Search::Nothing)

@@ -68,7 +68,7 @@ fn search_open(
     match search_grid(alloc, sys.system(), budget) {
         Ok(GridSearch::Good(linear)) => {
             let cert = Certificate::Quasi(MeasureCert::Linear(linear), pairs);
-            if has_text(names, &cert) {
+            if has_text(alloc, names, &cert)? {
                 Ok(Search::Found(cert))
             } else {
                 Ok(Search::Nothing)

@@ -27,10 +27,10 @@ pub fn of_certificate(alloc: Global, rest: &str) -> Result<String, AllocError> {
     };
     match read_cert(alloc, &names, text.as_bytes()) {
         Ok(cert) => {
-            let answer = if has_text(&others, &cert) {
-                "a text"
-            } else {
-                "none"
+            let answer = match has_text(alloc, &others, &cert) {
+                Ok(true) => "a text",
+                Ok(false) => "none",
+                Err(_) => "no memory",
             };
             String::from_str(alloc, answer)
         }

@@ -1,4 +1,4 @@
-use Rattle.std.proofs.Common.{map, refl}
+use Rattle.std.proofs.Common.{map}
 use Rattle.cert_model.specs.CertificateView.{pair_entry_view}
 use Rattle.cert_model.proofs.CertificateViews.{ortho_shown}
 use Rattle.critical_pairs.specs.View.{overlap_view}
@@ -11,25 +11,25 @@ use Rattle.pair_search.proofs.Walking.{entries_told}
 use Rattle.ortho_search.proofs.Ending.{whole_searched, long_searched, long_paid, row_searched, row_paid, spent_searched}
 use Rattle.ortho_search.proofs.search_open.Goals as goal
 
-pub returns-then-has_text-clause-searched : goal.returns-then-has_text-clause-searched
-returns-then-has_text-clause-searched c =
+pub returns-then-branch-clause-searched : goal.returns-then-branch-clause-searched
+returns-then-branch-clause-searched c =
     let os = map overlap_view c.args.overlaps.now in
     let w = entries_told (IsOrthoEntry c.args.sys.now) (overlap_cost ortho_items) (StopsAtOverlap ortho c.args.sys.now ortho_items) os c.args.budget.now c.entries_for.new.budget c.in-Ok-Whole.field-0 (Whole c.in-Ok-Whole.pairs) c.in-Ok-Whole.field-0-is c.in-Ok-Whole.ensures.answer in
-    whole_searched c.args.names.now c.args.sys.now os c.requires.classes c.requires.overlaps c.args.budget.now c.entries_for.new.budget (map pair_entry_view c.in-Ok-Whole.pairs.items) w.0 w.1 w.2 _ (ortho_shown c.in-Ok-Whole.pairs) (c.if-has_text.ensures.0 refl)
+    whole_searched c.args.names.now c.args.sys.now os c.requires.classes c.requires.overlaps c.args.budget.now c.entries_for.new.budget (map pair_entry_view c.in-Ok-Whole.pairs.items) w.0 w.1 w.2 _ (ortho_shown c.in-Ok-Whole.pairs) (c.in_ok-has_text-in-Ok-Whole.ensures.0 c.if-branch.true)
 
-pub returns-else-has_text-clause-searched : goal.returns-else-has_text-clause-searched
-returns-else-has_text-clause-searched c =
+pub returns-else-branch-clause-searched : goal.returns-else-branch-clause-searched
+returns-else-branch-clause-searched c =
     let os = map overlap_view c.args.overlaps.now in
     let w = entries_told (IsOrthoEntry c.args.sys.now) (overlap_cost ortho_items) (StopsAtOverlap ortho c.args.sys.now ortho_items) os c.args.budget.now c.entries_for.new.budget c.in-Ok-Whole.field-0 (Whole c.in-Ok-Whole.pairs) c.in-Ok-Whole.field-0-is c.in-Ok-Whole.ensures.answer in
     long_searched c.args.names.now c.args.sys.now os c.requires.classes c.requires.overlaps c.args.budget.now c.entries_for.new.budget (map pair_entry_view c.in-Ok-Whole.pairs.items) w.0 w.1 w.2 _ (ortho_shown c.in-Ok-Whole.pairs)
-    (λ t. (let e = c.if-has_text.ensures.1 t in cc))
+    (λ t. (let e = c.in_ok-has_text-in-Ok-Whole.ensures.1 t in cc))
 
-pub returns-else-has_text-clause-paid : goal.returns-else-has_text-clause-paid
-returns-else-has_text-clause-paid c =
+pub returns-else-branch-clause-paid : goal.returns-else-branch-clause-paid
+returns-else-branch-clause-paid c =
     let os = map overlap_view c.args.overlaps.now in
     let w = entries_told (IsOrthoEntry c.args.sys.now) (overlap_cost ortho_items) (StopsAtOverlap ortho c.args.sys.now ortho_items) os c.args.budget.now c.entries_for.new.budget c.in-Ok-Whole.field-0 (Whole c.in-Ok-Whole.pairs) c.in-Ok-Whole.field-0-is c.in-Ok-Whole.ensures.answer in
     long_paid c.args.names.now c.args.sys.now os c.requires.classes c.requires.overlaps c.args.budget.now c.entries_for.new.budget (map pair_entry_view c.in-Ok-Whole.pairs.items) w.0 w.1 w.2 _ (ortho_shown c.in-Ok-Whole.pairs)
-    (λ t. (let e = c.if-has_text.ensures.1 t in cc))
+    (λ t. (let e = c.in_ok-has_text-in-Ok-Whole.ensures.1 t in cc))
 
 pub returns-in-Ok-Missing-clause-searched : goal.returns-in-Ok-Missing-clause-searched
 returns-in-Ok-Missing-clause-searched c =

@@ -1,5 +1,5 @@
 use Rattle.cc_count.proofs.Spending.{kept_on}
-use Rattle.std.proofs.Common.{map, refl}
+use Rattle.std.proofs.Common.{map}
 use Rattle.certificates.specs.Certificates.{linear_measure}
 use Rattle.cert_model.specs.CertificateView.{pair_entry_view, linear_entry_view}
 use Rattle.cert_model.proofs.CertificateViews.{quasi_shown}
@@ -22,28 +22,32 @@ returns-in-Ok-Spent-clause-pruned c =
     row_spent c.args.names.now c.args.sys.now (map overlap_view c.args.overlaps.now) c.requires.rules c.requires.overlaps c.args.budget.now c.entries_for.new.budget
     (entries_told (IsQuasiEntry c.args.sys.now) (items_cost c.args.sys.now) (StopsAtQuasi c.args.sys.now) (map overlap_view c.args.overlaps.now) c.args.budget.now c.entries_for.new.budget c.in-Ok-Spent.field-0 entries.Spent c.in-Ok-Spent.field-0-is c.in-Ok-Spent.ensures.answer)
 
-pub returns-then-has_text-clause-pruned : goal.returns-then-has_text-clause-pruned
-returns-then-has_text-clause-pruned c =
+pub returns-then-branch-clause-pruned : goal.returns-then-branch-clause-pruned
+returns-then-branch-clause-pruned c =
     good_searched c.args.names.now c.args.sys.now (map overlap_view c.args.overlaps.now) c.requires.rules c.requires.overlaps c.args.budget.now c.entries_for.new.budget c.search_grid.new.budget (map pair_entry_view c.in-Ok-Whole.pairs.items)
     (entries_told (IsQuasiEntry c.args.sys.now) (items_cost c.args.sys.now) (StopsAtQuasi c.args.sys.now) (map overlap_view c.args.overlaps.now) c.args.budget.now c.entries_for.new.budget c.in-Ok-Whole.field-0 (entries.Whole c.in-Ok-Whole.pairs) c.in-Ok-Whole.field-0-is c.in-Ok-Whole.ensures.answer)
     (linear_measure (map linear_entry_view c.in-Ok-Good.linear.entries.items))
     (grid_told c.system.result.now c.args.sys.now c.entries_for.new.budget c.search_grid.new.budget c.in-Ok-Good.field-0 (grid.Good c.in-Ok-Good.linear) c.system.ensures c.in-Ok-Good.field-0-is c.in-Ok-Good.ensures.answer)
-    _ (quasi_shown (Linear c.in-Ok-Good.linear) c.in-Ok-Whole.pairs) (c.if-has_text.ensures.0 refl)
+    _ (quasi_shown (Linear c.in-Ok-Good.linear) c.in-Ok-Whole.pairs) (c.in_ok-has_text-in-Ok-Good.ensures.0 c.if-branch.true)
 
-pub returns-then-has_text-clause-kept : goal.returns-then-has_text-clause-kept
-returns-then-has_text-clause-kept c =
+pub returns-then-branch-clause-kept : goal.returns-then-branch-clause-kept
+returns-then-branch-clause-kept c =
     kept_on c.args.budget.now c.entries_for.new.budget c.search_grid.new.budget c.in-Ok-Whole.ensures.kept c.in-Ok-Good.ensures.kept
 
-pub returns-else-has_text-clause-pruned : goal.returns-else-has_text-clause-pruned
-returns-else-has_text-clause-pruned c =
+pub returns-else-branch-clause-pruned : goal.returns-else-branch-clause-pruned
+returns-else-branch-clause-pruned c =
     long_searched c.args.names.now c.args.sys.now (map overlap_view c.args.overlaps.now) c.requires.rules c.requires.overlaps c.args.budget.now c.entries_for.new.budget c.search_grid.new.budget (map pair_entry_view c.in-Ok-Whole.pairs.items)
     (entries_told (IsQuasiEntry c.args.sys.now) (items_cost c.args.sys.now) (StopsAtQuasi c.args.sys.now) (map overlap_view c.args.overlaps.now) c.args.budget.now c.entries_for.new.budget c.in-Ok-Whole.field-0 (entries.Whole c.in-Ok-Whole.pairs) c.in-Ok-Whole.field-0-is c.in-Ok-Whole.ensures.answer)
     (linear_measure (map linear_entry_view c.in-Ok-Good.linear.entries.items))
     (grid_told c.system.result.now c.args.sys.now c.entries_for.new.budget c.search_grid.new.budget c.in-Ok-Good.field-0 (grid.Good c.in-Ok-Good.linear) c.system.ensures c.in-Ok-Good.field-0-is c.in-Ok-Good.ensures.answer)
-    _ (quasi_shown (Linear c.in-Ok-Good.linear) c.in-Ok-Whole.pairs) (λ t. (let e = c.if-has_text.ensures.1 t in cc))
+    _ (quasi_shown (Linear c.in-Ok-Good.linear) c.in-Ok-Whole.pairs) (λ t. (let e = c.in_ok-has_text-in-Ok-Good.ensures.1 t in cc))
 
-pub returns-else-has_text-clause-kept : goal.returns-else-has_text-clause-kept
-returns-else-has_text-clause-kept c =
+pub returns-else-branch-clause-kept : goal.returns-else-branch-clause-kept
+returns-else-branch-clause-kept c =
+    kept_on c.args.budget.now c.entries_for.new.budget c.search_grid.new.budget c.in-Ok-Whole.ensures.kept c.in-Ok-Good.ensures.kept
+
+pub returns-in_err-has_text-in-Ok-Good-clause-kept : goal.returns-in_err-has_text-in-Ok-Good-clause-kept
+returns-in_err-has_text-in-Ok-Good-clause-kept c =
     kept_on c.args.budget.now c.entries_for.new.budget c.search_grid.new.budget c.in-Ok-Whole.ensures.kept c.in-Ok-Good.ensures.kept
 
 pub returns-in-Ok-NoneGood-clause-pruned : goal.returns-in-Ok-NoneGood-clause-pruned

@@ -52,7 +52,7 @@ returns c =
     let met = arity_met names f k c.has_so_many-2.result c.requires (c.has_so_many-2.ensures ∙ ap (λ (n : ℕ). is_number n (arity_at names f)) (let ok = c.arguments.args.ok.0 in let counted = c.len.ensures in omega (arith, ok, counted))) in
     let there =
     then_reads (c.either.ensures.other c.arguments-test.false names (further_states b name k) (argument_state b name (suc k) ∷ []) (head_closed name k ∷ []) refl)
-    (then_reads (c.checked.ensures names f k (head_closed name k) (between space ∷ []) refl met) (c.text-2.ensures names (between space) [] refl)) in
+    (then_reads (c.checked.ensures names f k (head_closed name k) (between space ∷ []) refl met) (c.text-2.ensures.read names (between space) [] refl)) in
     as_marks (λ none u. begun_closed b c.arguments.args.items (behind (has_arity (u f) k) ∷ fixed (codes " ") ∷ []) (c.arguments.invariant.some (open_before there none)))
     (then_reads c.arguments.invariant.read there)
 
@@ -64,4 +64,4 @@ returns-then-not-opened c =
     let b = c.args.states in
     as_marks (λ none u. ap (λ (qs : List ℕ). states_marks b qs ++ (behind (has_arity (u f) (length qs)) ∷ fixed (codes " ") ∷ [])) (sym c.new-args.ensures.items))
     (then_reads (c.opened.ensures.none c.if-not-opened.true names f 0 (states_behind b name) (argument_state b name 1 ∷ []) (between space ∷ []) refl (arity_met names f 0 c.has_so_many.result c.requires c.has_so_many.ensures))
-    (c.text.ensures names (between space) [] refl))
+    (c.text.ensures.read names (between space) [] refl))

@@ -24,9 +24,9 @@ derivation-returns t c = λ names more.
     let rest = derivations level more in
     as_marks (λ none u. ap (λ (k : ℕ). steps_mark level k ++ steps_marks level d) (sym (c.steps.ensures.counted none)))
     (then_reads (c.nested.ensures.read names (derivations_left level more) (between space ∷ nesting_count level ∷ rest) refl)
-    (then_reads (framed (nesting_count level ∷ rest) (c.text.ensures names (between space) [] refl))
-    (then_reads (framed rest (c.counted-count.ensures names (nesting_count level) (λ k. between line ∷ steps_of level k) refl))
-    (then_reads (framed rest (framed (steps_of level n) (c.text-2.ensures names (between line) [] refl))) (framed rest (c.steps.ensures.read names))))))
+    (then_reads (framed (nesting_count level ∷ rest) (c.text.ensures.read names (between space) [] refl))
+    (then_reads (framed rest (c.counted-count.ensures.read names (nesting_count level) (λ k. between line ∷ steps_of level k) refl))
+    (then_reads (framed rest (framed (steps_of level n) (c.text-2.ensures.read names (between line) [] refl))) (framed rest (c.steps.ensures.read names))))))
 
 pub derivations-returns-then-is_some-clause-read : goal.derivations-returns-then-is_some-clause-read
 derivations-returns-then-is_some-clause-read t c = λ names.
@@ -67,11 +67,11 @@ step-returns-then-either t c = λ names more.
     as_marks (λ none u. ap (λ (k : ℕ). rule_mark rule p k ++ derivations_marks (suc level) ds) (sym (c.derivations-conds.ensures.counted none)) ∙ ap (step_marks level) (sym (step_of_rule rule c.position-pos.result c.derivations-conds.result)))
     (then_reads (c.either.ensures.one c.if-either.true names (steps_left level more) (any_number space ∷ any_position space ∷ condition_count level ∷ rest) (any_number space ∷ any_position line ∷ rest) refl)
     (then_reads (framed (any_position space ∷ condition_count level ∷ rest) (c.number-rule.ensures.read names (any_number space) (λ k. between space ∷ []) refl))
-    (then_reads (framed (any_position space ∷ condition_count level ∷ rest) (c.text.ensures names (between space) [] refl))
+    (then_reads (framed (any_position space ∷ condition_count level ∷ rest) (c.text.ensures.read names (between space) [] refl))
     (then_reads (framed (condition_count level ∷ rest) (c.position-pos.ensures names (any_position space) (between space ∷ []) refl))
-    (then_reads (framed (condition_count level ∷ rest) (c.text-then-either.ensures names (between space) [] refl))
+    (then_reads (framed (condition_count level ∷ rest) (c.text-then-either.ensures.read names (between space) [] refl))
     (then_reads (framed rest (c.number-count.ensures.read names (condition_count level) (λ k. between line ∷ derivations (suc level) k) refl))
-    (then_reads (framed rest (framed (derivations (suc level) n) (c.text-then-either-2.ensures names (between line) [] refl)))
+    (then_reads (framed rest (framed (derivations (suc level) n) (c.text-then-either-2.ensures.read names (between line) [] refl)))
     (framed rest (at_next (λ (k : ℕ). Reads names c.args.end (derivations k n) (λ u. derivations_marks k ds) [] c.text-then-either-2.new.at c.derivations-conds.new.at) level (c.derivations-conds.ensures.read names))))))))))
 
 pub step-returns : goal.step-returns
@@ -81,8 +81,8 @@ step-returns t c = λ names more.
     as_marks (λ none u. ap (step_marks level) (sym (step_of_hypothesis c.number-number.result c.position-pos-2.result)))
     (then_reads (c.either.ensures.other c.if-either.false names (steps_left level more) (any_number space ∷ any_position space ∷ condition_count level ∷ rest) (any_number space ∷ any_position line ∷ rest) refl)
     (then_reads (framed (any_position line ∷ rest) (c.number-number.ensures.read names (any_number space) (λ k. between space ∷ []) refl))
-    (then_reads (framed (any_position line ∷ rest) (c.text-2.ensures names (between space) [] refl))
-    (then_reads (framed rest (c.position-pos-2.ensures names (any_position line) (between line ∷ []) refl)) (framed rest (c.text-3.ensures names (between line) [] refl))))))
+    (then_reads (framed (any_position line ∷ rest) (c.text-2.ensures.read names (between space) [] refl))
+    (then_reads (framed rest (c.position-pos-2.ensures names (any_position line) (between line ∷ []) refl)) (framed rest (c.text-3.ensures.read names (between line) [] refl))))))
 
 pub steps-returns-then-is_some-clause-read : goal.steps-returns-then-is_some-clause-read
 steps-returns-then-is_some-clause-read t c = λ names.

@@ -1,15 +1,30 @@
-use Rattle.std.proofs.Common.{[], ◌∷◌, refl}
-use Rattle.cert_grammar.specs.Items.{line, between, any_number, states_line}
-use Rattle.cert_grammar.specs.FirstVersion.{infeasibility}
+use Rattle.std.proofs.Common.{[], ◌∷◌, codes, refl}
+use Rattle.cert_grammar.specs.Marks.{fixed}
+use Rattle.cert_grammar.specs.WordMarks.{number}
+use Rattle.cert_grammar.specs.Items.{between, any_number, infeasibility}
+use Rattle.cert_sharing.proofs.UseMarks.{counts_still}
 use Rattle.cert_words.proofs.Walking.{then_reads, framed}
+use Rattle.cert_reading.specs.Uses.{version_by, automata_by, use_between, use_item}
+use Rattle.cert_reading.proofs.EvidenceKinds.{are_infeasible}
+use Rattle.cert_reading.proofs.UseReads.{known_behind}
 use Rattle.cert_reading.proofs.evidence.infeasibility.Goals as goal
 
 pub returns-then-either-clause-read : goal.returns-then-either-clause-read
-returns-then-either-clause-read c = c.either.ensures.one c.if-either.true c.args.names.now infeasibility [] (any_number line ∷ states_line ∷ []) refl
+returns-then-either-clause-read c =
+    let v = version_by c.args.uses in
+    c.either.ensures.one c.if-either.true c.args.names.now (infeasibility v) [] (any_number (use_between v) ∷ use_item v ∷ []) (are_infeasible v)
+
+pub used_automaton-automaton-requires : goal.used_automaton-automaton-requires
+used_automaton-automaton-requires c =
+    let names = c.args.names.now in
+    let v = version_by c.args.uses in
+    let front = then_reads (c.either.ensures.other c.if-either.false names (infeasibility v) [] (any_number (use_between v) ∷ use_item v ∷ []) (are_infeasible v))
+    (framed (use_item v ∷ []) (c.number-cond.ensures.read names (any_number (use_between v)) (λ k. between (use_between v) ∷ []) refl)) in
+    known_behind v (automata_by c.args.uses) front [] (counts_still (fixed (codes "auto ") ∷ number c.number-cond.result ∷ []) (tt, (tt, tt))) c.requires
 
 pub returns-clause-read : goal.returns-clause-read
 returns-clause-read c =
     let names = c.args.names.now in
-    then_reads (c.either.ensures.other c.if-either.false names infeasibility [] (any_number line ∷ states_line ∷ []) refl)
-    (then_reads (framed (states_line ∷ []) (c.number-cond.ensures.read names (any_number line) (λ k. between line ∷ []) refl))
-    (then_reads (framed (states_line ∷ []) (c.text.ensures names (between line) [] refl)) c.automaton-automaton.ensures.read))
+    let v = version_by c.args.uses in
+    then_reads (c.either.ensures.other c.if-either.false names (infeasibility v) [] (any_number (use_between v) ∷ use_item v ∷ []) (are_infeasible v))
+    (then_reads (framed (use_item v ∷ []) (c.number-cond.ensures.read names (any_number (use_between v)) (λ k. between (use_between v) ∷ []) refl)) c.used_automaton-automaton.ensures.read)

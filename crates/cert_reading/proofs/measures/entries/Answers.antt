@@ -2,24 +2,25 @@ use Rattle.std.proofs.Common.{◌≡◌, ◌+◌, ◌∙◌, ℕ, suc, refl, sym
 use Rattle.std.proofs.lemmas.List.{length_push, append-nil, length-map}
 use Rattle.cert_model.specs.CertificateView.{linear_entry_view}
 use Rattle.cert_grammar.specs.CertificateMarks.{entries_marks}
-use Rattle.cert_grammar.specs.FirstVersion.{entries_from}
-use Rattle.cert_reading.specs.Stops.{Anywhere, IsUnopened}
-use Rattle.cert_words.proofs.Walking.{then_reads, then_nothing, as_reads, already, open_before}
+use Rattle.cert_grammar.specs.Items.{entries_from}
+use Rattle.cert_words.proofs.Walking.{open_before}
 use Rattle.cert_words.proofs.Stepping.{none_now, some_now}
-use Rattle.cert_reading.proofs.Stopping.{then_where, as_where, then_nothing_where, already_where, open_before_where, low_where, low_unopened, anywhere, reads_anywhere}
+use Rattle.cert_reading.proofs.Stopping.{then_where, as_where, then_nothing_where, already_where, low_where, low_unopened}
+use Rattle.cert_reading.proofs.Opening.{entry_at}
 use Rattle.cert_reading.proofs.ListMarks.{entries_push}
 use Rattle.cert_reading.proofs.measures.entries.Goals as goal
 
 pub returns-then-is_some-clause-read : goal.returns-then-is_some-clause-read
-returns-then-is_some-clause-read c =
+returns-then-is_some-clause-read c = λ v.
     let names = c.args.names.now in
     let ok = c.entries.entries.ok.0 in
     let len = c.len.ensures in
     let n = c.len.result + 1 in
     let is : suc (length c.entries.entries.items) ≡ n = omega (arith, ok, len) in
     let e = some_now _ _ c.is_some.ensures c.if-is_some.true in
-    let step = then_nothing_where (c.in-Some.ensures.entry) (low_where (entries_from (suc n)) (low_unopened (entries_from (suc n)) (λ h. let e = h.1 in cc)) (c.put.ensures.read names c.args.end [])) in
-    already_where e.0 e.1 (then_where (as_where (λ none. (ap (λ (j : ℕ). entries_from j ∷ []) is, λ u. refl)) c.entries.invariant) step)
+    let low = entries_from v (suc n) in
+    let step = then_nothing_where (c.in-Some.ensures.entry v) (low_where low (low_unopened v low (entry_at v n).later) (c.put.ensures.read names c.args.end [])) in
+    already_where e.0 e.1 (then_where (as_where (λ none. (ap (λ (j : ℕ). entries_from v j ∷ []) is, λ u. refl)) (c.entries.invariant v)) step)
 
 pub entries-smaller : goal.entries-smaller
 entries-smaller c =
@@ -28,12 +29,12 @@ entries-smaller c =
     let len = c.len.ensures in
     let n = c.len.result + 1 in
     let none = none_now _ _ c.is_some.ensures c.if-is_some.false in
-    let few = c.in-Some.ensures.few (open_before_where {P = IsUnopened} (low_where (entries_from (suc n)) (low_unopened (entries_from (suc n)) (λ h. let e = h.1 in cc)) (c.put.ensures.read names c.args.end [])) none) in
+    let few = c.in-Some.ensures.few (open_before (c.put.ensures.read names c.args.end []) none) in
     let long = ap length (c.put.ensures.grown none) ∙ length_push c.entries.entries.items c.in-Some.next in
     omega (arith, ok, len, few, long)
 
 pub entries-preserved : goal.entries-preserved
-entries-preserved c =
+entries-preserved c = λ v.
     let names = c.args.names.now in
     let items = c.entries.entries.items in
     let next = c.in-Some.next in
@@ -41,21 +42,22 @@ entries-preserved c =
     let len = c.len.ensures in
     let n = c.len.result + 1 in
     let is : suc (length items) ≡ n = omega (arith, ok, len) in
-    let before = as_where (λ none. (ap (λ (j : ℕ). entries_from j ∷ []) is, λ u. refl)) c.entries.invariant in
-    let step = then_nothing_where (c.in-Some.ensures.entry) (low_where (entries_from (suc n)) (low_unopened (entries_from (suc n)) (λ h. let e = h.1 in cc)) (c.put.ensures.read names c.args.end [])) in
+    let before = as_where (λ none. (ap (λ (j : ℕ). entries_from v j ∷ []) is, λ u. refl)) (c.entries.invariant v) in
+    let low = entries_from v (suc n) in
+    let step = then_nothing_where (c.in-Some.ensures.entry v) (low_where low (low_unopened v low (entry_at v n).later) (c.put.ensures.read names c.args.end [])) in
     as_where (λ none.
     let grown = c.put.ensures.grown none in
     let long = ap length grown ∙ length_push items next in (
-      (let more : suc n ≡ suc (length c.put.new.list.items) = omega (arith, long, is) in ap (λ (j : ℕ). entries_from j ∷ []) more),
+      (let more : suc n ≡ suc (length c.put.new.list.items) = omega (arith, long, is) in ap (λ (j : ℕ). entries_from v j ∷ []) more),
       λ u. entries_push linear_entry_view u 1 n items next (omega (arith, is)) ∙ ap (λ xs. entries_marks u 1 (map linear_entry_view xs)) (sym grown),
     ))
     (then_where before step)
 
 pub returns-clause-read : goal.returns-clause-read
-returns-clause-read c =
+returns-clause-read c = λ v.
     let ok = c.entries.entries.ok.0 in
     let len = c.len.ensures in
     let n = c.len.result + 1 in
     let is : suc (length c.entries.entries.items) ≡ n = omega (arith, ok, len) in
     let same : n ≡ suc (length (map linear_entry_view c.entries.entries.items)) = omega (arith, is, length-map c.entries.entries.items linear_entry_view) in
-    as_where (λ none. (ap (λ (j : ℕ). entries_from j ∷ []) same, λ u. append-nil _)) (then_where (as_where (λ none. (ap (λ (j : ℕ). entries_from j ∷ []) is, λ u. refl)) c.entries.invariant) (c.in_default.ensures.none))
+    as_where (λ none. (ap (λ (j : ℕ). entries_from v j ∷ []) same, λ u. append-nil _)) (then_where (as_where (λ none. (ap (λ (j : ℕ). entries_from v j ∷ []) is, λ u. refl)) (c.entries.invariant v)) (c.in_default.ensures.none v))

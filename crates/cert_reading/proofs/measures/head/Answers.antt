@@ -1,36 +1,36 @@
-use Rattle.std.proofs.Common.{suc, [], ◌∷◌, refl}
+use Rattle.std.proofs.Common.{[], ◌∷◌, refl}
 use Rattle.cert_grammar.specs.Items.{space, between, any_number, measured_name, measured_condition, coefficients_behind}
-use Rattle.cert_grammar.specs.FirstVersion.{entries_from}
 use Rattle.cert_words.proofs.Walking.{then_reads, framed, open_before}
 use Rattle.cert_reading.proofs.Stopping.{then_where, low_where, low_unopened}
 use Rattle.cert_reading.proofs.measures.head.Goals as goal
 
 pub returns-in-Symbol-clause-head : goal.returns-in-Symbol-clause-head
-returns-in-Symbol-clause-head c =
+returns-in-Symbol-clause-head c = λ v i low behind s.
     let names = c.args.names.now in
-    let low = entries_from (suc c.args.n) in
-    then_where (c.in-Symbol.ensures.symbol refl names)
-    (low_where low (low_unopened low (λ h. let e = h.1 in cc))
-    (then_reads (framed (measured_name ∷ []) (c.text.ensures names (between space) [] refl)) (c.name-f.ensures measured_name (λ name. coefficients_behind 0 ∷ []) refl)))
+    then_where (c.in-Symbol.ensures.symbol refl names v i low behind s)
+    (low_where low (low_unopened v low s.later)
+    (then_reads (framed (s.name ∷ []) (c.text.ensures.read names (between space) [] refl)) (c.name-f.ensures s.name (λ name. behind ∷ []) s.name_leads)))
 
 pub returns-in-Symbol-clause-few : goal.returns-in-Symbol-clause-few
 returns-in-Symbol-clause-few c = λ none.
-    c.in-Symbol.ensures.few (λ e. cc) (open_before (c.text.ensures c.args.names.now (between space) [] refl) (open_before (c.name-f.ensures measured_name (λ name. coefficients_behind 0 ∷ []) refl) none))
+    c.in-Symbol.ensures.few (λ e. cc) (open_before (c.text.ensures.read c.args.names.now (between space) [] refl) (open_before (c.name-f.ensures measured_name (λ name. coefficients_behind 0 ∷ []) refl) none))
 
 pub returns-in-Condition-clause-head : goal.returns-in-Condition-clause-head
-returns-in-Condition-clause-head c =
+returns-in-Condition-clause-head c = λ v i low behind s.
     let names = c.args.names.now in
-    let low = entries_from (suc c.args.n) in
-    then_where (c.in-Condition.ensures.condition refl names)
-    (low_where low (low_unopened low (λ h. let e = h.1 in cc))
-    (then_reads (framed (any_number space ∷ measured_condition ∷ []) (c.text-in-Condition.ensures names (between space) [] refl))
-    (then_reads (framed (measured_condition ∷ []) (c.number-rule.ensures.read names (any_number space) (λ k. between space ∷ []) refl))
-    (then_reads (framed (measured_condition ∷ []) (c.text-in-Condition-2.ensures names (between space) [] refl)) (c.number-cond.ensures.read names measured_condition (λ k. coefficients_behind 0 ∷ []) refl)))))
+    then_where (c.in-Condition.ensures.condition refl names v i low behind s)
+    (low_where low (low_unopened v low s.later)
+    (then_reads (framed (any_number space ∷ s.condition ∷ []) (c.text-in-Condition.ensures.read names (between space) [] refl))
+    (then_reads (framed (s.condition ∷ []) (c.number-rule.ensures.read names (any_number space) (λ k. between space ∷ []) refl))
+    (then_reads (framed (s.condition ∷ []) (c.text-in-Condition-2.ensures.read names (between space) [] refl)) (c.number-cond.ensures.read names s.condition (λ k. behind ∷ []) s.condition_leads)))))
 
 pub returns-in-Condition-clause-few : goal.returns-in-Condition-clause-few
 returns-in-Condition-clause-few c = λ none.
     let names = c.args.names.now in
     c.in-Condition.ensures.few (λ e. cc)
-    (open_before (c.text-in-Condition.ensures names (between space) [] refl)
+    (open_before (c.text-in-Condition.ensures.read names (between space) [] refl)
     (open_before (c.number-rule.ensures.read names (any_number space) (λ k. between space ∷ []) refl)
-    (open_before (c.text-in-Condition-2.ensures names (between space) [] refl) (open_before (c.number-cond.ensures.read names measured_condition (λ k. coefficients_behind 0 ∷ []) refl) none))))
+    (open_before (c.text-in-Condition-2.ensures.read names (between space) [] refl) (open_before (c.number-cond.ensures.read names measured_condition (λ k. coefficients_behind 0 ∷ []) refl) none))))
+
+pub returns-in-Nothing-clause-none : goal.returns-in-Nothing-clause-none
+returns-in-Nothing-clause-none c = λ v i low behind s. c.in-Nothing.ensures.nothing refl c.args.names.now v i low behind s

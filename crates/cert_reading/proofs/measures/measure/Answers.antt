@@ -1,12 +1,24 @@
-use Rattle.std.proofs.Common.{[], ◌∷◌, refl}
-use Rattle.cert_grammar.specs.FirstVersion.{measure}
-use Rattle.cert_reading.proofs.Stopping.{then_where, word_where}
-use Rattle.cert_reading.proofs.Opening.{other_item, linear_line}
-use Rattle.cert_reading.proofs.Chosen.{one_choice}
+use Rattle.std.proofs.Common.{sym, subst, [], ◌∷◌}
+use Rattle.cert_model.specs.CertificateView.{measure_view}
+use Rattle.cert_grammar.specs.Versions.{HasMeasure}
+use Rattle.cert_grammar.specs.CertificateMarks.{measure_marks}
+use Rattle.cert_grammar.specs.Items.{measure}
+use Rattle.cert_reading.specs.declared.uses.Uses.{Uses}
+use Rattle.cert_reading.specs.Headings.{behind_measure}
+use Rattle.cert_reading.specs.Stops.{ReadsWhere, WithinOpening}
+use Rattle.cert_reading.specs.Uses.{version_by}
 use Rattle.cert_reading.proofs.measures.measure.Goals as goal
 
-pub returns-clause-read : goal.returns-clause-read
-returns-clause-read c =
-    let names = c.args.names.now in
-    then_where (word_where (λ s. other_item measure c.args.at.now.left.now (λ e. cc) (λ m e. cc) (λ m e. cc)) (λ none. c.choose.ensures.here none names measure (linear_line ∷ []) refl refl)
-    (one_choice names c.args.end measure linear_line _ _ _ (c.choose.ensures.chosen names measure (linear_line ∷ []) refl refl))) c.entries-entries.ensures.read
+pub returns-in-InFull-clause-read : goal.returns-in-InFull-clause-read
+returns-in-InFull-clause-read c =
+    subst (λ (w : Uses). ReadsWhere (WithinOpening (version_by w)) c.args.names.now c.args.end (measure (version_by w) ∷ []) (λ u. measure_marks u (measure_view c.first_measure.result)) (behind_measure (version_by w) (measure_view c.first_measure.result) ∷ []) c.args.at.now c.first_measure.new.at) (sym c.in-InFull.is) c.first_measure.ensures.read
+
+pub returns-in-InFull-clause-first : goal.returns-in-InFull-clause-first
+returns-in-InFull-clause-first c = subst (λ (w : Uses). HasMeasure (version_by w) (measure_view c.first_measure.result)) (sym c.in-InFull.is) c.first_measure.ensures.first
+
+pub returns-in-ByNumber-clause-read : goal.returns-in-ByNumber-clause-read
+returns-in-ByNumber-clause-read c =
+    subst (λ (w : Uses). ReadsWhere (WithinOpening (version_by w)) c.args.names.now c.args.end (measure (version_by w) ∷ []) (λ u. measure_marks u (measure_view c.second_measure.result)) (behind_measure (version_by w) (measure_view c.second_measure.result) ∷ []) c.args.at.now c.second_measure.new.at) (sym c.in-ByNumber.is) c.second_measure.ensures.read
+
+pub returns-in-ByNumber-clause-first : goal.returns-in-ByNumber-clause-first
+returns-in-ByNumber-clause-first c = subst (λ (w : Uses). HasMeasure (version_by w) (measure_view c.second_measure.result)) (sym c.in-ByNumber.is) c.second_measure.ensures.second

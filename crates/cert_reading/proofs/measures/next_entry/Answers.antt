@@ -1,14 +1,20 @@
 use Rattle.std.proofs.Common.{suc, sym}
 use Rattle.std.proofs.lemmas.List.{append-nil}
-use Rattle.cert_grammar.specs.FirstVersion.{entries_from}
+use Rattle.cert_grammar.specs.Items.{entries_from, coefficients_behind}
 use Rattle.cert_words.proofs.Walking.{open_before}
 use Rattle.cert_reading.proofs.Stopping.{then_where, as_marks_where, low_where, low_unopened}
+use Rattle.cert_reading.proofs.Opening.{entry_at}
 use Rattle.cert_reading.proofs.measures.next_entry.Goals as goal
 
 pub returns-clause-entry : goal.returns-clause-entry
-returns-clause-entry c =
-    let low = entries_from (suc c.args.n) in
-    as_marks_where (λ none u. sym (append-nil _)) (then_where c.in-Some.ensures.head (low_where low (low_unopened low (λ h. let e = h.1 in cc)) (c.coefficients-coeffs.ensures c.args.names.now)))
+returns-clause-entry c = λ v.
+    let n = c.args.n in
+    let low = entries_from v (suc n) in
+    as_marks_where (λ none u. sym (append-nil _))
+    (then_where (c.in-Some.ensures.head v (entries_from v n) low (coefficients_behind 0) (entry_at v n)) (low_where low (low_unopened v low (entry_at v n).later) (c.coefficients-coeffs.ensures c.args.names.now)))
+
+pub returns-in_default-clause-none : goal.returns-in_default-clause-none
+returns-in_default-clause-none c = λ v. c.in_default.ensures.none v (entries_from v c.args.n) (entries_from v (suc c.args.n)) (coefficients_behind 0) (entry_at v c.args.n)
 
 pub returns-clause-few : goal.returns-clause-few
 returns-clause-few c = λ none. c.in-Some.ensures.few (open_before (c.coefficients-coeffs.ensures c.args.names.now) none)

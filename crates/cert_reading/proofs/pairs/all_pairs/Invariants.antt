@@ -1,16 +1,17 @@
 use Rattle.std.proofs.Common.{◌≡◌, ◌-◌, suc, [], ◌∷◌, None, map, length}
 use Rattle.cert_model.specs.CertificateView.{pair_entry_view}
-use Rattle.cert_grammar.specs.FirstVersion.{pairs_marks}
-use Rattle.cert_grammar.specs.FirstVersion as first
-use Rattle.cert_words.specs.Walks.{Reads}
+use Rattle.cert_grammar.specs.CertificateMarks.{pairs_marks}
+use Rattle.cert_grammar.specs.Items as spec
 use Rattle.cert_reading.specs.Stops.{ReadsWhere, Anywhere}
-use Rattle.cert_reading.specs.Plain.{ArePlainPairs}
+use Rattle.cert_reading.specs.Plain.{PairsUse}
+use Rattle.cert_reading.specs.Uses.{version_by, automata_by, uses_by, AreKnown}
 use Rattle.cert_reading.proofs.pairs.all_pairs.Given as goal
 
 abbrev pub invariant-pairs : goal.invariant-pairs
 invariant-pairs l = record {
-  read : ReadsWhere Anywhere l.fn.names l.fn.end (first.pairs_from 1 ∷ []) (λ u. pairs_marks u 1 (map pair_entry_view l.pairs.items)) (first.pairs_from (suc (length l.pairs.items)) ∷ []) l.fn.at l.at;
-  plain : l.at.refused ≡ None → ArePlainPairs (map pair_entry_view l.pairs.items);
+  read : ReadsWhere Anywhere l.fn.names l.fn.end (spec.pairs_from (version_by l.fn.uses) 1 ∷ []) (λ u. pairs_marks u (uses_by l.fn.names l.fn.uses) 1 (map pair_entry_view l.pairs.items)) (spec.pairs_from (version_by l.fn.uses) (suc (length l.pairs.items)) ∷ []) l.fn.at l.at;
+  plain : l.at.refused ≡ None → PairsUse (version_by l.fn.uses) (automata_by l.fn.uses) (map pair_entry_view l.pairs.items);
+  known : AreKnown l.fn.names l.fn.uses l.fn.end l.at;
 }
 
 abbrev pub decreases-pairs : goal.decreases-pairs

@@ -1,63 +1,74 @@
 use Rattle.std.proofs.Common.{◌≡◌, ◌+◌, ◌∙◌, ℕ, suc, refl, sym, ap, map, length, [], ◌∷◌, arith}
-use Rattle.std.proofs.lemmas.List.{length_push, append-nil, length-map}
+use Rattle.std.proofs.lemmas.List.{length_push}
 use Rattle.cert_model.specs.CertificateView.{redex_view}
-use Rattle.cert_grammar.specs.FirstVersion.{redexes_marks, redexes_from}
+use Rattle.cert_grammar.specs.CertificateMarks.{redexes_marks}
+use Rattle.cert_grammar.specs.Items.{redexes_from}
+use Rattle.cert_sharing.proofs.UseMarks.{counts_still}
 use Rattle.cert_words.proofs.Walking.{then_reads, then_nothing, as_reads, already, open_before}
 use Rattle.cert_words.proofs.Stepping.{none_now, some_now}
-use Rattle.cert_reading.proofs.Stopping.{then_where, as_where, as_marks_where, already_where, open_before_where, low_where, low_unopened, anywhere, reads_anywhere}
+use Rattle.cert_reading.specs.Uses.{version_by, automata_by, uses_by}
+use Rattle.cert_reading.proofs.UseReads.{known_behind}
 use Rattle.cert_reading.proofs.ListMarks.{redexes_push, plain_redexes}
 use Rattle.cert_reading.proofs.peaks.redexes.Goals as goal
 
 pub returns-then-is_some-clause-read : goal.returns-then-is_some-clause-read
 returns-then-is_some-clause-read c =
     let names = c.args.names.now in
+    let v = version_by c.args.uses in
     let ok = c.redexes.redexes.ok.0 in
     let len = c.len.ensures in
     let n = c.len.result + 1 in
     let is : suc (length c.redexes.redexes.items) ≡ n = omega (arith, ok, len) in
     let e = some_now _ _ c.is_some.ensures c.if-is_some.true in
-    let step = then_nothing c.in-Some.ensures.redex (c.put.ensures.read names c.args.end (redexes_from (suc n) ∷ [])) in
-    already e.0 e.1 (then_reads (as_reads (λ none. (ap (λ (j : ℕ). redexes_from j ∷ []) is, λ u. refl)) c.redexes.invariant.read) step)
+    let step = then_nothing c.in-Some.ensures.redex (c.put.ensures.read names c.args.end (redexes_from v (suc n) ∷ [])) in
+    already e.0 e.1 (then_reads (as_reads (λ none. (ap (λ (j : ℕ). redexes_from v j ∷ []) is, λ u. refl)) c.redexes.invariant.read) step)
 
 pub redexes-smaller : goal.redexes-smaller
 redexes-smaller c =
     let names = c.args.names.now in
+    let v = version_by c.args.uses in
     let ok = c.redexes.redexes.ok.0 in
     let len = c.len.ensures in
     let n = c.len.result + 1 in
     let none = none_now _ _ c.is_some.ensures c.if-is_some.false in
-    let few = c.in-Some.ensures.few (open_before (c.put.ensures.read names c.args.end (redexes_from (suc n) ∷ [])) none) in
+    let few = c.in-Some.ensures.few (open_before (c.put.ensures.read names c.args.end (redexes_from v (suc n) ∷ [])) none) in
     let long = ap length (c.put.ensures.grown none) ∙ length_push c.redexes.redexes.items c.in-Some.next in
     omega (arith, ok, len, few, long)
 
 pub redexes-preserved : goal.redexes-preserved
 redexes-preserved c =
     let names = c.args.names.now in
+    let v = version_by c.args.uses in
     let items = c.redexes.redexes.items in
     let next = c.in-Some.next in
     let ok = c.redexes.redexes.ok.0 in
     let len = c.len.ensures in
     let n = c.len.result + 1 in
     let is : suc (length items) ≡ n = omega (arith, ok, len) in
-    let before = as_reads (λ none. (ap (λ (j : ℕ). redexes_from j ∷ []) is, λ u. refl)) c.redexes.invariant.read in
-    let step = then_nothing c.in-Some.ensures.redex (c.put.ensures.read names c.args.end (redexes_from (suc n) ∷ [])) in
+    let before = as_reads (λ none. (ap (λ (j : ℕ). redexes_from v j ∷ []) is, λ u. refl)) c.redexes.invariant.read in
+    let step = then_nothing c.in-Some.ensures.redex (c.put.ensures.read names c.args.end (redexes_from v (suc n) ∷ [])) in
     record {
       read = as_reads (λ none.
           let grown = c.put.ensures.grown none in
           let long = ap length grown ∙ length_push items next in (
-            (let more : suc n ≡ suc (length c.put.new.list.items) = omega (arith, long, is) in ap (λ (j : ℕ). redexes_from j ∷ []) more),
-            λ u. redexes_push redex_view u 1 n items next (omega (arith, is)) ∙ ap (λ xs. redexes_marks u 1 (map redex_view xs)) (sym grown),
+            (let more : suc n ≡ suc (length c.put.new.list.items) = omega (arith, long, is) in ap (λ (j : ℕ). redexes_from v j ∷ []) more),
+            λ u. redexes_push redex_view u (uses_by names c.args.uses) 1 n items next (omega (arith, is)) ∙ ap (λ xs. redexes_marks u (uses_by names c.args.uses) 1 (map redex_view xs)) (sym grown),
           ))
           (then_reads before step);
       plain = λ none.
-          let was = open_before (c.put.ensures.read names c.args.end (redexes_from (suc n) ∷ [])) none in
-          plain_redexes redex_view items c.put.new.list.items next (c.put.ensures.grown none) (c.redexes.invariant.plain (open_before (c.in-Some.ensures.redex) was)) (c.in-Some.ensures.plain was);
+          let was = open_before (c.put.ensures.read names c.args.end (redexes_from v (suc n) ∷ [])) none in
+          plain_redexes v (automata_by c.args.uses) redex_view items c.put.new.list.items next (c.put.ensures.grown none) (c.redexes.invariant.plain (open_before (c.in-Some.ensures.redex) was)) (c.in-Some.ensures.plain was);
+      known = known_behind v (automata_by c.args.uses) (c.put.ensures.read names c.args.end []) [] (counts_still [] tt) c.in-Some.ensures.known;
     }
 
 pub returns-clause-read : goal.returns-clause-read
 returns-clause-read c =
+    let v = version_by c.args.uses in
     let ok = c.redexes.redexes.ok.0 in
     let len = c.len.ensures in
     let n = c.len.result + 1 in
     let is : suc (length c.redexes.redexes.items) ≡ n = omega (arith, ok, len) in
-    then_reads (as_reads (λ none. (ap (λ (j : ℕ). redexes_from j ∷ []) is, λ u. refl)) c.redexes.invariant.read) (c.in_default.ensures.last)
+    then_reads (as_reads (λ none. (ap (λ (j : ℕ). redexes_from v j ∷ []) is, λ u. refl)) c.redexes.invariant.read) (c.in_default.ensures.last)
+
+pub next_redex-requires : goal.next_redex-requires
+next_redex-requires c = c.redexes.invariant.known

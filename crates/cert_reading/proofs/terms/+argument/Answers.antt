@@ -52,7 +52,7 @@ argument-returns-in-Comma-clause-comma t c = λ q g fs e.
     ))
     (then_reads (c.in-Symbol.ensures.read (node n (g ∷ fs)) (λ w. name_behind (suc n) w (g ∷ fs) ∷ []) (term_behind (suc n) (g ∷ fs) ∷ []) (node_leads n c.args.depth g fs e))
     (then_reads (c.in-Comma.ensures.comma refl names f 0 (name_behind (suc n) name (g ∷ fs)) (node (suc n) (record { name = name; argument = 1 } ∷ g ∷ fs) ∷ []) (next_argument (suc n) g fs ∷ []) (symbol_end (suc n) g fs ∷ []) refl (arity_met names f 0 c.has_so_many.result found c.has_so_many.ensures))
-    (c.text.ensures names (next_argument (suc n) g fs) (node (suc n) (with_next g ∷ fs) ∷ []) refl)))
+    (c.text.ensures.read names (next_argument (suc n) g fs) (node (suc n) (with_next g ∷ fs) ∷ []) refl)))
 
 pub argument-returns-in-Close-clause-close : goal.argument-returns-in-Close-clause-close
 argument-returns-in-Close-clause-close t c = λ q g fs e.
@@ -67,7 +67,7 @@ argument-returns-in-Close-clause-close t c = λ q g fs e.
     ))
     (then_reads (c.in-Symbol.ensures.read (node n (g ∷ fs)) (λ w. name_behind (suc n) w (g ∷ fs) ∷ []) (term_behind (suc n) (g ∷ fs) ∷ []) (node_leads n c.args.depth g fs e))
     (then_reads (c.in-Close.ensures.close refl names f 0 (name_behind (suc n) name (g ∷ fs)) (node (suc n) (record { name = name; argument = 1 } ∷ g ∷ fs) ∷ []) (next_argument (suc n) g fs ∷ []) (symbol_end (suc n) g fs ∷ []) refl (arity_met names f 0 c.has_so_many.result found c.has_so_many.ensures))
-    (c.text-in-Close.ensures names (symbol_end (suc n) g fs) (term_closed (suc n) g.name g.argument fs ∷ []) refl)))
+    (c.text-in-Close.ensures.read names (symbol_end (suc n) g fs) (term_closed (suc n) g.name g.argument fs ∷ []) refl)))
 
 pub argument-returns-then-closed_or-clause-comma : goal.argument-returns-then-closed_or-clause-comma
 argument-returns-then-closed_or-clause-comma t c = λ q g fs e.
@@ -90,7 +90,7 @@ argument-returns-then-closed_or-clause-comma t c = λ q g fs e.
     (c.arguments-args.ensures.read name (g ∷ fs) deeper)) in
     let last =
     then_reads (c.closed_or.ensures.comma c.if-closed_or.true names f k (term_closed next name k (g ∷ fs)) (next_argument next g fs ∷ []) (symbol_end next g fs ∷ []) refl met)
-    (c.text-then-closed_or.ensures names (next_argument next g fs) (node next (with_next g ∷ fs) ∷ []) refl) in
+    (c.text-then-closed_or.ensures.read names (next_argument next g fs) (node next (with_next g ∷ fs) ∷ []) refl) in
     as_marks (λ none u.
     let some = c.arguments-args.ensures.some (open_before last none) in
     let len = length-map args.items view in
@@ -115,7 +115,7 @@ argument-returns-then-closed_or-clause-counted t c = λ none.
     let met = arity_met names f k c.has_so_many-in-Open.result found (c.has_so_many-in-Open.ensures ∙ ap (λ (m : ℕ). is_number m (arity_at names f)) many) in
     let last =
     then_reads (c.closed_or.ensures.comma c.if-closed_or.true names f k (term_closed next name k (any_frame ∷ [])) (next_argument next any_frame [] ∷ []) (symbol_end next any_frame [] ∷ []) refl met)
-    (c.text-then-closed_or.ensures names (next_argument next any_frame []) (node next (with_next any_frame ∷ []) ∷ []) refl) in
+    (c.text-then-closed_or.ensures.read names (next_argument next any_frame []) (node next (with_next any_frame ∷ []) ∷ []) refl) in
     let all = c.arguments-args.ensures.counted (open_before last none) in
     let size_is = ap size (view-Fun f args) in
     omega (arith, all, size_is)
@@ -141,7 +141,7 @@ argument-returns-else-closed_or-clause-close t c = λ q g fs e.
     (c.arguments-args.ensures.read name (g ∷ fs) deeper)) in
     let last =
     then_reads (c.closed_or.ensures.close c.if-closed_or.false names f k (term_closed next name k (g ∷ fs)) (next_argument next g fs ∷ []) (symbol_end next g fs ∷ []) refl met)
-    (c.text-in-Open.ensures names (symbol_end next g fs) (term_closed next g.name g.argument fs ∷ []) refl) in
+    (c.text-in-Open.ensures.read names (symbol_end next g fs) (term_closed next g.name g.argument fs ∷ []) refl) in
     as_marks (λ none u.
     let some = c.arguments-args.ensures.some (open_before last none) in
     let len = length-map args.items view in
@@ -166,7 +166,7 @@ argument-returns-else-closed_or-clause-counted t c = λ none.
     let met = arity_met names f k c.has_so_many-in-Open.result found (c.has_so_many-in-Open.ensures ∙ ap (λ (m : ℕ). is_number m (arity_at names f)) many) in
     let last =
     then_reads (c.closed_or.ensures.close c.if-closed_or.false names f k (term_closed next name k (any_frame ∷ [])) (next_argument next any_frame [] ∷ []) (symbol_end next any_frame [] ∷ []) refl met)
-    (c.text-in-Open.ensures names (symbol_end next any_frame []) (term_closed next any_frame.name any_frame.argument [] ∷ []) refl) in
+    (c.text-in-Open.ensures.read names (symbol_end next any_frame []) (term_closed next any_frame.name any_frame.argument [] ∷ []) refl) in
     let all = c.arguments-args.ensures.counted (open_before last none) in
     let size_is = ap size (view-Fun f args) in
     omega (arith, all, size_is)

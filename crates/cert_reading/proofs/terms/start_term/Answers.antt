@@ -23,7 +23,7 @@ returns-then-is_some c =
 pub returns-in-Variable : goal.returns-in-Variable
 returns-in-Variable c =
     as_marks (λ none u. ap (λ (x : Term). term_marks u 1 1 x ++ (fixed (codes "\n") ∷ [])) (sym (view-Var c.in-Variable.x)))
-    (then_reads (c.in-Variable.ensures.read (node 1 []) (λ w. name_behind 2 w [] ∷ []) (term_behind 2 [] ∷ []) refl) (c.text.ensures c.args.names.now (term_behind 2 []) [] refl))
+    (then_reads (c.in-Variable.ensures.read (node 1 []) (λ w. name_behind 2 w [] ∷ []) (term_behind 2 [] ∷ []) refl) (c.text.ensures.read c.args.names.now (term_behind 2 []) [] refl))
 
 pub returns-then-not-opened : goal.returns-then-not-opened
 returns-then-not-opened c =
@@ -33,7 +33,7 @@ returns-then-not-opened c =
     as_marks (λ none u. ap (λ (x : Term). term_marks u 1 1 x ++ (fixed (codes "\n") ∷ [])) (sym (view-Fun f c.new.result ∙ ap (λ l. app f (views l)) c.new.ensures.items)))
     (then_reads (c.in-Symbol.ensures.read (node 1 []) (λ w. name_behind 2 w [] ∷ []) (term_behind 2 [] ∷ []) refl)
     (then_reads (c.opened.ensures.none c.if-not-opened.true names f 0 (name_behind 2 (name_of names f) []) (node 2 (record { name = name_of names f; argument = 1 } ∷ []) ∷ []) (between line ∷ []) refl (arity_met names f 0 c.has_so_many.result found c.has_so_many.ensures))
-    (c.text-then-not-opened.ensures names (between line) [] refl)))
+    (c.text-then-not-opened.ensures.read names (between line) [] refl)))
 
 pub returns-else-not-opened : goal.returns-else-not-opened
 returns-else-not-opened c =
@@ -50,7 +50,7 @@ returns-else-not-opened c =
     let met = arity_met names f k c.has_so_many-in-Symbol.result found (c.has_so_many-in-Symbol.ensures ∙ ap (λ (m : ℕ). is_number m (arity_at names f)) many) in
     let last =
     then_reads (c.checked.ensures names f k (term_closed next name k []) (between line ∷ []) refl met)
-    (c.text-in-Symbol.ensures names (between line) [] refl) in
+    (c.text-in-Symbol.ensures.read names (between line) [] refl) in
     as_marks (λ none u.
     let some = c.arguments-args.ensures.some (open_before last none) in
     let len = length-map args.items view in

@@ -1,13 +1,25 @@
-use Rattle.std.proofs.Common.{◌≡◌, ◌∙◌, ℕ, Option, None, Some, sym}
-use Rattle.cert_openings.proofs.FirstVersion.{refused_second}
-use Rattle.cert_openings.proofs.FirstEnds.{end_first}
+use Rattle.std.proofs.Common.{map, None, refl}
+use Rattle.cert_model.specs.EvidenceView.{automaton_view}
+use Rattle.cert_grammar.specs.Versions.{first_version}
+use Rattle.cert_text.specs.declared.opening.Opened.{Opened}
+use Rattle.cert_text.specs.OpenedText.{opened_view, IsOpenedAs, IsRefusedBehind}
+use Rattle.cert_text.proofs.Openings.{refused_late, if_ok, first_begun, second_begun}
 use Rattle.cert_text.proofs.opening.open_cert.Goals as goal
 
-none_or_some : (place : ℕ) → ◌≡◌ {A = Option ℕ} (Some place) None → ⊥
-none_or_some place e = cc
+pub open_second-requires : goal.open_second-requires
+open_second-requires c =
+    second_begun (map automaton_view c.shared_automata-automata.result.items) refl c.new-shares.ensures refl c.if-second.true (c.first_line-given.ensures c.args.names.now) (c.shared_automata-automata.ensures.read c.first_line-given.result.0) c.shared_automata-automata.ensures.known c.shared_automata-automata.ensures.plain
 
-pub returns-in-Some-clause-refused : goal.returns-in-Some-clause-refused
-returns-in-Some-clause-refused c = refused_second c.args.names.now c.args.bytes.now c.in-Some.at (sym c.second_version.ensures ∙ c.in-Some.is)
+pub returns-then-second-clause-late : goal.returns-then-second-clause-late
+returns-then-second-clause-late c = if_ok (λ (o : Opened). IsOpenedAs c.args.names.now c.args.bytes.now (opened_view o)) (λ (o : Opened). IsRefusedBehind c.args.names.now c.args.bytes.now (opened_view o)) c.open_second.result (λ o h. refused_late c.args.names.now c.args.bytes.now (opened_view o) h) c.open_second.ensures.opened
 
-pub returns-in-Some-clause-early : goal.returns-in-Some-clause-early
-returns-in-Some-clause-early c = λ f at t end h. absurd (none_or_some c.in-Some.at (sym c.in-Some.is ∙ c.second_version.ensures ∙ end_first c.args.bytes.now end h))
+pub open_body-requires : goal.open_body-requires
+open_body-requires c = record { given = c.first_line-given.result.0; steps = None; begun = first_begun c.kind_word-kind.result refl c.new-shares.ensures refl c.if-second.false (c.first_line-given.ensures c.args.names.now) (c.kind_word-kind.ensures c.args.names.now first_version) }
+
+pub returns-clause-opened : goal.returns-clause-opened
+returns-clause-opened c = c.open_body.ensures.opened (record { given = c.first_line-given.result.0; steps = None; begun = first_begun c.kind_word-kind.result refl c.new-shares.ensures refl c.if-second.false (c.first_line-given.ensures c.args.names.now) (c.kind_word-kind.ensures c.args.names.now first_version) })
+
+pub returns-clause-late : goal.returns-clause-late
+returns-clause-late c =
+    if_ok (λ (o : Opened). IsOpenedAs c.args.names.now c.args.bytes.now (opened_view o)) (λ (o : Opened). IsRefusedBehind c.args.names.now c.args.bytes.now (opened_view o)) c.open_body.result (λ o h. refused_late c.args.names.now c.args.bytes.now (opened_view o) h)
+    (c.open_body.ensures.opened (record { given = c.first_line-given.result.0; steps = None; begun = first_begun c.kind_word-kind.result refl c.new-shares.ensures refl c.if-second.false (c.first_line-given.ensures c.args.names.now) (c.kind_word-kind.ensures c.args.names.now first_version) }))

@@ -1,5 +1,5 @@
-use Rattle.cert_openings.proofs.FirstVersion as first
+use Rattle.cert_sharing.proofs.OneCertificate as both
 use Rattle.cert_text.proofs.reader.one_certificate.Goals as goal
 
 pub returns : goal.returns
-returns c = first.one_certificate
+returns c = both.one_certificate

@@ -1,6 +1,9 @@
+use Rattle.cert_model.specs.CertificateView.{certificate_view}
+use Rattle.cert_writing.proofs.Writing.{as_text}
+use Rattle.cert_writing.proofs.SharedTexts.{whole_text}
 use Rattle.cert_writing.proofs.writer.put_certificate.Goals as goal
 
-pub returns : goal.returns
-returns g c =
+pub returns-in-Ok : goal.returns-in-Ok
+returns-in-Ok g c =
     let p = g.met.O.Output.parts in
-    p _ _ _ _ _ c.put.ensures (p _ _ _ _ _ c.put_body.ensures c.put-2.ensures)
+    as_text g.O.Output.took _ _ _ _ (whole_text c.args.names.now (certificate_view c.args.cert.now) _ c.in-Ok.ensures) (p _ _ _ _ _ c.put_heading.ensures (p _ _ _ _ _ c.put_body.ensures c.put.ensures))

@@ -1,12 +1,12 @@
 use Rattle.std.proofs.Common.{Ok, Err, subst}
 use Rattle.certificates.specs.Certificates.{Certificate}
 use Rattle.valid_certificates.specs.CarriedBack.{IsPeakApart}
-use Rattle.cert_grammar.specs.FirstVersion.{IsCertificateText}
+use Rattle.cert_grammar.specs.CertificateText.{IsCertificateText}
 use Rattle.cert_check.specs.Answers.{OnNo}
 use Rattle.cert_check.specs.Bytes.{BytesAnswers}
 use Rattle.cert_check.specs.declared.bytes.BytesError.{BytesError}
 use Rattle.concon_run.specs.Systems.{told_or_any}
-use Rattle.concon_run.proofs.Checks.{cert_not_read, cert_rejected, cert_judged}
+use Rattle.concon_run.proofs.Checks.{cert_not_read, cert_rejected, body_rejected, cert_judged}
 use Rattle.concon_run.proofs.check.verdict_on.Goals as goal
 
 pub check_bytes-requires : goal.check_bytes-requires
@@ -30,3 +30,10 @@ returns-in-Err-Rejected-clause-answers g c =
     c.in-Err-Rejected.reason
     (subst (λ e. BytesAnswers c.args.sys.now c.args.names c.in-Ok.bytes.items (Err e)) c.in-Err-Rejected.field-0-is
     (subst (λ b. BytesAnswers c.args.sys.now c.args.names b (Err c.in-Err-Rejected.field-0)) c.deref.ensures.value c.in-Err-Rejected.ensures.answers))
+
+pub returns-in-Err-RejectedBehindSteps-clause-answers : goal.returns-in-Err-RejectedBehindSteps-clause-answers
+returns-in-Err-RejectedBehindSteps-clause-answers g c =
+    body_rejected (told_or_any (g.S.Shelf.contents c.args.shelf.now c.args.cert.now)) (Unit {0}) c.args.sys.now c.args.names c.in-Ok.bytes.items c.in-Ok.ensures.all c.in-Ok.ensures.limit
+    c.in-Err-RejectedBehindSteps.reason
+    (subst (λ e. BytesAnswers c.args.sys.now c.args.names c.in-Ok.bytes.items (Err e)) c.in-Err-RejectedBehindSteps.field-0-is
+    (subst (λ b. BytesAnswers c.args.sys.now c.args.names b (Err c.in-Err-RejectedBehindSteps.field-0)) c.deref.ensures.value c.in-Err-RejectedBehindSteps.ensures.answers))

@@ -1,0 +1,12 @@
+use Rattle.std.proofs.Common.{◌≡◌, []}
+use Rattle.cert_openings.specs.Openings.{Opening}
+use Rattle.cert_text.specs.Reading.{HasRead}
+use Rattle.cert_check.proofs.Reading.{AreTaken}
+use Rattle.cert_check.proofs.entries.pass_entries.Given as goal
+
+abbrev pub invariant-entries : goal.invariant-entries
+invariant-entries l = record {
+  names : l.pairs.names ≡ l.fn.pairs.names;
+  bytes : l.pairs.bytes ≡ l.fn.pairs.bytes;
+  taken : (o : Opening) → HasRead l.fn.pairs o [] → AreTaken l.pairs o l.counter (λ es. Unit {0});
+}

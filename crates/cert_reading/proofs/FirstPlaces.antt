@@ -1,0 +1,23 @@
+-- The first words stand before the entries.
+use Rattle.std.proofs.Common.{ℕ, Bool, List, [], ◌∷◌, ◌++◌, Option}
+use Rattle.cert_grammar.specs.Versions.{Version}
+use Rattle.cert_grammar.specs.Items.{Item, opening, heading, simplified, body}
+use Rattle.cert_reading.specs.Stops.{BeforeEntries}
+use Rattle.cert_reading.proofs.Stopping.{low_unopened}
+use Rattle.cert_reading.proofs.Opening.{other_item}
+
+pub opening_place : (q : List ℕ) → BeforeEntries (opening ∷ []) q
+opening_place q = λ v. other_item v opening q (λ e. cc) (λ m e. cc) (λ m e. cc) (λ m e. cc)
+
+pub heading_place : (given : Option Bool) (q : List ℕ) → BeforeEntries (heading given ∷ []) q
+heading_place given q = λ v. other_item v (heading given) q (λ e. cc) (λ m e. cc) (λ m e. cc) (λ m e. cc)
+
+pub body_place : (w : Version) (given : Option Bool) (q : List ℕ) → BeforeEntries (body w given ∷ []) q
+body_place w given q = λ v. other_item v (body w given) q (λ e. cc) (λ m e. cc) (λ m e. cc) (λ m e. cc)
+
+pub simplified_place : (given : Option Bool) (q : List ℕ) → BeforeEntries (simplified given ∷ []) q
+simplified_place given q = λ v. other_item v (simplified given) q (λ e. cc) (λ m e. cc) (λ m e. cc) (λ m e. cc)
+
+-- and what stands above a body
+pub above_body : (w : Version) (given : Option Bool) (i : Item) (m : List Item) (q : List ℕ) → BeforeEntries (i ∷ (m ++ body w given ∷ [])) q
+above_body w given i m q = λ v. low_unopened v (body w given) (λ h. let e = h.1 in cc) i m q

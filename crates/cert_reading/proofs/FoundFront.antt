@@ -1,0 +1,251 @@
+-- What is read along the marks of an opening and of entries is read up to its place, in either version: the shared automata
+-- that it uses come first among all, and the greatest number of a use tells how many they are.
+use Rattle.std.proofs.Common.{◌≡◌, ◌⊎◌, inl, inr, ℕ, zero, suc, ◌+◌, ◌≤◌, Bool, true, false, List, [], ◌∷◌, ◌++◌, length, map, drop, Option, Some, None, codes, refl, sym, ap, ◌∙◌, subst, arith, append_assoc}
+use Rattle.certificates.specs.Evidence.{Automaton}
+use Rattle.certificates.specs.Certificates.{PairEntry, Certificate}
+use Rattle.cops_names.specs.NameTable.{NameTable}
+use Rattle.cert_grammar.specs.Words.{largest, name_of}
+use Rattle.cert_grammar.specs.Versions.{Version, first_version, second_version, Uses, in_full, by_number, version_of, automata_of}
+use Rattle.cert_grammar.specs.EvidenceText.{automaton_text}
+use Rattle.cert_grammar.specs.SharedText.{texts_of, with_new, shared_by, place_among, number_in, unfolded_length, AllNew, AreAutomata}
+use Rattle.cert_grammar.specs.CertificateText.{heading_text, body_text, IsWithin}
+use Rattle.cert_grammar.specs.Marks as marks
+use Rattle.cert_grammar.specs.Marks.{is_few, is_answer, Naming, Mark, fixed, marks_text}
+use Rattle.cert_grammar.specs.WordMarks.{number_for}
+use Rattle.cert_grammar.specs.CertificateMarks.{automata_marks, answer_marks, heading_marks, body_marks}
+use Rattle.cert_grammar.specs.Refusals.{Pass}
+use Rattle.cert_grammar.specs.Sharing.{Shared, nothing_shared, behind_marks, PassShares}
+use Rattle.cert_laws.proofs.PassTerms.{range_met, few_met, pass_append}
+use Rattle.cert_laws.proofs.PassEvidence.{AllOf}
+use Rattle.cert_laws.proofs.Spelt.{put_both}
+use Rattle.cert_laws.proofs.SpeltWhole.{AreShort, HasHeading, answer_of, spelt_body, spelt_heading}
+use Rattle.cert_sharing.proofs.FirstUses.{greatest, InOrder, texts_length, pick, Told, told}
+use Rattle.cert_sharing.proofs.UseMarks.{state, AreStill, still_marks, PassUses, counts_body, pass_split, behind_both, marked_texts, automata_behind, automata_new}
+use Rattle.cert_sharing.proofs.PassShares.{uses_order, uses_light, uses_range, pick_unfolds, InRange}
+use Rattle.cert_sharing.proofs.SpeltShares.{place_most, marked_are}
+use Rattle.cert_openings.specs.Openings.{Opening, ortho_opening, quasi_opening, simplified_opening, certificate_for, uses_with, AreLeft}
+use Rattle.cert_openings.specs.Laws.{IsReadTo}
+use Rattle.cert_openings.proofs.Opened.{front_marks}
+use Rattle.cert_reading.specs.Shared.{ArePlainAutomata}
+use Rattle.cert_reading.specs.Plain.{IsPlainBy}
+use Rattle.cert_reading.specs.Whole.{CanShare}
+use Rattle.cert_reading.proofs.FoundWhole.{Along, split, automata_within, body_within, plain_version, answered}
+use Rattle.cert_reading.proofs.FoundSecond.{of_certificate, told_by_number}
+
+-- ---- what shared automata meet, and how far uses have come
+
+record FrontMet (x : Naming) (f : Automaton → ℕ) (bs : List Automaton) (c : Certificate) (used : ℕ) : Type 0 where
+  new : AllNew [] (marked_texts x bs)
+  uses : PassUses (marked_texts x bs) 0 0 (map f (automata_of c))
+  most : greatest 0 (map f (automata_of c)) ≡ used
+
+abbrev lines : List Automaton → List Mark
+lines bs = fixed (codes "concon 2\n") ∷ fixed (codes "shared ") ∷ number_for marks.shared_automata (length bs) ∷ fixed (codes "\n") ∷ []
+
+front_met : (x : Naming) (f : Automaton → ℕ) (bs : List Automaton) (given : Option Bool) (c : Certificate) (b : List ℕ) (used : ℕ) → PassShares (state [] b 0 0) (heading_marks x (by_number f) bs ++ body_marks x (by_number f) given c)
+    → (behind_marks (heading_marks x (by_number f) bs ++ body_marks x (by_number f) given c) (state [] b 0 0)).used ≡ used → FrontMet x f bs c used
+front_met x f bs given c b used h e =
+    let body = body_marks x (by_number f) given c in
+    let still : AreStill (lines bs) = (tt, (tt, (tt, (tt, tt)))) in
+    let c0 = b ++ marks_text (lines bs) in
+    let begun = still_marks (lines bs) [] b 0 0 still in
+    let rest = subst (λ (s : Shared). PassShares s (automata_marks x bs ++ body)) begun (pass_split (lines bs) (automata_marks x bs ++ body) (state [] b 0 0) h).1 in
+    let parts = pass_split (automata_marks x bs) body (state [] c0 0 0) rest in
+    let after = automata_behind bs x [] c0 0 0 in
+    let k = counts_body c x (by_number f) given in
+    let r = k.after (marked_texts x bs) after.0 0 0 in
+    let ends : behind_marks (heading_marks x (by_number f) bs ++ body) (state [] b 0 0) ≡ state (marked_texts x bs) r.0 (greatest 0 (map f (automata_of c))) _ =
+    behind_both (lines bs) (automata_marks x bs ++ body) (state [] b 0 0) ∙ ap (behind_marks (automata_marks x bs ++ body)) begun ∙ behind_both (automata_marks x bs) body (state [] c0 0 0) ∙ ap (behind_marks body) after.1 ∙ r.1 in
+    record {
+      new = automata_new bs x [] c0 0 0 parts.0;
+      uses = k.into (marked_texts x bs) after.0 0 0 (subst (λ (s : Shared). PassShares s body) after.1 parts.1);
+      most = sym (ap (λ (s : Shared). s.used) ends) ∙ e;
+    }
+
+-- ---- the automata that are left, and how uses are written
+
+drop_front : {A : Type 0} (a b : List A) (n : ℕ) → length a ≡ n → drop n (a ++ b) ≡ b
+drop_front [] b zero e = refl
+drop_front [] b (suc n) e = absurd cc
+drop_front (x ∷ a) b zero e = absurd cc
+drop_front (x ∷ a) b (suc n) e = drop_front a b n (let q : suc (length a) ≡ suc n = e in omega arith)
+
+record Front (v : Version) (names : NameTable) (all : List Automaton) (c : Certificate) (left : List Automaton) : Type 0 where
+  within : IsWithin names c
+  short : AreShort (uses_with v names all)
+  heading : HasHeading names (uses_with v names all) all
+  are_left : AreLeft v names c left
+  texts : (heading_text v names all ≡ heading_text v names (shared_by names c ++ left)) × (body_text names (uses_with v names all) c ≡ body_text names (uses_with v names (shared_by names c ++ left)) c)
+
+second_front : (c : Certificate) (names : NameTable) (all : List Automaton) (given : Option Bool) (used : ℕ) → IsPlainBy second_version all c → ArePlainAutomata all
+    → Along names (λ u. heading_marks u (by_number (number_in names all)) all ++ body_marks u (by_number (number_in names all)) given c) → FrontMet (name_of names) (number_in names all) all c used → Front second_version names all c (drop used all)
+second_front c names all given used plain plain_all along met =
+    record { within = within; short = short; heading = (few, are); are_left = (subst (λ (l : List Automaton). length l ≤ 1000) (sym whole) few, subst (λ (l : List Automaton). AllNew [] (texts_of names l)) (sym whole) new, subst (AreAutomata names) (sym whole) are, light); texts = (ap (heading_text second_version names) (sym whole), ap (λ (l : List Automaton). body_text names (by_number (number_in names l)) c) (sym whole)) }
+  where
+    number : Automaton → ℕ
+    number = number_in names all
+
+    few : length all ≤ 1000
+    few = (few_met names marks.shared_automata (length all) [] (range_met names 0 0 (suc largest) (length all) (is_few marks.shared_automata (length all) ∷ []) along.passed.1.1.0).2).0
+
+    parts : Along names (λ u. automata_marks u all) × Along names (λ u. body_marks u (by_number (number_in names all)) given c)
+    parts = split {names = names} (λ u. automata_marks u all) (λ u. body_marks u (by_number (number_in names all)) given c) (record { named = along.named; passed = along.passed.1.1.1.1; found = along.found })
+
+    are : AreAutomata names all
+    are = automata_within all names plain_all parts.0
+
+    within : IsWithin names c
+    within = body_within second_version all names are c given plain parts.1
+
+    texts : marked_texts (name_of names) all ≡ texts_of names all
+    texts = marked_are all names are
+
+    size : length (texts_of names all) ≡ length all
+    size = texts_length names all
+
+    new : AllNew [] (texts_of names all)
+    new = subst (AllNew []) texts met.new
+
+    numbers : PassUses (texts_of names all) 0 0 (map (number_in names all) (automata_of c))
+    numbers = subst (λ (ts : List (List ℕ)). PassUses ts 0 0 (map (number_in names all) (automata_of c))) texts met.uses
+
+    order : InOrder (length all) 0 (map (number_in names all) (automata_of c))
+    order = subst (λ (n : ℕ). InOrder n 0 (map (number_in names all) (automata_of c))) size (uses_order (map (number_in names all) (automata_of c)) (texts_of names all) 0 0 numbers)
+
+    tells : map (pick all) (map (number_in names all) (automata_of c)) ≡ automata_of c
+    tells = told_by_number names all (automata_of c) new (of_certificate all c plain)
+
+    there : Told names all [] (map (number_in names all) (automata_of c))
+    there = told (map (number_in names all) (automata_of c)) names all [] all new refl order
+
+    shared_is : shared_by names c ≡ there.now
+    shared_is = ap (with_new names []) (sym tells) ∙ there.is
+
+    left_is : drop used all ≡ there.left
+    left_is = ap (drop used) there.parts ∙ drop_front there.now there.left used (there.size ∙ met.most)
+
+    whole : shared_by names c ++ drop used all ≡ all
+    whole = ap (λ (l : List Automaton). l ++ drop used all) shared_is ∙ ap (λ (l : List Automaton). there.now ++ l) left_is ∙ sym there.parts
+
+    light : unfolded_length names (automata_of c) ≤ 67108864
+    light =
+        let ranges = subst (λ (n : ℕ). AllOf (InRange n (number_in names all)) (automata_of c)) size (uses_range (automata_of c) (number_in names all) (texts_of names all) 0 0 numbers) in
+        let sum = pick_unfolds (automata_of c) names (number_in names all) all 0 ranges in
+        let most = uses_light (map (number_in names all) (automata_of c)) (texts_of names all) 0 0 numbers (omega arith) in
+        let same = ap (unfolded_length names) tells in
+        omega (arith, sum, most, same)
+
+    short : AreShort (by_number (number_in names all))
+    short = λ a. let most = place_most (automaton_text names a) (texts_of names all) in let q : place_among (automaton_text names a) (texts_of names all) ≤ largest = omega (arith, most, size, few) in q
+
+first_front : (c : Certificate) (names : NameTable) (all : List Automaton) (given : Option Bool) (used : ℕ) → all ≡ [] → IsPlainBy first_version all c → Along names (λ u. heading_marks u in_full all ++ body_marks u in_full given c) → Front first_version names all c (drop used all)
+first_front c names all given used none plain along = record {
+  within = body_within first_version [] names tt c given (subst (λ (l : List Automaton). IsPlainBy first_version l c) none plain) (record { named = along.named; passed = along.passed.1; found = along.found });
+  short = tt;
+  heading = tt;
+  are_left = ap (drop used) none ∙ nothing used;
+  texts = (refl, refl);
+}
+  where
+    nothing : (n : ℕ) → drop {A = Automaton} n [] ≡ []
+    nothing zero = refl
+    nothing (suc n) = refl
+
+-- ---- the text
+
+answer_yes : (o : Opening) (es : List PairEntry) → answer_of (certificate_for o es) ≡ true
+answer_yes ortho_opening es = refl
+answer_yes (quasi_opening m) es = refl
+answer_yes (simplified_opening ss o) es = answer_yes o es
+
+record FrontText (names : NameTable) (u : Uses) (all : List Automaton) (given : Option Bool) (c : Certificate) : Type 0 where
+  answer : List ℕ
+  is_answer : (answer ≡ []) ⊎ (answer ≡ codes "YES\n")
+  text : marks_text (front_marks (name_of names) u all given c) ≡ answer ++ (heading_text (version_of u) names all ++ body_text names u c)
+
+front_text : (names : NameTable) (u : Uses) (all : List Automaton) (given : Option Bool) (c : Certificate) → AreShort u → HasHeading names u all → answer_of c ≡ true → IsWithin names c → Pass names (body_marks (name_of names) u given c) → FrontText names u all given c
+front_text names u all given c s k sure w p = by given refl
+  where
+    spelt : (g : Option Bool) → is_answer true g ≡ true → marks_text (heading_marks (name_of names) u all ++ body_marks (name_of names) u g c) ≡ heading_text (version_of u) names all ++ body_text names u c
+    spelt g e = (put_both names (heading_marks (name_of names) u all) (body_marks (name_of names) u g c) (heading_text (version_of u) names all) (body_text names u c) (spelt_heading u names all k) (spelt_body c names u g s (ap (λ (t : Bool). is_answer t g) sure ∙ e) w)).text
+
+    by : (g : Option Bool) → given ≡ g → FrontText names u all given c
+    by None e = subst (λ (g : Option Bool). FrontText names u all g c) (sym e) (record { answer = []; is_answer = inl refl; text = spelt None refl })
+    by (Some true) e = subst (λ (g : Option Bool). FrontText names u all g c) (sym e) (record { answer = codes "YES\n"; is_answer = inr refl; text = ap (λ (t : List ℕ). codes "YES\n" ++ t) (spelt (Some true) refl) })
+    by (Some false) e = let not_yes : false ≡ true = answered c names u false (subst (λ (g : Option Bool). Pass names (body_marks (name_of names) u g c)) e p) ∙ sure in absurd cc
+
+-- ---- what is read
+
+-- behind the answer, which asks nothing of shared automata
+behind_answer : (given : Option Bool) (ms : List Mark) (used : ℕ) → PassShares nothing_shared (answer_marks given ++ ms) → (behind_marks (answer_marks given ++ ms) nothing_shared).used ≡ used → (b : List ℕ) × (PassShares (state [] b 0 0) ms × ((behind_marks ms (state [] b 0 0)).used ≡ used))
+behind_answer None ms used h e = ([], (h, e))
+behind_answer (Some true) ms used h e = (codes "YES\n", (h.1, e))
+behind_answer (Some false) ms used h e = (codes "NO\n", (h.1, e))
+
+body_along : {names : NameTable} (given : Option Bool) (f : Naming → List Mark) → Along names (λ u. answer_marks given ++ f u) → Along names f
+body_along None f a = record { named = a.named; passed = a.passed; found = a.found }
+body_along (Some true) f a = record { named = a.named; passed = a.passed.1; found = a.found }
+body_along (Some false) f a = record { named = a.named; passed = a.passed.1; found = a.found }
+
+front_of : (v : Version) (c : Certificate) (names : NameTable) (all : List Automaton) (given : Option Bool) (used : ℕ) → CanShare v all → IsPlainBy v all c → ArePlainAutomata all
+    → Along names (λ u. heading_marks u (uses_with v names all) all ++ body_marks u (uses_with v names all) given c)
+    → (b : List ℕ) → PassShares (state [] b 0 0) (heading_marks (name_of names) (uses_with v names all) all ++ body_marks (name_of names) (uses_with v names all) given c)
+    → (behind_marks (heading_marks (name_of names) (uses_with v names all) all ++ body_marks (name_of names) (uses_with v names all) given c) (state [] b 0 0)).used ≡ used → Front v names all c (drop used all)
+front_of first_version c names all given used none p q a b h e = first_front c names all given used none p a
+front_of second_version c names all given used share p q a b h e = second_front c names all given used p q a (front_met (name_of names) (number_in names all) all given c b used h e)
+
+version_is : (v : Version) (names : NameTable) (all : List Automaton) → version_of (uses_with v names all) ≡ v
+version_is first_version names all = refl
+version_is second_version names all = refl
+
+regroup : (a h b r : List ℕ) → (a ++ (h ++ b)) ++ r ≡ a ++ (h ++ (b ++ r))
+regroup a h b r = append_assoc a (h ++ b) r ∙ ap (λ (w : List ℕ). a ++ w) (append_assoc h b r)
+
+pub front_found : (v : Version) (all : List Automaton) (names : NameTable) (bytes left : List ℕ) (given : Option Bool) (o : Opening) (es : List PairEntry) (at used : ℕ) → CanShare v all → IsPlainBy v all (certificate_for o es) → ArePlainAutomata all
+    → Along names (λ u. front_marks u (uses_with v names all) all given (certificate_for o es)) → PassShares nothing_shared (front_marks (name_of names) (uses_with v names all) all given (certificate_for o es))
+    → (behind_marks (front_marks (name_of names) (uses_with v names all) all given (certificate_for o es)) nothing_shared).used ≡ used
+    → bytes ≡ marks_text (front_marks (name_of names) (uses_with v names all) all given (certificate_for o es)) ++ left → at + length left ≡ length bytes → IsReadTo names bytes o es at v (drop used all) left
+front_found v all names bytes left given o es at used share p q a h e text place =
+    record {
+      read = record {
+        version = v;
+        allowed = plain_version v all c p;
+        within = k.within;
+        left = drop used all;
+        are_left = k.are_left;
+        answer = t.answer;
+        is_answer = t.is_answer;
+        rest = left;
+        text = text ∙ ap (λ (w : List ℕ). w ++ left) same ∙ regroup t.answer (heading_text v names now) (body_text names (uses_with v names now) c) left;
+        place = place;
+      };
+      is_version = refl;
+      is_left = refl;
+      is_rest = refl;
+    }
+  where
+    c : Certificate
+    c = certificate_for o es
+
+    u : Uses
+    u = uses_with v names all
+
+    now : List Automaton
+    now = shared_by names (certificate_for o es) ++ drop used all
+
+    rest : Along names (λ x. heading_marks x (uses_with v names all) all ++ body_marks x (uses_with v names all) given (certificate_for o es))
+    rest = body_along {names = names} given (λ x. heading_marks x (uses_with v names all) all ++ body_marks x (uses_with v names all) given (certificate_for o es)) a
+
+    k : Front v names all (certificate_for o es) (drop used all)
+    k =
+        let b = behind_answer given (heading_marks (name_of names) (uses_with v names all) all ++ body_marks (name_of names) (uses_with v names all) given (certificate_for o es)) used h e in
+        front_of v (certificate_for o es) names all given used share p q rest b.0 b.1.0 b.1.1
+
+    t : FrontText names (uses_with v names all) all given (certificate_for o es)
+    t = front_text names (uses_with v names all) all given (certificate_for o es) k.short k.heading (answer_yes o es) k.within (pass_append names (heading_marks (name_of names) (uses_with v names all) all) (body_marks (name_of names) (uses_with v names all) given (certificate_for o es)) rest.passed).1
+
+    same : marks_text (front_marks (name_of names) (uses_with v names all) all given (certificate_for o es)) ≡ t.answer ++ (heading_text v names (shared_by names (certificate_for o es) ++ drop used all) ++ body_text names (uses_with v names (shared_by names (certificate_for o es) ++ drop used all)) (certificate_for o es))
+    same =
+        t.text ∙ ap (λ (w : Version). t.answer ++ (heading_text w names all ++ body_text names (uses_with v names all) (certificate_for o es))) (version_is v names all)
+        ∙ ap (λ (w : List ℕ). t.answer ++ (w ++ body_text names (uses_with v names all) (certificate_for o es))) k.texts.0
+        ∙ ap (λ (w : List ℕ). t.answer ++ (heading_text v names (shared_by names (certificate_for o es) ++ drop used all) ++ w)) k.texts.1

@@ -1,0 +1,37 @@
+-- The marks of a body behind the line of its kind.
+use Rattle.std.proofs.Common.{◌≡◌, Bool, true, false, [], ◌∷◌, Option, Some, None, codes, ap}
+use Rattle.certificates.specs.Certificates.{Certificate, ortho_certificate, quasi_certificate, peak_certificate, simplified_certificate}
+use Rattle.cert_grammar.specs.Versions.{Uses, IsUnsimplified}
+use Rattle.cert_grammar.specs.Marks.{Naming, fixed}
+use Rattle.cert_grammar.specs.CertificateMarks.{body_marks}
+use Rattle.cert_sharing.proofs.UseMarks.{AreStill}
+use Rattle.cert_reading.specs.declared.headings.Kind.{Kind}
+use Rattle.cert_reading.specs.declared.headings.Kind.TheVariants.{Ortho, Quasi, Peak}
+use Rattle.cert_reading.specs.Headings.{first_marks, kind_mark, behind_kind, IsOfKind}
+
+pub kind_marks : (u : Naming) (w : Uses) (given : Option Bool) (kind : Kind) (c : Certificate) → IsOfKind kind c → kind_mark given kind ∷ fixed (codes "\n") ∷ behind_kind u w c ≡ body_marks u w given c
+kind_marks u w given kind (ortho_certificate ps) e = ap (λ (k : Kind). kind_mark given k ∷ fixed (codes "\n") ∷ behind_kind u w (ortho_certificate ps)) e
+kind_marks u w given kind (quasi_certificate m ps) e = ap (λ (k : Kind). kind_mark given k ∷ fixed (codes "\n") ∷ behind_kind u w (quasi_certificate m ps)) e
+kind_marks u w given kind (peak_certificate p) e = ap (λ (k : Kind). kind_mark given k ∷ fixed (codes "\n") ∷ behind_kind u w (peak_certificate p)) e
+kind_marks u w given kind (simplified_certificate ss c) e = absurd e
+
+pub kind_unsimplified : (kind : Kind) (c : Certificate) → IsOfKind kind c → IsUnsimplified c
+kind_unsimplified kind (ortho_certificate ps) e = tt
+kind_unsimplified kind (quasi_certificate m ps) e = tt
+kind_unsimplified kind (peak_certificate p) e = tt
+kind_unsimplified kind (simplified_certificate ss c) e = absurd e
+
+-- its word asks nothing of shared automata
+pub kind_still : (given : Option Bool) (kind : Kind) → AreStill (kind_mark given kind ∷ [])
+kind_still given Ortho = (tt, tt)
+kind_still given Quasi = (tt, tt)
+kind_still given Peak = (tt, tt)
+
+-- nor do the first lines
+pub first_still : (given : Option Bool) (second : Bool) → AreStill (first_marks given second)
+first_still None true = (tt, tt)
+first_still None false = (tt, tt)
+first_still (Some true) true = (tt, (tt, tt))
+first_still (Some true) false = (tt, (tt, tt))
+first_still (Some false) true = (tt, (tt, tt))
+first_still (Some false) false = (tt, (tt, tt))

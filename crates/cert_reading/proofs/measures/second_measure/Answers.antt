@@ -1,0 +1,35 @@
+use Rattle.std.proofs.Common.{◌≡◌, ℕ, zero, suc, List, [], ◌∷◌, codes, refl}
+use Rattle.cops_names.specs.NameTable.{NameTable}
+use Rattle.cert_grammar.specs.Versions.{second_version}
+use Rattle.cert_grammar.specs.Marks.{fixed}
+use Rattle.cert_grammar.specs.Items.{measure, entries_from}
+use Rattle.cert_words.specs.declared.reading.Reading.{Reading}
+use Rattle.cert_words.specs.Choices.{Choice, Chosen}
+use Rattle.cert_words.specs.Walks.{Reads}
+use Rattle.cert_words.proofs.Walking.{already}
+use Rattle.cert_words.proofs.Choosing.{chosen_at}
+use Rattle.cert_reading.proofs.Stopping.{then_where, word_where}
+use Rattle.cert_reading.proofs.Opening.{other_item, linear_line, order_line}
+use Rattle.cert_reading.proofs.measures.second_measure.Goals as goal
+
+abbrev kinds : List Choice
+kinds = linear_line second_version ∷ order_line ∷ []
+
+-- not the second line
+first_of_two : (names : NameTable) (end r : ℕ) (s t : Reading) → (r ≡ 1 → ⊥) → Chosen names end (measure second_version) kinds r s t → Reads names end (measure second_version ∷ []) (λ u. fixed (codes "linear\n") ∷ []) (entries_from second_version 1 ∷ []) s t
+first_of_two names end zero s t h x = x
+first_of_two names end (suc zero) s t h x = absurd (h refl)
+first_of_two names end (suc (suc r)) s t h x = already x.0 x.1 x.2
+
+pub returns-then-choose-eq1-clause-read : goal.returns-then-choose-eq1-clause-read
+returns-then-choose-eq1-clause-read c =
+    let names = c.args.names.now in
+    let i = measure second_version in
+    then_where (word_where (λ s. other_item second_version i c.args.at.now.left.now (λ e. cc) (λ m e. cc) (λ m e. cc) (λ m e. cc)) (λ none. c.choose.ensures.here none names i kinds refl refl) (chosen_at names c.args.end i kinds 1 _ _ _ c.if-choose-eq1.true (c.choose.ensures.chosen names i kinds refl refl))) c.precedence-order.ensures.read
+
+pub returns-clause-read : goal.returns-clause-read
+returns-clause-read c =
+    let names = c.args.names.now in
+    let i = measure second_version in
+    then_where (word_where (λ s. other_item second_version i c.args.at.now.left.now (λ e. cc) (λ m e. cc) (λ m e. cc) (λ m e. cc)) (λ none. c.choose.ensures.here none names i kinds refl refl) (first_of_two names c.args.end _ _ _ c.if-choose-eq1.false (c.choose.ensures.chosen names i kinds refl refl)))
+    (c.entries-entries.ensures.read second_version)

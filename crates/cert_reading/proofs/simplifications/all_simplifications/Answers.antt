@@ -1,0 +1,55 @@
+use Rattle.std.proofs.Common.{◌≡◌, ◌+◌, ◌-◌, ◌∙◌, [], None, refl, sym, ap, length, map, arith}
+use Rattle.std.proofs.lemmas.List.{length_push, length-map}
+use Rattle.cert_model.specs.EvidenceView.{automaton_view}
+use Rattle.cert_model.specs.CertificateView.{simp_view}
+use Rattle.cert_grammar.specs.Versions.{second_version, by_number}
+use Rattle.cert_grammar.specs.SharedText.{number_in}
+use Rattle.cert_grammar.specs.CertificateMarks.{simplifications_marks}
+use Rattle.cert_grammar.specs.Items.{simplifications_of}
+use Rattle.cert_sharing.proofs.UseMarks.{counts_still}
+use Rattle.cert_words.proofs.Walking.{then_reads, then_nothing, as_reads, as_marks, already, open_before}
+use Rattle.cert_words.proofs.Stepping.{some_now}
+use Rattle.cert_reading.proofs.ListMarks.{steps_push, plain_steps}
+use Rattle.cert_reading.proofs.StepMarks.{steps_next, steps_end}
+use Rattle.cert_reading.proofs.UseReads.{known_behind}
+use Rattle.cert_reading.proofs.simplifications.all_simplifications.Goals as goal
+
+pub returns-then-is_some-clause-read : goal.returns-then-is_some-clause-read
+returns-then-is_some-clause-read c =
+    let names = c.args.names.now in
+    let k = c.args.count - (c.steps.counter + 1) in
+    let e = some_now _ _ c.is_some.ensures c.if-is_some.true in
+    already e.0 e.1
+    (then_reads (as_reads (λ none. (steps_next c.args.count c.steps.counter c.steps-test.true, λ u. refl)) c.steps.invariant.read) (then_nothing (c.simplification-next.ensures.read k) (c.put.ensures.read names c.args.end (simplifications_of k))))
+
+pub returns-then-is_some-clause-known : goal.returns-then-is_some-clause-known
+returns-then-is_some-clause-known c = known_behind second_version (map automaton_view c.args.automata.now) (c.put.ensures.read c.args.names.now c.args.end []) [] (counts_still [] tt) c.simplification-next.ensures.known
+
+pub steps-preserved : goal.steps-preserved
+steps-preserved c =
+    let names = c.args.names.now in
+    let all = map automaton_view c.args.automata.now in
+    let k = c.args.count - (c.steps.counter + 1) in
+    let items = c.steps.steps.items in
+    let next = c.simplification-next.result in
+    let before : c.put.new.at.refused ≡ None → c.steps.at.refused ≡ None = λ none. open_before (c.simplification-next.ensures.read k) (open_before (c.put.ensures.read names c.args.end []) none) in
+    record {
+      read = as_marks (λ none u. steps_push simp_view u (by_number (number_in names all)) items next ∙ ap (λ ss. simplifications_marks u (by_number (number_in names all)) (map simp_view ss)) (sym (c.put.ensures.grown none)))
+          (then_reads (as_reads (λ none. (steps_next c.args.count c.steps.counter c.steps-test.true, λ u. refl)) c.steps.invariant.read)
+          (then_nothing (c.simplification-next.ensures.read k) (c.put.ensures.read names c.args.end (simplifications_of k))));
+      counted = λ none.
+          let e = c.steps.invariant.counted (before none) in
+          let n = ap length (c.put.ensures.grown none) ∙ length_push items next in
+          omega (arith, e, n, length-map c.put.new.list.items simp_view, length-map items simp_view);
+      plain = λ none. plain_steps second_version all simp_view items c.put.new.list.items next (c.put.ensures.grown none) (c.steps.invariant.plain (before none)) (c.simplification-next.ensures.plain (open_before (c.put.ensures.read names c.args.end []) none));
+      known = known_behind second_version all (c.put.ensures.read names c.args.end []) [] (counts_still [] tt) c.simplification-next.ensures.known;
+    }
+
+pub returns-clause-read : goal.returns-clause-read
+returns-clause-read c = as_reads (λ none. (steps_end c.args.count c.steps.counter c.steps-test.false, λ u. refl)) c.steps.invariant.read
+
+pub simplification-next-requires : goal.simplification-next-requires
+simplification-next-requires c = c.steps.invariant.known
+
+pub returns-clause-known : goal.returns-clause-known
+returns-clause-known c = c.steps.invariant.known

@@ -1,0 +1,134 @@
+-- The marks of an opening and of entries are no front of such marks with the same opening and entries, whatever automata are
+-- shared: behind the shared automata there are as many.
+use Rattle.std.proofs.Common.{◌≡◌, ◌+◌, ◌==◌, ℕ, suc, Bool, true, false, List, [], ◌∷◌, ◌++◌, length, Option, Some, None, codes, refl, sym, ap, ◌∙◌, subst, arith, append_assoc, length-append}
+use Rattle.std.proofs.lemmas.List.{append_cancel_left}
+use Rattle.certificates.specs.Evidence.{Automaton, InfeasibilityEvidence, by_caps, by_automaton, PairEvidence, trivial_pair, infeasible_pair, conflicting_pair, joined_pair, unfeasible_pair}
+use Rattle.certificates.specs.Certificates.{PairEntry, Simplification, dropped, inlined}
+use Rattle.cert_grammar.specs.Versions.{Uses, in_full, by_number, version_of}
+use Rattle.cert_grammar.specs.Marks.{Naming, automaton_ends, shares, is_few, Mark, fixed, word, closed, mark_text}
+use Rattle.cert_grammar.specs.Marks as marks
+use Rattle.cert_grammar.specs.WordMarks.{number, number_for, position}
+use Rattle.cert_grammar.specs.CertificateMarks.{automaton_marks, automata_marks, infeasibility_marks, evidence_marks, pairs_marks, measure_marks, simplifications_marks, body_marks, answer_marks, heading_marks}
+use Rattle.cert_sharing.proofs.UseMarks.{AreStill, behind_states, behind_states_still}
+use Rattle.cert_openings.specs.Openings.{Opening, ortho_opening, quasi_opening, simplified_opening, certificate_for}
+use Rattle.cert_openings.proofs.Lines.{bytes_apart}
+use Rattle.cert_text.specs.ReadingView.{read_marks}
+
+-- ---- as many marks
+
+infeasibility_long : (e : InfeasibilityEvidence) (x : Naming) (u w : Uses) → version_of u ≡ version_of w → length (infeasibility_marks x u e) ≡ length (infeasibility_marks x w e)
+infeasibility_long by_caps x u w v = refl
+infeasibility_long (by_automaton k a) x in_full in_full v = refl
+infeasibility_long (by_automaton k a) x in_full (by_number h) v = absurd cc
+infeasibility_long (by_automaton k a) x (by_number f) in_full v = absurd cc
+infeasibility_long (by_automaton k a) x (by_number f) (by_number h) v = refl
+
+evidence_long : (e : PairEvidence) (x : Naming) (u w : Uses) → version_of u ≡ version_of w → length (evidence_marks x u e) ≡ length (evidence_marks x w e)
+evidence_long trivial_pair x u w v = refl
+evidence_long (infeasible_pair e) x u w v = infeasibility_long e x u w v
+evidence_long (conflicting_pair a b) x u w v = refl
+evidence_long (joined_pair d e) x u w v = refl
+evidence_long (unfeasible_pair k d e) x u w v = refl
+
+both_long : (a b c d : List Mark) → length a ≡ length c → length b ≡ length d → length (a ++ b) ≡ length (c ++ d)
+both_long a b c d p q = omega (arith, p, q, length-append a b, length-append c d)
+
+pairs_long : (ps : List PairEntry) (x : Naming) (u w : Uses) (n : ℕ) → version_of u ≡ version_of w → length (pairs_marks x u n ps) ≡ length (pairs_marks x w n ps)
+pairs_long [] x u w n v = refl
+pairs_long (p ∷ ps) x u w n v =
+    let line = word (codes "pair") (is_few marks.pairs n ∷ []) ∷ fixed (codes " ") ∷ number p.inner ∷ fixed (codes " ") ∷ position p.position ∷ fixed (codes " ") ∷ number p.outer ∷ fixed (codes " ") ∷ [] in
+    both_long (line ++ evidence_marks x u p.evidence) (pairs_marks x u (suc n) ps) (line ++ evidence_marks x w p.evidence) (pairs_marks x w (suc n) ps)
+    (both_long line (evidence_marks x u p.evidence) line (evidence_marks x w p.evidence) refl (evidence_long p.evidence x u w v)) (pairs_long ps x u w (suc n) v)
+
+steps_long : (ss : List Simplification) (x : Naming) (u w : Uses) → version_of u ≡ version_of w → length (simplifications_marks x u ss) ≡ length (simplifications_marks x w ss)
+steps_long [] x u w v = refl
+steps_long (dropped r e ∷ ss) x u w v =
+    let line = fixed (codes "drop ") ∷ number r ∷ fixed (codes " ") ∷ [] in
+    both_long (line ++ infeasibility_marks x u e) (simplifications_marks x u ss) (line ++ infeasibility_marks x w e) (simplifications_marks x w ss)
+    (both_long line (infeasibility_marks x u e) line (infeasibility_marks x w e) refl (infeasibility_long e x u w v)) (steps_long ss x u w v)
+steps_long (inlined r k ∷ ss) x u w v = let rest = steps_long ss x u w v in omega (arith, rest)
+
+body_long : (o : Opening) (es : List PairEntry) (x : Naming) (u w : Uses) (g h : Option Bool) → version_of u ≡ version_of w → length (body_marks x u g (certificate_for o es)) ≡ length (body_marks x w h (certificate_for o es))
+body_long ortho_opening es x u w g h v = let rest = pairs_long es x u w 1 v in omega (arith, rest)
+body_long (quasi_opening m) es x u w g h v =
+    let rest = both_long (measure_marks x m) (pairs_marks x u 1 es) (measure_marks x m) (pairs_marks x w 1 es) refl (pairs_long es x u w 1 v) in
+    omega (arith, rest)
+body_long (simplified_opening ss o) es x u w g h v =
+    let rest = both_long (simplifications_marks x u ss) (body_marks x u g (certificate_for o es)) (simplifications_marks x w ss) (body_marks x w h (certificate_for o es)) (steps_long ss x u w v) (body_long o es x u w g h v) in
+    omega (arith, rest)
+
+-- ---- the lines before the body
+
+-- marks up to the end of a shared automaton
+sealed : (a b q r : List Mark) → AreStill a → AreStill b → a ++ closed (shares automaton_ends) ∷ q ≡ b ++ closed (shares automaton_ends) ∷ r → q ≡ r
+sealed [] [] q r s t e = cc
+sealed [] (m ∷ b) q r s t e = let first : closed (shares automaton_ends) ≡ m = cc in absurd (subst (λ (n : Mark). AreStill (n ∷ [])) (sym first) (t.0, tt)).0
+sealed (m ∷ a) [] q r s t e = let first : m ≡ closed (shares automaton_ends) = cc in absurd (subst (λ (n : Mark). AreStill (n ∷ [])) first (s.0, tt)).0
+sealed (m ∷ a) (n ∷ b) q r s t e = let tails : a ++ closed (shares automaton_ends) ∷ q ≡ b ++ closed (shares automaton_ends) ∷ r = cc in sealed a b q r s.1 t.1 tails
+
+automata_rest : (all bs : List Automaton) (x : Naming) (a b : List Mark) → length all ≡ length bs → automata_marks x all ++ a ≡ automata_marks x bs ++ b → a ≡ b
+automata_rest [] [] x a b n e = e
+automata_rest [] (q ∷ bs) x a b n e = absurd (let k : 0 ≡ suc (length bs) = n in omega arith)
+automata_rest (p ∷ all) [] x a b n e = absurd (let k : suc (length all) ≡ 0 = n in omega arith)
+automata_rest (p ∷ all) (q ∷ bs) x a b n e =
+    let left : (y : Automaton) (ys : List Automaton) (c : List Mark) → automata_marks x (y ∷ ys) ++ c ≡ automaton_marks x y ++ closed (shares automaton_ends) ∷ (automata_marks x ys ++ c) =
+    (λ y ys c. append_assoc (automaton_marks x y ++ closed (shares automaton_ends) ∷ []) (automata_marks x ys) c ∙ append_assoc (automaton_marks x y) (closed (shares automaton_ends) ∷ []) (automata_marks x ys ++ c)) in
+    let whole = sym (left p all a) ∙ e ∙ left q bs b in
+    let tails : behind_states x p ++ closed (shares automaton_ends) ∷ (automata_marks x all ++ a) ≡ behind_states x q ++ closed (shares automaton_ends) ∷ (automata_marks x bs ++ b) = append_cancel_left (word (codes "states") (shares marks.automaton_begins ∷ []) ∷ []) _ _ whole in
+    automata_rest all bs x a b (let k : suc (length all) ≡ suc (length bs) = n in omega arith)
+    (sealed (behind_states x p) (behind_states x q) (automata_marks x all ++ a) (automata_marks x bs ++ b) (behind_states_still p x) (behind_states_still q x) tails)
+
+marks_apart : (b c : ℕ) (t v : List ℕ) → (b == c) ≡ false → fixed (b ∷ t) ≡ fixed (c ∷ v) → ⊥
+marks_apart b c t v n e = bytes_apart b c t v n (ap mark_text e)
+
+versions_apart : fixed (codes "concon 1\n") ≡ fixed (codes "concon 2\n") → ⊥
+versions_apart e = bytes_apart 49 50 _ _ refl (append_cancel_left (codes "concon ") (codes "1\n") (codes "2\n") (ap mark_text e))
+
+same_count : (n m : ℕ) → number_for marks.shared_automata n ≡ number_for marks.shared_automata m → n ≡ m
+same_count n m e = cc
+
+heading_rest : (u w : Uses) (all bs : List Automaton) (x : Naming) (a b : List Mark) → heading_marks x u all ++ a ≡ heading_marks x w bs ++ b → (version_of u ≡ version_of w) × (a ≡ b)
+heading_rest in_full in_full all bs x a b e = (refl, append_cancel_left (fixed (codes "concon 1\n") ∷ []) a b e)
+heading_rest in_full (by_number h) all bs x a b e = let first : fixed (codes "concon 1\n") ≡ fixed (codes "concon 2\n") = cc in absurd (versions_apart first)
+heading_rest (by_number f) in_full all bs x a b e = let first : fixed (codes "concon 2\n") ≡ fixed (codes "concon 1\n") = cc in absurd (versions_apart (sym first))
+heading_rest (by_number f) (by_number h) all bs x a b e =
+    let behind : number_for marks.shared_automata (length all) ∷ (fixed (codes "\n") ∷ (automata_marks x all ++ a)) ≡ number_for marks.shared_automata (length bs) ∷ (fixed (codes "\n") ∷ (automata_marks x bs ++ b)) =
+    append_cancel_left (fixed (codes "concon 2\n") ∷ fixed (codes "shared ") ∷ []) _ _ e in
+    let count : number_for marks.shared_automata (length all) ≡ number_for marks.shared_automata (length bs) = cc in
+    let tails : automata_marks x all ++ a ≡ automata_marks x bs ++ b = cc in
+    (refl, automata_rest all bs x a b (same_count (length all) (length bs) count) tails)
+
+heading_first : (u : Uses) (all : List Automaton) (x : Naming) (a : List Mark) → (t : List ℕ) × (r : List Mark) × (heading_marks x u all ++ a ≡ fixed (99 ∷ t) ∷ r)
+heading_first in_full all x a = (codes "oncon 1\n", a, refl)
+heading_first (by_number f) all x a = (codes "oncon 2\n", _, refl)
+
+no_answer : (u : Uses) (all : List Automaton) (x : Naming) (a : List Mark) (c : ℕ) (v : List ℕ) (r : List Mark) → (99 == c) ≡ false → heading_marks x u all ++ a ≡ fixed (c ∷ v) ∷ r → ⊥
+no_answer u all x a c v r n e =
+    let h = heading_first u all x a in
+    let whole : fixed (99 ∷ h.0) ∷ h.1 ≡ fixed (c ∷ v) ∷ r = sym h.2 ∙ e in
+    let first : fixed (99 ∷ h.0) ≡ fixed (c ∷ v) = cc in
+    marks_apart 99 c h.0 v n first
+
+answer_rest : (g h : Option Bool) (u w : Uses) (all bs : List Automaton) (x : Naming) (a b : List Mark) → answer_marks g ++ (heading_marks x u all ++ a) ≡ answer_marks h ++ (heading_marks x w bs ++ b) → heading_marks x u all ++ a ≡ heading_marks x w bs ++ b
+answer_rest None None u w all bs x a b e = e
+answer_rest None (Some true) u w all bs x a b e = absurd (no_answer u all x a 89 _ _ refl e)
+answer_rest None (Some false) u w all bs x a b e = absurd (no_answer u all x a 78 _ _ refl e)
+answer_rest (Some true) None u w all bs x a b e = absurd (no_answer w bs x b 89 _ _ refl (sym e))
+answer_rest (Some false) None u w all bs x a b e = absurd (no_answer w bs x b 78 _ _ refl (sym e))
+answer_rest (Some true) (Some true) u w all bs x a b e = append_cancel_left (fixed (codes "YES\n") ∷ []) _ _ e
+answer_rest (Some false) (Some false) u w all bs x a b e = append_cancel_left (fixed (codes "NO\n") ∷ []) _ _ e
+answer_rest (Some true) (Some false) u w all bs x a b e = let first : fixed (codes "YES\n") ≡ fixed (codes "NO\n") = cc in absurd (marks_apart 89 78 _ _ refl first)
+answer_rest (Some false) (Some true) u w all bs x a b e = let first : fixed (codes "NO\n") ≡ fixed (codes "YES\n") = cc in absurd (marks_apart 78 89 _ _ refl first)
+
+pub no_front : (x : Naming) (u w : Uses) (all bs : List Automaton) (g h : Option Bool) (o : Opening) (es : List PairEntry) (m : Mark) (ms : List Mark) → read_marks x u all g o es ≡ read_marks x w bs h o es ++ m ∷ ms → ⊥
+no_front x u w all bs g h o es m ms e =
+    let one = body_marks x u g (certificate_for o es) in
+    let other = body_marks x w h (certificate_for o es) in
+    let lines = heading_marks x w bs in
+    let whole : answer_marks g ++ (heading_marks x u all ++ one) ≡ answer_marks h ++ (lines ++ (other ++ m ∷ ms)) =
+    e ∙ append_assoc (answer_marks h) (lines ++ other) (m ∷ ms) ∙ ap (λ (l : List Mark). answer_marks h ++ l) (append_assoc lines other (m ∷ ms)) in
+    let rest = heading_rest u w all bs x one (other ++ m ∷ ms) (answer_rest g h u w all bs x one (other ++ m ∷ ms) whole) in
+    let long = ap length rest.1 ∙ length-append other (m ∷ ms) in
+    let same = body_long o es x u w g h rest.0 in
+    let sum : length one ≡ length other + suc (length ms) = long in
+    omega (arith, sum, same)

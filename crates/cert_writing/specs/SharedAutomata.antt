@@ -1,0 +1,33 @@
+-- The automata of a certificate as they are written: each text once, and numbers in place of uses.
+use Rattle.std.specs.Prelude.{ℕ, List, [], ◌∷◌, ◌++◌, map, if◌then◌else◌}
+use Rattle.std.specs.Borrow.{Bor}
+use Rattle.certificates.specs.Evidence as math
+use Rattle.certificates.specs.Certificates.{Simplification, dropped, inlined}
+use Rattle.cert_model.specs.declared.evidence.Automaton.{Automaton}
+use Rattle.cert_model.specs.EvidenceView.{automaton_view}
+use Rattle.cert_grammar.specs.SharedText.{is_among}
+use Rattle.cert_grammar.specs.Versions.{used_by}
+use Rattle.cert_writing.specs.declared.numbers.AutomatonTexts.TheInside.{Inside}
+
+-- the automata that are lent
+abbrev pub seen : List (Bor Automaton) → List math.Automaton
+seen automata = map (λ a. automaton_view a.now) automata
+
+abbrev pub texts_view : Inside → List (List ℕ)
+texts_view t = map (λ v. v.items) t.texts.keys
+
+abbrev pub used_by_step : Simplification → List math.Automaton
+used_by_step (dropped rule e) = used_by e
+used_by_step (inlined rule condition) = []
+
+-- the texts, and behind them one, where it is new
+abbrev pub with_text : List (List ℕ) → List ℕ → List (List ℕ)
+with_text texts t = if is_among t texts then texts else (texts ++ t ∷ [])
+
+abbrev pub with_texts : List (List ℕ) → List (List ℕ) → List (List ℕ)
+with_texts texts [] = texts
+with_texts texts (t ∷ ts) = with_texts (with_text texts t) ts
+
+abbrev pub joined : List (List ℕ) → List ℕ
+joined [] = []
+joined (t ∷ ts) = t ++ joined ts

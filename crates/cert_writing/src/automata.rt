@@ -1,0 +1,108 @@
+//! The automata that a certificate uses, one for each use, in the order of its text.
+ghost use Rattle.std.specs.Prelude.{◌≡◌, ◌++◌, IfOk, OnOk, map};
+ghost use Rattle.cert_model.specs.EvidenceView.{inf_evidence_view, pair_evidence_view};
+ghost use Rattle.cert_model.specs.CertificateView.{pair_entry_view, redex_view, simp_view, certificate_view};
+ghost use Rattle.cert_grammar.specs.Versions.{used_by, used_by_evidence, used_by_pairs, used_by_redexes, used_by_steps, automata_of};
+ghost use Rattle.cert_writing.specs.SharedAutomata.{seen, used_by_step};
+
+use cert_model::{
+    Automaton, Certificate, InfEvidence, NonJoin, PairEntry, PairEvidence, Redex, Simp,
+};
+use std::alloc::Global;
+use term_core::NoMemory;
+
+// Puts the automaton last, if the evidence is one.
+fn add_evidence<'a>(
+    automata: &mut Vec<&'a Automaton>,
+    evidence: &'a InfEvidence,
+) -> Result<(), NoMemory>
+    ensures { OnOk result (seen automata.new.items ≡ seen automata.old.items ++ used_by (inf_evidence_view evidence.now)) }
+{
+    if let InfEvidence::Auto { automaton, .. } = evidence {
+        automata.push(automaton)?;
+    }
+    Ok(())
+}
+
+// The same of evidence for an overlap.
+fn add_pair<'a>(
+    automata: &mut Vec<&'a Automaton>,
+    evidence: &'a PairEvidence,
+) -> Result<(), NoMemory>
+    ensures { OnOk result (seen automata.new.items ≡ seen automata.old.items ++ used_by_evidence (pair_evidence_view evidence.now)) }
+{
+    if let PairEvidence::Infeasible(evidence) = evidence {
+        add_evidence(automata, evidence)?;
+    }
+    Ok(())
+}
+
+fn add_pairs<'a>(automata: &mut Vec<&'a Automaton>, pairs: &'a [PairEntry]) -> Result<(), NoMemory>
+    ensures { OnOk result (seen automata.new.items ≡ seen automata.old.items ++ used_by_pairs (map pair_entry_view pairs.now)) }
+{
+    'pairs: for pair in pairs {
+        add_pair(automata, &pair.evidence)?;
+    }
+    Ok(())
+}
+
+fn add_redexes<'a>(automata: &mut Vec<&'a Automaton>, redexes: &'a [Redex]) -> Result<(), NoMemory>
+    ensures { OnOk result (seen automata.new.items ≡ seen automata.old.items ++ used_by_redexes (map redex_view redexes.now)) }
+{
+    'redexes: for redex in redexes {
+        add_evidence(automata, &redex.evidence)?;
+    }
+    Ok(())
+}
+
+// The same of a step, if conditions go by it.
+fn add_step<'a>(automata: &mut Vec<&'a Automaton>, step: &'a Simp) -> Result<(), NoMemory>
+    ensures { OnOk result (seen automata.new.items ≡ seen automata.old.items ++ used_by_step (simp_view step.now)) }
+{
+    if let Simp::Drop { evidence, .. } = step {
+        add_evidence(automata, evidence)?;
+    }
+    Ok(())
+}
+
+fn add_steps<'a>(automata: &mut Vec<&'a Automaton>, steps: &'a [Simp]) -> Result<(), NoMemory>
+    ensures { OnOk result (seen automata.new.items ≡ seen automata.old.items ++ used_by_steps (map simp_view steps.now)) }
+{
+    'steps: for step in steps {
+        add_step(automata, step)?;
+    }
+    Ok(())
+}
+
+#[cycle(add_certificate)]
+fn add_certificate<'a>(
+    automata: &mut Vec<&'a Automaton>,
+    cert: &'a Certificate,
+) -> Result<(), NoMemory>
+    ensures { OnOk result (seen automata.new.items ≡ seen automata.old.items ++ automata_of (certificate_view cert.now)) }
+{
+    match cert {
+        Certificate::Ortho(pairs) => add_pairs(automata, pairs),
+        Certificate::Quasi(_, pairs) => add_pairs(automata, pairs),
+        Certificate::Peak(peak) => match &peak.apart {
+            NonJoin::Normal(redexes) => add_redexes(automata, redexes),
+            NonJoin::Caps => Ok(()),
+        },
+        Certificate::Simplified { steps, body } => {
+            add_steps(automata, steps)?;
+            add_certificate(automata, body)
+        }
+    }
+}
+
+/// The automata of all uses in a certificate.
+pub fn used_automata<'a>(
+    alloc: Global,
+    cert: &'a Certificate,
+) -> Result<Vec<&'a Automaton>, NoMemory>
+    ensures { IfOk result (λ automata. seen automata.items ≡ automata_of (certificate_view cert.now)) }
+{
+    let mut automata = Vec::new(alloc);
+    add_certificate(&mut automata, cert)?;
+    Ok(automata)
+}
