@@ -1,5 +1,5 @@
 -- How the entries of a text are read and judged, one after the other.
-use Rattle.std.proofs.Common.{◌≡◌, ℕ, ◌+◌, ◌<◌, ◌≤◌, List, [], ◌∷◌, ◌++◌, length, Option, Some, None, refl, subst, ◌∙◌, arith, length-append}
+use Rattle.std.proofs.Common.{◌≡◌, ℕ, ◌+◌, ◌<◌, ◌≤◌, List, [], ◌∷◌, ◌++◌, length, Option, Some, None, refl, subst, arith, length-append}
 use Rattle.std.specs.Prelude.{IfSome, IfNone}
 use Rattle.certificates.specs.Certificates.{PairEntry}
 use Rattle.cert_model.specs.declared.model.PairEntry as model
@@ -7,7 +7,7 @@ use Rattle.cert_model.specs.CertificateView.{pair_entry_view}
 use Rattle.valid_certificates.specs.Entries.{IsPairShort}
 use Rattle.cops_names.specs.NameTable.{NameTable}
 use Rattle.cert_grammar.specs.CertificateText.{IsCertificateText, IsWithin}
-use Rattle.cert_openings.specs.Openings.{Opening, ortho_opening, quasi_opening, simplified_opening, certificate_for, IsRead}
+use Rattle.cert_openings.specs.Openings.{Opening, ortho_opening, quasi_opening, simplified_opening, certificate_for}
 use Rattle.cert_text.specs.Reading.{Reading, HasRead, ReadsOn, IsAtEnd}
 use Rattle.cert_check.proofs.Bounds.{last_short}
 

@@ -1,5 +1,5 @@
 -- The answer to a text with steps, from that to its body.
-use Rattle.std.proofs.Common.{◌≡◌, ℕ, List, [], map, Option, None, Some, Result, Ok, Err, inl, inr, refl, sym, subst, ◌∙◌}
+use Rattle.std.proofs.Common.{◌≡◌, ℕ, List, [], map, Option, None, Some, Result, Ok, Err, inl, inr, sym, subst, ◌∙◌}
 use Rattle.rewriting.specs.Rules.{System}
 use Rattle.rewriting.specs.Systems.{IsSystem}
 use Rattle.rewriting.specs.Confluence.{IsConfluent}

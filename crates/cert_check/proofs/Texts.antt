@@ -1,7 +1,7 @@
 -- The answer to a certificate's text, from those to its parts.
-use Rattle.std.proofs.Common.{◌≡◌, ℕ, List, [], map, Option, None, Some, Result, Ok, Err, inl, inr, refl, sym, ap, ◌∙◌, subst}
+use Rattle.std.proofs.Common.{◌≡◌, ℕ, List, [], map, Option, None, Some, Result, Ok, Err, refl, sym, subst}
 use Rattle.rewriting.specs.Rules.{System}
-use Rattle.certificates.specs.Certificates.{PairEntry, MeasureCertificate, Simplification, Peak, Certificate, peak_certificate, simplified_certificate}
+use Rattle.certificates.specs.Certificates.{PairEntry, MeasureCertificate, Simplification, Peak, Certificate, peak_certificate}
 use Rattle.valid_certificates.specs.Certificates.{IsMeasureJudged, IsValid, IsRejected}
 use Rattle.valid_certificates.specs.CarriedBack.{IsPeakApart}
 use Rattle.tallies.specs.Tally.{Tally, IsQuasiTally}
@@ -17,11 +17,11 @@ use Rattle.cert_words.specs.declared.error.CertError.{CertError}
 use Rattle.cert_words.specs.declared.error.CertError.TheVariants as refused
 use Rattle.cert_openings.specs.Openings.{Opening, simplified_opening, certificate_for}
 use Rattle.cert_text.specs.Reading.{Reading, HasRead}
-use Rattle.cert_text.specs.OpenedText.{OpenedText, at_entries, whole, behind_steps, IsOpenedAs}
-use Rattle.cert_check.specs.Kinds.{HasNoSteps, CanPeakBeJudged, verdict_of}
+use Rattle.cert_text.specs.OpenedText.{OpenedText, at_entries, whole, IsOpenedAs}
+use Rattle.cert_check.specs.Kinds.{HasNoSteps, CanPeakBeJudged}
 use Rattle.cert_check.specs.Answers.{OnYes, OnNo}
 use Rattle.cert_check.specs.BytesErrors.{error_of_text}
-use Rattle.cert_check.specs.Bytes.{IsTold, BytesAnswers, behind, text_behind, IsBare, IsOpenedFor, BodyAnswers, EntriesAnswer, PeakAnswers, RestAnswers, WholeAnswers, IsNoRefusal}
+use Rattle.cert_check.specs.Bytes.{IsTold, BytesAnswers, behind, text_behind, IsOpenedFor, BodyAnswers, EntriesAnswer, PeakAnswers, RestAnswers, WholeAnswers, IsNoRefusal}
 use Rattle.cert_check.specs.declared.Verdict.{Verdict}
 use Rattle.cert_check.specs.declared.Verdict.TheVariants.{Yes, No}
 use Rattle.cert_check.specs.declared.bytes.BytesError.{BytesError}

@@ -8,15 +8,15 @@ use Rattle.cert_check.proofs.Texts.{read_so, rest_answered, peak_text}
 use Rattle.cert_check.proofs.Simplified.{never_simplified}
 use Rattle.cert_check.proofs.bytes.read_on.Goals as goal
 
-pub pass_entries-requires-in-Ortho : goal.pass_entries-requires-in-Ortho
-pass_entries-requires-in-Ortho c =
+pub pass_entries-requires : goal.pass_entries-requires
+pass_entries-requires c =
     let o = c.requires.opened in
     read_so o.0 o.1 o.2 ortho_opening c.in-Ortho.pairs (opened_view c.args.opened) (ap opened_view c.in-Ortho.is ∙ ortho_opened c.in-Ortho.pairs) o.3
 
 pub returns-in-Ortho : goal.returns-in-Ortho
 returns-in-Ortho c = λ names bytes before h.
     rest_answered names bytes before ortho_opening c.in-Ortho.pairs (opened_view c.args.opened) (ap opened_view c.in-Ortho.is ∙ ortho_opened c.in-Ortho.pairs) h
-    c.pass_entries-in-Ortho.result c.pass_entries-in-Ortho.ensures
+    c.pass_entries.result c.pass_entries.ensures
 
 pub pass_entries-requires-in-Quasi : goal.pass_entries-requires-in-Quasi
 pass_entries-requires-in-Quasi c =
