@@ -110,8 +110,8 @@ fn judge_opened(alloc: Global, sys: &System, opened: Opened<'_>) -> Result<Verdi
     ensures no { OnNo result ((names : NameTable) (bytes : List ℕ) (before : Option (List Simplification)) → IsOpenedFor sys.now names bytes before (opened_view opened.entry) → (c : math.Certificate) × IsCertificateText names bytes (behind before c) × IsPeakApart sys.now c) }
 {
     match opened {
-        Opened::Ortho(pairs) => judge_ortho(alloc, sys, pairs),
-        Opened::Quasi(measure, pairs) => judge_quasi(alloc, sys, &measure, pairs),
+        Opened::Ortho(mut pairs) => judge_ortho(alloc, sys, &mut pairs),
+        Opened::Quasi(measure, mut pairs) => judge_quasi(alloc, sys, &measure, &mut pairs),
         Opened::Peak(peak) => judge_peak(alloc, sys, &peak),
         Opened::Simplified(_, _) => unreachable!(),
     }
@@ -125,8 +125,8 @@ fn read_on(alloc: Global, opened: Opened<'_>) -> Result<(), CertError>
     ensures { (names : NameTable) (bytes : List ℕ) (before : Option (List Simplification)) → IsOpenedAs names bytes (text_behind before (opened_view opened.entry)) → WholeAnswers names bytes before result }
 {
     match opened {
-        Opened::Ortho(pairs) => pass_entries(alloc, pairs),
-        Opened::Quasi(_, pairs) => pass_entries(alloc, pairs),
+        Opened::Ortho(mut pairs) => pass_entries(alloc, &mut pairs),
+        Opened::Quasi(_, mut pairs) => pass_entries(alloc, &mut pairs),
         Opened::Peak(_) => Ok(()),
         Opened::Simplified(_, _) => unreachable!(),
     }

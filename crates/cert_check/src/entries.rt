@@ -45,9 +45,13 @@ fn take_quasi<M: Measure>(
 }
 
 /// Judges the entries of a text of which the opening is read. The text is read to its end, also where an entry fails.
-pub fn judge_ortho(alloc: Global, sys: &System, mut pairs: Pairs<'_>) -> Result<Verdict, BytesError>
-    requires { (o : Opening) × HasRead pairs o [] }
-    ensures answers { (o : Opening) → HasRead pairs.entry o [] → EntriesAnswer sys.now pairs.entry.names pairs.entry.bytes o ortho_opening result }
+pub fn judge_ortho(
+    alloc: Global,
+    sys: &System,
+    pairs: &mut Pairs<'_>,
+) -> Result<Verdict, BytesError>
+    requires { (o : Opening) × HasRead pairs.old o [] }
+    ensures answers { (o : Opening) → HasRead pairs.old o [] → EntriesAnswer sys.now pairs.old.names pairs.old.bytes o ortho_opening result }
     ensures yes { OnYes result (IsConfluent sys.now) }
     ensures no { OnNo result ⊥ }
 {
@@ -68,10 +72,10 @@ pub fn judge_quasi(
     alloc: Global,
     sys: &System,
     measure: &MeasureCert,
-    mut pairs: Pairs<'_>,
+    pairs: &mut Pairs<'_>,
 ) -> Result<Verdict, BytesError>
-    requires { (o : Opening) × HasRead pairs o [] }
-    ensures answers { (o : Opening) → HasRead pairs.entry o [] → EntriesAnswer sys.now pairs.entry.names pairs.entry.bytes o (quasi_opening (measure_view measure.now)) result }
+    requires { (o : Opening) × HasRead pairs.old o [] }
+    ensures answers { (o : Opening) → HasRead pairs.old o [] → EntriesAnswer sys.now pairs.old.names pairs.old.bytes o (quasi_opening (measure_view measure.now)) result }
     ensures yes { OnYes result (IsConfluent sys.now) }
     ensures no { OnNo result ⊥ }
 {
@@ -89,9 +93,9 @@ pub fn judge_quasi(
 }
 
 /// Reads the entries to the end of the text, and judges none.
-pub fn pass_entries(alloc: Global, mut pairs: Pairs<'_>) -> Result<(), CertError>
-    requires { (o : Opening) × HasRead pairs o [] }
-    ensures { (o : Opening) → HasRead pairs.entry o [] → RestAnswers pairs.entry.names pairs.entry.bytes o result }
+pub fn pass_entries(alloc: Global, pairs: &mut Pairs<'_>) -> Result<(), CertError>
+    requires { (o : Opening) × HasRead pairs.old o [] }
+    ensures { (o : Opening) → HasRead pairs.old o [] → RestAnswers pairs.old.names pairs.old.bytes o result }
 {
     'entries: for _ in 0..20_001u32 {
         let Some(_entry) = pairs.next(alloc)? else {

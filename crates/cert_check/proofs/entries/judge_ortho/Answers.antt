@@ -1,4 +1,4 @@
-use Rattle.std.proofs.Common.{◌≡◌, [], ◌∷◌, ◌++◌, refl, sym, subst, ◌∙◌, arith}
+use Rattle.std.proofs.Common.{[], ◌∷◌, ◌++◌, refl, sym, subst, ◌∙◌, arith}
 use Rattle.term_core.proofs.Rules.{handed_on}
 use Rattle.certificates.specs.Certificates.{ortho_certificate}
 use Rattle.cert_model.specs.CertificateView.{pair_entry_view}
@@ -42,15 +42,15 @@ take_ortho-requires c =
 pub returns-in_err-entry-clause-answers : goal.returns-in_err-entry-clause-answers
 returns-in_err-entry-clause-answers c = λ o h.
     let before = c.entries.invariant in
-    refused_answer c.args.sys.now c.args.pairs.names c.args.pairs.bytes o ortho_opening c.entries.pairs before.names before.bytes c.in_err-entry.field-0.0 c.in_err-entry.ensures.refused
+    refused_answer c.args.sys.now c.args.pairs.now.names c.args.pairs.now.bytes o ortho_opening c.entries.pairs before.names before.bytes c.in_err-entry.field-0.0 c.in_err-entry.ensures.refused
     _ (handed_on _ _ c.from_residual-in_err-entry.ensures.1)
 
 pub returns-in_err-finish-clause-answers : goal.returns-in_err-finish-clause-answers
 returns-in_err-finish-clause-answers c = λ o h.
     let before = c.entries.invariant in
     let taken = before.taken o h in
-    rejected_answer c.args.sys.now c.args.pairs.names c.args.pairs.bytes o ortho_opening taken.entries _ _ (handed_on _ _ c.from_residual-in_err-finish.ensures.1)
-    (all_read c.args.pairs.names c.args.pairs.bytes c.entries.pairs o taken.entries before.names before.bytes c.in_ok-entry.field-0 c.in_default.not-Some c.in_ok-entry.ensures.none taken.read)
+    rejected_answer c.args.sys.now c.args.pairs.now.names c.args.pairs.now.bytes o ortho_opening taken.entries _ _ (handed_on _ _ c.from_residual-in_err-finish.ensures.1)
+    (all_read c.args.pairs.now.names c.args.pairs.now.bytes c.entries.pairs o taken.entries before.names before.bytes c.in_ok-entry.field-0 c.in_default.not-Some c.in_ok-entry.ensures.none taken.read)
     (rejected_there c.args.sys.now c.entries.run.system (ortho_certificate taken.entries) (ortho_certificate taken.entries) _ before.system refl (c.in_err-finish.ensures.judged taken.entries taken.tally))
 
 pub returns-in_default-clause-answers : goal.returns-in_default-clause-answers
@@ -58,7 +58,7 @@ returns-in_default-clause-answers c = λ o h.
     let before = c.entries.invariant in
     let taken = before.taken o h in (
       taken.entries,
-      all_read c.args.pairs.names c.args.pairs.bytes c.entries.pairs o taken.entries before.names before.bytes c.in_ok-entry.field-0 c.in_default.not-Some c.in_ok-entry.ensures.none taken.read,
+      all_read c.args.pairs.now.names c.args.pairs.now.bytes c.entries.pairs o taken.entries before.names before.bytes c.in_ok-entry.field-0 c.in_default.not-Some c.in_ok-entry.ensures.none taken.read,
       valid_there c.args.sys.now c.entries.run.system (ortho_certificate taken.entries) (ortho_certificate taken.entries) before.system refl (c.in_ok-finish.ensures.judged taken.entries taken.tally),
       refl,
     )

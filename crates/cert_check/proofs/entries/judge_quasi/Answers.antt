@@ -1,4 +1,4 @@
-use Rattle.std.proofs.Common.{◌≡◌, [], ◌∷◌, ◌++◌, refl, sym, ap, ◌∙◌, arith}
+use Rattle.std.proofs.Common.{[], ◌∷◌, ◌++◌, refl, sym, ap, ◌∙◌, arith}
 use Rattle.term_core.proofs.Rules.{handed_on}
 use Rattle.certificates.specs.Certificates.{MeasureCertificate, quasi_certificate}
 use Rattle.cert_model.specs.CertificateView.{measure_view, pair_entry_view}
@@ -52,7 +52,7 @@ take_quasi-requires c =
 pub returns-in_err-entry-clause-answers : goal.returns-in_err-entry-clause-answers
 returns-in_err-entry-clause-answers c = λ o h.
     let before = c.entries.invariant in
-    refused_answer c.args.sys.now c.args.pairs.names c.args.pairs.bytes o (quasi_opening (measure_view c.args.measure.now)) c.entries.pairs before.names before.bytes c.in_err-entry.field-0.0 c.in_err-entry.ensures.refused
+    refused_answer c.args.sys.now c.args.pairs.now.names c.args.pairs.now.bytes o (quasi_opening (measure_view c.args.measure.now)) c.entries.pairs before.names before.bytes c.in_err-entry.field-0.0 c.in_err-entry.ensures.refused
     _ (handed_on _ _ c.from_residual-in_err-entry.ensures.1)
 
 pub returns-in_err-finish-clause-answers : goal.returns-in_err-finish-clause-answers
@@ -60,8 +60,8 @@ returns-in_err-finish-clause-answers c = λ o h.
     let before = c.entries.invariant in
     let taken = before.taken o h in
     let measure = measure_view c.args.measure.now in
-    rejected_answer c.args.sys.now c.args.pairs.names c.args.pairs.bytes o (quasi_opening measure) taken.entries _ _ (handed_on _ _ c.from_residual-in_err-finish.ensures.1)
-    (all_read c.args.pairs.names c.args.pairs.bytes c.entries.pairs o taken.entries before.names before.bytes c.in_ok-entry.field-0 c.in_default.not-Some c.in_ok-entry.ensures.none taken.read)
+    rejected_answer c.args.sys.now c.args.pairs.now.names c.args.pairs.now.bytes o (quasi_opening measure) taken.entries _ _ (handed_on _ _ c.from_residual-in_err-finish.ensures.1)
+    (all_read c.args.pairs.now.names c.args.pairs.now.bytes c.entries.pairs o taken.entries before.names before.bytes c.in_ok-entry.field-0 c.in_default.not-Some c.in_ok-entry.ensures.none taken.read)
     (rejected_there c.args.sys.now c.entries.run.system (quasi_certificate measure taken.entries)
     (quasi_certificate (certificate_of c.entries.run.measure) taken.entries) _ before.system
     (ap (λ m. quasi_certificate m taken.entries) (sym before.measure)) (c.in_err-finish.ensures.judged taken.entries taken.tally))
@@ -72,7 +72,7 @@ returns-in_default-clause-answers c = λ o h.
     let taken = before.taken o h in
     let measure = measure_view c.args.measure.now in (
       taken.entries,
-      all_read c.args.pairs.names c.args.pairs.bytes c.entries.pairs o taken.entries before.names before.bytes c.in_ok-entry.field-0 c.in_default.not-Some c.in_ok-entry.ensures.none taken.read,
+      all_read c.args.pairs.now.names c.args.pairs.now.bytes c.entries.pairs o taken.entries before.names before.bytes c.in_ok-entry.field-0 c.in_default.not-Some c.in_ok-entry.ensures.none taken.read,
       valid_there c.args.sys.now c.entries.run.system (quasi_certificate measure taken.entries)
           (quasi_certificate (certificate_of c.entries.run.measure) taken.entries) before.system
           (ap (λ m. quasi_certificate m taken.entries) (sym before.measure)) (c.in_ok-finish.ensures.judged taken.entries taken.tally),
