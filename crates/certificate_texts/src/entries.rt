@@ -17,21 +17,25 @@ fn entries_of(alloc: Global, mut pairs: Pairs<'_>) -> Result<Vec<PairEntry>, Cer
     Ok(entries)
 }
 
-// The certificate of an opened text, its entries read one by one.
-fn certificate_of(alloc: Global, opened: Opened<'_>) -> Result<Certificate, CertError> {
+// The certificate of an opened text without steps, its entries read one by one.
+fn body_of(alloc: Global, opened: Opened<'_>) -> Result<Certificate, CertError> {
     match opened {
         Opened::Ortho(pairs) => Ok(Certificate::Ortho(entries_of(alloc, pairs)?)),
         Opened::Quasi(measure, pairs) => Ok(Certificate::Quasi(measure, entries_of(alloc, pairs)?)),
         Opened::Peak(peak) => Ok(Certificate::Peak(peak)),
-        Opened::Simplified(steps, body) => {
-            let body = certificate_of(alloc, Box::into_inner(body))?;
-            let body = Box::new(alloc, body)?;
-            Ok(Certificate::Simplified { steps, body })
-        }
+        // A body is not simplified again: no line that is printed has this place.
+        Opened::Simplified(_, _) => Err(CertError::CertSyntax { at: 0 }),
     }
 }
 
 /// The certificate that the bytes are the text of, its entries read one by one.
 pub fn gathered(alloc: Global, names: &Names, bytes: &[u8]) -> Result<Certificate, CertError> {
-    certificate_of(alloc, open_cert(alloc, names, bytes)?)
+    match open_cert(alloc, names, bytes)? {
+        Opened::Simplified(steps, body) => {
+            let body = body_of(alloc, Box::into_inner(body))?;
+            let body = Box::new(alloc, body)?;
+            Ok(Certificate::Simplified { steps, body })
+        }
+        opened => body_of(alloc, opened),
+    }
 }

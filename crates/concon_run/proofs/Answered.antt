@@ -1,8 +1,8 @@
 -- What is said is one answer, or that memory was refused.
-use Rattle.std.proofs.Common.{◌≡◌, ◌⊎◌, Option, Some, None, subst, inl, inr}
+use Rattle.std.proofs.Common.{◌≡◌, ◌⊎◌, Option, Some, None, inl, inr}
 use Rattle.std.specs.Prelude.{IfSome}
 use Rattle.concon_run.specs.Run.{Run}
-use Rattle.concon_run.specs.Said.{Said, IsSaidIfMemory, Tells, TellsIfMemory, IsUnlessHindered, no_memory_said}
+use Rattle.concon_run.specs.Said.{Said, IsSaidIfMemory, TellsIfMemory, IsUnlessHindered, no_memory_said}
 use Rattle.concon_run.specs.Replies.{said_if_any}
 
 pub answered : {A : Type 0} (P : A → Type 0) (said_of : A → Said) (said : Said) (o : Option A) → IfSome o P → IsSaidIfMemory (said_if_any said_of o) said

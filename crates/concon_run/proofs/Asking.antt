@@ -1,5 +1,5 @@
 -- A query: its words, that what was read and searched is what it answers, and what is said of that.
-use Rattle.std.proofs.Common.{◌≡◌, ◌⊎◌, ℕ, zero, suc, ◌+◌, ◌<◌, ◌≤◌, ◌++◌, List, [], ◌∷◌, length, take, Option, Some, None, Result, Ok, Err, codes, inl, inr, refl, sym, ap, ap₂, ◌∙◌, subst, subst₂, arith}
+use Rattle.std.proofs.Common.{◌≡◌, ◌⊎◌, ℕ, ◌<◌, ◌≤◌, List, [], ◌∷◌, length, Option, Some, None, Result, Ok, Err, codes, inl, inr, refl, sym, ap, ap₂, ◌∙◌, subst, subst₂, arith}
 use Rattle.std.specs.Prelude.{IfSome, IsErrOf, option_map}
 use Rattle.rewriting.specs.Rules.{Condition, System}
 use Rattle.cops_read.specs.NameTable.{NameTable}
@@ -10,7 +10,6 @@ use Rattle.cc_io.specs.declared.shelf.ReadAllError.{ReadAllError}
 use Rattle.cc_io.specs.declared.shelf.ReadAllError.TheVariants as reading
 use Rattle.cops_systems.specs.declared.errors.Count.{Count}
 use Rattle.cops_systems.specs.declared.errors.Count.TheVariants as count
-use Rattle.file_text.specs.Tokens.{bad_byte, long_id, open_comment}
 use Rattle.first_found.specs.Spaces.{Ending, IsBarren, IsPrice, IsDearer}
 use Rattle.first_found.specs.Spaces as ending
 use Rattle.query.specs.Answers.{conditions_of, AskAnswers}
@@ -20,7 +19,7 @@ use Rattle.query_space.specs.Endings.{MayEndQuery}
 use Rattle.query_space.specs.Laws.{QuerySpacesAreSearchable, QueryPricesAreThese}
 use Rattle.query_search.specs.Answers.{reply_view, IsTrueEnding, IsEmptyEnding}
 use Rattle.query_search.specs.declared.reply.Reply.{Reply}
-use Rattle.query_terms.specs.Queries.{IsRefused, HasTooMany}
+use Rattle.query_terms.specs.Queries.{HasTooMany}
 use Rattle.query_terms.specs.declared.reader.Query.{Query}
 use Rattle.query_terms.specs.declared.reader.QueryError.{QueryError}
 use Rattle.query_terms.specs.declared.reader.QueryError.TheVariants as error

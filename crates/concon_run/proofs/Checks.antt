@@ -1,5 +1,5 @@
 -- A check: its words, that what was read and judged is what it answers, and what is said of that.
-use Rattle.std.proofs.Common.{◌≡◌, ◌⊎◌, ℕ, ◌≤◌, ◌<◌, List, [], ◌∷◌, length, Option, Some, None, Result, Ok, Err, inl, inr, refl, sym, ap, subst, arith}
+use Rattle.std.proofs.Common.{◌≡◌, ℕ, ◌≤◌, ◌<◌, List, length, Option, Some, None, Result, Ok, Err, inl, inr, refl, sym, ap, subst, arith}
 use Rattle.std.specs.Prelude.{IfSome, IsErrOf, option_map}
 use Rattle.rewriting.specs.Rules.{System}
 use Rattle.rewriting.specs.Confluence.{IsConfluent}
@@ -30,7 +30,7 @@ use Rattle.concon_run.specs.CertRefusals.{CertRefusal, long_certificate, no_cert
 use Rattle.concon_run.specs.Run.{ShelfRun, Run, HasFailed, BeginsAtMost}
 use Rattle.concon_run.specs.Said.{Said, IsSaidIfMemory, Tells, TellsIfMemory}
 use Rattle.concon_run.specs.Systems.{Bytes, told_or_any, bytes_of, SpellsSystem}
-use Rattle.concon_run.specs.Check.{IsCheck, names_behind, names_judged, IsRefusedCertificate, CheckOutcome, no_system, no_certificate, rejected, shown, IsTrueOf, CheckAnswer, checked, file_unread, cert_unread, said_of_check, said_of_outcome, IsCheckAnswer, CalmlyComesTo}
+use Rattle.concon_run.specs.Check.{IsCheck, names_behind, names_judged, IsRefusedCertificate, CheckOutcome, no_system, no_certificate, IsTrueOf, CheckAnswer, checked, file_unread, cert_unread, said_of_check, said_of_outcome, IsCheckAnswer, CalmlyComesTo}
 use Rattle.concon_run.specs.Checking.{CertificateAnswers, IsShownBy, check_answer}
 use Rattle.concon_run.specs.Files.{SystemAnswers, no_system_said}
 use Rattle.concon_run.specs.Refusals.{refused_said}

@@ -17,7 +17,7 @@ use Rattle.concon_run.specs.Query.{IsQuery, bad_query, answer_found, said_of_ans
 use Rattle.concon_run.specs.Query as asking
 use Rattle.concon_run.specs.Selftest.{IsSelftest}
 use Rattle.query_space.specs.Items.{QueryAnswer, never_met, met_by}
-use Rattle.concon_run.specs.Commands.{Command, check, prove, selftest, query, IsCommand, AnswerTo, said_to, IsAnswerTo, IsNoCommand, IsSaidTo, IsSaidFor, usage_said, IsAnswered}
+use Rattle.concon_run.specs.Commands.{Command, check, prove, selftest, query, IsCommand, AnswerTo, said_to, IsAnswerTo, IsNoCommand, IsSaidFor, usage_said, IsAnswered}
 use Rattle.concon_run.specs.Rows.{IsFileRefusal, IsCertificateRefusal, IsQueryRefusal, IsQueryAnswered, IsRejection, IsVerdict, IsYes, IsNo, IsUndecided, IsReadFault, IsWriteFault, IsWanting}
 use Rattle.concon_run.specs.declared.status.Status.{Status}
 use Rattle.concon_run.specs.declared.status.Status.TheVariants as statuses

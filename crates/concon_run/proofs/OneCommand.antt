@@ -1,5 +1,5 @@
 -- Words are one command at most, and what is said of a run is said to that.
-use Rattle.std.proofs.Common.{◌≡◌, ◌⊎◌, ℕ, List, inl, inr, refl, ap, ap₂, sym, ◌∙◌, subst, arith}
+use Rattle.std.proofs.Common.{◌≡◌, ◌⊎◌, ℕ, List, inl, inr, ap, ap₂, sym, ◌∙◌, subst, arith}
 use Rattle.concon_run.specs.Run.{Run, AsksNothing}
 use Rattle.concon_run.specs.Said.{Said, Tells, TellsIfMemory, no_memory_said}
 use Rattle.concon_run.specs.Check.{IsCheck}

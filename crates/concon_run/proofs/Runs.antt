@@ -1,5 +1,5 @@
 -- What is known of a run.
-use Rattle.std.proofs.Common.{◌⊎◌, ℕ, List, inl, inr}
+use Rattle.std.proofs.Common.{◌⊎◌, inl, inr}
 use Rattle.valid_certificates.specs.Laws.{CertificatesHaveOneAnswer}
 use Rattle.cops_read.specs.Answers.{OneSystem, OneRefusal, NeverSystemAndRefusal}
 use Rattle.cert_sharing.specs.SharedLaws as texts
@@ -9,7 +9,7 @@ use Rattle.concon_run.specs.Run.{Run}
 use Rattle.concon_run.specs.Check.{said_of_outcome, shown, CheckIsExact, CheckIsComplete}
 use Rattle.concon_run.specs.Prove.{Spaces, found, said_of_search, ProveIsExact, ProveIsComplete}
 use Rattle.concon_run.specs.Selftest.{said_of_test, TestIsExact}
-use Rattle.concon_run.specs.Query.{answer_found, said_of_answer, said_of_question, HasAnswerInReach, QueryIsExact, QueryIsComplete}
+use Rattle.concon_run.specs.Query.{answer_found, said_of_answer, said_of_question, QueryIsExact, QueryIsComplete}
 use Rattle.query_space.specs.Space.{query_space}
 use Rattle.query_space.specs.Laws.{QuerySpacesAreSearchable, QueryPricesAreThese}
 use Rattle.query_text.specs.Laws as query_texts

@@ -16,8 +16,8 @@ use Rattle.concon_run.specs.Prove as search
 use Rattle.concon_run.specs.Query.{IsQuery, bad_query, answer_found, QueryReply, queried, query_unread, said_of_query, IsQueryReply, NamesNeverMet, NamesMet}
 use Rattle.concon_run.specs.Query as asking
 use Rattle.query_space.specs.Items.{never_met, met_by}
-use Rattle.concon_run.specs.Commands.{Command, check, prove, selftest, query, IsCommand, AnswerTo, said_to, IsAnswerTo, IsSaidFor, usage_said, IsAnswered}
-use Rattle.concon_run.specs.Rows.{GrewBy, NamesConfluentSystem, NamesPeakApart, YesIsSound, NoIsSound}
+use Rattle.concon_run.specs.Commands.{Command, check, prove, selftest, query, IsCommand, AnswerTo, said_to, IsAnswerTo, IsSaidFor, IsAnswered}
+use Rattle.concon_run.specs.Rows.{NamesConfluentSystem, NamesPeakApart, YesIsSound, NoIsSound}
 use Rattle.concon_run.proofs.Letters.{begins}
 
 -- a front begins as the whole does

@@ -1,5 +1,5 @@
 -- What is read of FILE, and what is answered where it gives no system.
-use Rattle.std.specs.Prelude.{◌++◌, ℕ, List, Option, Some, None, IfSome, option_map, Result, Ok, Err}
+use Rattle.std.specs.Prelude.{ℕ, List, Option, Some, None, IfSome, option_map, Result, Ok, Err}
 use Rattle.rewriting.specs.Rules.{System}
 use Rattle.cops_read.specs.NameTable.{NameTable}
 use Rattle.cc_io.specs.declared.shelf.ReadAllError.TheVariants as reading

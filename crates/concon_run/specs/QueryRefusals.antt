@@ -4,7 +4,7 @@ use Rattle.rewriting.specs.Rules.{System}
 use Rattle.cops_names.specs.NameTable.{NameTable}
 use Rattle.cops_systems.specs.declared.errors.Count.{Count}
 use Rattle.cops_systems.specs.declared.errors.Count.TheVariants.{Rules, Conditions, Arity, Nodes, Variables, Symbols}
-use Rattle.file_text.specs.Tokens.{TokenCause, bad_byte, long_id, open_comment}
+use Rattle.file_text.specs.Tokens.{bad_byte, long_id, open_comment}
 use Rattle.query_text.specs.Meaning.{QueryCause, too_many_conditions, too_deep, too_many_nodes, variable_with_arguments, unknown_name, too_many_variables, arity_differs}
 use Rattle.query_text.specs.Query.{IsNoQuery, Refusal, join_system, no_tokens, wrong_syntax, no_meaning}
 use Rattle.query_terms.specs.declared.reader.QueryError as errors

@@ -1,4 +1,4 @@
-use Rattle.std.proofs.Common.{inl, inr, refl, sym, subst}
+use Rattle.std.proofs.Common.{inl, inr, refl, subst}
 use Rattle.concon_run.specs.Words.{texts}
 use Rattle.concon_run.specs.Commands.{check, prove, selftest, query, command_view, IsCommand}
 use Rattle.concon_run.proofs.top.decide.Goals as goal
