@@ -1,5 +1,5 @@
 -- How the search ends.
-use Rattle.std.proofs.Common.{ℕ, ◌≡◌, ◌+◌, ◌≤◌, inl, inr, List, Result, Ok, Err, sym, subst, arith}
+use Rattle.std.proofs.Common.{ℕ, ◌≡◌, ◌+◌, ◌≤◌, inl, List, Result, Ok, Err, sym, subst, arith}
 use Rattle.rewriting.specs.Rules.{System}
 use Rattle.unifier_run.specs.Overlaps.{Overlap, AreOverlaps}
 use Rattle.certificates.specs.Certificates.{Certificate, MeasureCertificate, PairEntry, quasi_certificate}
@@ -15,8 +15,7 @@ use Rattle.first_found.specs.Rows.{AreFirsts, EndsAtRow, StopsInRow}
 use Rattle.first_found.specs.Spaces.{Space, spent}
 use Rattle.search_answers.specs.Answers.{ending_of, IfFound, IfNothing}
 use Rattle.search_spaces.specs.Texts.{HasText}
-use Rattle.measure_grid.specs.Pruned.{IsPrunedFirst, IsPrunedWhole, PrunedStops}
-use Rattle.measure_grid.proofs.Pruned.{firsts_are, first_or_barren, whole_once, stops_before_whole}
+use Rattle.measure_lists.specs.Pruned.{IsPrunedFirst}
 use Rattle.quasi_space.specs.Endings.{MayEndLast}
 use Rattle.quasi_space.specs.Measures.{pruned_measures}
 use Rattle.quasi_space.specs.Quasi.{IsQuasiOpen, IsQuasiEntry, StopsAtQuasi, items_cost, quasi_space, quasi_space_by}
@@ -24,13 +23,13 @@ use Rattle.quasi_space.proofs.AllSpaces.{each_searchable, pruned_search}
 use Rattle.quasi_space.proofs.Measures.{pruned_tried}
 use Rattle.quasi_space.proofs.Quasi.{ends_closed, ends_at_row, ends_in_row, ends_found, ends_too_long, ends_no_measure, ends_in_measures}
 use Rattle.cc_count.proofs.Spending.{spends_none, spends_both}
-use Rattle.grid_search.specs.Answers.{IsNoneGood, GridAnswers}
-use Rattle.grid_search.specs.declared.GridSearch.{GridSearch}
 use Rattle.quasi_search.specs.Answers.{Searches}
+use Rattle.quasi_search.specs.MeasureTrials.{IsNoneGood, AreTooFew, MeasureAnswers}
+use Rattle.quasi_search.specs.declared.measures.MeasureSearch.{MeasureSearch}
 
--- what the search of the grid told, of what it is known to be
-pub grid_told : (here sys : System) (before after : Counts) (f g : GridSearch) → here ≡ sys → f ≡ g → GridAnswers here before after (Ok f) → GridAnswers sys before after (Ok g)
-grid_told here sys before after f g same is h = subst (λ s. GridAnswers s before after (Ok g)) same (subst (λ z. GridAnswers here before after (Ok z)) is h)
+-- what the search for a measure told, of what it is known to be
+pub measure_told : (here sys : System) (before after : Counts) (f g : MeasureSearch) → here ≡ sys → f ≡ g → MeasureAnswers here before after (Ok f) → MeasureAnswers sys before after (Ok g)
+measure_told here sys before after f g same is h = subst (λ s. MeasureAnswers s before after (Ok g)) same (subst (λ z. MeasureAnswers here before after (Ok z)) is h)
 
 module _ (names : NameTable) (sys : System) where
   abbrev pub Pruned : Space Certificate
@@ -77,15 +76,6 @@ module _ (names : NameTable) (sys : System) where
       let units = spends.left in
       let all : n ≡ before.left = omega (arith, units, end) in (n, spends, subst (λ left. MayEndLast Pruned left n spent) all stopped)
 
-  -- where no measure is good
-  none_first : (u : ℕ) → IsNoneGood sys u → (m : MeasureCertificate) (k : ℕ) → IsPrunedFirst sys m k → ⊥
-  none_first u (inl barren) m k f = first_or_barren sys m u k barren f
-  none_first u (inr (free, large)) m k f = large (firsts_are sys m k f).1.gives.1.0
-
-  none_within : (u : ℕ) → IsNoneGood sys u → (k : ℕ) → IsPrunedWhole sys k → u ≤ k
-  none_within u (inl barren) k h = let same = whole_once sys u k (inr barren) h in omega (arith, same)
-  none_within u (inr (free, large)) k h = omega (arith, free)
-
   module _ (os : List Overlap) (rules : AreRulesGood sys) (overlaps : AreOverlaps sys os) where
     is_open : IsQuasiOpen sys os
     is_open = record { deterministic = rules.deterministic; irreducible = rules.irreducible; overlaps = overlaps }
@@ -118,11 +108,11 @@ module _ (names : NameTable) (sys : System) where
       none_searched (u, spends, none) = (
         whole.0 + u,
         spends_both before here after whole.0 u whole.1 spends,
-        ends_no_measure names sys (pruned_measures sys) (pruned_tried sys) os is_open es whole.0 whole.2 before.left u (none_within u none) (none_first u none),
+        ends_no_measure names sys (pruned_measures sys) (pruned_tried sys) os is_open es whole.0 whole.2 before.left u none.within none.none,
       )
 
-      pub spent_searched : (u : ℕ) × Spends here u after × (after.left ≡ 0) × PrunedStops sys u → Searches Pruned before after (Ok Spent)
-      spent_searched (u, spends, end, stops) =
+      pub spent_searched : (u : ℕ) × Spends here u after × (after.left ≡ 0) × AreTooFew sys u → Searches Pruned before after (Ok Spent)
+      spent_searched (u, spends, end, few) =
           all_spent before after (whole.0 + u) (spends_both before here after whole.0 u whole.1 spends) end
           (ends_in_measures names sys (pruned_measures sys) (pruned_tried sys) os is_open es whole.0 whole.2 u
-          (λ m k f. stops_before_whole sys u k stops (inl (m, f))) (λ k h. stops_before_whole sys u k stops h))
+          (λ m k f. few k (inl (m, f))) few)

@@ -4,3 +4,4 @@ pub mod Index
 pub mod Listings
 pub mod Pairs
 pub mod Shared
+pub mod TwoLists

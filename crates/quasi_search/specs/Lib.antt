@@ -1,4 +1,5 @@
 pub mod Answers
 pub mod Joins
 pub mod Listed
+pub mod MeasureTrials
 pub mod Reducts

@@ -1,4 +1,4 @@
-//! The search for a certificate that a system with a measure is confluent: evidence for each overlap, and a measure of a grid.
+//! The search for a certificate that a system with a measure is confluent: evidence for each overlap, and a measure of a grid or a precedence.
 #![tactic(auto)]
 
 ghost use Rattle.std.specs.Prelude.{ℕ, ◌↔◌, IfOk, IsTrue, map};
@@ -16,18 +16,19 @@ ghost use Rattle.quasi_search.specs.Answers.{Searches};
 mod entries;
 mod joins;
 mod listed;
+mod measures;
 mod reducts;
 mod refuting;
 mod trying;
 
 use crate::entries::entries_for;
+use crate::measures::{MeasureSearch, search_measures};
 use cc_count::Budget;
 use cert_limits::has_text;
-use cert_model::{Certificate, MeasureCert};
+use cert_model::Certificate;
 use cops_names::Names;
 use critical_pairs::{Overlap, OverlapError, overlaps};
 use ctrs_classes::is_deterministic;
-use grid_search::{GridSearch, search_grid};
 use irreducible::LeftSides;
 use pair_search::Entries;
 use quasi_check::are_right_sides_irreducible;
@@ -65,17 +66,17 @@ fn search_open(
         Ok(Entries::Spent) => return Ok(Search::Spent),
         Err(e) => return Err(e),
     };
-    match search_grid(alloc, sys.system(), budget) {
-        Ok(GridSearch::Good(linear)) => {
-            let cert = Certificate::Quasi(MeasureCert::Linear(linear), pairs);
+    match search_measures(alloc, sys.system(), budget) {
+        Ok(MeasureSearch::Good(measure)) => {
+            let cert = Certificate::Quasi(measure, pairs);
             if has_text(alloc, names, &cert)? {
                 Ok(Search::Found(cert))
             } else {
                 Ok(Search::Nothing)
             }
         }
-        Ok(GridSearch::NoneGood) => Ok(Search::Nothing),
-        Ok(GridSearch::Spent) => Ok(Search::Spent),
+        Ok(MeasureSearch::NoneGood) => Ok(Search::Nothing),
+        Ok(MeasureSearch::Spent) => Ok(Search::Spent),
         Err(e) => Err(e),
     }
 }
@@ -110,7 +111,7 @@ pub fn search_quasi_over(
 ///
 /// Behind them the first good measure of a grid of linear interpretations is searched for, where nothing is tried behind a
 /// beginning that no good one has: a unit for each interpretation that is judged, and for each shorter beginning that is
-/// given up. Where the system is not deterministic, the right side of a condition is not absolutely irreducible, or the
+/// given up. Where none is good, the precedences are tried in the same way. Where the system is not deterministic, the right side of a condition is not absolutely irreducible, or the
 /// overlaps are refused, there is nothing to search, at no cost; nor is there a certificate where its text would be too long.
 pub fn search_quasi(
     alloc: Global,

@@ -1,8 +1,23 @@
-use Rattle.std.proofs.Common.{Ok}
+use Rattle.std.proofs.Common.{Ok, subst, ◌∙◌}
+use Rattle.certificates.specs.Certificates.{Certificate}
+use Rattle.valid_certificates.specs.Certificates.{IsValid}
 use Rattle.validity.specs.declared.Search.TheVariants.{Nothing}
+use Rattle.search_answers.specs.Answers.{IfNothing}
 use Rattle.search_answers.proofs.Refused.{large_none, many_none}
+use Rattle.quasi_space.specs.Quasi.{quasi_space}
+use Rattle.quasi_search.specs.Answers.{Searches}
 use Rattle.quasi_search.proofs.Ending.{whole_searched, nothing_valid, closed_by_overlaps}
 use Rattle.quasi_search.proofs.search_quasi.Goals as goal
+
+pub returns-in-Ok-clause-searched : goal.returns-in-Ok-clause-searched
+returns-in-Ok-clause-searched c =
+    subst (λ s. Searches (quasi_space c.args.names.now s) c.args.budget.now c.search_quasi_over.new.budget c.search_quasi_over.result) (c.in_ok-lefts.ensures ∙ c.in_ok-indexed.ensures)
+    c.search_quasi_over.ensures.searched
+
+pub returns-in-Ok-clause-nothing : goal.returns-in-Ok-clause-nothing
+returns-in-Ok-clause-nothing c =
+    subst (λ s. IfNothing c.search_quasi_over.result ((d : Certificate) → (quasi_space c.args.names.now s).Holds d → IsValid s d → ⊥)) (c.in_ok-lefts.ensures ∙ c.in_ok-indexed.ensures)
+    c.search_quasi_over.ensures.nothing
 
 pub returns-in-Err-PairTooLarge-clause-searched : goal.returns-in-Err-PairTooLarge-clause-searched
 returns-in-Err-PairTooLarge-clause-searched c =
