@@ -208,7 +208,7 @@ fn a_fault_of_the_searched_file_is_named(rt: HostRuntime) -> Result<(), Fail> {
 
 // the answer to a search, with the certificate that it finds
 const PROOF: &str =
-    "NO\nconcon 1\npeak\nstart a\nsteps 1\nrule 1 e 0\nsteps 1\nrule 2 e 0\nnormal\nend\n";
+    "NO\nconcon 2\nshared 0\npeak\nstart a\nsteps 1\nrule 1 e 0\nsteps 1\nrule 2 e 0\nnormal\nend\n";
 
 #[test]
 fn a_certificate_is_written_a_byte_a_call(rt: HostRuntime) -> Result<(), Fail> {
