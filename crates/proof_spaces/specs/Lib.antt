@@ -1,0 +1,5 @@
+pub mod Combined
+pub mod Proofs
+pub mod Prices
+pub mod Endings
+pub mod Laws
