@@ -1,2 +1,5 @@
+pub mod Costs
+pub mod Combined
+pub mod Searchable
 pub mod Behind
 pub mod Composition
