@@ -1,5 +1,5 @@
 -- How searches of the spaces of the last system end behind the steps.
-use Rattle.std.proofs.Common.{ℕ, ◌≡◌, ◌+◌, ◌≤◌, List, arith}
+use Rattle.std.proofs.Common.{ℕ, ◌≡◌, ◌+◌, List, arith}
 use Rattle.rewriting.specs.Rules.{System}
 use Rattle.certificates.specs.Certificates.{Simplification, Certificate, simplified_certificate}
 use Rattle.cops_names.specs.NameTable.{NameTable}

@@ -1,5 +1,5 @@
 -- A search that tries nothing behind dead prefixes is one that tries each measure, behind the steps, too.
-use Rattle.std.proofs.Common.{ℕ, ◌≡◌, ◌+◌, ◌≤◌, List, [], ◌∷◌, inl, inr, refl, subst, arith}
+use Rattle.std.proofs.Common.{ℕ, ◌+◌, ◌≤◌, List, [], ◌∷◌, inl, inr, refl, subst, arith}
 use Rattle.rewriting.specs.Rules.{System}
 use Rattle.certificates.specs.Certificates.{Simplification, Certificate, simplified_certificate}
 use Rattle.cops_names.specs.NameTable.{NameTable}
@@ -7,7 +7,7 @@ use Rattle.first_found.specs.Spaces.{Space, IsBarren, Ending, found, nothing}
 use Rattle.search_spaces.specs.Texts.{HasText}
 use Rattle.quasi_space.specs.Endings.{MayEndLast}
 use Rattle.quasi_space.specs.Measures.{each_measure, pruned_measures}
-use Rattle.quasi_space.specs.Quasi.{IsQuasiFound, IsQuasiCost, quasi_space, quasi_space_by}
+use Rattle.quasi_space.specs.Quasi.{quasi_space, quasi_space_by}
 use Rattle.quasi_space.proofs.AllSpaces.{each_searchable, pruned_searchable, pruned_search, all_pruned_search}
 use Rattle.quasi_space.proofs.Cheaper.{IsCheaper, cheaper_search, cheaper_behind}
 use Rattle.proof_spaces.specs.Combined.{only_found}

@@ -12,7 +12,7 @@ use Rattle.search_spaces.proofs.Whole.{ortho_searchable, peak_searchable}
 use Rattle.quasi_space.specs.Measures.{MeasureTrials, each_measure, pruned_measures}
 use Rattle.quasi_space.specs.Quasi.{quasi_space_by}
 use Rattle.quasi_space.specs.AllSpaces.{all_spaces_by}
-use Rattle.proof_spaces.specs.Proofs.{with_steps, two_with_steps, three_with_steps, if_some, proof_space_by}
+use Rattle.proof_spaces.specs.Proofs.{with_steps, three_with_steps, if_some, proof_space_by}
 use Rattle.proof_spaces.specs.Prices.{IsThree, IsThreeBehind, IsWhole, HoldsWith, HoldsNone, IsFirstBehind, in_first, in_second, in_third, HoldNone, NoneBehind, SomeBehind, IsProofPrice, in_own, in_behind, in_none}
 use Rattle.proof_spaces.specs.Laws.{PricesHaveThreeCases, CostsAreSums, PrunedCostsAreSums}
 

@@ -1,5 +1,5 @@
 -- The proof spaces are searchable.
-use Rattle.std.proofs.Common.{ℕ, ◌≡◌, List, [], ◌∷◌, arith}
+use Rattle.std.proofs.Common.{◌≡◌, List, [], ◌∷◌, arith}
 use Rattle.rewriting.specs.Rules.{System}
 use Rattle.certificates.specs.Certificates.{Simplification, Certificate, simplified_certificate}
 use Rattle.cops_names.specs.NameTable.{NameTable}
