@@ -69,9 +69,6 @@ module _ (by : System → MeasureTrials) (names : NameTable) where
       abbrev Second : Space Certificate
       Second = with_steps names steps (peak_space names last)
 
-      abbrev Third : Space Certificate
-      Third = with_steps names steps (quasi_space_by (by last) names last)
-
       held : (S : Space Certificate) (d : Certificate) (n : ℕ) → (with_steps names steps S).Finds d n → HoldsWith by names steps S n
       held S d n (c, f, e, w) = (c, f, subst (HasText names) e w)
 
@@ -130,7 +127,7 @@ module _ (by : System → MeasureTrials) (names : NameTable) where
     barren_of_none_if [] last h d n f = f
     barren_of_none_if (s ∷ steps) last h d n f = three_none (s ∷ steps) last h d n f
 
-    pub cases_of_price : (n : ℕ) → IsPrice (proof_space_by by names sys) n → IsProofPrice by names sys n
+    cases_of_price : (n : ℕ) → IsPrice (proof_space_by by names sys) n → IsProofPrice by names sys n
     cases_of_price n (inl (d, inl f)) = in_own d n f
     cases_of_price n (inl (d, inr (b, (i, j, x, (y, a, k, is, f, g), e)))) =
         let sum : n ≡ i + a + k = omega (arith, e, g) in
@@ -141,7 +138,7 @@ module _ (by : System → MeasureTrials) (names : NameTable) where
         (λ x a is. none_of_barren_if x.steps x.last (λ d k f. b d (w.0 + (a + k)) (inr (own, (w.0, a + k, w.2, (x, a, k, is, f, refl), refl)))))
         (whole_of_cost n w)
 
-    pub price_of_cases : (n : ℕ) → IsProofPrice by names sys n → IsPrice (proof_space_by by names sys) n
+    price_of_cases : (n : ℕ) → IsProofPrice by names sys n → IsPrice (proof_space_by by names sys) n
     price_of_cases _ (in_own c n f) = inl (c, inl f)
     price_of_cases _ (in_behind own tried n x b h is some) =
         let at = found_of_some x.steps x.last n some in
