@@ -1,8 +1,8 @@
 -- A search: its words, that what was read and searched is what it answers, and what is said of that.
-use Rattle.std.proofs.Common.{◌≡◌, ℕ, ◌≤◌, List, [], ◌∷◌, map, Option, Result, Ok, Err, codes, inl, inr, refl, sym, ap, ap₂, ◌∙◌, subst, subst₂, arith}
+use Rattle.std.proofs.Common.{◌≡◌, ℕ, ◌≤◌, List, [], ◌∷◌, Option, Result, Ok, Err, codes, inl, inr, refl, sym, ap, ap₂, ◌∙◌, subst, subst₂, arith}
 use Rattle.std.specs.Prelude.{IfSome}
 use Rattle.rewriting.specs.Rules.{System}
-use Rattle.certificates.specs.Certificates.{Certificate, ortho_certificate, quasi_certificate, Peak, peak_certificate, simplified_certificate}
+use Rattle.certificates.specs.Certificates.{Certificate, ortho_certificate, quasi_certificate, peak_certificate, simplified_certificate}
 use Rattle.valid_certificates.specs.Certificates.{IsValid}
 use Rattle.cc_count.specs.Counts.{Counts}
 use Rattle.first_found.specs.Spaces.{IsBarren, IsDearer}
@@ -21,7 +21,7 @@ use Rattle.cops_read.specs.NameTable.{NameTable}
 use Rattle.cert_check.specs.Kinds.{verdict_of}
 use Rattle.concon_run.specs.Run.{ShelfRun, Run, HasFailed}
 use Rattle.concon_run.specs.Said.{Said, IsSaidIfMemory, Tells, TellsIfMemory}
-use Rattle.concon_run.specs.Systems.{told_or_any, bytes_of, SpellsSystem, IsWhollyConfluent}
+use Rattle.concon_run.specs.Systems.{told_or_any, bytes_of, SpellsSystem}
 use Rattle.concon_run.specs.Verdicts.{IsShown, verdict_text}
 use Rattle.concon_run.specs.Files.{SystemAnswers, no_system_said}
 use Rattle.concon_run.specs.Prove.{IsProve, SearchOutcome, bad_file, found, over_budget, exhausted, HoldsNone, SearchComesTo, Spaces, SearchMustComeTo, said_of_search, ProveAnswer, searched, file_unread, said_of_prove, IsProveAnswer, CalmlyMustComeTo}

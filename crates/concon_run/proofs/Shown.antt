@@ -1,5 +1,5 @@
 -- A valid certificate that can be written shows what it is for, behind steps or without.
-use Rattle.std.proofs.Common.{◌≡◌, ◌∙◌, ℕ, List, map}
+use Rattle.std.proofs.Common.{◌≡◌, ◌∙◌, List, map}
 use Rattle.rewriting.specs.Rules.{System}
 use Rattle.rewriting.specs.Systems.{IsSystem}
 use Rattle.rewriting.specs.Confluence.{IsConfluent}
@@ -22,7 +22,6 @@ use Rattle.cert_check.specs.declared.Verdict.{Verdict}
 use Rattle.cert_check.specs.declared.Verdict.TheVariants.{Yes, No}
 use Rattle.cert_check.proofs.Levels.{peak_apart, apart_before, confluent_before}
 use Rattle.cert_check.proofs.Bounds.{spelt_over, same_symbols}
-use Rattle.concon_run.specs.Systems.{IsWhollyConfluent}
 use Rattle.concon_run.specs.Verdicts.{IsShown}
 
 -- the same of the system alone
