@@ -149,7 +149,7 @@ pub fn run<S: Shelf, K: Sink, E: Sink>(
     // Under prove, YES and NO stand above the text of a certificate, which is valid and the first that is searched for.
     ensures proved { ProofStandsBelow (run_of S.Shelf K.Sink E.Sink words.now result shelf.old shelf.new out.old out.new err.old err.new) }
     // MAYBE exhausted only where nothing that is searched for is valid, behind standard steps too; MAYBE budget only where the price is greater than
-    // the budget, and so are the price and the sum of all that is searched where nothing behind dead prefixes of the grid is tried.
+    // the budget, and so are the price, and the sum of all that is searched, where nothing behind dead prefixes is tried.
     ensures undecided { let run = run_of S.Shelf K.Sink E.Sink words.now result shelf.old shelf.new out.old out.new err.old err.new in
         result ≡ Status.Maybe → IsUndecided run }
     ensures read_fault { let run = run_of S.Shelf K.Sink E.Sink words.now result shelf.old shelf.new out.old out.new err.old err.new in
