@@ -7,6 +7,7 @@ pub mod Unread
 pub mod OneSystem
 pub mod OneOutcome
 pub mod Checks
+pub mod Shown
 pub mod Searches
 pub mod Tests
 pub mod Asking

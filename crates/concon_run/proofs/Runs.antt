@@ -3,8 +3,8 @@ use Rattle.std.proofs.Common.{◌⊎◌, inl, inr}
 use Rattle.valid_certificates.specs.Laws.{CertificatesHaveOneAnswer}
 use Rattle.cops_read.specs.Answers.{OneSystem, OneRefusal, NeverSystemAndRefusal}
 use Rattle.cert_sharing.specs.SharedLaws as texts
-use Rattle.quasi_space.specs.AllSpaces.{all_spaces, pruned_spaces}
-use Rattle.quasi_space.specs.Laws.{AllSpacesAreSearchable, AllPrunedSpacesAreSearchable, AllPrunedSearchesAreSearches}
+use Rattle.proof_spaces.specs.Proofs.{proof_space, pruned_proof_space}
+use Rattle.proof_spaces.specs.Laws.{ProofSpacesAreSearchable, PrunedProofsAreProofs}
 use Rattle.concon_run.specs.Run.{Run}
 use Rattle.concon_run.specs.Check.{said_of_outcome, shown, CheckIsExact, CheckIsComplete}
 use Rattle.concon_run.specs.Prove.{Spaces, found, said_of_search, ProveIsExact, ProveIsComplete}
@@ -68,18 +68,18 @@ module _ (systems : KnownSystems) (certificates : KnownCertificates) (queries : 
           (x.form, (x.system, x.conditions, x.price, x.spells, finds, x.within), x.no_file_fault, x.no_query_fault)))
       by_price (inr (barren, costs)) = absurd ((queries.searchable x.system x.conditions).searched.barren barren x.answer x.held x.good)
 
-  pub is_run : AllPrunedSpacesAreSearchable → AllSpacesAreSearchable → AllPrunedSearchesAreSearches → IsRun run
-  is_run law whole pruned =
+  pub is_run : ProofSpacesAreSearchable → PrunedProofsAreProofs → IsRun run
+  is_run whole pruned =
       record {
         answer = h;
         yes_is_sound = yes_is_sound run h;
         no_is_sound = no_is_sound run h;
         exactly = exactly;
         complete = complete;
-        searched = searched pruned_spaces (pruned_priced law whole pruned);
-        searched_whole = searched all_spaces (whole_priced law whole pruned);
-        enough = enough pruned_spaces (pruned_priced law whole pruned);
-        enough_whole = enough all_spaces (whole_priced law whole pruned);
+        searched = searched pruned_proof_space (pruned_priced whole pruned);
+        searched_whole = searched proof_space (whole_priced whole pruned);
+        enough = enough pruned_proof_space (pruned_priced whole pruned);
+        enough_whole = enough proof_space (whole_priced whole pruned);
         self_tested = self_tested;
         queried = queried;
         query_complete = query_complete;

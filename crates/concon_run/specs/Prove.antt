@@ -3,8 +3,9 @@ use Rattle.std.specs.Prelude.{◌≡◌, ◌⊎◌, ◌≤◌, ◌++◌, ℕ, Li
 use Rattle.rewriting.specs.Rules.{System}
 use Rattle.certificates.specs.Certificates.{Certificate}
 use Rattle.valid_certificates.specs.Certificates.{IsValid}
-use Rattle.first_found.specs.Spaces.{Space, IsDearer}
-use Rattle.quasi_space.specs.AllSpaces.{all_spaces, pruned_spaces}
+use Rattle.first_found.specs.Spaces.{Space}
+use Rattle.proof_spaces.specs.Proofs.{proof_space}
+use Rattle.proof_spaces.specs.Endings.{IsTooLittle}
 use Rattle.cops_names.specs.NameTable.{NameTable}
 use Rattle.cert_grammar.specs.Versions.{second_version}
 use Rattle.cert_grammar.specs.CertificateText.{answer_line, certificate_text}
@@ -36,21 +37,21 @@ pub data SearchOutcome : Type 0 where
 -- the certificate is valid, and the first such that the search comes to, at a price
 pub record IsFirstValid (names : NameTable) (sys : System) (c : Certificate) : Type 0 where
   pub price : ℕ
-  pub first : (pruned_spaces names sys).Finds c price
+  pub first : (proof_space names sys).Finds c price
   pub valid : IsValid sys c
 
--- no certificate in what is searched is valid
+-- no certificate in what is searched is valid, behind standard steps too
 abbrev pub HoldsNone : NameTable → System → Type 0
-HoldsNone names sys = (c : Certificate) → (all_spaces names sys).Holds c → IsValid sys c → ⊥
+HoldsNone names sys = (c : Certificate) → (proof_space names sys).Holds c → IsValid sys c → ⊥
 
 -- when the search may come to an outcome
 abbrev pub SearchComesTo : Bytes → ℕ → SearchOutcome → Type 0
 SearchComesTo file budget (bad_file refusal) = IsRefusedFile file refusal
 SearchComesTo file budget (found names c) = (sys : System) × SpellsSystem file sys names × IsFirstValid names sys c
-SearchComesTo file budget over_budget = (sys : System) × (names : NameTable) × SpellsSystem file sys names × IsDearer (pruned_spaces names sys) budget
+SearchComesTo file budget over_budget = (sys : System) × (names : NameTable) × SpellsSystem file sys names × IsTooLittle names sys budget
 SearchComesTo file budget exhausted = (sys : System) × (names : NameTable) × SpellsSystem file sys names × HoldsNone names sys
 
--- the three spaces, as prices are counted in them
+-- the spaces that are searched, as prices are counted in them
 abbrev pub Spaces : Type 1
 Spaces = NameTable → System → Space Certificate
 

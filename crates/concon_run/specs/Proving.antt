@@ -3,8 +3,7 @@ use Rattle.std.specs.Prelude.{ℕ, Option, Some, None, Result, Ok, Err}
 use Rattle.rewriting.specs.Rules.{System}
 use Rattle.cops_read.specs.NameTable.{NameTable}
 use Rattle.cert_model.specs.CertificateView.{certificate_view}
-use Rattle.first_found.specs.Spaces.{IsDearer}
-use Rattle.quasi_space.specs.AllSpaces.{pruned_spaces}
+use Rattle.proof_spaces.specs.Endings.{IsTooLittle}
 use Rattle.term_core.specs.declared.terms.NoMemory.{NoMemory}
 use Rattle.portfolio.specs.declared.Outcome.{Outcome}
 use Rattle.portfolio.specs.declared.Outcome.TheVariants as outcome
@@ -20,7 +19,7 @@ use Rattle.concon_run.specs.declared.prove.Searched.{Searched}
 abbrev pub SearchAnswers : System → NameTable → ℕ → Result Outcome NoMemory → Type 0
 SearchAnswers sys names budget (Ok (outcome.Found c)) = IsFirstValid names sys (certificate_view c) × IsShown sys (certificate_view c) (verdict_of (certificate_view c))
 SearchAnswers sys names budget (Ok outcome.Exhausted) = HoldsNone names sys
-SearchAnswers sys names budget (Ok outcome.Spent) = IsDearer (pruned_spaces names sys) budget
+SearchAnswers sys names budget (Ok outcome.Spent) = IsTooLittle names sys budget
 SearchAnswers sys names budget (Err e) = Unit {0}
 
 -- how the search ended, with the names of the file

@@ -6,7 +6,7 @@ use Rattle.cert_check.specs.Kinds.{verdict_of}
 use Rattle.cert_check.specs.declared.Verdict.{Verdict}
 use Rattle.cert_check.specs.declared.Verdict.TheVariants as verdict
 use Rattle.cops_read.specs.NameTable.{NameTable}
-use Rattle.quasi_space.specs.AllSpaces.{all_spaces, pruned_spaces}
+use Rattle.proof_spaces.specs.Proofs.{proof_space, pruned_proof_space}
 use Rattle.concon_run.specs.Run.{SinkRun, Run, HasFailed, AsksNothing}
 use Rattle.concon_run.specs.Said.{Said, TakesWhole, TakesPart}
 use Rattle.concon_run.specs.FileRefusals.{FileRefusal}
@@ -73,7 +73,8 @@ IsYes run = (IsVerdict run verdict.Yes ⊎ ((n : ℕ) × IsSelftest run.words n)
 abbrev pub IsNo : Run → Type 0
 IsNo run = IsVerdict run verdict.No ⊎ IsQueryAnswered run status.No
 
--- out took why there is no answer: nothing that is searched for is valid, or more would have to be paid than the budget
+-- out took why there is no answer: nothing that is searched for is valid, behind standard steps too; or more would have to be paid than the budget, up
+-- to the first valid certificate, and for all that is searched
 abbrev pub IsUndecided : Run → Type 0
 IsUndecided run =
     ((ProveComesTo run exhausted ⊎ RunQueryComesTo run query.exhausted) × TakesWhole (codes "MAYBE exhausted\n") run.out)
@@ -99,10 +100,10 @@ pub record IsRun (run : Run) : Type 0 where
   pub no_is_sound : NoIsSound run
   pub exactly : CheckIsExact run
   pub complete : CheckIsComplete run
-  pub searched : ProveIsExact pruned_spaces run
-  pub searched_whole : ProveIsExact all_spaces run
-  pub enough : ProveIsComplete pruned_spaces run
-  pub enough_whole : ProveIsComplete all_spaces run
+  pub searched : ProveIsExact pruned_proof_space run
+  pub searched_whole : ProveIsExact proof_space run
+  pub enough : ProveIsComplete pruned_proof_space run
+  pub enough_whole : ProveIsComplete proof_space run
   pub self_tested : TestIsExact run
   pub queried : QueryIsExact run
   pub query_complete : QueryIsComplete run

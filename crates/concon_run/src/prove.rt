@@ -27,8 +27,8 @@ use cops_read::{Names, one_reading};
 use join_systems::join_systems_keep_their_rules;
 use ortho_check::valid_certificates_are_confluent;
 use portfolio::{Outcome, prove};
+use proof_spaces::proof_spaces_are_searchable;
 use quasi_check::valid_measured_systems_are_confluent;
-use quasi_space::quasi_spaces_are_searchable;
 use std::alloc::Global;
 use term_core::{NoMemory, System};
 use valid_certificates::valid_peaks_reach_apart;
@@ -113,11 +113,11 @@ fn outcome_within(
 {
     one_reading();
     join_systems_keep_their_rules();
-    quasi_spaces_are_searchable();
+    proof_spaces_are_searchable();
     valid_certificates_are_confluent();
     valid_measured_systems_are_confluent();
     valid_peaks_reach_apart();
-    // That the system is well-formed is known of its rules.
+    // That the system is one as files give it is known of its rules.
     let _rules = sys.rules();
     let mut budget = Budget::new(units);
     prove(alloc, sys, names, &mut budget)

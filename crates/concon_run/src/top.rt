@@ -1,7 +1,7 @@
 //! All that the program does.
 ghost use Rattle.std.specs.Prelude.{◌≡◌, ◌⊎◌, ℕ, List};
 ghost use Rattle.cc_io.specs.Errors.{IsBegunIfAny};
-ghost use Rattle.quasi_space.specs.AllSpaces.{all_spaces, pruned_spaces};
+ghost use Rattle.proof_spaces.specs.Proofs.{proof_space, pruned_proof_space};
 ghost use Rattle.concon_run.specs.Check.{IsCheck, CheckIsExact, CheckIsComplete, IsOfCheck};
 ghost use Rattle.concon_run.specs.Commands.{IsNoCommand, IsSaidFor, IsAnswered, usage_said};
 ghost use Rattle.concon_run.specs.Prove.{IsProve, ProveIsExact, ProveIsComplete, ProofStandsBelow, IsOfProve};
@@ -22,7 +22,7 @@ use crate::status::Status;
 use cc_io::{Shelf, Sink};
 use cert_text::one_answer;
 use cops_read::one_reading;
-use quasi_space::{pruned_searches_are_searches, quasi_spaces_are_searchable};
+use proof_spaces::proof_spaces_are_searchable;
 use query_space::query_spaces_are_searchable;
 use query_text::one_query;
 use std::alloc::Global;
@@ -80,8 +80,7 @@ fn run_known<S: Shelf, K: Sink, E: Sink>(
     one_reading();
     one_answer();
     certificates_have_one_answer();
-    quasi_spaces_are_searchable();
-    pruned_searches_are_searches();
+    proof_spaces_are_searchable();
     one_query();
     query_spaces_are_searchable();
     run_all(alloc, words, shelf, out, err)
@@ -110,12 +109,12 @@ pub fn run<S: Shelf, K: Sink, E: Sink>(
     // A valid certificate is answered by what it shows.
     ensures complete { CheckIsComplete (run_of S.Shelf K.Sink E.Sink words.now result shelf.old shelf.new out.old out.new err.old err.new) }
     // Where no fault of the shelf rose, the status and the texts are those of what the search must come to, unless memory was refused.
-    ensures searched { ProveIsExact pruned_spaces (run_of S.Shelf K.Sink E.Sink words.now result shelf.old shelf.new out.old out.new err.old err.new) }
+    ensures searched { ProveIsExact pruned_proof_space (run_of S.Shelf K.Sink E.Sink words.now result shelf.old shelf.new out.old out.new err.old err.new) }
     // The same where the price is counted with each measure of the grid, which is no less.
-    ensures searched_whole { ProveIsExact all_spaces (run_of S.Shelf K.Sink E.Sink words.now result shelf.old shelf.new out.old out.new err.old err.new) }
+    ensures searched_whole { ProveIsExact proof_space (run_of S.Shelf K.Sink E.Sink words.now result shelf.old shelf.new out.old out.new err.old err.new) }
     // A valid certificate that is searched for, with a price within the budget, is found.
-    ensures enough { ProveIsComplete pruned_spaces (run_of S.Shelf K.Sink E.Sink words.now result shelf.old shelf.new out.old out.new err.old err.new) }
-    ensures enough_whole { ProveIsComplete all_spaces (run_of S.Shelf K.Sink E.Sink words.now result shelf.old shelf.new out.old out.new err.old err.new) }
+    ensures enough { ProveIsComplete pruned_proof_space (run_of S.Shelf K.Sink E.Sink words.now result shelf.old shelf.new out.old out.new err.old err.new) }
+    ensures enough_whole { ProveIsComplete proof_space (run_of S.Shelf K.Sink E.Sink words.now result shelf.old shelf.new out.old out.new err.old err.new) }
     // A test reads all rules of its system and all entries of its certificate, and spends exactly the price, unless memory was refused.
     ensures self_tested { TestIsExact (run_of S.Shelf K.Sink E.Sink words.now result shelf.old shelf.new out.old out.new err.old err.new) }
     // Where no fault of the shelf rose, the status and the texts are those of what the query must come to, unless memory was refused.
@@ -149,7 +148,8 @@ pub fn run<S: Shelf, K: Sink, E: Sink>(
         result ≡ Status.No → IsNo run }
     // Under prove, YES and NO stand above the text of a certificate, which is valid and the first that is searched for.
     ensures proved { ProofStandsBelow (run_of S.Shelf K.Sink E.Sink words.now result shelf.old shelf.new out.old out.new err.old err.new) }
-    // MAYBE exhausted only where nothing that is searched for is valid, MAYBE budget only where the price is greater than the budget.
+    // MAYBE exhausted only where nothing that is searched for is valid, behind standard steps too; MAYBE budget only where the price is greater than
+    // the budget, and so are the price, and the sum of all that is searched, where nothing behind dead prefixes is tried.
     ensures undecided { let run = run_of S.Shelf K.Sink E.Sink words.now result shelf.old shelf.new out.old out.new err.old err.new in
         result ≡ Status.Maybe → IsUndecided run }
     ensures read_fault { let run = run_of S.Shelf K.Sink E.Sink words.now result shelf.old shelf.new out.old out.new err.old err.new in

@@ -8,4 +8,4 @@ returns g c =
     (known_certificates c.one_answer.ensures.refusal c.one_answer.ensures.never_both c.certificates_have_one_answer.ensures)
     (known_queries c.one_query.ensures.one c.one_query.ensures.refusal c.one_query.ensures.either c.query_spaces_are_searchable.ensures.searchable c.query_spaces_are_searchable.ensures.prices)
     (run_of g.S.Shelf g.K.Sink g.E.Sink c.args.words.now c.run_all.result c.args.shelf.now c.run_all.new.shelf c.args.out.now c.run_all.new.out c.args.err.now c.run_all.new.err) c.run_all.ensures
-    c.quasi_spaces_are_searchable.ensures.all_pruned c.quasi_spaces_are_searchable.ensures.all c.pruned_searches_are_searches.ensures.all
+    c.proof_spaces_are_searchable.ensures.whole c.proof_spaces_are_searchable.ensures.same
