@@ -1,2 +1,9 @@
+pub mod Costs
+pub mod Combined
+pub mod Searchable
+pub mod Texts
+pub mod Ends
+pub mod Cheaper
 pub mod Behind
+pub mod Prices
 pub mod Composition
