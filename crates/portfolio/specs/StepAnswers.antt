@@ -1,8 +1,8 @@
 -- What the searches of the last system answer, behind the steps that left it.
-use Rattle.std.specs.Prelude.{ℕ, ◌≡◌, ◌+◌, List, map, Result, Ok, Err}
+use Rattle.std.specs.Prelude.{ℕ, ◌≡◌, ◌+◌, List, [], map, Result, Ok, Err}
 use Rattle.rewriting.specs.Rules.{System}
 use Rattle.certificates.specs.Certificates as math
-use Rattle.certificates.specs.Certificates.{Simplification, simplified_certificate}
+use Rattle.certificates.specs.Certificates.{Simplification, ortho_certificate, quasi_certificate, peak_certificate, simplified_certificate}
 use Rattle.cert_model.specs.CertificateView.{simp_view, certificate_view}
 use Rattle.cops_names.specs.NameTable.{NameTable}
 use Rattle.cc_count.specs.Counts.{Counts, Spends}
@@ -18,6 +18,19 @@ use Rattle.portfolio.specs.declared.Outcome.{Outcome}
 use Rattle.portfolio.specs.declared.behind.Behind.{Behind}
 use Rattle.portfolio.specs.declared.behind.Behind.TheVariants.{Found, Nothing, Spent}
 use Rattle.portfolio.specs.Answers.{outcome_ending}
+
+-- a certificate with steps before its body, and those steps
+abbrev pub HasSteps : math.Certificate → Type 0
+HasSteps (ortho_certificate pairs) = ⊥
+HasSteps (quasi_certificate measure pairs) = ⊥
+HasSteps (peak_certificate peak) = ⊥
+HasSteps (simplified_certificate steps body) = Unit {0}
+
+abbrev pub steps_before : math.Certificate → List Simplification
+steps_before (ortho_certificate pairs) = []
+steps_before (quasi_certificate measure pairs) = []
+steps_before (peak_certificate peak) = []
+steps_before (simplified_certificate steps body) = steps
 
 abbrev pub behind_ending : Behind → Ending math.Certificate
 behind_ending (Found c) = found (certificate_view c)

@@ -1,6 +1,6 @@
 //! The three spaces of the system that the standard steps leave, searched one behind the other. What is found stands behind the
 //! steps; where it cannot be written with them it counts for nothing, and the next space is searched.
-ghost use Rattle.std.specs.Prelude.{ℕ, map};
+ghost use Rattle.std.specs.Prelude.{ℕ, ◌≡◌, map};
 ghost use Rattle.cert_model.specs.CertificateView.{simp_view, certificate_view};
 ghost use Rattle.cc_count.specs.Counts.{Spends};
 ghost use Rattle.search_spaces.specs.Ortho.{ortho_space};
@@ -10,7 +10,7 @@ ghost use Rattle.quasi_space.specs.Quasi.{quasi_space_by};
 ghost use Rattle.proof_spaces.specs.Proofs.{with_steps, two_with_steps, three_with_steps};
 ghost use Rattle.noncon_search.specs.Given.{IsOverlapList};
 ghost use Rattle.portfolio.specs.Answers.{SearchesAll};
-ghost use Rattle.portfolio.specs.StepAnswers.{WritesBehind, AnswersBehind, SearchesBehind, SearchesSimplified};
+ghost use Rattle.portfolio.specs.StepAnswers.{HasSteps, steps_before, WritesBehind, AnswersBehind, SearchesBehind, SearchesSimplified};
 
 use crate::Outcome;
 use crate::own::{overlaps_or_none, search_ortho_if, search_quasi_if};
@@ -38,6 +38,23 @@ pub enum Behind {
     Spent,
 }
 
+// The steps of a certificate that has a body behind them.
+#[tactic(auto, using(cert_model::proofs::CertificateViews::ortho_shown, cert_model::proofs::CertificateViews::quasi_shown, cert_model::proofs::CertificateViews::peak_shown, cert_model::proofs::CertificateViews::simplified_shown))]
+fn steps_of(cert: Certificate) -> Vec<Simp>
+    requires { HasSteps (certificate_view cert) }
+    ensures { map simp_view result.items ≡ steps_before (certificate_view cert) }
+{
+    match cert {
+        Certificate::Simplified {
+            steps,
+            body: _body,
+        } => steps,
+        Certificate::Ortho(_pairs) => unreachable!(),
+        Certificate::Quasi(_measure, _pairs) => unreachable!(),
+        Certificate::Peak(_peak) => unreachable!(),
+    }
+}
+
 // The body behind the steps, if it can be written so.
 #[tactic(auto, using(cert_model::proofs::CertificateViews::simplified_shown))]
 fn written(
@@ -53,11 +70,9 @@ fn written(
     };
     let cert = Certificate::Simplified { steps, body };
     if has_text(alloc, names, &cert)? {
-        return Ok(Behind::Found(cert));
-    }
-    match cert {
-        Certificate::Simplified { steps, .. } => Ok(Behind::Nothing(steps)),
-        whole => Ok(Behind::Found(whole)),
+        Ok(Behind::Found(cert))
+    } else {
+        Ok(Behind::Nothing(steps_of(cert)))
     }
 }
 
