@@ -91,16 +91,15 @@ module _ (names : NameTable) (steps : List Simplification) where
           )
       peak_behind (Err e) h a = tt
 
-      pub quasi_behind : (b : Behind) (o : Outcome) → behind_ending b ≡ outcome_ending o → Searches (quasi_space_by (pruned_measures last) names last) before after (Ok answer) → AnswersBehind names steps answer (Ok b)
-          → SearchesAll Third before after (Ok o)
-      quasi_behind b o same (n, s, h) a =
+      pub quasi_behind : (b : Behind) → Searches (quasi_space_by (pruned_measures last) names last) before after (Ok answer) → AnswersBehind names steps answer (Ok b)
+          → (n : ℕ) × Spends before n after × MayEndLast Third before.left n (behind_ending b)
+      quasi_behind b (n, s, h) a =
           let left = before.left in
           (
             n,
             s,
-            subst (MayEndLast Third left n) same
-            (ends (MayEndLast (quasi_space_by (pruned_measures last) names last) left n) (MayEndLast Third left n) (behind.quasi_kept names steps last left n) (behind.quasi_lost names steps last left n)
-            (behind.quasi_nothing names steps last left n) (behind.quasi_spent names steps last left n) answer b a h),
+            ends (MayEndLast (quasi_space_by (pruned_measures last) names last) left n) (MayEndLast Third left n) (behind.quasi_kept names steps last left n) (behind.quasi_lost names steps last left n)
+            (behind.quasi_nothing names steps last left n) (behind.quasi_spent names steps last left n) answer b a h,
           )
 
     -- one behind the other
@@ -112,12 +111,18 @@ module _ (names : NameTable) (steps : List Simplification) where
       two_spent (u, (n, s, h)) = (u, (n, s, behind.first_spends_two names steps last before.left n h))
 
       module _ (after : Counts) where
-        pub two_go_on : (v : Vec Simp Global) → SearchesBehind steps First before here (Ok (Nothing v)) → (r : Result Behind NoMemory) → SearchesBehind steps Second here after r
+        two_go_on : (v : Vec Simp Global) → SearchesBehind steps First before here (Ok (Nothing v)) → (r : Result Behind NoMemory) → SearchesBehind steps Second here after r
             → SearchesBehind steps (two_with_steps names steps last) before after r
         two_go_on v (same, (n, s, none)) (Ok b) (back, (m, t, h)) =
             let left = s.left in
             (back, (n + m, spends_both before here after n m s t, behind.second_ends_two names steps last before.left n here.left m (behind_ending b) none (omega (arith, left)) h))
         two_go_on v none (Err e) h = tt
+
+        -- the steps that were handed back are the same
+        pub two_behind : (v : Vec Simp Global) → SearchesBehind steps First before here (Ok (Nothing v))
+            → (r : Result Behind NoMemory) → SearchesBehind (map simp_view v.items) (with_steps names (map simp_view v.items) (peak_space names last)) here after r
+            → SearchesBehind steps (two_with_steps names steps last) before after r
+        two_behind v none r h = two_go_on v none r (subst (λ ss. SearchesBehind ss (with_steps names ss (peak_space names last)) here after r) none.0 h)
 
       pub three_found : (c : model.Certificate) → SearchesBehind steps (two_with_steps names steps last) before here (Ok (Found c))
           → SearchesAll (three_with_steps pruned_measures names steps last) before here (Ok (outcome.Found c))
@@ -127,9 +132,14 @@ module _ (names : NameTable) (steps : List Simplification) where
       three_spent (u, (n, s, h)) = (n, s, behind.two_spend_three names steps last before.left n h)
 
       module _ (after : Counts) where
-        pub three_go_on : (v : Vec Simp Global) → SearchesBehind steps (two_with_steps names steps last) before here (Ok (Nothing v)) → (r : Result Outcome NoMemory) → SearchesAll Third here after r
+        three_go_on : (v : Vec Simp Global) → SearchesBehind steps (two_with_steps names steps last) before here (Ok (Nothing v)) → (r : Result Outcome NoMemory) → SearchesAll Third here after r
             → SearchesAll (three_with_steps pruned_measures names steps last) before after r
         three_go_on v (same, (n, s, none)) (Ok o) (m, t, h) =
             let left = s.left in
             (n + m, spends_both before here after n m s t, behind.last_ends_three names steps last before.left n here.left m (outcome_ending o) none (omega (arith, left)) h)
         three_go_on v none (Err e) h = tt
+
+        pub three_behind : (v : Vec Simp Global) → SearchesBehind steps (two_with_steps names steps last) before here (Ok (Nothing v))
+            → (r : Result Outcome NoMemory) → SearchesAll (with_steps names (map simp_view v.items) (quasi_space_by (pruned_measures last) names last)) here after r
+            → SearchesAll (three_with_steps pruned_measures names steps last) before after r
+        three_behind v none r h = three_go_on v none r (subst (λ ss. SearchesAll (with_steps names ss (quasi_space_by (pruned_measures last) names last)) here after r) none.0 h)
