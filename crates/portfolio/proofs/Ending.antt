@@ -27,7 +27,7 @@ use Rattle.quasi_space.proofs.Quasi as quasi
 use Rattle.quasi_search.specs.Answers.{Searches}
 use Rattle.cc_count.proofs.Spending.{spends_none, spends_both}
 use Rattle.portfolio.specs.declared.Outcome.{Outcome}
-use Rattle.portfolio.specs.declared.Outcome.TheVariants.{Found, Exhausted, Spent}
+use Rattle.portfolio.specs.declared.Outcome.TheVariants.{Found, Spent}
 use Rattle.portfolio.specs.Answers.{outcome_ending, SearchesBoth, SearchesAll, IfProved}
 
 module _ (names : NameTable) (sys : System) where

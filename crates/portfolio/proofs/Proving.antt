@@ -57,8 +57,7 @@ module _ (names : NameTable) (sys : System) where
     some_made after (s ∷ steps) last some f (Ok o) (m, t, h) =
         let n = f.paid + all_tries last in
         let low : n ≤ f.tried + all_tries last = (let w = f.within in omega (arith, w)) in
-        let rest : before.left ≡ n + here.left = (let s = f.spent.left in omega (arith, s)) in
-        (
+        let rest : before.left ≡ n + here.left = (let s = f.spent.left in omega (arith, s)) in (
           n + m,
           spends_both before here after n m f.spent t,
           λ left paid none l. composed.behind_them names sys left paid before.left none l s steps last (f.tried + all_tries last) n here.left f.standard low rest m (outcome_ending o) h,

@@ -32,7 +32,7 @@ use Rattle.portfolio.specs.StepAnswers.{behind_ending, HandsBack, AnswersBehind,
 module _ (names : NameTable) (steps : List Simplification) where
   -- a search of the last system that ends so, ends otherwise behind the steps
   module _ (Ends Behinds : Ending Certificate → Type 0) (kept : (c : Certificate) → Ends (found c) → HasText names (simplified_certificate steps c) → Behinds (found (simplified_certificate steps c)))
-    (lost : (c : Certificate) → Ends (found c) → (HasText names (simplified_certificate steps c) → ⊥) → Behinds nothing) (none : Ends nothing → Behinds nothing) (out : Ends spent → Behinds spent) where
+      (lost : (c : Certificate) → Ends (found c) → (HasText names (simplified_certificate steps c) → ⊥) → Behinds nothing) (none : Ends nothing → Behinds nothing) (out : Ends spent → Behinds spent) where
     ends : (answer : Search) (b : Behind) → AnswersBehind names steps answer (Ok b) → Ends (ending_of answer) → Behinds (behind_ending b)
     ends (search.Found body) (Found c) (is, text) h = subst (λ z. Behinds (found z)) (sym is) (kept (certificate_view body) h text)
     ends (search.Found body) (Nothing again) (same, unwritten) h = lost (certificate_view body) h unwritten
@@ -65,28 +65,26 @@ module _ (names : NameTable) (steps : List Simplification) where
     module _ (before after : Counts) (answer : Search) where
       pub ortho_behind : (r : Result Behind NoMemory) → SearchesExactly (ortho_space names last) before after (Ok answer) → AnswersBehind names steps answer r → SearchesBehind steps First before after r
       ortho_behind (Ok b) (n, s, h) a =
-          let left = before.left in
-          (
+          let left = before.left in (
             hands_back answer b a,
             (
               n,
               s,
               ends (MayEndExactly (ortho_space names last) left n) (MayEnd First left n) (behind.ortho_kept names steps last left n) (behind.ortho_lost names steps last left n) (behind.ortho_nothing names steps last left n) (behind.ortho_spent names steps last left n)
-              answer b a h,
+                  answer b a h,
             ),
           )
       ortho_behind (Err e) h a = tt
 
       pub peak_behind : (r : Result Behind NoMemory) → SearchesExactly (peak_space names last) before after (Ok answer) → AnswersBehind names steps answer r → SearchesBehind steps Second before after r
       peak_behind (Ok b) (n, s, h) a =
-          let left = before.left in
-          (
+          let left = before.left in (
             hands_back answer b a,
             (
               n,
               s,
               ends (MayEndExactly (peak_space names last) left n) (MayEnd Second left n) (behind.peak_kept names steps last left n) (behind.peak_lost names steps last left n) (behind.peak_nothing names steps last left n) (behind.peak_spent names steps last left n)
-              answer b a h,
+                  answer b a h,
             ),
           )
       peak_behind (Err e) h a = tt
@@ -94,12 +92,11 @@ module _ (names : NameTable) (steps : List Simplification) where
       pub quasi_behind : (b : Behind) → Searches (quasi_space_by (pruned_measures last) names last) before after (Ok answer) → AnswersBehind names steps answer (Ok b)
           → (n : ℕ) × Spends before n after × MayEndLast Third before.left n (behind_ending b)
       quasi_behind b (n, s, h) a =
-          let left = before.left in
-          (
+          let left = before.left in (
             n,
             s,
             ends (MayEndLast (quasi_space_by (pruned_measures last) names last) left n) (MayEndLast Third left n) (behind.quasi_kept names steps last left n) (behind.quasi_lost names steps last left n)
-            (behind.quasi_nothing names steps last left n) (behind.quasi_spent names steps last left n) answer b a h,
+                (behind.quasi_nothing names steps last left n) (behind.quasi_spent names steps last left n) answer b a h,
           )
 
     -- one behind the other

@@ -45,17 +45,14 @@ fn steps_of(cert: Certificate) -> Vec<Simp>
     ensures { map simp_view result.items ≡ steps_before (certificate_view cert) }
 {
     match cert {
-        Certificate::Simplified {
-            steps,
-            body: _body,
-        } => steps,
+        Certificate::Simplified { steps, body: _body } => steps,
         Certificate::Ortho(_pairs) => unreachable!(),
         Certificate::Quasi(_measure, _pairs) => unreachable!(),
         Certificate::Peak(_peak) => unreachable!(),
     }
 }
 
-// The body behind the steps, if it can be written so.
+// The body behind the steps; where it cannot be written with them, nothing, and the steps again.
 #[tactic(auto, using(cert_model::proofs::CertificateViews::simplified_shown))]
 fn written(
     alloc: Global,

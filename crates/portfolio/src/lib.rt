@@ -43,7 +43,7 @@ pub fn prove(
     names: &Names,
     budget: &mut Budget,
 ) -> Result<Outcome, NoMemory>
-    // At the price, and at that where what stands behind dead prefixes of the grid counts for nothing.
+    // By the price, by that where nothing behind dead prefixes of the grid is tried, and by the sum of all that is searched then.
     ensures searched { Proves names.now sys.now budget.old budget.new result }
     ensures valid { IfProved result (IsValid sys.now) }
     ensures written { IfProved result (HasText names.now) }
