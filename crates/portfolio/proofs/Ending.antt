@@ -1,9 +1,8 @@
--- How all searches end, from the ends of each.
+-- How the searches of the three spaces of a system end, from the ends of each.
 use Rattle.std.proofs.Common.{ℕ, ◌≡◌, ◌+◌, inl, List, Result, Ok, Err, subst, arith}
 use Rattle.rewriting.specs.Rules.{System}
 use Rattle.unifier_run.specs.Overlaps.{Overlap, AreOverlaps}
 use Rattle.certificates.specs.Certificates.{Certificate}
-use Rattle.valid_certificates.specs.Certificates.{IsValid}
 use Rattle.term_core.specs.declared.terms.NoMemory.{NoMemory}
 use Rattle.cert_model.specs.CertificateView.{certificate_view}
 use Rattle.cert_model.specs.declared.model.Certificate as model
@@ -17,11 +16,9 @@ use Rattle.search_answers.specs.Answers.{SearchesExactly, ending_of, IfFound}
 use Rattle.search_spaces.specs.Ortho.{ortho_space}
 use Rattle.search_spaces.specs.Peak.{peak_space}
 use Rattle.search_spaces.specs.Whole.{whole_space}
-use Rattle.search_spaces.specs.Laws.{IsSearchable}
 use Rattle.search_spaces.proofs.Ortho as ortho
 use Rattle.search_spaces.proofs.Ortho.{cost_once, ortho_finds_once}
-use Rattle.quasi_space.specs.AllSpaces.{all_spaces, pruned_spaces}
-use Rattle.quasi_space.specs.Laws.{AllPrunedSearchesAreSearches}
+use Rattle.quasi_space.specs.AllSpaces.{pruned_spaces}
 use Rattle.quasi_space.specs.Measures.{pruned_measures}
 use Rattle.quasi_space.specs.Quasi.{quasi_space_by}
 use Rattle.quasi_space.proofs.Endings.{last_ends}
@@ -30,8 +27,8 @@ use Rattle.quasi_space.proofs.Quasi as quasi
 use Rattle.quasi_search.specs.Answers.{Searches}
 use Rattle.cc_count.proofs.Spending.{spends_none, spends_both}
 use Rattle.portfolio.specs.declared.Outcome.{Outcome}
-use Rattle.portfolio.specs.declared.Outcome.TheVariants.{Found, Exhausted, Spent}
-use Rattle.portfolio.specs.Answers.{outcome_ending, SearchesBoth, SearchesAll, IfProved, IfExhausted}
+use Rattle.portfolio.specs.declared.Outcome.TheVariants.{Found, Spent}
+use Rattle.portfolio.specs.Answers.{outcome_ending, SearchesBoth, SearchesAll, IfProved}
 
 module _ (names : NameTable) (sys : System) where
   abbrev Last : Space Certificate
@@ -101,24 +98,3 @@ module _ (names : NameTable) (sys : System) where
       -- the first space has no certificate, as the first two have none
       pub none_first : (r : Result Outcome NoMemory) (c : Certificate) (n : ℕ) → (ortho_space names sys).Finds c n → IfProved r (λ d. (d ≡ c) × Spends before n after)
       none_first r c n f = absurd (none.2.0 c n (inl f))
-
-  -- one that tries each measure may answer what one does that tries nothing behind dead prefixes
-  pub unpruned : (law : AllPrunedSearchesAreSearches) → (before after : Counts) (r : Result Outcome NoMemory)
-      → SearchesAll (pruned_spaces names sys) before after r → SearchesAll (all_spaces names sys) before after r
-  unpruned law before after (Ok o) (n, s, e) = (n, s, law names sys before.left n (outcome_ending o) e)
-  unpruned law before after (Err e) h = tt
-
-  module _ (law : IsSearchable sys (all_spaces names sys)) where
-    -- what is found is valid, and where nothing is found, nothing in the spaces is
-    pub proved_valid : (before after : Counts) (r : Result Outcome NoMemory) → SearchesAll (all_spaces names sys) before after r → IfProved r (IsValid sys)
-    proved_valid before after (Ok (Found c)) (n, s, (m, f, le)) = (law.searched.held (certificate_view c) m f).1
-    proved_valid before after (Ok Exhausted) h = tt
-    proved_valid before after (Ok Spent) h = tt
-    proved_valid before after (Err e) h = tt
-
-    pub nothing_valid : (before after : Counts) (r : Result Outcome NoMemory) → SearchesAll (all_spaces names sys) before after r
-        → IfExhausted r ((c : Certificate) → (all_spaces names sys).Holds c → IsValid sys c → ⊥)
-    nothing_valid before after (Ok (Found c)) h = tt
-    nothing_valid before after (Ok Exhausted) (n, s, (barren, rest)) = law.searched.barren barren
-    nothing_valid before after (Ok Spent) h = tt
-    nothing_valid before after (Err e) h = tt

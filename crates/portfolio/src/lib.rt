@@ -1,34 +1,26 @@
-//! All searches for a certificate, one behind the other.
+//! All searches for a certificate, one behind the other: those of the system, and then those of what its standard steps leave.
 #![tactic(auto)]
 
 ghost use Rattle.std.specs.Prelude.{ℕ, ◌≡◌};
 ghost use Rattle.certificates.specs.Certificates as math;
 ghost use Rattle.valid_certificates.specs.Certificates.{IsValid};
 ghost use Rattle.cc_count.specs.Counts.{Spends};
-ghost use Rattle.search_answers.specs.Answers.{SearchesExactly, IfFound};
+ghost use Rattle.search_spaces.specs.Texts.{HasText};
 ghost use Rattle.search_spaces.specs.Ortho.{ortho_space};
-ghost use Rattle.search_spaces.specs.Whole.{whole_space};
-ghost use Rattle.quasi_space.specs.AllSpaces.{all_spaces, pruned_spaces};
-ghost use Rattle.quasi_space.specs.Measures.{pruned_measures};
-ghost use Rattle.quasi_space.specs.Quasi.{quasi_space_by};
-ghost use Rattle.quasi_search.specs.Answers.{Searches};
-ghost use Rattle.noncon_search.specs.Given.{IsOverlapList};
-ghost use Rattle.portfolio.specs.Answers.{SearchesBoth, SearchesAll, IfProved, IfExhausted};
+ghost use Rattle.proof_spaces.specs.Proofs.{proof_space};
+ghost use Rattle.portfolio.specs.Answers.{Proves, IfProved, IfExhausted};
 
+mod behind;
+mod own;
+
+use crate::behind::search_simplified;
+use crate::own::search_whole;
 use cc_count::Budget;
 use cert_model::Certificate;
 use cops_names::Names;
-use critical_pairs::{Overlap, OverlapError, overlaps};
-use irreducible::LeftSides;
-use noncon_search::search_peak_over;
-use ortho_search::search_ortho_over;
-use quasi_search::search_quasi_over;
-use quasi_space::{pruned_searches_are_searches, quasi_spaces_are_searchable};
-use rule_index::IndexedSystem;
-use search_spaces::spaces_are_searchable;
+use proof_spaces::proof_spaces_are_searchable;
 use std::alloc::Global;
 use term_core::{NoMemory, System};
-use validity::Search;
 
 /// How the searches end.
 #[derive(Debug, Drop)]
@@ -40,145 +32,31 @@ pub enum Outcome {
     Spent,
 }
 
-// The search for a certificate of an almost orthogonal system; where the overlaps have no list, there is nothing to search.
-fn search_ortho_if(
-    alloc: Global,
-    sys: &LeftSides<'_>,
-    names: &Names,
-    overlaps: Option<&[Overlap]>,
-    budget: &mut Budget,
-) -> Result<Search, NoMemory>
-    requires overlaps { IsOverlapList sys.now overlaps }
-    ensures searched { SearchesExactly (ortho_space names.now sys.now) budget.old budget.new result }
-    ensures kept { (n : ℕ) × Spends budget.old n budget.new }
-{
-    match overlaps {
-        Some(found) => search_ortho_over(alloc, sys, names, found, budget),
-        None => Ok(Search::Nothing),
-    }
-}
-
-// The same for a certificate with a measure.
-fn search_quasi_if(
-    alloc: Global,
-    sys: &LeftSides<'_>,
-    names: &Names,
-    overlaps: Option<&[Overlap]>,
-    budget: &mut Budget,
-) -> Result<Search, NoMemory>
-    requires overlaps { IsOverlapList sys.now overlaps }
-    ensures searched { Searches (quasi_space_by (pruned_measures sys.now) names.now sys.now) budget.old budget.new result }
-    ensures kept { (n : ℕ) × Spends budget.old n budget.new }
-{
-    match overlaps {
-        Some(found) => search_quasi_over(alloc, sys, names, found, budget),
-        None => Ok(Search::Nothing),
-    }
-}
-
-// The first two searches, one behind the other.
-fn search_both(
-    alloc: Global,
-    sys: &LeftSides<'_>,
-    names: &Names,
-    overlaps: Option<&[Overlap]>,
-    budget: &mut Budget,
-) -> Result<Search, NoMemory>
-    requires overlaps { IsOverlapList sys.now overlaps }
-    ensures searched { SearchesBoth (whole_space names.now sys.now) budget.old budget.new result }
-    ensures ortho_first { (c : math.Certificate) (n : ℕ) → (ortho_space names.now sys.now).Finds c n → IfFound result (λ found. (found ≡ c) × Spends budget.old n budget.new) }
-    ensures kept { (n : ℕ) × Spends budget.old n budget.new }
-{
-    match search_ortho_if(alloc, sys, names, overlaps, budget) {
-        Ok(Search::Found(cert)) => Ok(Search::Found(cert)),
-        Ok(Search::Nothing) => search_peak_over(alloc, sys.indexed(), names, overlaps, budget),
-        Ok(Search::Spent) => Ok(Search::Spent),
-        Err(e) => Err(e),
-    }
-}
-
-// The last search, behind the others.
-fn search_last(
-    alloc: Global,
-    sys: &LeftSides<'_>,
-    names: &Names,
-    overlaps: Option<&[Overlap]>,
-    budget: &mut Budget,
-) -> Result<Outcome, NoMemory>
-    requires overlaps { IsOverlapList sys.now overlaps }
-    ensures searched { SearchesAll (quasi_space_by (pruned_measures sys.now) names.now sys.now) budget.old budget.new result }
-    ensures kept { (n : ℕ) × Spends budget.old n budget.new }
-{
-    match search_quasi_if(alloc, sys, names, overlaps, budget) {
-        Ok(Search::Found(cert)) => Ok(Outcome::Found(cert)),
-        Ok(Search::Nothing) => Ok(Outcome::Exhausted),
-        Ok(Search::Spent) => Ok(Outcome::Spent),
-        Err(e) => Err(e),
-    }
-}
-
-// One search behind the other.
-fn search_all(
-    alloc: Global,
-    sys: &LeftSides<'_>,
-    names: &Names,
-    overlaps: Option<&[Overlap]>,
-    budget: &mut Budget,
-) -> Result<Outcome, NoMemory>
-    requires overlaps { IsOverlapList sys.now overlaps }
-    ensures searched { SearchesAll (pruned_spaces names.now sys.now) budget.old budget.new result }
-    ensures ortho_first { (c : math.Certificate) (n : ℕ) → (ortho_space names.now sys.now).Finds c n → IfProved result (λ found. (found ≡ c) × Spends budget.old n budget.new) }
-    ensures kept { (n : ℕ) × Spends budget.old n budget.new }
-{
-    spaces_are_searchable();
-    match search_both(alloc, sys, names, overlaps, budget) {
-        Ok(Search::Found(cert)) => Ok(Outcome::Found(cert)),
-        Ok(Search::Nothing) => search_last(alloc, sys, names, overlaps, budget),
-        Ok(Search::Spent) => Ok(Outcome::Spent),
-        Err(e) => Err(e),
-    }
-}
-
-// All searches, over the same left sides and one list of overlaps.
-fn search_whole(
-    alloc: Global,
-    sys: &System,
-    names: &Names,
-    budget: &mut Budget,
-) -> Result<Outcome, NoMemory>
-    ensures searched { SearchesAll (pruned_spaces names.now sys.now) budget.old budget.new result }
-    ensures ortho_first { (c : math.Certificate) (n : ℕ) → (ortho_space names.now sys.now).Finds c n → IfProved result (λ found. (found ≡ c) × Spends budget.old n budget.new) }
-    ensures kept { (n : ℕ) × Spends budget.old n budget.new }
-{
-    let indexed = IndexedSystem::new(alloc, sys)?;
-    let lefts = LeftSides::new(alloc, indexed)?;
-    match overlaps(alloc, sys) {
-        Ok(found) => search_all(alloc, &lefts, names, Some(&found), budget),
-        Err(OverlapError::PairTooLarge { .. }) => search_all(alloc, &lefts, names, None, budget),
-        Err(OverlapError::TooManyPairs) => search_all(alloc, &lefts, names, None, budget),
-        Err(OverlapError::NoMemory) => Err(NoMemory),
-    }
-}
-
 /// Searches for a certificate of an almost orthogonal system, then for one that the system is not confluent, then for one with
-/// a measure. The first that is valid is found. A unit is spent for each item that is tried, in all searches together at most
-/// what the budget has.
+/// a measure. Where none is found, the standard steps that simplify the system are made, and where there are any, the system
+/// that they leave is searched in the same order; what is found there stands behind the steps, and counts only where it can be
+/// written with them. The first that is valid is found. A unit is spent for each item and each step that is tried, in all
+/// searches together at most what the budget has.
 pub fn prove(
     alloc: Global,
     sys: &System,
     names: &Names,
     budget: &mut Budget,
 ) -> Result<Outcome, NoMemory>
-    ensures searched { SearchesAll (all_spaces names.now sys.now) budget.old budget.new result }
-    // The same where what stands behind dead prefixes of the grid counts for nothing.
-    ensures pruned { SearchesAll (pruned_spaces names.now sys.now) budget.old budget.new result }
+    // By the price, by that where nothing behind dead prefixes of the grid is tried, and by the sum of all that is searched then.
+    ensures searched { Proves names.now sys.now budget.old budget.new result }
     ensures valid { IfProved result (IsValid sys.now) }
-    ensures exhausted { IfExhausted result ((c : math.Certificate) → (all_spaces names.now sys.now).Holds c → IsValid sys.now c → ⊥) }
+    ensures written { IfProved result (HasText names.now) }
+    ensures exhausted { IfExhausted result ((c : math.Certificate) → (proof_space names.now sys.now).Holds c → IsValid sys.now c → ⊥) }
     // Where the first space has a certificate, that is found, for exactly its price.
     ensures ortho_first { (c : math.Certificate) (n : ℕ) → (ortho_space names.now sys.now).Finds c n → IfProved result (λ found. (found ≡ c) × Spends budget.old n budget.new) }
     ensures kept { (n : ℕ) × Spends budget.old n budget.new }
 {
-    quasi_spaces_are_searchable();
-    pruned_searches_are_searches();
-    search_whole(alloc, sys, names, budget)
+    proof_spaces_are_searchable();
+    match search_whole(alloc, sys, names, budget) {
+        Ok(Outcome::Found(cert)) => Ok(Outcome::Found(cert)),
+        Ok(Outcome::Exhausted) => search_simplified(alloc, sys, names, budget),
+        Ok(Outcome::Spent) => Ok(Outcome::Spent),
+        Err(e) => Err(e),
+    }
 }

@@ -5,7 +5,7 @@ use Rattle.search_spaces.specs.Whole.{whole_space}
 use Rattle.cc_count.proofs.Spending.{spends_both}
 use Rattle.portfolio.specs.Answers.{SearchesBoth}
 use Rattle.portfolio.proofs.Ending.{all_found, all_spent, all_behind, none_first}
-use Rattle.portfolio.proofs.search_all.Goals as goal
+use Rattle.portfolio.proofs.own.search_all.Goals as goal
 
 pub returns-in-Ok-Found-clause-searched : goal.returns-in-Ok-Found-clause-searched
 returns-in-Ok-Found-clause-searched c =

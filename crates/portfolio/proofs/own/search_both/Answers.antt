@@ -4,7 +4,7 @@ use Rattle.search_spaces.specs.Ortho.{ortho_space}
 use Rattle.search_spaces.specs.Peak.{peak_space}
 use Rattle.cc_count.proofs.Spending.{spends_both}
 use Rattle.portfolio.proofs.Ending.{ortho_found, both_spent, both_behind, ortho_none}
-use Rattle.portfolio.proofs.search_both.Goals as goal
+use Rattle.portfolio.proofs.own.search_both.Goals as goal
 
 pub returns-in-Ok-Found-clause-ortho_first : goal.returns-in-Ok-Found-clause-ortho_first
 returns-in-Ok-Found-clause-ortho_first c =

@@ -1,0 +1,27 @@
+use Rattle.std.proofs.Common.{map, Ok, subst}
+use Rattle.cert_model.specs.CertificateView.{simp_view}
+use Rattle.step_search.specs.Answers.{FindAnswers}
+use Rattle.portfolio.proofs.Proving.{steps_run_out, no_steps, some_steps, kept_behind}
+use Rattle.portfolio.proofs.behind.search_simplified.Goals as goal
+
+pub returns-then-is_empty-clause-searched : goal.returns-then-is_empty-clause-searched
+returns-then-is_empty-clause-searched c =
+    no_steps c.args.names.now c.args.sys.now c.args.budget.now c.find_steps.new.budget c.in-Ok-Steps.steps c.in-Ok-Steps.last c.is_empty.result c.is_empty.ensures c.if-is_empty.true
+    (subst (λ a. FindAnswers c.args.sys.now c.args.budget.now c.find_steps.new.budget (Ok a)) c.in-Ok-Steps.field-0-is c.in-Ok-Steps.ensures)
+
+pub returns-else-is_empty-clause-searched : goal.returns-else-is_empty-clause-searched
+returns-else-is_empty-clause-searched c =
+    some_steps c.args.names.now c.args.sys.now c.args.budget.now c.find_steps.new.budget c.search_last_system.new.budget c.in-Ok-Steps.steps c.in-Ok-Steps.last c.is_empty.result c.is_empty.ensures c.if-is_empty.false
+    (subst (λ a. FindAnswers c.args.sys.now c.args.budget.now c.find_steps.new.budget (Ok a)) c.in-Ok-Steps.field-0-is c.in-Ok-Steps.ensures)
+    c.search_last_system.result c.search_last_system.ensures.searched
+
+pub returns-else-is_empty-clause-kept : goal.returns-else-is_empty-clause-kept
+returns-else-is_empty-clause-kept c =
+    kept_behind c.args.names.now c.args.sys.now c.args.budget.now c.find_steps.new.budget c.search_last_system.new.budget (map simp_view c.in-Ok-Steps.steps.items) c.in-Ok-Steps.last
+    (subst (λ a. FindAnswers c.args.sys.now c.args.budget.now c.find_steps.new.budget (Ok a)) c.in-Ok-Steps.field-0-is c.in-Ok-Steps.ensures)
+    c.search_last_system.ensures.kept
+
+pub returns-in-Ok-Spent-clause-searched : goal.returns-in-Ok-Spent-clause-searched
+returns-in-Ok-Spent-clause-searched c =
+    steps_run_out c.args.names.now c.args.sys.now c.args.budget.now c.find_steps.new.budget
+    (subst (λ a. FindAnswers c.args.sys.now c.args.budget.now c.find_steps.new.budget (Ok a)) c.in-Ok-Spent.field-0-is c.in-Ok-Spent.ensures)

@@ -1,0 +1,232 @@
+//! The three spaces of the system that the standard steps leave, searched one behind the other. What is found stands behind the
+//! steps; where it cannot be written with them it counts for nothing, and the next space is searched.
+ghost use Rattle.std.specs.Prelude.{ℕ, ◌≡◌, map};
+ghost use Rattle.cert_model.specs.CertificateView.{simp_view, certificate_view};
+ghost use Rattle.cc_count.specs.Counts.{Spends};
+ghost use Rattle.search_spaces.specs.Ortho.{ortho_space};
+ghost use Rattle.search_spaces.specs.Peak.{peak_space};
+ghost use Rattle.quasi_space.specs.Measures.{pruned_measures};
+ghost use Rattle.quasi_space.specs.Quasi.{quasi_space_by};
+ghost use Rattle.proof_spaces.specs.Proofs.{with_steps, two_with_steps, three_with_steps};
+ghost use Rattle.noncon_search.specs.Given.{IsOverlapList};
+ghost use Rattle.portfolio.specs.Answers.{SearchesAll};
+ghost use Rattle.portfolio.specs.StepAnswers.{HasSteps, steps_before, WritesBehind, AnswersBehind, SearchesBehind, SearchesSimplified};
+
+use crate::Outcome;
+use crate::own::{overlaps_or_none, search_ortho_if, search_quasi_if};
+use cc_count::Budget;
+use cert_limits::has_text;
+use cert_model::{Certificate, Simp};
+use cops_names::Names;
+use critical_pairs::Overlap;
+use irreducible::LeftSides;
+use noncon_search::search_peak_over;
+use rule_index::IndexedSystem;
+use std::alloc::Global;
+use step_search::{SimpSearch, find_steps};
+use term_core::{NoMemory, System};
+use validity::Search;
+
+/// How a search of a space behind the steps ends.
+#[derive(Debug, Drop)]
+pub enum Behind {
+    /// A certificate with the steps.
+    Found(Certificate),
+    /// The space holds none; the steps again.
+    Nothing(Vec<Simp>),
+    /// The budget was spent.
+    Spent,
+}
+
+// The steps of a certificate that has a body behind them.
+#[tactic(auto, using(cert_model::proofs::CertificateViews::ortho_shown, cert_model::proofs::CertificateViews::quasi_shown, cert_model::proofs::CertificateViews::peak_shown, cert_model::proofs::CertificateViews::simplified_shown))]
+fn steps_of(cert: Certificate) -> Vec<Simp>
+    requires { HasSteps (certificate_view cert) }
+    ensures { map simp_view result.items ≡ steps_before (certificate_view cert) }
+{
+    match cert {
+        Certificate::Simplified { steps, body: _body } => steps,
+        Certificate::Ortho(_pairs) => unreachable!(),
+        Certificate::Quasi(_measure, _pairs) => unreachable!(),
+        Certificate::Peak(_peak) => unreachable!(),
+    }
+}
+
+// The body behind the steps; where it cannot be written with them, nothing, and the steps again.
+#[tactic(auto, using(cert_model::proofs::CertificateViews::simplified_shown))]
+fn written(
+    alloc: Global,
+    names: &Names,
+    steps: Vec<Simp>,
+    body: Certificate,
+) -> Result<Behind, NoMemory>
+    ensures { WritesBehind names.now (map simp_view steps.items) (certificate_view body) result }
+{
+    let Ok(body) = Box::new(alloc, body) else {
+        return Err(NoMemory);
+    };
+    let cert = Certificate::Simplified { steps, body };
+    if has_text(alloc, names, &cert)? {
+        Ok(Behind::Found(cert))
+    } else {
+        Ok(Behind::Nothing(steps_of(cert)))
+    }
+}
+
+// What a search of the last system answered, behind the steps.
+fn with_the_steps(
+    alloc: Global,
+    names: &Names,
+    steps: Vec<Simp>,
+    answer: Search,
+) -> Result<Behind, NoMemory>
+    ensures { AnswersBehind names.now (map simp_view steps.items) answer result }
+{
+    match answer {
+        Search::Found(body) => written(alloc, names, steps, body),
+        Search::Nothing => Ok(Behind::Nothing(steps)),
+        Search::Spent => Ok(Behind::Spent),
+    }
+}
+
+// The search for a certificate that the last system is almost orthogonal.
+fn search_ortho_behind(
+    alloc: Global,
+    last: &LeftSides<'_>,
+    names: &Names,
+    overlaps: Option<&[Overlap]>,
+    steps: Vec<Simp>,
+    budget: &mut Budget,
+) -> Result<Behind, NoMemory>
+    requires overlaps { IsOverlapList last.now overlaps }
+    ensures searched { SearchesBehind (map simp_view steps.items) (with_steps names.now (map simp_view steps.items) (ortho_space names.now last.now)) budget.old budget.new result }
+    ensures kept { (n : ℕ) × Spends budget.old n budget.new }
+{
+    let answer = search_ortho_if(alloc, last, names, overlaps, budget)?;
+    with_the_steps(alloc, names, steps, answer)
+}
+
+// The search for one that it is not confluent.
+fn search_peak_behind(
+    alloc: Global,
+    last: &LeftSides<'_>,
+    names: &Names,
+    overlaps: Option<&[Overlap]>,
+    steps: Vec<Simp>,
+    budget: &mut Budget,
+) -> Result<Behind, NoMemory>
+    requires overlaps { IsOverlapList last.now overlaps }
+    ensures searched { SearchesBehind (map simp_view steps.items) (with_steps names.now (map simp_view steps.items) (peak_space names.now last.now)) budget.old budget.new result }
+    ensures kept { (n : ℕ) × Spends budget.old n budget.new }
+{
+    let answer = search_peak_over(alloc, last.indexed(), names, overlaps, budget)?;
+    with_the_steps(alloc, names, steps, answer)
+}
+
+// The search for one with a measure, which is the last.
+fn search_quasi_behind(
+    alloc: Global,
+    last: &LeftSides<'_>,
+    names: &Names,
+    overlaps: Option<&[Overlap]>,
+    steps: Vec<Simp>,
+    budget: &mut Budget,
+) -> Result<Outcome, NoMemory>
+    requires overlaps { IsOverlapList last.now overlaps }
+    ensures searched { SearchesAll (with_steps names.now (map simp_view steps.items) (quasi_space_by (pruned_measures last.now) names.now last.now)) budget.old budget.new result }
+    ensures kept { (n : ℕ) × Spends budget.old n budget.new }
+{
+    let answer = search_quasi_if(alloc, last, names, overlaps, budget)?;
+    match with_the_steps(alloc, names, steps, answer)? {
+        Behind::Found(cert) => Ok(Outcome::Found(cert)),
+        Behind::Nothing(_) => Ok(Outcome::Exhausted),
+        Behind::Spent => Ok(Outcome::Spent),
+    }
+}
+
+// The first two searches, one behind the other.
+fn search_two_behind(
+    alloc: Global,
+    last: &LeftSides<'_>,
+    names: &Names,
+    overlaps: Option<&[Overlap]>,
+    steps: Vec<Simp>,
+    budget: &mut Budget,
+) -> Result<Behind, NoMemory>
+    requires overlaps { IsOverlapList last.now overlaps }
+    ensures searched { SearchesBehind (map simp_view steps.items) (two_with_steps names.now (map simp_view steps.items) last.now) budget.old budget.new result }
+    ensures kept { (n : ℕ) × Spends budget.old n budget.new }
+{
+    match search_ortho_behind(alloc, last, names, overlaps, steps, budget) {
+        Ok(Behind::Found(cert)) => Ok(Behind::Found(cert)),
+        Ok(Behind::Nothing(steps)) => {
+            search_peak_behind(alloc, last, names, overlaps, steps, budget)
+        }
+        Ok(Behind::Spent) => Ok(Behind::Spent),
+        Err(e) => Err(e),
+    }
+}
+
+// All three.
+fn search_three_behind(
+    alloc: Global,
+    last: &LeftSides<'_>,
+    names: &Names,
+    overlaps: Option<&[Overlap]>,
+    steps: Vec<Simp>,
+    budget: &mut Budget,
+) -> Result<Outcome, NoMemory>
+    requires overlaps { IsOverlapList last.now overlaps }
+    ensures searched { SearchesAll (three_with_steps pruned_measures names.now (map simp_view steps.items) last.now) budget.old budget.new result }
+    ensures kept { (n : ℕ) × Spends budget.old n budget.new }
+{
+    match search_two_behind(alloc, last, names, overlaps, steps, budget) {
+        Ok(Behind::Found(cert)) => Ok(Outcome::Found(cert)),
+        Ok(Behind::Nothing(steps)) => {
+            search_quasi_behind(alloc, last, names, overlaps, steps, budget)
+        }
+        Ok(Behind::Spent) => Ok(Outcome::Spent),
+        Err(e) => Err(e),
+    }
+}
+
+// All three, over the same left sides and one list of overlaps.
+fn search_last_system(
+    alloc: Global,
+    last: &System,
+    names: &Names,
+    steps: Vec<Simp>,
+    budget: &mut Budget,
+) -> Result<Outcome, NoMemory>
+    ensures searched { SearchesAll (three_with_steps pruned_measures names.now (map simp_view steps.items) last.now) budget.old budget.new result }
+    ensures kept { (n : ℕ) × Spends budget.old n budget.new }
+{
+    let indexed = IndexedSystem::new(alloc, last)?;
+    let lefts = LeftSides::new(alloc, indexed)?;
+    match overlaps_or_none(alloc, last)? {
+        Some(found) => search_three_behind(alloc, &lefts, names, Some(&found), steps, budget),
+        None => search_three_behind(alloc, &lefts, names, None, steps, budget),
+    }
+}
+
+/// Finds the standard steps of the system, and searches what they leave; where there are none, there is nothing more to search.
+pub fn search_simplified(
+    alloc: Global,
+    sys: &System,
+    names: &Names,
+    budget: &mut Budget,
+) -> Result<Outcome, NoMemory>
+    ensures searched { SearchesSimplified names.now sys.now budget.old budget.new result }
+    ensures kept { (n : ℕ) × Spends budget.old n budget.new }
+{
+    match find_steps(alloc, sys, budget) {
+        Ok(SimpSearch::Steps(steps, last)) => {
+            if steps.is_empty() {
+                return Ok(Outcome::Exhausted);
+            }
+            search_last_system(alloc, &last, names, steps, budget)
+        }
+        Ok(SimpSearch::Spent) => Ok(Outcome::Spent),
+        Err(e) => Err(e),
+    }
+}
