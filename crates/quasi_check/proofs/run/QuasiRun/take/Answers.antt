@@ -19,8 +19,8 @@ returns-clause-tally g c = λ es h.
       | in-Ok w ↦
           subst (λ a. OnOk a (IsQuasiTally (judged value.measure value.system) value.system (es ++ e ∷ []) (tally_of new))) (sym w.result-is)
           (on_ok w.take.result w.take.ensures.taken
-          (λ takes. run_takes judged value inside.sys.now inside.measure.now inside.pairs c.self.view_is c.self.invariant w.in-Ok.pairs w.in-Ok.is e new w.take.new.self (ap (λ i. i.pairs) w.self-inside-is) takes es h))
+          (λ takes. run_takes judged value inside.sys.now inside.measure.now inside.pairs c.self.view_is c.self.invariant.0 w.in-Ok.pairs w.in-Ok.is e new w.take.new.self (ap (λ i. i.pairs) w.self-inside-is) takes es h))
       | in-Err w ↦
           subst (λ a. OnOk a (IsQuasiTally (judged value.measure value.system) value.system (es ++ e ∷ []) (tally_of new))) (sym w.result-is)
-          (rejected_takes judged value inside.sys.now inside.measure.now inside.pairs c.self.view_is c.self.invariant e new w.in-Err.field-0 w.in-Err.is (ap (λ i. i.pairs) w.self-inside-is) es)
+          (rejected_takes judged value inside.sys.now inside.measure.now inside.pairs c.self.view_is c.self.invariant.0 e new w.in-Err.field-0 w.in-Err.is (ap (λ i. i.pairs) w.self-inside-is) es)
     ]
