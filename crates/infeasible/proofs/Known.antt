@@ -1,5 +1,5 @@
 -- What is remembered of an automaton.
-use Rattle.std.proofs.Common.{◌≡◌, ℕ, Option, Some, None, sym, subst, inr, refl}
+use Rattle.std.proofs.Common.{◌≡◌, Option, None, subst, refl}
 use Rattle.rewriting.specs.Rules.{Condition, System}
 use Rattle.certificates.specs.Evidence.{Automaton}
 use Rattle.certificates.specs.Reasons.{EvidenceReason}
