@@ -93,8 +93,9 @@ impl<'a> OrthoRun<'a> {
         ensures confluent { OnOk result (IsConfluent self.entry.system) }
     {
         levels_commute();
-        let _rules = self.sys.rules();
-        match self.pairs {
+        let OrthoRun { sys, pairs, .. } = self;
+        let _rules = sys.rules();
+        match pairs {
             Ok(pairs) => pairs.finish(),
             Err(reason) => Err(reason),
         }
