@@ -118,8 +118,9 @@ impl<'a, M: Measure> QuasiRun<'a, M> {
         ensures confluent { OnOk result (IsConfluent self.entry.system) }
     {
         bounded_descents_are_confluent();
-        let _rules = self.sys.rules();
-        match self.pairs {
+        let QuasiRun { sys, pairs, .. } = self;
+        let _rules = sys.rules();
+        match pairs {
             Ok(pairs) => pairs.finish(),
             Err(reason) => Err(reason),
         }
