@@ -34,9 +34,7 @@ pub struct JudgeByKind {
 }
 
 impl Model for JudgeByKind {
-    ghost use Rattle.infeasible.specs.Known.{Known, known_view};
-
-    ghost use Rattle.infeasible.specs.Known.{coded_known};
+    ghost use Rattle.infeasible.specs.Known.{Known, coded_known, known_view};
 
     ghost Value = { Known };
 

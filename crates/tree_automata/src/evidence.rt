@@ -90,12 +90,7 @@ fn judge(
 
 impl AutoEvidence<'_> {
     /// Judges the evidence for conditions of a system, where its automaton is known to be closed: that is not judged again.
-    pub fn refutes_closed(
-        &self,
-        alloc: Global,
-        sys: &System,
-        conds: &[Cond],
-    ) -> Result<(), Refusal>
+    pub fn refutes_closed(&self, alloc: Global, sys: &System, conds: &[Cond]) -> Result<(), Refusal>
         requires few { length conds.now ≤ 200 }
         requires fit { DoConditionsFit (map condition_view conds.now) }
         requires closed { IsClosureJudged sys.now (automaton_view self.now.automaton.now) None }
