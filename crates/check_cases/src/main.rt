@@ -44,7 +44,8 @@ fn print_conflict(rt: &HostRuntime, sys: &System) -> io::Result<()> {
         return println!(rt; "not one overlap");
     };
     let evidence = PairEvidence::Conflict { inner: 1, outer: 1 };
-    let answer = judge_evidence::<JudgeByKind>(alloc, &sides, CertKind::Ortho, overlap, &evidence);
+    let mut judge = JudgeByKind::new();
+    let answer = judge_evidence(alloc, &sides, CertKind::Ortho, overlap, &evidence, &mut judge);
     println!(rt; "{answer:?}")
 }
 

@@ -1,6 +1,9 @@
 //! Evidence that conditions are never met, by its kind.
 #![tactic(auto)]
 
+mod by_kind;
+mod same;
+
 ghost use Rattle.std.specs.Prelude.{◌≤◌, OnOk, length, map};
 ghost use Rattle.rewriting.specs.Infeasibility.{IsInfeasible};
 ghost use Rattle.certificates.specs.Sizes.{DoConditionsFit};
@@ -9,6 +12,7 @@ ghost use Rattle.cert_model.specs.EvidenceView.{inf_evidence_view};
 ghost use Rattle.refuter.specs.Answers.{RefutesAnswers};
 ghost use Rattle.judged_evidence.specs.Evidence.{IsInfeasibilityJudged};
 
+pub use by_kind::JudgeByKind;
 use cert_model::InfEvidence;
 pub use refuter::Refusal;
 use refuter::Refuter;
@@ -17,7 +21,6 @@ use std::alloc::Global;
 use tcap_infeasible::IndexedTcap;
 use term_core::{Cond, System};
 use tree_automata::AutoEvidence;
-use validity::InfeasibilityJudge;
 
 // What a refuter answers; where that is Ok, the conditions are never met.
 fn refuted<R: Refuter>(
@@ -73,19 +76,4 @@ pub fn check_infeasible(
 {
     let indexed = IndexedSystem::new(alloc, sys)?;
     check_infeasible_in(alloc, &indexed, conds, evidence)
-}
-
-/// Judges evidence by its kind, as [`check_infeasible_in`] does.
-#[derive(Clone, Copy, Debug)]
-pub struct JudgeByKind;
-
-impl InfeasibilityJudge for JudgeByKind {
-    fn judge(
-        alloc: Global,
-        sys: &IndexedSystem,
-        conds: &[Cond],
-        evidence: &InfEvidence,
-    ) -> Result<(), Refusal> {
-        check_infeasible_in(alloc, sys, conds, evidence)
-    }
 }

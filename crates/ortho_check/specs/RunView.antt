@@ -5,6 +5,7 @@ use Rattle.certificates.specs.Certificates.{PairEntry}
 use Rattle.cert_model.specs.ReasonView.{rejected_view}
 use Rattle.cert_model.specs.declared.reasons.Rejected.{Rejected}
 use Rattle.valid_certificates.specs.Confluence.{IsOrthoRejected}
+use Rattle.infeasible.specs.Known.{IsKnown}
 use Rattle.tallies.specs.Tally.{Tally, failed}
 use Rattle.tallies.specs.Runs.{PairRun, OrthoRun}
 use Rattle.ortho_check.specs.Runs.{IsPairRun}
@@ -23,5 +24,6 @@ abbrev pub AreHeld : System → Result PairRun Rejected → Type 0
 AreHeld sys (Ok run) = IsPairRun sys run
 AreHeld sys (Err reason) = (es : List PairEntry) → IsOrthoRejected sys es (rejected_view reason)
 
+-- and what the judge remembers is so of the system
 abbrev pub IsHeld : Inside → Type 0
-IsHeld r = AreHeld r.sys.now r.pairs
+IsHeld r = AreHeld r.sys.now r.pairs × IsKnown r.judge r.sys.now

@@ -25,6 +25,7 @@ pub struct OrthoRun<'a> {
     sys: &'a System,
     /// The run over the entries, or the reason for which any are rejected.
     pairs: Result<PairRun<'a>, Rejected>,
+    judge: JudgeByKind,
 }
 
 impl<'a> Model for OrthoRun<'a> {
@@ -61,10 +62,12 @@ impl<'a> OrthoRun<'a> {
             Ok(pairs) => Ok(OrthoRun {
                 sys,
                 pairs: Ok(pairs),
+                judge: JudgeByKind::new(),
             }),
             Err(CheckError::Rejected(reason)) => Ok(OrthoRun {
                 sys,
                 pairs: Err(reason),
+                judge: JudgeByKind::new(),
             }),
             Err(CheckError::NoMemory) => Err(NoMemory),
         }
@@ -78,7 +81,7 @@ impl<'a> OrthoRun<'a> {
         ensures unchanged { OnErr result (self.new ≡ self.old) }
     {
         match &mut self.pairs {
-            Ok(pairs) => pairs.take::<JudgeByKind>(alloc, entry),
+            Ok(pairs) => pairs.take(alloc, entry, &mut self.judge),
             Err(_) => Ok(()),
         }
     }
@@ -90,8 +93,9 @@ impl<'a> OrthoRun<'a> {
         ensures confluent { OnOk result (IsConfluent self.entry.system) }
     {
         levels_commute();
-        let _rules = self.sys.rules();
-        match self.pairs {
+        let OrthoRun { sys, pairs, .. } = self;
+        let _rules = sys.rules();
+        match pairs {
             Ok(pairs) => pairs.finish(),
             Err(reason) => Err(reason),
         }

@@ -47,10 +47,13 @@ pub fn judge_entry<J: InfeasibilityJudge>(
     next: &mut Option<Overlap>,
     taken: u32,
     entry: &PairEntry,
+    judge: &mut J,
 ) -> Result<Option<Rejected>, NoMemory>
     requires next { IsNextOf sys.now next.old }
     requires few { taken ≤ 20000 }
     requires short { IsPairShort (pair_entry_view entry.now).evidence }
+    requires knows { J.knows judge.old sys.now }
+    ensures knows { J.knows judge.new sys.now }
     ensures answer { EntryAnswers (kind_view kind) sys.now taken next.old (pair_entry_view entry.now) result }
     ensures unchanged { OnErr result (next.new ≡ next.old) }
     ensures settled { IfOk result (λ reason. reason ≡ None → next.new ≡ next.old) }
@@ -61,7 +64,7 @@ pub fn judge_entry<J: InfeasibilityJudge>(
     if !is_for(entry, overlap) {
         return Ok(next.take().map(missing));
     }
-    match judge_evidence::<J>(alloc, sys, kind, overlap, &entry.evidence) {
+    match judge_evidence(alloc, sys, kind, overlap, &entry.evidence, judge) {
         Ok(()) => Ok(None),
         Err(Refusal::Reason(reason)) => Ok(Some(Rejected::EvidenceFails {
             entry: taken + 1,

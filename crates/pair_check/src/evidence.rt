@@ -32,19 +32,22 @@ fn judge_trivial(overlap: &Overlap) -> Result<(), Refusal>
 }
 
 // The same whatever the kind of the certificate.
-fn judge<J: InfeasibilityJudge>(
+fn judge_kind<J: InfeasibilityJudge>(
     alloc: Global,
     sys: &LeftSides<'_>,
     overlap: &Overlap,
     evidence: &PairEvidence,
+    judge: &mut J,
 ) -> Result<(), Refusal>
     requires ready { IsReady (overlap_view overlap.now) }
     requires short { IsPairShort (pair_evidence_view evidence.now) }
-    ensures { RefutesAnswers (IsEvidenceJudged sys.now (overlap_view overlap.now) (pair_evidence_view evidence.now)) result }
+    requires knows { J.knows judge.old sys.now }
+    ensures knows { J.knows judge.new sys.now }
+    ensures judged { RefutesAnswers (IsEvidenceJudged sys.now (overlap_view overlap.now) (pair_evidence_view evidence.now)) result }
 {
     match evidence {
         PairEvidence::Trivial => judge_trivial(overlap),
-        PairEvidence::Infeasible(inner) => J::judge(alloc, sys.indexed(), &overlap.conds, inner),
+        PairEvidence::Infeasible(inner) => judge.judge(alloc, sys.indexed(), &overlap.conds, inner),
         PairEvidence::Conflict { inner, outer } => {
             judge_conflict(alloc, sys.indexed(), overlap, *inner, *outer)
         }
@@ -58,22 +61,25 @@ fn judge<J: InfeasibilityJudge>(
 }
 
 /// Judges the evidence for an overlap of the system, or tells the first reason why it is not valid. What certificates of
-/// the kind may not give is not looked at; evidence that the conditions are never met is left to `J`.
+/// the kind may not give is not looked at; evidence that the conditions are never met is left to the judge.
 pub fn judge_evidence<J: InfeasibilityJudge>(
     alloc: Global,
     sys: &LeftSides<'_>,
     kind: CertKind,
     overlap: &Overlap,
     evidence: &PairEvidence,
+    judge: &mut J,
 ) -> Result<(), Refusal>
     requires overlap { IsOverlapOf sys.now (overlap_view overlap.now) }
     requires short { IsPairShort (pair_evidence_view evidence.now) }
-    ensures { RefutesAnswers (IsPairJudged (kind_view kind) sys.now (overlap_view overlap.now) (pair_evidence_view evidence.now)) result }
+    requires knows { J.knows judge.old sys.now }
+    ensures knows { J.knows judge.new sys.now }
+    ensures judged { RefutesAnswers (IsPairJudged (kind_view kind) sys.now (overlap_view overlap.now) (pair_evidence_view evidence.now)) result }
 {
     if !allowed(kind, evidence) {
         return Err(Refusal::Reason(EvidenceReason::NotAllowed));
     }
     // That terms and conditions are small is known of the rules of a system.
     let _rules = sys.rules();
-    judge::<J>(alloc, sys, overlap, evidence)
+    judge_kind(alloc, sys, overlap, evidence, judge)
 }

@@ -124,27 +124,31 @@ impl<'a> PairRun<'a> {
         }
     }
 
-    /// Judges the next entry, unless one before it has failed. `J` judges the evidence that conditions are never met. Where memory
+    /// Judges the next entry, unless one before it has failed. The judge judges the evidence that conditions are never met. Where memory
     /// is refused the run is as before.
     pub fn take<J: InfeasibilityJudge>(
         &mut self,
         alloc: Global,
         entry: &PairEntry,
+        judge: &mut J,
     ) -> Result<(), NoMemory>
         requires short { IsPairShort (pair_entry_view entry.now).evidence }
+        requires knows { J.knows judge.old self.old.system }
+        ensures knows { J.knows judge.new self.old.system }
         ensures taken { OnOk result (DoesTake self.old (pair_entry_view entry.now) self.new) }
         ensures unchanged { OnErr result (self.new ≡ self.old) }
     {
         if self.failed.is_some() {
             return Ok(());
         }
-        let judged = judge_entry::<J>(
+        let judged = judge_entry(
             alloc,
             &self.sys,
             self.kind,
             &mut self.next,
             self.taken,
             entry,
+            judge,
         )?;
         match judged {
             Some(reason) => fail(&mut self.failed, reason),

@@ -29,7 +29,8 @@ pub fn judged(
     requires short { IsPairShort (pair_evidence_view evidence) }
     ensures { JudgedAnswers (kind_view kind) sys.now (overlap_view overlap.now) (pair_evidence_view evidence) result }
 {
-    match judge_evidence::<JudgeByKind>(alloc, sys, kind, overlap, &evidence) {
+    let mut judge = JudgeByKind::new();
+    match judge_evidence(alloc, sys, kind, overlap, &evidence, &mut judge) {
         Ok(()) => Ok(Some(evidence)),
         Err(Refusal::Reason(_)) => Ok(None),
         Err(Refusal::NoMemory) => Err(NoMemory),

@@ -29,11 +29,13 @@ pub struct QuasiRun<'a, M: Measure> {
     measure: &'a M,
     /// The run over the entries, or the reason for which any are rejected.
     pairs: Result<PairRun<'a>, Rejected>,
+    judge: JudgeByKind,
 }
 
 impl<'a, M: Measure> Model for QuasiRun<'a, M> {
     ghost use Rattle.tallies.specs.Runs as runs;
     ghost use Rattle.tallies.specs.Codes.{coded_quasi_run};
+    ghost use Rattle.infeasible.specs.Known.{IsKnown};
     ghost use Rattle.quasi_check.specs.Runs.{tally_of, AreHeld};
 
     ghost Value = { runs.QuasiRun M };
@@ -42,7 +44,7 @@ impl<'a, M: Measure> Model for QuasiRun<'a, M> {
 
     ghost view = { λ r. record { system = r.sys.now; measure = r.measure.now; tally = tally_of r.pairs } };
 
-    ghost invariant = { λ r. AreHeld (M.judged r.measure.now r.sys.now) r.sys.now r.pairs };
+    ghost invariant = { λ r. AreHeld (M.judged r.measure.now r.sys.now) r.sys.now r.pairs × IsKnown r.judge r.sys.now };
 }
 
 // Whether the rules are good, over left sides that are given back before the run has its own.
@@ -84,11 +86,13 @@ impl<'a, M: Measure> QuasiRun<'a, M> {
                 sys,
                 measure,
                 pairs: Ok(pairs),
+                judge: JudgeByKind::new(),
             }),
             Err(CheckError::Rejected(reason)) => Ok(QuasiRun {
                 sys,
                 measure,
                 pairs: Err(reason),
+                judge: JudgeByKind::new(),
             }),
             Err(CheckError::NoMemory) => Err(NoMemory),
         }
@@ -103,7 +107,7 @@ impl<'a, M: Measure> QuasiRun<'a, M> {
         ensures unchanged { OnErr result (self.new ≡ self.old) }
     {
         match &mut self.pairs {
-            Ok(pairs) => pairs.take::<JudgeByKind>(alloc, entry),
+            Ok(pairs) => pairs.take(alloc, entry, &mut self.judge),
             Err(_) => Ok(()),
         }
     }
@@ -114,8 +118,9 @@ impl<'a, M: Measure> QuasiRun<'a, M> {
         ensures confluent { OnOk result (IsConfluent self.entry.system) }
     {
         bounded_descents_are_confluent();
-        let _rules = self.sys.rules();
-        match self.pairs {
+        let QuasiRun { sys, pairs, .. } = self;
+        let _rules = sys.rules();
+        match pairs {
             Ok(pairs) => pairs.finish(),
             Err(reason) => Err(reason),
         }

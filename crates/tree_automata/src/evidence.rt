@@ -1,14 +1,18 @@
 //! Evidence that a condition is never met: an automaton, closed under the rules, that accepts its left side and excludes its right side.
+ghost use Rattle.std.specs.Prelude.{◌≡◌, ◌≤◌, None, IsTrue, length, map};
 ghost use Rattle.rewriting.specs.Terms as math;
-ghost use Rattle.automata.specs.Evidence.{IsConditionJudged};
+ghost use Rattle.certificates.specs.Sizes.{DoConditionsFit};
+ghost use Rattle.automata.specs.Evidence.{IsClosureJudged, IsConditionJudged, JudgedByAutomaton};
 ghost use Rattle.term_core.specs.View.{view};
 ghost use Rattle.term_core.specs.RuleView.{condition_view};
 ghost use Rattle.cert_model.specs.EvidenceView.{automaton_view};
+ghost use Rattle.automaton_runs.specs.Counted.{under};
 ghost use Rattle.refuter.specs.Answers.{RefutesAnswers};
 
 use crate::accepts::{accepts_all, is_accepted};
 use crate::closure::{index_under, judge_closure};
 use crate::exclusion::judge_exclusion;
+use automaton_runs::AutomatonIndex;
 use cert_model::{Automaton, EvidenceReason, condition};
 use refuter::{Refusal, Refuter};
 use std::alloc::Global;
@@ -21,10 +25,35 @@ pub struct AutoEvidence<'a> {
     pub automaton: &'a Automaton,
 }
 
+// Judges whether an automaton is closed, where that is not known.
+fn judge_unless_closed(
+    alloc: Global,
+    index: &AutomatonIndex<'_>,
+    sys: &System,
+    a: &Automaton,
+    is_closed: bool,
+) -> Result<(), Refusal>
+    requires index { index.now ≡ under sys.now (automaton_view a.now) }
+    requires closed { IsTrue is_closed → IsClosureJudged sys.now (automaton_view a.now) None }
+    ensures { RefutesAnswers (λ o. IsClosureJudged sys.now (automaton_view a.now) o) result }
+{
+    if is_closed {
+        return Ok(());
+    }
+    judge_closure(alloc, index, sys, a)
+}
+
 // Judges an automaton for one condition.
-fn judge_condition(alloc: Global, sys: &System, cond: &Cond, a: &Automaton) -> Result<(), Refusal>
+fn judge_condition(
+    alloc: Global,
+    sys: &System,
+    cond: &Cond,
+    a: &Automaton,
+    is_closed: bool,
+) -> Result<(), Refusal>
     requires left { math.Fits (view cond.now.left) }
     requires right { math.Fits (view cond.now.right) }
+    requires closed { IsTrue is_closed → IsClosureJudged sys.now (automaton_view a.now) None }
     ensures { RefutesAnswers (λ o. IsConditionJudged sys.now (condition_view cond.now) (automaton_view a.now) o) result }
 {
     let index = index_under(alloc, sys, a)?;
@@ -34,9 +63,40 @@ fn judge_condition(alloc: Global, sys: &System, cond: &Cond, a: &Automaton) -> R
     if !is_accepted(alloc, &index, a, &cond.left)? {
         return Err(Refusal::Reason(EvidenceReason::AutoMisses));
     }
-    match judge_closure(alloc, &index, sys, a) {
+    match judge_unless_closed(alloc, &index, sys, a, is_closed) {
         Ok(()) => judge_exclusion(alloc, &index, a, &cond.right),
         Err(why) => Err(why),
+    }
+}
+
+// Judges evidence for conditions of a system.
+fn judge(
+    alloc: Global,
+    sys: &System,
+    conds: &[Cond],
+    evidence: &AutoEvidence<'_>,
+    is_closed: bool,
+) -> Result<(), Refusal>
+    requires few { length conds.now ≤ 200 }
+    requires fit { DoConditionsFit (map condition_view conds.now) }
+    requires closed { IsTrue is_closed → IsClosureJudged sys.now (automaton_view evidence.now.automaton.now) None }
+    ensures { RefutesAnswers (JudgedByAutomaton sys.now (map condition_view conds.now) evidence.now.cond (automaton_view evidence.now.automaton.now)) result }
+{
+    let Some(cond) = condition(conds, evidence.cond) else {
+        return Err(Refusal::Reason(EvidenceReason::AutoNumber));
+    };
+    judge_condition(alloc, sys, cond, evidence.automaton, is_closed)
+}
+
+impl AutoEvidence<'_> {
+    /// Judges the evidence for conditions of a system, where its automaton is known to be closed: that is not judged again.
+    pub fn refutes_closed(&self, alloc: Global, sys: &System, conds: &[Cond]) -> Result<(), Refusal>
+        requires few { length conds.now ≤ 200 }
+        requires fit { DoConditionsFit (map condition_view conds.now) }
+        requires closed { IsClosureJudged sys.now (automaton_view self.now.automaton.now) None }
+        ensures { RefutesAnswers (JudgedByAutomaton sys.now (map condition_view conds.now) self.now.cond (automaton_view self.now.automaton.now)) result }
+    {
+        judge(alloc, sys, conds, self, true)
     }
 }
 
@@ -47,10 +107,7 @@ impl Refuter for AutoEvidence<'_> {
     ghost judged = { λ e s cs. JudgedByAutomaton s cs e.cond (automaton_view e.automaton.now) };
 
     fn refutes(&self, alloc: Global, sys: &System, conds: &[Cond]) -> Result<(), Refusal> {
-        let Some(cond) = condition(conds, self.cond) else {
-            return Err(Refusal::Reason(EvidenceReason::AutoNumber));
-        };
-        judge_condition(alloc, sys, cond, self.automaton)
+        judge(alloc, sys, conds, self, false)
     }
 
     ghost law = { λ e s cs well h. never_met s cs e.cond (automaton_view e.automaton.now) h };

@@ -2,6 +2,7 @@
 #![tactic(auto)]
 
 ghost use Rattle.std.specs.Prelude.{◌≡◌, ◌≤◌, ◌↔◌, IsTrue, length, map};
+ghost use Rattle.rewriting.specs.Rules as math;
 ghost use Rattle.certificates.specs.Sizes.{DoConditionsFit};
 ghost use Rattle.term_core.specs.RuleView.{condition_view};
 ghost use Rattle.cert_model.specs.EvidenceView.{inf_evidence_view, pair_evidence_view};
@@ -70,10 +71,14 @@ pub fn allowed(kind: CertKind, e: &PairEvidence) -> bool
     }
 }
 
-/// Who judges evidence, of any kind, that conditions are never met.
+/// Who judges evidence, of any kind, that conditions are never met, for one system.
 pub trait InfeasibilityJudge {
+    /// What the judge remembers is so of this system.
+    ghost knows: { Self → math.System → Type 0 };
+
     /// Judges the evidence for conditions of a system that has its index: valid, or the first reason why not.
     fn judge(
+        &mut self,
         alloc: Global,
         sys: &IndexedSystem,
         conds: &[Cond],
@@ -81,5 +86,7 @@ pub trait InfeasibilityJudge {
     ) -> Result<(), Refusal>
         requires few { length conds.now ≤ 200 }
         requires fit { DoConditionsFit (map condition_view conds.now) }
-        ensures { RefutesAnswers (IsInfeasibilityJudged sys.now (map condition_view conds.now) (inf_evidence_view evidence.now)) result };
+        requires knows { knows self.old sys.now }
+        ensures judged { RefutesAnswers (IsInfeasibilityJudged sys.now (map condition_view conds.now) (inf_evidence_view evidence.now)) result }
+        ensures knows { knows self.new sys.now };
 }

@@ -2,5 +2,5 @@ use Rattle.critical_pairs.specs.View.{overlap_view}
 use Rattle.pair_check.proofs.Ready.{ready}
 use Rattle.pair_check.proofs.evidence.judge_evidence.Goals as goal
 
-pub judge-requires-clause-ready : goal.judge-requires-clause-ready
-judge-requires-clause-ready g c = ready c.args.sys.now (overlap_view c.args.overlap.now) c.rules-rules.ensures.sound c.requires.overlap
+pub judge_kind-requires-clause-ready : goal.judge_kind-requires-clause-ready
+judge_kind-requires-clause-ready g c = ready c.args.sys.now (overlap_view c.args.overlap.now) c.rules-rules.ensures.sound c.requires.overlap

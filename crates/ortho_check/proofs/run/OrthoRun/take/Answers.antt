@@ -1,23 +1,15 @@
-use Rattle.std.proofs.Common.{◌∷◌, ◌++◌, [], sym, ap, subst}
-use Rattle.std.specs.Prelude.{OnOk}
+use Rattle.std.proofs.Common.{Ok, refl}
 use Rattle.cert_model.specs.CertificateView.{pair_entry_view}
-use Rattle.tallies.specs.Tally.{IsOrthoTally}
 use Rattle.pair_check.proofs.RunTallies.{on_ok}
-use Rattle.ortho_check.specs.RunView.{tally_of}
 use Rattle.ortho_check.proofs.Runs.{run_takes, rejected_takes}
 use Rattle.ortho_check.proofs.run.OrthoRun.take.Goals as goal
-use Rattle.ortho_check.proofs.run.OrthoRun.take.Goals.{in-Ok, in-Err}
 
-pub returns-clause-tally : goal.returns-clause-tally
-returns-clause-tally c = λ es h.
-    let e = pair_entry_view c.args.entry.now in
-    let new = c.match-self.self-inside.pairs in
-    elim c.match-self.branch [
-      | in-Ok w ↦
-          subst (λ a. OnOk a (IsOrthoTally c.args.self.now.system (es ++ e ∷ []) (tally_of new))) (sym w.result-is)
-          (on_ok w.take.result w.take.ensures.taken
-          (λ takes. run_takes c.args.self.now c.self.inside.sys.now c.self.inside.pairs c.self.view_is c.self.invariant w.in-Ok.pairs w.in-Ok.is e new w.take.new.self (ap (λ i. i.pairs) w.self-inside-is) takes es h))
-      | in-Err w ↦
-          subst (λ a. OnOk a (IsOrthoTally c.args.self.now.system (es ++ e ∷ []) (tally_of new))) (sym w.result-is)
-          (rejected_takes c.args.self.now c.self.inside.sys.now c.self.inside.pairs c.self.view_is c.self.invariant e new w.in-Err.field-0 w.in-Err.is (ap (λ i. i.pairs) w.self-inside-is) es)
-    ]
+pub returns-in-Ok-clause-tally : goal.returns-in-Ok-clause-tally
+returns-in-Ok-clause-tally c = λ es h.
+    let after = c.take.new.self in
+    on_ok c.take.result c.take.ensures.taken
+    (λ takes. run_takes c.args.self.now c.self.inside.sys.now c.self.inside.pairs c.self.view_is c.self.invariant.0 c.in-Ok.pairs c.in-Ok.is (pair_entry_view c.args.entry.now) (Ok after) after refl takes es h)
+
+pub returns-in-Err-clause-tally : goal.returns-in-Err-clause-tally
+returns-in-Err-clause-tally c = λ es h.
+    rejected_takes c.args.self.now c.self.inside.sys.now c.self.inside.pairs c.self.view_is c.self.invariant.0 (pair_entry_view c.args.entry.now) c.self.inside.pairs c.in-Err.field-0 c.in-Err.is refl es
