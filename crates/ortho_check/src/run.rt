@@ -20,12 +20,23 @@ use validity::{CertKind, CheckError};
 
 /// A run over the entries of a certificate of an almost orthogonal system. In contracts it is the system and the tally of the
 /// entries.
-#[derive(Debug, Drop)]
+#[derive(Debug)]
 pub struct OrthoRun<'a> {
     sys: &'a System,
     /// The run over the entries, or the reason for which any are rejected.
     pairs: Result<PairRun<'a>, Rejected>,
     judge: JudgeByKind,
+}
+
+// A call, so that a function that holds a run has not the drops of all that is in it at each of its ends.
+impl<'a> Drop for OrthoRun<'a> {
+    fn drop(self) {
+        let OrthoRun {
+            sys: _sys,
+            pairs: _pairs,
+            judge: _judge,
+        } = self;
+    }
 }
 
 impl<'a> Model for OrthoRun<'a> {
@@ -93,7 +104,11 @@ impl<'a> OrthoRun<'a> {
         ensures confluent { OnOk result (IsConfluent self.entry.system) }
     {
         levels_commute();
-        let OrthoRun { sys, pairs, .. } = self;
+        let OrthoRun {
+            sys,
+            pairs,
+            judge: _judge,
+        } = self;
         let _rules = sys.rules();
         match pairs {
             Ok(pairs) => pairs.finish(),

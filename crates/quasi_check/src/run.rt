@@ -23,13 +23,25 @@ use validity::{CertKind, CheckError};
 
 /// A run over the entries of a certificate with a measure. In contracts it is the system, the measure and the tally of the
 /// entries.
-#[derive(Debug, Drop)]
+#[derive(Debug)]
 pub struct QuasiRun<'a, M: Measure> {
     sys: &'a System,
     measure: &'a M,
     /// The run over the entries, or the reason for which any are rejected.
     pairs: Result<PairRun<'a>, Rejected>,
     judge: JudgeByKind,
+}
+
+// A call, so that a function that holds a run has not the drops of all that is in it at each of its ends.
+impl<'a, M: Measure> Drop for QuasiRun<'a, M> {
+    fn drop(self) {
+        let QuasiRun {
+            sys: _sys,
+            measure: _measure,
+            pairs: _pairs,
+            judge: _judge,
+        } = self;
+    }
 }
 
 impl<'a, M: Measure> Model for QuasiRun<'a, M> {
@@ -118,7 +130,12 @@ impl<'a, M: Measure> QuasiRun<'a, M> {
         ensures confluent { OnOk result (IsConfluent self.entry.system) }
     {
         bounded_descents_are_confluent();
-        let QuasiRun { sys, pairs, .. } = self;
+        let QuasiRun {
+            sys,
+            measure: _measure,
+            pairs,
+            judge: _judge,
+        } = self;
         let _rules = sys.rules();
         match pairs {
             Ok(pairs) => pairs.finish(),
