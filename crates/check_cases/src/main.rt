@@ -45,7 +45,14 @@ fn print_conflict(rt: &HostRuntime, sys: &System) -> io::Result<()> {
     };
     let evidence = PairEvidence::Conflict { inner: 1, outer: 1 };
     let mut judge = JudgeByKind::new();
-    let answer = judge_evidence(alloc, &sides, CertKind::Ortho, overlap, &evidence, &mut judge);
+    let answer = judge_evidence(
+        alloc,
+        &sides,
+        CertKind::Ortho,
+        overlap,
+        &evidence,
+        &mut judge,
+    );
     println!(rt; "{answer:?}")
 }
 
