@@ -23,12 +23,12 @@ IsKnown None sys = Unit {0}
 IsKnown (Some k) sys = IsConditionJudged sys k.0 k.1 None
 
 -- codes, by which a program's type may have it as its value
-abbrev coded_transition : Coded Transition
+abbrev pub coded_transition : Coded Transition
 coded_transition =
     code_by (Option ℕ × (List ℕ × ℕ)) (coded× (coded_option coded_ℕ) (coded× (coded_list coded_ℕ) coded_ℕ)) (λ t. (t.symbol, (t.arguments, t.target)))
     (λ p. record { symbol = p.0; arguments = p.1.0; target = p.1.1 }) (λ _. refl)
 
-abbrev coded_automaton : Coded Automaton
+abbrev pub coded_automaton : Coded Automaton
 coded_automaton =
     code_by (ℕ × (List ℕ × List Transition)) (coded× coded_ℕ (coded× (coded_list coded_ℕ) (coded_list coded_transition))) (λ a. (a.states, (a.accepting, a.transitions)))
     (λ p. record { states = p.0; accepting = p.1.0; transitions = p.1.1 }) (λ _. refl)

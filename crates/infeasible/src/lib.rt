@@ -17,6 +17,7 @@ use cert_model::InfEvidence;
 pub use refuter::Refusal;
 use refuter::Refuter;
 use rule_index::IndexedSystem;
+pub use same::is_same_condition;
 use std::alloc::Global;
 use tcap_infeasible::IndexedTcap;
 use term_core::{Cond, System};

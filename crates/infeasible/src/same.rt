@@ -39,7 +39,7 @@ pub(crate) fn is_same(a: &Automaton, b: &Automaton) -> bool
 }
 
 /// Whether two conditions are the same.
-pub(crate) fn is_same_condition(a: &Cond, b: &Cond) -> bool
+pub fn is_same_condition(a: &Cond, b: &Cond) -> bool
     ensures { IsTrue result → condition_view a.now ≡ condition_view b.now }
 {
     equal(&a.left, &b.left) && equal(&a.right, &b.right)

@@ -7,6 +7,7 @@ ghost use Rattle.cc_count.specs.Counts.{Spends};
 ghost use Rattle.first_found.specs.Items.{one};
 ghost use Rattle.search_spaces.specs.PairItems.{GivesEvidence, ortho_items};
 ghost use Rattle.pair_search.specs.Answers.{ItemAnswers, WalkAnswers};
+ghost use Rattle.pair_search.specs.Grown.{IsGrown};
 ghost use Rattle.ortho_search.specs.ItemView.{item_view};
 
 use crate::items::{Item, items_of};
@@ -14,7 +15,7 @@ use cc_count::Budget;
 use cert_model::PairEvidence;
 use critical_pairs::Overlap;
 use irreducible::LeftSides;
-use pair_search::{Walk, judged, try_refuting};
+use pair_search::{Grown, Walk, judged, try_refuting};
 use std::alloc::Global;
 use term_core::NoMemory;
 use validity::CertKind;
@@ -25,9 +26,12 @@ fn try_item(
     sys: &LeftSides<'_>,
     overlap: &Overlap,
     item: Item,
+    grown: &mut Grown,
 ) -> Result<Option<PairEvidence>, NoMemory>
     requires overlap { IsOverlapOf sys.now (overlap_view overlap.now) }
-    ensures { ItemAnswers ortho sys.now (overlap_view overlap.now) (item_view item) result }
+    requires knows { IsGrown grown.old sys.now }
+    ensures answer { ItemAnswers ortho sys.now (overlap_view overlap.now) (item_view item) result }
+    ensures knows { IsGrown grown.new sys.now }
 {
     match item {
         Item::Trivial => judged(alloc, sys, CertKind::Ortho, overlap, PairEvidence::Trivial),
@@ -35,7 +39,9 @@ fn try_item(
             let evidence = PairEvidence::Conflict { inner, outer };
             judged(alloc, sys, CertKind::Ortho, overlap, evidence)
         }
-        Item::Infeasible(refuting) => try_refuting(alloc, sys, CertKind::Ortho, overlap, refuting),
+        Item::Infeasible(refuting) => {
+            try_refuting(alloc, sys, CertKind::Ortho, overlap, refuting, grown)
+        }
     }
 }
 
@@ -46,16 +52,19 @@ fn try_items(
     overlap: &Overlap,
     items: &[Item],
     budget: &mut Budget,
+    grown: &mut Grown,
 ) -> Result<Walk, NoMemory>
     requires overlap { IsOverlapOf sys.now (overlap_view overlap.now) }
+    requires knows { IsGrown grown.old sys.now }
     ensures answer { WalkAnswers one (GivesEvidence ortho sys.now (overlap_view overlap.now)) (map item_view items.now) budget.old budget.new result }
     ensures kept { (n : ℕ) × Spends budget.old n budget.new }
+    ensures knows { IsGrown grown.new sys.now }
 {
     'items: for item in items {
         if !budget.take() {
             return Ok(Walk::Spent);
         }
-        match try_item(alloc, sys, overlap, *item) {
+        match try_item(alloc, sys, overlap, *item, grown) {
             Ok(Some(evidence)) => return Ok(Walk::Given(evidence)),
             Ok(None) => {}
             Err(e) => return Err(e),
@@ -70,17 +79,20 @@ pub fn try_overlap(
     sys: &LeftSides<'_>,
     overlap: &Overlap,
     budget: &mut Budget,
+    grown: &mut Grown,
 ) -> Result<Walk, NoMemory>
     requires overlap { IsOverlapOf sys.now (overlap_view overlap.now) }
+    requires knows { IsGrown grown.old sys.now }
     ensures answer { WalkAnswers one (GivesEvidence ortho sys.now (overlap_view overlap.now)) (ortho_items (overlap_view overlap.now)) budget.old budget.new result }
     ensures kept { (n : ℕ) × Spends budget.old n budget.new }
+    ensures knows { IsGrown grown.new sys.now }
 {
     // That conditions are few is known of the rules of a system.
     let _rules = sys.rules();
     let inner_count = overlap.inner_conds;
     let outer_count = overlap.conds.len() as u32 - inner_count;
     match items_of(alloc, inner_count, outer_count) {
-        Ok(items) => try_items(alloc, sys, overlap, &items, budget),
+        Ok(items) => try_items(alloc, sys, overlap, &items, budget, grown),
         Err(e) => Err(e),
     }
 }

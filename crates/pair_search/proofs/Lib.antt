@@ -1,4 +1,5 @@
 pub mod Composed
+pub mod Growing
 pub mod Judging
 pub mod Places
 pub mod Walking

@@ -7,10 +7,12 @@ ghost use Rattle.critical_pairs.specs.View.{overlap_view};
 ghost use Rattle.search_spaces.specs.PairItems as spaces;
 ghost use Rattle.evidence_offers.specs.RefutingView.{refuting_view};
 ghost use Rattle.pair_search.specs.Answers.{JudgedAnswers, ItemAnswers};
+ghost use Rattle.pair_search.specs.Grown.{IsGrown};
 
-use cert_model::PairEvidence;
+use crate::grown::Grown;
+use cert_model::{InfEvidence, PairEvidence};
 use critical_pairs::Overlap;
-use evidence_offers::{Refuting, offer};
+use evidence_offers::Refuting;
 use infeasible::JudgeByKind;
 use irreducible::LeftSides;
 use pair_check::{CertKind, Refusal, judge_evidence};
@@ -37,28 +39,26 @@ pub fn judged(
     }
 }
 
-/// The evidence that the conditions are never met, where it is valid in a certificate of the kind.
+/// The evidence that the conditions are never met, where it is valid in a certificate of the kind. What grows from a condition
+/// is remembered.
 pub fn try_refuting(
     alloc: Global,
     sys: &LeftSides<'_>,
     kind: CertKind,
     overlap: &Overlap,
     refuting: Refuting,
+    grown: &mut Grown,
 ) -> Result<Option<PairEvidence>, NoMemory>
     requires overlap { IsOverlapOf sys.now (overlap_view overlap.now) }
-    ensures { ItemAnswers (kind_view kind) sys.now (overlap_view overlap.now) (spaces.try_refuting (refuting_view refuting)) result }
+    requires knows { IsGrown grown.old sys.now }
+    ensures answer { ItemAnswers (kind_view kind) sys.now (overlap_view overlap.now) (spaces.try_refuting (refuting_view refuting)) result }
+    ensures knows { IsGrown grown.new sys.now }
 {
-    // That conditions are small is known of the rules of a system.
-    let _rules = sys.rules();
-    match offer(alloc, sys.system(), &overlap.conds, refuting) {
-        Ok(Some(evidence)) => judged(
-            alloc,
-            sys,
-            kind,
-            overlap,
-            PairEvidence::Infeasible(evidence),
-        ),
-        Ok(None) => Ok(None),
-        Err(e) => Err(e),
+    match refuting {
+        Refuting::Caps => {
+            let evidence = PairEvidence::Infeasible(InfEvidence::Tcap);
+            judged(alloc, sys, kind, overlap, evidence)
+        }
+        Refuting::Growth { cond } => grown.grow(alloc, sys, overlap, cond),
     }
 }

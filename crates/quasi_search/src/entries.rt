@@ -10,7 +10,7 @@ use crate::trying::try_overlap;
 use cc_count::Budget;
 use critical_pairs::Overlap;
 use irreducible::LeftSides;
-use pair_search::{Entries, Walk, add_entry};
+use pair_search::{Entries, Grown, Walk, add_entry};
 use std::alloc::Global;
 use term_core::NoMemory;
 
@@ -26,8 +26,9 @@ pub fn entries_for(
     ensures kept { (n : ℕ) × Spends budget.old n budget.new }
 {
     let mut entries = Vec::new(alloc);
+    let mut grown = Grown::new();
     'rows: for overlap in overlaps {
-        match try_overlap(alloc, sys, overlap, budget) {
+        match try_overlap(alloc, sys, overlap, budget, &mut grown) {
             Ok(Walk::Given(evidence)) => add_entry(alloc, &mut entries, overlap, evidence)?,
             Ok(Walk::Nothing) => return Ok(Entries::Missing),
             Ok(Walk::Spent) => return Ok(Entries::Spent),

@@ -6,6 +6,7 @@ ghost use Rattle.cc_count.specs.Counts.{Spends};
 ghost use Rattle.search_spaces.specs.Refuting.{growths};
 ghost use Rattle.evidence_offers.specs.RefutingView.{refuting_view};
 ghost use Rattle.pair_search.specs.Answers.{WalkAnswers};
+ghost use Rattle.pair_search.specs.Grown.{IsGrown};
 ghost use Rattle.quasi_space.specs.QuasiItems.{try_refuting as refuting_item, quasi_item_cost, GivesQuasi, refuting_items};
 
 use cc_count::Budget;
@@ -13,7 +14,7 @@ use critical_pairs::Overlap;
 use evidence_offers::Refuting;
 use irreducible::LeftSides;
 use pair_check::CertKind;
-use pair_search::{Walk, try_refuting};
+use pair_search::{Grown, Walk, try_refuting};
 use std::alloc::Global;
 use term_core::NoMemory;
 
@@ -24,15 +25,18 @@ fn try_way(
     overlap: &Overlap,
     refuting: Refuting,
     budget: &mut Budget,
+    grown: &mut Grown,
 ) -> Result<Walk, NoMemory>
     requires overlap { IsOverlapOf sys.now (overlap_view overlap.now) }
+    requires knows { IsGrown grown.old sys.now }
     ensures answer { WalkAnswers quasi_item_cost (GivesQuasi sys.now (overlap_view overlap.now)) (refuting_item (refuting_view refuting) ∷ []) budget.old budget.new result }
     ensures kept { (n : ℕ) × Spends budget.old n budget.new }
+    ensures knows { IsGrown grown.new sys.now }
 {
     if !budget.take() {
         return Ok(Walk::Spent);
     }
-    match try_refuting(alloc, sys, CertKind::Quasi, overlap, refuting)? {
+    match try_refuting(alloc, sys, CertKind::Quasi, overlap, refuting, grown)? {
         Some(evidence) => Ok(Walk::Given(evidence)),
         None => Ok(Walk::Nothing),
     }
@@ -44,17 +48,20 @@ fn try_growths(
     sys: &LeftSides<'_>,
     overlap: &Overlap,
     budget: &mut Budget,
+    grown: &mut Grown,
 ) -> Result<Walk, NoMemory>
     requires overlap { IsOverlapOf sys.now (overlap_view overlap.now) }
+    requires knows { IsGrown grown.old sys.now }
     ensures answer { WalkAnswers quasi_item_cost (GivesQuasi sys.now (overlap_view overlap.now)) (map refuting_item (growths (length (overlap_view overlap.now).pair.conditions))) budget.old budget.new result }
     ensures kept { (n : ℕ) × Spends budget.old n budget.new }
+    ensures knows { IsGrown grown.new sys.now }
 {
     // That conditions are few is known of the rules of a system.
     let _rules = sys.rules();
     let count = overlap.conds.len() as u32;
     'growths: for before in 0..count {
         let growth = Refuting::Growth { cond: before + 1 };
-        match try_way(alloc, sys, overlap, growth, budget)? {
+        match try_way(alloc, sys, overlap, growth, budget, grown)? {
             Walk::Nothing => {}
             end => return Ok(end),
         }
@@ -68,13 +75,16 @@ pub fn try_refutings(
     sys: &LeftSides<'_>,
     overlap: &Overlap,
     budget: &mut Budget,
+    grown: &mut Grown,
 ) -> Result<Walk, NoMemory>
     requires overlap { IsOverlapOf sys.now (overlap_view overlap.now) }
+    requires knows { IsGrown grown.old sys.now }
     ensures answer { WalkAnswers quasi_item_cost (GivesQuasi sys.now (overlap_view overlap.now)) (refuting_items (length (overlap_view overlap.now).pair.conditions)) budget.old budget.new result }
     ensures kept { (n : ℕ) × Spends budget.old n budget.new }
+    ensures knows { IsGrown grown.new sys.now }
 {
-    match try_way(alloc, sys, overlap, Refuting::Caps, budget)? {
-        Walk::Nothing => try_growths(alloc, sys, overlap, budget),
+    match try_way(alloc, sys, overlap, Refuting::Caps, budget, grown)? {
+        Walk::Nothing => try_growths(alloc, sys, overlap, budget, grown),
         end => Ok(end),
     }
 }

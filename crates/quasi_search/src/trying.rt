@@ -4,6 +4,7 @@ ghost use Rattle.unifier_run.specs.Overlaps.{IsOverlapOf};
 ghost use Rattle.critical_pairs.specs.View.{overlap_view};
 ghost use Rattle.cc_count.specs.Counts.{Spends};
 ghost use Rattle.pair_search.specs.Answers.{WalkAnswers};
+ghost use Rattle.pair_search.specs.Grown.{IsGrown};
 ghost use Rattle.quasi_space.specs.QuasiItems.{quasi_item_cost, GivesQuasi, quasi_items};
 
 use crate::joins::try_joins;
@@ -12,7 +13,7 @@ use crate::refuting::try_refutings;
 use cc_count::Budget;
 use critical_pairs::Overlap;
 use irreducible::LeftSides;
-use pair_search::Walk;
+use pair_search::{Grown, Walk};
 use std::alloc::Global;
 use term_core::NoMemory;
 
@@ -22,12 +23,15 @@ pub fn try_overlap(
     sys: &LeftSides<'_>,
     overlap: &Overlap,
     budget: &mut Budget,
+    grown: &mut Grown,
 ) -> Result<Walk, NoMemory>
     requires overlap { IsOverlapOf sys.now (overlap_view overlap.now) }
+    requires knows { IsGrown grown.old sys.now }
     ensures answer { WalkAnswers quasi_item_cost (GivesQuasi sys.now (overlap_view overlap.now)) (quasi_items sys.now (overlap_view overlap.now)) budget.old budget.new result }
     ensures kept { (n : ℕ) × Spends budget.old n budget.new }
+    ensures knows { IsGrown grown.new sys.now }
 {
-    match try_refutings(alloc, sys, overlap, budget)? {
+    match try_refutings(alloc, sys, overlap, budget, grown)? {
         Walk::Nothing => {}
         end => return Ok(end),
     }

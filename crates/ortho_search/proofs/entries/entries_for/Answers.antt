@@ -14,6 +14,7 @@ use Rattle.ortho_search.proofs.entries.entries_for.Goals as goal
 pub try_overlap-requires : goal.try_overlap-requires
 try_overlap-requires c = record {
   overlap = c.requires.overlaps (overlap_view c.overlap-item.result) (among_here c.args.overlaps.now c.rows.overlap-index c.overlap-item.result c.rows-test.true c.overlap-item.is);
+  knows = c.rows.invariant.knows;
 }
 
 pub returns-in_err-add_entry-in-Ok-Given-clause-kept : goal.returns-in_err-add_entry-in-Ok-Given-clause-kept
@@ -57,4 +58,5 @@ rows-preserved c =
       within = omega (arith, below);
       far = entry_more (IsOrthoEntry c.args.sys.now) c.args.overlaps.now c.rows.overlap-index c.overlap-item.result c.rows-test.true c.overlap-item.is c.args.budget.now c.rows.budget c.try_overlap.new.budget c.rows.entries.items c.rows.invariant.far
           (entry_for o e) (w.0, w.1, (e, w.2, refl)) c.add_entry.new.entries.items c.in_ok-add_entry-in-Ok-Given.ensures;
+      knows = c.in-Ok-Given.ensures.knows;
     }

@@ -20,13 +20,13 @@ returns-then-not-take-clause-kept c =
 pub returns-in-Ok-Some-clause-answer : goal.returns-in-Ok-Some-clause-answer
 returns-in-Ok-Some-clause-answer c =
     walk_finds c.args.sys.now (overlap_view c.args.overlap.now) c.args.items.now c.items.item-index c.items-test.true c.args.budget.now c.items.budget c.take.new.self c.items.invariant.none c.items.invariant.paid
-    (c.if-not-take.ensures.taken refl) c.in-Ok-Some.field-0 c.in-Ok-Some.evidence c.in-Ok-Some.field-0-is c.in-Ok-Some.ensures
+    (c.if-not-take.ensures.taken refl) c.in-Ok-Some.field-0 c.in-Ok-Some.evidence c.in-Ok-Some.field-0-is c.in-Ok-Some.ensures.answer
 
 pub returns-in-Ok-Some-clause-kept : goal.returns-in-Ok-Some-clause-kept
 returns-in-Ok-Some-clause-kept c =
     let w =
     walk_finds c.args.sys.now (overlap_view c.args.overlap.now) c.args.items.now c.items.item-index c.items-test.true c.args.budget.now c.items.budget c.take.new.self c.items.invariant.none c.items.invariant.paid
-    (c.if-not-take.ensures.taken refl) c.in-Ok-Some.field-0 c.in-Ok-Some.evidence c.in-Ok-Some.field-0-is c.in-Ok-Some.ensures in (w.0, w.1)
+    (c.if-not-take.ensures.taken refl) c.in-Ok-Some.field-0 c.in-Ok-Some.evidence c.in-Ok-Some.field-0-is c.in-Ok-Some.ensures.answer in (w.0, w.1)
 
 pub returns-in-Err-clause-kept : goal.returns-in-Err-clause-kept
 returns-in-Err-clause-kept c = (
@@ -41,7 +41,8 @@ items-preserved c =
     record {
       within = omega (arith, below);
       none = walk_none c.args.sys.now (overlap_view c.args.overlap.now) c.args.items.now c.items.item-index c.items-test.true c.args.budget.now c.items.budget c.take.new.self c.items.invariant.none c.items.invariant.paid
-          (c.if-not-take.ensures.taken refl) c.in-Ok-None.field-0 c.in-Ok-None.field-0-is c.in-Ok-None.ensures;
+          (c.if-not-take.ensures.taken refl) c.in-Ok-None.field-0 c.in-Ok-None.field-0-is c.in-Ok-None.ensures.answer;
       paid = walk_paid c.args.sys.now (overlap_view c.args.overlap.now) c.args.items.now c.items.item-index c.items-test.true c.args.budget.now c.items.budget c.take.new.self c.items.invariant.none c.items.invariant.paid
-          (c.if-not-take.ensures.taken refl) c.in-Ok-None.field-0 c.in-Ok-None.field-0-is c.in-Ok-None.ensures;
+          (c.if-not-take.ensures.taken refl) c.in-Ok-None.field-0 c.in-Ok-None.field-0-is c.in-Ok-None.ensures.answer;
+      knows = c.in-Ok-None.ensures.knows;
     }

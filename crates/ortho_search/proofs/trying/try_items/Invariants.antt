@@ -4,6 +4,7 @@ use Rattle.critical_pairs.specs.View.{overlap_view}
 use Rattle.cc_count.specs.Counts.{Spends}
 use Rattle.first_found.specs.Items.{NoneGives, cost_of, one}
 use Rattle.search_spaces.specs.PairItems.{GivesEvidence}
+use Rattle.pair_search.specs.Grown.{IsGrown}
 use Rattle.ortho_search.specs.ItemView.{item_view}
 use Rattle.ortho_search.proofs.trying.try_items.Given as goal
 
@@ -12,4 +13,5 @@ invariant-items l = record {
   within : l.item-index ≤ length l.items;
   none : NoneGives (GivesEvidence ortho l.sys (overlap_view l.overlap)) (map item_view (take l.item-index l.items));
   paid : Spends l.fn.budget (cost_of one (map item_view (take l.item-index l.items))) l.budget;
+  knows : IsGrown l.grown l.sys;
 }

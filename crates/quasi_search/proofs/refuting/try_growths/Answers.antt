@@ -21,6 +21,7 @@ growths-init c =
       walking = begins quasi_item_cost (GivesQuasi c.args.sys.now (overlap_view c.args.overlap.now)) (map try_refuting (growths c.len-count.result)) c.args.budget.now
           (growths_behind 0 c.len-count.result) (all_left c.len-count.result);
       kept = (0, spends_none c.args.budget.now);
+      knows = c.requires.knows;
     }
 
 pub returns-in_err-end-clause-kept : goal.returns-in_err-end-clause-kept
@@ -38,6 +39,7 @@ returns-in_default c =
           (growths_behind i n) (try_refuting (try_growth (i + 1)) ∷ []) (growths_behind (i + 1) n) c.growths.invariant.walking (next_growth i n c.growths-test.true)
           c.in_ok-end.end c.in_default.not-Nothing c.in_ok-end.ensures.answer);
       kept = kept_on c.args.budget.now c.growths.budget c.try_way.new.budget c.growths.invariant.kept c.in_ok-end.ensures.kept;
+      knows = c.in_ok-end.ensures.knows;
     }
 
 pub growths-preserved : goal.growths-preserved
@@ -52,6 +54,7 @@ growths-preserved c =
           (subst (λ z. WalkAnswers quasi_item_cost (GivesQuasi c.args.sys.now (overlap_view c.args.overlap.now)) (try_refuting (try_growth (i + 1)) ∷ []) c.growths.budget c.try_way.new.budget (Ok z)) c.in-Nothing.is
           c.in_ok-end.ensures.answer);
       kept = kept_on c.args.budget.now c.growths.budget c.try_way.new.budget c.growths.invariant.kept c.in_ok-end.ensures.kept;
+      knows = c.in_ok-end.ensures.knows;
     }
 
 pub returns-clause-answer : goal.returns-clause-answer

@@ -24,4 +24,5 @@ returns-in_default c =
       answer = ends_early quasi_item_cost (GivesQuasi c.args.sys.now o) (try_refuting try_caps ∷ []) (map try_refuting (growths (length o.pair.conditions))) c.args.budget.now c.try_way.new.budget
           c.in_ok-end.end c.in_default.not-Nothing c.in_ok-end.ensures.answer;
       kept = c.in_ok-end.ensures.kept;
+      knows = c.in_ok-end.ensures.knows;
     }

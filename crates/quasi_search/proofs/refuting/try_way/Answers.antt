@@ -19,4 +19,4 @@ returns-in-Some-clause-answer c =
     let o = overlap_view c.args.overlap.now in
     item_gives quasi_item_cost (GivesQuasi c.args.sys.now o) (try_refuting (refuting_view c.args.refuting)) c.args.budget.now c.take.new.self
     (c.if-not-take.ensures.taken refl) c.in-Some.evidence
-    (subst (λ z. ItemAnswers quasi c.args.sys.now o (spaces.try_refuting (refuting_view c.args.refuting)) (Ok z)) c.in-Some.is c.in_ok-evidence.ensures)
+    (subst (λ z. ItemAnswers quasi c.args.sys.now o (spaces.try_refuting (refuting_view c.args.refuting)) (Ok z)) c.in-Some.is c.in_ok-evidence.ensures.answer)

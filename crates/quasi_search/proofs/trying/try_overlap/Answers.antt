@@ -14,6 +14,7 @@ returns-in_default c =
       answer = ends_early quasi_item_cost (GivesQuasi sys o) (refuting_items (length o.pair.conditions)) (join_items sys o ++ reduct_items sys o.pair.conditions 1 o.pair.conditions) c.args.budget.now
           c.try_refutings.new.budget c.in_ok-end.end c.in_default.not-Nothing c.in_ok-end.ensures.answer;
       kept = c.in_ok-end.ensures.kept;
+      knows = c.in_ok-end.ensures.knows;
     }
 
 pub returns-in_err-end-2-clause-kept : goal.returns-in_err-end-2-clause-kept
@@ -47,4 +48,5 @@ returns-in_default-2 c =
           (ends_early quasi_item_cost (GivesQuasi sys o) (join_items sys o) (reduct_items sys o.pair.conditions 1 o.pair.conditions) c.try_refutings.new.budget c.try_joins.new.budget c.in_ok-end-2.end
           c.in_default-2.not-Nothing c.in_ok-end-2.ensures.answer);
       kept = kept_on c.args.budget.now c.try_refutings.new.budget c.try_joins.new.budget c.in_ok-end.ensures.kept c.in_ok-end-2.ensures.kept;
+      knows = c.in_ok-end.ensures.knows;
     }

@@ -1,0 +1,174 @@
+//! Automata that grow from conditions, remembered for the overlaps that follow with the same condition.
+ghost use Rattle.std.specs.Prelude.{◌≡◌, ◌≤◌, None, Some, IfOk, length, map, option_map};
+ghost use Rattle.unifier_run.specs.Overlaps.{IsOverlapOf};
+ghost use Rattle.certificates.specs.Evidence.{by_automaton, infeasible_pair};
+ghost use Rattle.certificates.specs.Judging.{hypothesis_at};
+ghost use Rattle.certificates.specs.Sizes.{DoConditionsFit};
+ghost use Rattle.valid_certificates.specs.Kinds.{Kind};
+ghost use Rattle.term_core.specs.RuleView.{condition_view};
+ghost use Rattle.cert_model.specs.EvidenceView.{automaton_view, inf_evidence_view, pair_evidence_view};
+ghost use Rattle.critical_pairs.specs.View.{overlap_view};
+ghost use Rattle.search_spaces.specs.Refuting.{try_growth};
+ghost use Rattle.search_spaces.specs.PairItems.{try_refuting};
+ghost use Rattle.pair_search.specs.Answers.{ItemAnswers};
+ghost use Rattle.pair_search.specs.Grown.{automaton_in, GrowthAnswers, IsGrown};
+
+use cert_model::{Automaton, InfEvidence, PairEvidence, condition};
+use critical_pairs::Overlap;
+use evidence_offers::{Refuting, offer};
+use infeasible::{check_infeasible_in, is_same_condition};
+use irreducible::LeftSides;
+use refuter::Refusal;
+use std::alloc::Global;
+use std::marker::Model;
+use term_core::{Cond, NoMemory, try_clone};
+
+// A condition for which growth was tried, and the automaton that grew where it shows that the condition is never met.
+#[derive(Debug, Drop)]
+struct Tried {
+    cond: Cond,
+    automaton: Option<Automaton>,
+}
+
+/// Remembers the last condition for which growth was tried, and what came of it: the automaton that grows from its left side,
+/// where that shows that the condition is never met. Overlaps that follow one another may have one condition, and an automaton
+/// is grown and judged for it once.
+#[derive(Debug, Drop)]
+pub struct Grown {
+    last: Option<Tried>,
+}
+
+impl Model for Grown {
+    ghost use Rattle.pair_search.specs.Grown.{Remembered, coded_remembered, remembered_view};
+
+    ghost Value = { Remembered };
+
+    ghost coded = { coded_remembered };
+
+    ghost view = { remembered_view };
+}
+
+// The automaton of evidence by one.
+fn automaton_of(evidence: InfEvidence) -> Option<Automaton>
+    ensures { automaton_in (inf_evidence_view evidence) ≡ option_map automaton_view result }
+{
+    match evidence {
+        InfEvidence::Tcap => None,
+        InfEvidence::Auto { automaton, .. } => Some(automaton),
+    }
+}
+
+// What growth gives for the condition with a number.
+fn growth(
+    alloc: Global,
+    sys: &LeftSides<'_>,
+    conds: &[Cond],
+    number: u32,
+    cond: &Cond,
+) -> Result<Option<Automaton>, NoMemory>
+    requires few { length conds.now ≤ 200 }
+    requires fit { DoConditionsFit (map condition_view conds.now) }
+    requires there { hypothesis_at (map condition_view conds.now) number ≡ Some (condition_view cond.now) }
+    ensures { GrowthAnswers sys.now (condition_view cond.now) result }
+{
+    let Some(evidence) = offer(
+        alloc,
+        sys.system(),
+        conds,
+        Refuting::Growth { cond: number },
+    )?
+    else {
+        return Ok(None);
+    };
+    match check_infeasible_in(alloc, sys.indexed(), conds, &evidence) {
+        Ok(()) => Ok(automaton_of(evidence)),
+        Err(Refusal::Reason(_)) => Ok(None),
+        Err(Refusal::NoMemory) => Err(NoMemory),
+    }
+}
+
+// The evidence by what grew for the condition with a number.
+fn evidence_by(
+    alloc: Global,
+    number: u32,
+    automaton: &Option<Automaton>,
+) -> Result<Option<PairEvidence>, NoMemory>
+    ensures { IfOk result (λ e. option_map pair_evidence_view e ≡ option_map (λ a. infeasible_pair (by_automaton number (automaton_view a))) automaton.now) }
+{
+    match automaton {
+        Some(automaton) => Ok(Some(PairEvidence::Infeasible(InfEvidence::Auto {
+            cond: number,
+            automaton: automaton.try_clone(alloc)?,
+        }))),
+        None => Ok(None),
+    }
+}
+
+// A copy of a condition.
+fn copied(alloc: Global, cond: &Cond) -> Result<Cond, NoMemory>
+    ensures { IfOk result (λ copy. condition_view copy ≡ condition_view cond.now) }
+{
+    Ok(Cond {
+        left: try_clone(alloc, &cond.left)?,
+        right: try_clone(alloc, &cond.right)?,
+    })
+}
+
+impl Grown {
+    /// Remembers nothing.
+    pub fn new() -> Grown
+        ensures { result ≡ None }
+    {
+        Grown { last: None }
+    }
+
+    // The evidence by the automaton that grows from a condition, which is remembered.
+    fn grow_anew(
+        &mut self,
+        alloc: Global,
+        sys: &LeftSides<'_>,
+        overlap: &Overlap,
+        number: u32,
+        cond: &Cond,
+    ) -> Result<Option<PairEvidence>, NoMemory>
+        requires overlap { IsOverlapOf sys.now (overlap_view overlap.now) }
+        requires there { hypothesis_at (map condition_view overlap.now.conds.items) number ≡ Some (condition_view cond.now) }
+        requires knows { IsGrown self.old sys.now }
+        ensures answer { (kind : Kind) → ItemAnswers kind sys.now (overlap_view overlap.now) (try_refuting (try_growth number)) result }
+        ensures knows { IsGrown self.new sys.now }
+    {
+        // That conditions are small is known of the rules of a system.
+        let _rules = sys.rules();
+        let automaton = growth(alloc, sys, &overlap.conds, number, cond)?;
+        let answer = evidence_by(alloc, number, &automaton)?;
+        self.last = Some(Tried {
+            cond: copied(alloc, cond)?,
+            automaton,
+        });
+        Ok(answer)
+    }
+
+    // The evidence by the automaton that grows from the condition with a number, where it is valid.
+    pub(crate) fn grow(
+        &mut self,
+        alloc: Global,
+        sys: &LeftSides<'_>,
+        overlap: &Overlap,
+        number: u32,
+    ) -> Result<Option<PairEvidence>, NoMemory>
+        requires overlap { IsOverlapOf sys.now (overlap_view overlap.now) }
+        requires knows { IsGrown self.old sys.now }
+        ensures answer { (kind : Kind) → ItemAnswers kind sys.now (overlap_view overlap.now) (try_refuting (try_growth number)) result }
+        ensures knows { IsGrown self.new sys.now }
+    {
+        let Some(cond) = condition(&overlap.conds, number) else {
+            return Ok(None);
+        };
+        match &self.last {
+            Some(tried) if is_same_condition(cond, &tried.cond) => {
+                evidence_by(alloc, number, &tried.automaton)
+            }
+            _ => self.grow_anew(alloc, sys, overlap, number, cond),
+        }
+    }
+}
