@@ -5,16 +5,7 @@ use Rattle.certificates.specs.Evidence.{InfeasibilityEvidence}
 use Rattle.term_core.specs.declared.terms.NoMemory.{NoMemory}
 use Rattle.cert_model.specs.EvidenceView.{inf_evidence_view}
 use Rattle.cert_model.specs.declared.evidence.InfEvidence.{InfEvidence}
-use Rattle.automaton_grow.specs.declared.GrowError.{GrowError}
-use Rattle.automaton_grow.specs.declared.GrowError.TheVariants as growing
 use Rattle.search_spaces.specs.Refuting.{Refuting, Tries}
-
--- growth that is refused gives no evidence
-abbrev pub NoAutomatonAnswers : GrowError → Result (Option InfEvidence) NoMemory → Type 0
-NoAutomatonAnswers growing.NoMemory (Ok e) = ⊥
-NoAutomatonAnswers why (Ok (Some e)) = ⊥
-NoAutomatonAnswers why (Ok None) = Unit {0}
-NoAutomatonAnswers why (Err e) = Unit {0}
 
 -- the evidence that is tried, or there is none
 abbrev pub OfferAnswers : System → List Condition → Refuting → Result (Option InfEvidence) NoMemory → Type 0

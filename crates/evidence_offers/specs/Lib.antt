@@ -1,2 +1,3 @@
 pub mod Answers
+pub mod Growth
 pub mod RefutingView

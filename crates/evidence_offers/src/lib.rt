@@ -2,15 +2,18 @@
 //! automata that grow from the left sides of the conditions.
 #![tactic(auto)]
 
+mod growth;
+
 ghost use Rattle.std.specs.Prelude.{map};
 ghost use Rattle.certificates.specs.Sizes.{DoConditionsFit};
 ghost use Rattle.term_core.specs.RuleView.{condition_view};
 ghost use Rattle.search_spaces.specs.Refuting.{try_growth};
-ghost use Rattle.evidence_offers.specs.Answers.{NoAutomatonAnswers, OfferAnswers};
+ghost use Rattle.evidence_offers.specs.Answers.{OfferAnswers};
 ghost use Rattle.evidence_offers.specs.RefutingView.{refuting_view};
 
-use automaton_grow::{GrowError, grow};
 use cert_model::{InfEvidence, condition};
+use crate::growth::grown;
+pub use growth::valid_growth;
 use std::alloc::Global;
 use term_core::{Cond, NoMemory, System};
 
@@ -23,20 +26,8 @@ pub enum Refuting {
     Growth { cond: u32 },
 }
 
-// Growth that is refused gives no evidence.
-fn no_automaton(e: GrowError) -> Result<Option<InfEvidence>, NoMemory>
-    ensures { NoAutomatonAnswers e result }
-{
-    match e {
-        GrowError::TooWide { .. } => Ok(None),
-        GrowError::TooManyStates => Ok(None),
-        GrowError::TooManyTransitions => Ok(None),
-        GrowError::NoMemory => Err(NoMemory),
-    }
-}
-
 // The automaton that grows from the left side of a condition, as evidence.
-fn grown(
+fn offer_growth(
     alloc: Global,
     sys: &System,
     conds: &[Cond],
@@ -48,9 +39,9 @@ fn grown(
     let Some(asked) = condition(conds, cond) else {
         return Ok(None);
     };
-    match grow(alloc, sys, &asked.left) {
-        Ok(automaton) => Ok(Some(InfEvidence::Auto { cond, automaton })),
-        Err(e) => no_automaton(e),
+    match grown(alloc, sys, &asked.left)? {
+        Some(automaton) => Ok(Some(InfEvidence::Auto { cond, automaton })),
+        None => Ok(None),
     }
 }
 
@@ -66,6 +57,6 @@ pub fn offer(
 {
     match refuting {
         Refuting::Caps => Ok(Some(InfEvidence::Tcap)),
-        Refuting::Growth { cond } => grown(alloc, sys, conds, cond),
+        Refuting::Growth { cond } => offer_growth(alloc, sys, conds, cond),
     }
 }

@@ -6,7 +6,8 @@ use Rattle.rewriting.specs.Overlaps.{conditions_under}
 use Rattle.rewriting.specs.Rules.{Condition, System}
 use Rattle.rewriting.specs.Substitutions.{Substitution}
 use Rattle.rewriting.proofs.Conditions.{length-conditions_under}
-use Rattle.certificates.specs.Evidence.{InfeasibilityEvidence}
+use Rattle.certificates.specs.Evidence.{Automaton, InfeasibilityEvidence, by_automaton}
+use Rattle.certificates.specs.Judging.{hypothesis_at}
 use Rattle.certificates.specs.Reasons.{EvidenceReason}
 use Rattle.certificates.specs.Sizes.{DoConditionsFit}
 use Rattle.term_core.specs.RuleView.{condition_view}
@@ -21,6 +22,8 @@ use Rattle.first_found.specs.Items.{GivesNothing, NoneGives, one}
 use Rattle.first_found.proofs.Items.{first_here, first_right}
 use Rattle.search_spaces.specs.Refuting.{Refuting, try_growth, Tries, growths, refutings}
 use Rattle.search_spaces.proofs.Entries.{tries_once}
+use Rattle.evidence_offers.specs.Growth.{MayGive}
+use Rattle.evidence_offers.proofs.Growing.{growth_shows, growth_fails}
 use Rattle.noncon_search.specs.Trying.{Refutes, FirstAnswers}
 
 module _ (sys : System) (cs : List Condition) where
@@ -42,6 +45,15 @@ module _ (sys : System) (cs : List Condition) where
       → GivesNothing (Refutes sys cs) item
   refused_gives item e why tried h fit b (other, judged) =
       other_judgement e why h fit (subst (λ z. AreJudged sys cs z None) (tries_once sys cs item b e other tried) judged)
+
+  -- what growth gives for a condition
+  module _ (k : ℕ) (fit : DoConditionsFit cs) where
+    pub growth_refutes : (a : Automaton) → MayGive sys (hypothesis_at cs k) (Some a) → Refutes sys cs (try_growth k) (by_automaton k a)
+    growth_refutes a h = let (tried, judged) = growth_shows sys cs k a h in (tried, inl (fit, judged))
+
+    pub growth_gives_none : MayGive sys (hypothesis_at cs k) None → GivesNothing (Refutes sys cs) (try_growth k)
+    growth_gives_none h e (tried, inl (_, judged)) = growth_fails sys cs k h e tried judged
+    growth_gives_none h e (tried, inr (large, _)) = large fit
 
   module _ (item : Refuting) (rest : List Refuting) where
     -- the first of some items

@@ -2,35 +2,47 @@
 ghost use Rattle.std.specs.Prelude.{◌≤◌, length, map};
 ghost use Rattle.certificates.specs.Sizes.{DoConditionsFit};
 ghost use Rattle.term_core.specs.RuleView.{condition_view};
-ghost use Rattle.search_spaces.specs.Refuting.{growths, refutings};
-ghost use Rattle.evidence_offers.specs.RefutingView.{refuting_view};
+ghost use Rattle.search_spaces.specs.Refuting.{growths, refutings, try_caps, try_growth};
 ghost use Rattle.noncon_search.specs.Trying.{ItemAnswers, FirstAnswers};
 
 use cert_model::InfEvidence;
-use evidence_offers::{Refuting, offer};
+use evidence_offers::valid_growth;
 use infeasible::{Refusal, check_infeasible_in};
 use rule_index::IndexedSystem;
 use std::alloc::Global;
 use term_core::{Cond, NoMemory};
 
-// The evidence that is tried, where it is valid.
-fn try_refuting(
+// Evidence by caps, where it is valid.
+fn by_caps(
     alloc: Global,
     sys: &IndexedSystem<'_>,
     conds: &[Cond],
-    refuting: Refuting,
 ) -> Result<Option<InfEvidence>, NoMemory>
     requires few { length conds.now ≤ 200 }
     requires fit { DoConditionsFit (map condition_view conds.now) }
-    ensures { ItemAnswers sys.now (map condition_view conds.now) (refuting_view refuting) result }
+    ensures { ItemAnswers sys.now (map condition_view conds.now) try_caps result }
 {
-    let Some(evidence) = offer(alloc, sys.system(), conds, refuting)? else {
-        return Ok(None);
-    };
-    match check_infeasible_in(alloc, sys, conds, &evidence) {
-        Ok(()) => Ok(Some(evidence)),
+    match check_infeasible_in(alloc, sys, conds, &InfEvidence::Tcap) {
+        Ok(()) => Ok(Some(InfEvidence::Tcap)),
         Err(Refusal::Reason(_)) => Ok(None),
         Err(Refusal::NoMemory) => Err(NoMemory),
+    }
+}
+
+// The automaton that grows from the condition with a number, where it is valid.
+fn by_growth(
+    alloc: Global,
+    sys: &IndexedSystem<'_>,
+    conds: &[Cond],
+    cond: u32,
+) -> Result<Option<InfEvidence>, NoMemory>
+    requires few { length conds.now ≤ 200 }
+    requires fit { DoConditionsFit (map condition_view conds.now) }
+    ensures { ItemAnswers sys.now (map condition_view conds.now) (try_growth cond) result }
+{
+    match valid_growth(alloc, sys.system(), conds, cond)? {
+        Some(automaton) => Ok(Some(InfEvidence::Auto { cond, automaton })),
+        None => Ok(None),
     }
 }
 
@@ -46,8 +58,7 @@ fn try_growths(
 {
     let count = conds.len() as u32;
     'growths: for before in 0..count {
-        let refuting = Refuting::Growth { cond: before + 1 };
-        if let Some(evidence) = try_refuting(alloc, sys, conds, refuting)? {
+        if let Some(evidence) = by_growth(alloc, sys, conds, before + 1)? {
             return Ok(Some(evidence));
         }
     }
@@ -64,7 +75,7 @@ pub(crate) fn first_valid(
     requires fit { DoConditionsFit (map condition_view conds.now) }
     ensures { FirstAnswers sys.now (map condition_view conds.now) (refutings (length conds.now)) result }
 {
-    match try_refuting(alloc, sys, conds, Refuting::Caps)? {
+    match by_caps(alloc, sys, conds)? {
         Some(evidence) => Ok(Some(evidence)),
         None => try_growths(alloc, sys, conds),
     }

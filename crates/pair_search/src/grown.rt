@@ -1,24 +1,22 @@
 //! Automata that grow from conditions, remembered for the overlaps that follow with the same condition.
-ghost use Rattle.std.specs.Prelude.{◌≡◌, ◌≤◌, None, Some, IfOk, length, map, option_map};
+ghost use Rattle.std.specs.Prelude.{◌≡◌, None, Some, IfOk, map, option_map};
 ghost use Rattle.unifier_run.specs.Overlaps.{IsOverlapOf};
 ghost use Rattle.certificates.specs.Evidence.{by_automaton, infeasible_pair};
 ghost use Rattle.certificates.specs.Judging.{hypothesis_at};
-ghost use Rattle.certificates.specs.Sizes.{DoConditionsFit};
 ghost use Rattle.valid_certificates.specs.Kinds.{Kind};
 ghost use Rattle.term_core.specs.RuleView.{condition_view};
-ghost use Rattle.cert_model.specs.EvidenceView.{automaton_view, inf_evidence_view, pair_evidence_view};
+ghost use Rattle.cert_model.specs.EvidenceView.{automaton_view, pair_evidence_view};
 ghost use Rattle.critical_pairs.specs.View.{overlap_view};
 ghost use Rattle.search_spaces.specs.Refuting.{try_growth};
 ghost use Rattle.search_spaces.specs.PairItems.{try_refuting};
 ghost use Rattle.pair_search.specs.Answers.{ItemAnswers};
-ghost use Rattle.pair_search.specs.Grown.{automaton_in, GrowthAnswers, IsGrown};
+ghost use Rattle.pair_search.specs.Grown.{IsGrown};
 
 use cert_model::{Automaton, InfEvidence, PairEvidence, condition};
 use critical_pairs::Overlap;
-use evidence_offers::{Refuting, offer};
-use infeasible::{check_infeasible_in, is_same_condition};
+use evidence_offers::valid_growth;
+use infeasible::is_same_condition;
 use irreducible::LeftSides;
-use refuter::Refusal;
 use std::alloc::Global;
 use std::marker::Model;
 use term_core::{Cond, NoMemory, try_clone};
@@ -46,45 +44,6 @@ impl Model for Grown {
     ghost coded = { coded_remembered };
 
     ghost view = { remembered_view };
-}
-
-// The automaton of evidence by one.
-fn automaton_of(evidence: InfEvidence) -> Option<Automaton>
-    ensures { automaton_in (inf_evidence_view evidence) ≡ option_map automaton_view result }
-{
-    match evidence {
-        InfEvidence::Tcap => None,
-        InfEvidence::Auto { automaton, .. } => Some(automaton),
-    }
-}
-
-// What growth gives for the condition with a number.
-fn growth(
-    alloc: Global,
-    sys: &LeftSides<'_>,
-    conds: &[Cond],
-    number: u32,
-    cond: &Cond,
-) -> Result<Option<Automaton>, NoMemory>
-    requires few { length conds.now ≤ 200 }
-    requires fit { DoConditionsFit (map condition_view conds.now) }
-    requires there { hypothesis_at (map condition_view conds.now) number ≡ Some (condition_view cond.now) }
-    ensures { GrowthAnswers sys.now (condition_view cond.now) result }
-{
-    let Some(evidence) = offer(
-        alloc,
-        sys.system(),
-        conds,
-        Refuting::Growth { cond: number },
-    )?
-    else {
-        return Ok(None);
-    };
-    match check_infeasible_in(alloc, sys.indexed(), conds, &evidence) {
-        Ok(()) => Ok(automaton_of(evidence)),
-        Err(Refusal::Reason(_)) => Ok(None),
-        Err(Refusal::NoMemory) => Err(NoMemory),
-    }
 }
 
 // The evidence by what grew for the condition with a number.
@@ -139,7 +98,7 @@ impl Grown {
     {
         // That conditions are small is known of the rules of a system.
         let _rules = sys.rules();
-        let automaton = growth(alloc, sys, &overlap.conds, number, cond)?;
+        let automaton = valid_growth(alloc, sys.system(), &overlap.conds, number)?;
         let answer = evidence_by(alloc, number, &automaton)?;
         self.last = Some(Tried {
             cond: copied(alloc, cond)?,

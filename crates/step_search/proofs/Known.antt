@@ -8,11 +8,15 @@ use Rattle.rewriting.specs.Terms.{Fits}
 use Rattle.rewriting.proofs.Once.{same_some}
 use Rattle.rewriting.proofs.Systems.{is_rule_at}
 use Rattle.certificates.specs.Certificates.{dropped, inlined}
-use Rattle.certificates.specs.Evidence.{InfeasibilityEvidence}
+use Rattle.certificates.specs.Evidence.{Automaton, InfeasibilityEvidence, by_automaton}
+use Rattle.certificates.specs.Judging.{hypothesis_at}
 use Rattle.certificates.specs.Sizes.{DoConditionsFit}
 use Rattle.cert_model.specs.CertificateView.{simp_view}
 use Rattle.first_found.specs.Items.{GivesNothing}
-use Rattle.search_spaces.specs.Refuting.{Refuting, Tries}
+use Rattle.judged_evidence.specs.Evidence.{IsInfeasibilityJudged}
+use Rattle.evidence_offers.specs.Growth.{MayGive}
+use Rattle.evidence_offers.proofs.Growing.{growth_shows, growth_fails}
+use Rattle.search_spaces.specs.Refuting.{Refuting, Tries, try_growth}
 use Rattle.search_spaces.proofs.Entries.{tries_once}
 use Rattle.term_core.specs.RuleView.{condition_view, rule_view}
 use Rattle.term_core.specs.declared.systems.Rule.{Rule}
@@ -41,9 +45,6 @@ few_conds sys number r sound is =
     let few = (sound_at sys number (rule_view r) sound is).few_conditions in let same = length_map condition_view r.conds.items in omega (arith, few, same)
 
 module _ (sys : math.System) (i : ℕ) (item : Refuting) (r : math.Rule) (is : rule_at sys i ≡ Some r) where
-  pub drop_none : ((e : InfeasibilityEvidence) → Tries sys r.conditions item e → ⊥) → GivesNothing (GivesStep sys) (try_drop i item)
-  drop_none none p ((q, f, at, h, x), g) = none f (subst (λ z. Tries sys z.conditions item f) (same_some (rule_at sys i) q r at is) h)
-
   pub drop_tried : (e : InfeasibilityEvidence) → Tries sys r.conditions item e → (answer : Result (Option Made) NoMemory) → GoodAnswers sys (dropped i e) answer
       → TryAnswers sys (try_drop i item) answer
   drop_tried e tried (Ok (Some m)) (same, change, h) = (change, ((r, e, is, tried, same), subst (λ z. Simplifies sys z (after sys m.change)) (sym same) h))
@@ -54,6 +55,21 @@ module _ (sys : math.System) (i : ℕ) (item : Refuting) (r : math.Rule) (is : r
           let one = tries_once sys r.conditions item f e (subst (λ z. Tries sys z.conditions item f) (same_some (rule_at sys i) q r at is) h) tried in
           none p.1 (subst (λ z. Simplifies sys z p.1) (x ∙ ap (dropped i) one) g)
   drop_tried e tried (Err m) h = tt
+
+-- the automaton that grows from a condition of a rule
+module _ (sys : math.System) (i k : ℕ) (r : math.Rule) (is : rule_at sys i ≡ Some r) where
+  never_met : (i : ℕ) (e : InfeasibilityEvidence) (next : math.System) → rule_at sys i ≡ Some r → Simplifies sys (dropped i e) next → IsInfeasibilityJudged sys r.conditions e None
+  never_met zero e next is h = absurd h
+  never_met (suc n) e next is h = subst (λ z. IsInfeasibilityJudged sys z.conditions e None) (same_some (rule_at sys (suc n)) h.rule r h.is_rule is) h.never_met
+
+  pub growth_drops : (a : Automaton) → MayGive sys (hypothesis_at r.conditions k) (Some a) → (answer : Result (Option Made) NoMemory)
+      → GoodAnswers sys (dropped i (by_automaton k a)) answer → TryAnswers sys (try_drop i (try_growth k)) answer
+  growth_drops a h answer good = drop_tried sys i (try_growth k) r is (by_automaton k a) (growth_shows sys r.conditions k a h).0 answer good
+
+  pub growth_drops_none : MayGive sys (hypothesis_at r.conditions k) None → GivesNothing (GivesStep sys) (try_drop i (try_growth k))
+  growth_drops_none none p ((q, e, at, h, x), g) =
+      growth_fails sys r.conditions k none e (subst (λ z. Tries sys z.conditions (try_growth k) e) (same_some (rule_at sys i) q r at is) h)
+      (never_met i e p.1 is (subst (λ z. Simplifies sys z p.1) x g))
 
 pub inline_tried : (sys : math.System) (i k : ℕ) (answer : Result (Option Made) NoMemory) → GoodAnswers sys (inlined i k) answer → TryAnswers sys (try_inline i k) answer
 inline_tried sys i k (Ok (Some m)) (same, change, h) = (change, (same, subst (λ z. Simplifies sys z (after sys m.change)) (sym same) h))

@@ -4,13 +4,14 @@ ghost use Rattle.certificates.specs.Certificates.{dropped, inlined};
 ghost use Rattle.cert_model.specs.EvidenceView.{inf_evidence_view};
 ghost use Rattle.evidence_offers.specs.RefutingView.{refuting_view};
 ghost use Rattle.rewriting.specs.Rules.{rule_at};
+ghost use Rattle.search_spaces.specs.Refuting.{try_growth};
 ghost use Rattle.simplified_spaces.specs.Tries as math;
 ghost use Rattle.simplified_spaces.specs.Tries.{tries_of};
 ghost use Rattle.term_core.specs.RuleView.{condition_view, rule_view};
 ghost use Rattle.step_search.specs.Answers.{GoodAnswers, TryAnswers};
 
 use cert_model::{InfEvidence, Simp};
-use evidence_offers::{Refuting, offer};
+use evidence_offers::{Refuting, valid_growth};
 use rule_index::IndexedSystem;
 use simplify::{Change, StepError, drop_rule, inline_condition};
 use std::alloc::Global;
@@ -61,6 +62,28 @@ fn inlining(
     }
 }
 
+// Dropping the rule with a number by the automaton that grows from one of its conditions.
+fn drop_by_growth(
+    alloc: Global,
+    sys: &IndexedSystem,
+    number: u32,
+    rule: &Rule,
+    cond: u32,
+) -> Result<Option<Made>, NoMemory>
+    requires { rule_at sys.now number ≡ Some (rule_view rule.now) }
+    ensures { TryAnswers sys.now (math.try_drop number (try_growth cond)) result }
+{
+    // That conditions are few and fit is known of the rules of a system.
+    let _rules = sys.rules();
+    match valid_growth(alloc, sys.system(), &rule.conds, cond)? {
+        Some(automaton) => {
+            let evidence = InfEvidence::Auto { cond, automaton };
+            dropping(alloc, sys, number, evidence)
+        }
+        None => Ok(None),
+    }
+}
+
 // Dropping the rule with a number by evidence that is tried for its conditions.
 fn try_drop(
     alloc: Global,
@@ -72,12 +95,9 @@ fn try_drop(
     requires { rule_at sys.now number ≡ Some (rule_view rule.now) }
     ensures { TryAnswers sys.now (math.try_drop number (refuting_view refuting)) result }
 {
-    // That conditions fit is known of the rules of a system.
-    let _rules = sys.rules();
-    match offer(alloc, sys.system(), &rule.conds, refuting) {
-        Ok(Some(evidence)) => dropping(alloc, sys, number, evidence),
-        Ok(None) => Ok(None),
-        Err(e) => Err(e),
+    match refuting {
+        Refuting::Caps => dropping(alloc, sys, number, InfEvidence::Tcap),
+        Refuting::Growth { cond } => drop_by_growth(alloc, sys, number, rule, cond),
     }
 }
 

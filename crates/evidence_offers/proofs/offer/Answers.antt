@@ -6,4 +6,4 @@ use Rattle.evidence_offers.proofs.offer.Goals as goal
 
 pub returns-in-Growth : goal.returns-in-Growth
 returns-in-Growth c =
-    subst (λ r. OfferAnswers c.args.sys.now (map condition_view c.args.conds.now) (refuting_view r) c.grown.result) (sym c.in-Growth.is) c.grown.ensures
+    subst (λ r. OfferAnswers c.args.sys.now (map condition_view c.args.conds.now) (refuting_view r) c.offer_growth.result) (sym c.in-Growth.is) c.offer_growth.ensures
