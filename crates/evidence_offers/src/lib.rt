@@ -11,8 +11,8 @@ ghost use Rattle.search_spaces.specs.Refuting.{try_growth};
 ghost use Rattle.evidence_offers.specs.Answers.{OfferAnswers};
 ghost use Rattle.evidence_offers.specs.RefutingView.{refuting_view};
 
-use cert_model::{InfEvidence, condition};
 use crate::growth::grown;
+use cert_model::{InfEvidence, condition};
 pub use growth::valid_growth;
 use std::alloc::Global;
 use term_core::{Cond, NoMemory, System};
