@@ -6,19 +6,6 @@ use Rattle.rewriting.specs.Positions.{IsBefore}
 use Rattle.rewriting.proofs.Search.{FirstBelow, search_below}
 use Rattle.automata.proofs.Asked.{contains_head, contains_tail}
 
--- what follows from decided parts is decided
-pub dec_and : {A B : Type 0} → Dec A → Dec B → Dec (A × B)
-dec_and (yes a) (yes b) = yes (a, b)
-dec_and (yes a) (no k) = no (λ p. k p.1)
-dec_and (no k) d = no (λ p. k p.0)
-
--- equal numbers, lists of them, and options
-pub same_numbers : (xs ys : List ℕ) → Dec (xs ≡ ys)
-same_numbers [] [] = yes refl
-same_numbers [] (y ∷ ys) = no (λ e. cc)
-same_numbers (x ∷ xs) [] = no (λ e. cc)
-same_numbers (x ∷ xs) (y ∷ ys) = map_dec (λ (e, f). cc) (λ e. grind arith) (dec_and (ℕ_discrete x y) (same_numbers xs ys))
-
 pub same_option : (o p : Option ℕ) → Dec (o ≡ p)
 same_option None None = yes refl
 same_option None (Some y) = no (λ e. cc)

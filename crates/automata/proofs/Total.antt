@@ -4,6 +4,7 @@ use Rattle.std.proofs.Common.{ℕ, ◌≡◌, ◌<◌, ◌^◌, ◌⊎◌, inl, 
 use Rattle.std.proofs.lemmas.Option.{slice_get_within}
 use Rattle.std.proofs.lemmas.List.Elements.{All-nil, All-cons, All-head, All-tail}
 use native.Mathlib.Decide.{ℕ_discrete, dec_lt, map_dec}
+use Rattle.general_lemmas.proofs.Decisions.{dec_and, same_numbers}
 use Rattle.rewriting.specs.Terms.{Term, var, app, Terms, nil, cons}
 use Rattle.rewriting.specs.Rules.{Rule, Condition, System, rule_at}
 use Rattle.rewriting.proofs.Search.{FirstBelow, search_below, FirstRule, search_rules, decided}
@@ -15,7 +16,7 @@ use Rattle.automata.specs.Runs.{Symbols, HasArity, IsHead, Has, Reach, ReachAll,
 use Rattle.automata.specs.Closed.{IsChoice, state_of, Includes, IsKept, IsRuleKept, HasOver, IsClosed, IsEarlierChoice, IsFirstOpen, IsWide, AreNarrow, IsFirstWide, AcceptsAll, Excludes}
 use Rattle.automata.specs.Evidence.{IsAccepted, IsClosureJudged, IsExclusionJudged, IsConditionJudged, not_any, misses, closure_fails, right_side, JudgedByAutomaton}
 use Rattle.automata.proofs.Asked.{end_below}
-use Rattle.automata.proofs.Finite.{dec_and, same_numbers, same_option, Member, some_member, some_parts, AllLists, FirstList, search_lists}
+use Rattle.automata.proofs.Finite.{same_option, Member, some_member, some_parts, AllLists, FirstList, search_lists}
 
 -- states
 all_below : (n : ℕ) (qs : List ℕ) → Dec (All (λ q. q < n) qs)

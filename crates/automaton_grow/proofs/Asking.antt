@@ -1,6 +1,7 @@
 -- Whatever is added is asked for, and a set to which a round adds nothing is grown.
-use Rattle.std.proofs.Common.{◌≡◌, ℕ, zero, suc, ◌<◌, ◌≤◌, ◌⊎◌, inl, inr, refl, sym, subst, List, [], ◌∷◌, length, replicate, Option, Some, None, arith}
+use Rattle.std.proofs.Common.{◌≡◌, ℕ, ◌<◌, ◌≤◌, ◌⊎◌, inl, inr, refl, sym, subst, List, [], length, replicate, Option, Some, None, arith}
 use Rattle.std.specs.Prelude.{Contains, slice_get}
+use Rattle.std.proofs.lemmas.Option.{slice_get_within}
 use Rattle.rewriting.specs.Terms.{Term, var, app}
 use Rattle.rewriting.specs.Rules.{Rule, System}
 use Rattle.rewriting.specs.Variables.{variable_occurrences}
@@ -98,17 +99,12 @@ first_many sys s ds new many = record { some = ds; many = many; asked = λ d h. 
     basic d (inl h) = absurd (contains_none d h)
     basic d (inr h) = h
 
-index_within : {X : Type 0} (xs : List X) (i : ℕ) (x : X) → slice_get xs i ≡ Some x → i < length xs
-index_within [] i x e = absurd (cc)
-index_within (y ∷ xs) zero x e = omega arith
-index_within (y ∷ xs) (suc i) x e = let rest = index_within xs i x e in omega arith
-
 -- a set that has what it asks for is the least one
 pub least_when_closed : (sys : System) (s : Term) (ds : List Transition) → IsPartial sys s ds → ((d : Transition) → IsAskedBelow sys s (length sys.rules) ds d → Contains ds d) → AreLeast sys s ds
 least_when_closed sys s ds part closed = record { grown_set = grown_set; least = part.asked; sorted = part.sorted }
   where
     at : (i : ℕ) (r : Rule) (d : Transition) → slice_get sys.rules i ≡ Some r → IsAskedByRule (state_count sys s) (first_state sys s i) r ds d → Contains ds d
-    at i r d is_rule a = closed d (record { number = i; rule = r; below = index_within sys.rules i r is_rule; is_rule = is_rule; by_rule = a })
+    at i r d is_rule a = closed d (record { number = i; rule = r; below = slice_get_within sys.rules i r is_rule; is_rule = is_rule; by_rule = a })
 
     grown_set : IsGrown sys s ds
     grown_set = record {

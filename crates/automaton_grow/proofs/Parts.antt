@@ -3,6 +3,8 @@ use Rattle.std.proofs.Common.{◌≡◌, ℕ, zero, suc, ◌+◌, ◌<◌, ◌�
 use Rattle.std.specs.Prelude.{slice_get, Contains, nat_eq, if◌then◌else◌}
 use Rattle.std.proofs.Common.{eqb-true, eq-eqb}
 use Rattle.std.proofs.lemmas.List.Elements.{Contains-append_left, Contains-append_right, Contains-append_cases}
+use Rattle.std.proofs.lemmas.Option.{slice_get_within}
+use Rattle.std.proofs.lemmas.List.{append-nil}
 use Rattle.rewriting.specs.Terms as terms
 use Rattle.rewriting.specs.Terms.{var, app}
 use Rattle.rewriting.specs.Rules as math
@@ -27,7 +29,6 @@ use Rattle.automaton_grow.specs.declared.GrowError.TheVariants.{TooWide, TooMany
 use Rattle.automaton_grow.proofs.Adding.{contains_none, contains_cases, added_after, added_nothing, answers_renamed, answers_after_error}
 use Rattle.automaton_grow.proofs.Asking.{moves_had, first_many, next_many, next_partial, least_when_closed}
 use Rattle.automaton_grow.proofs.States.{twin_in, twin_from}
-use Rattle.automaton_grow.proofs.Walks.{append_nil}
 
 -- one more of a list
 module _ {A B : Type 0} (f : A → B) where
@@ -132,7 +133,7 @@ module _ (p q : ℕ) (ds : List Transition) (i : ℕ) (d : Transition) (h : i < 
       go x (inr k) = inr (last x (contains_cases (record (transition_view d) { target = q }) [] x k))
 
   pub twins_same : (a b : List evidence.Transition) → (d.target ≡ p → ⊥) → IsAdded (So i) a b × (length b ≤ 5000) → IsAdded (So (i + 1)) a b × (length b ≤ 5000)
-  twins_same a b n k = subst (λ z. IsAdded (Contains z) a b × (length b ≤ 5000)) (sym (next_twins ∙ ap (λ z. twins p q (map transition_view (take i ds)) ++ z) (no_twin n) ∙ append_nil (twins p q (map transition_view (take i ds))))) k
+  twins_same a b n k = subst (λ z. IsAdded (Contains z) a b × (length b ≤ 5000)) (sym (next_twins ∙ ap (λ z. twins p q (map transition_view (take i ds)) ++ z) (no_twin n) ∙ append-nil (twins p q (map transition_view (take i ds))))) k
 
   pub twins_error : (a b c : List evidence.Transition) (why : GrowError) → d.target ≡ p → IsAdded (So i) a b × (length b ≤ 5000) → AddAnswers (λ x. x ≡ record (transition_view d) { target = q }) b c (Err why)
       → AddAnswers (Contains (twins p q (map transition_view ds))) a c (Err why)
@@ -143,11 +144,6 @@ module _ (p q : ℕ) (ds : List Transition) (i : ℕ) (d : Transition) (h : i < 
       twins_within : (xs ys : List evidence.Transition) → ((z : evidence.Transition) → Contains xs z → Contains ys z) → (x : evidence.Transition) → Contains (twins p q xs) x → Contains (twins p q ys) x
       twins_within xs ys more x k =
           let t = twin_from p q xs x k in subst (Contains (twins p q ys)) (sym t.same) (twin_in p q ys t.source (more t.source t.stands) t.leads)
-
-pub number_at : (xs : List ℕ) (i : ℕ) → i < length xs → slice_get xs i ≡ Some (get_or xs i 0)
-number_at [] i h = absurd (omega arith)
-number_at (x ∷ xs) zero h = refl
-number_at (x ∷ xs) (suc i) h = number_at xs i (omega arith)
 
 -- symbols, one by one
 module _ (arities : Signature) (i n : ℕ) (h : i < length arities) (at : slice_get arities i ≡ Some n) where
@@ -186,13 +182,8 @@ basic_from sys s ds d e (inl f) = for_symbol f.symbol f.arity f.has f.same
 basic_from sys s ds d e (inr (inl h)) = for_variables h
 basic_from sys s ds d e (inr (inr h)) = for_term (subst (λ z. Contains z d) e h)
 
-slice_within : (xs : List ℕ) (i n : ℕ) → slice_get xs i ≡ Some n → i < length xs
-slice_within [] i n e = absurd (cc)
-slice_within (x ∷ xs) zero n e = omega arith
-slice_within (x ∷ xs) (suc i) n e = let rest = slice_within xs i n e in omega arith
-
 pub basic_to : (sys : math.System) (s : terms.Term) (ds : List evidence.Transition) (d : evidence.Transition) → ds ≡ inside (λ x. 0) 1 s → IsBasic sys s d → IsBasicOf sys.arities ds d
-basic_to sys s ds d e (for_symbol f n has same) = inl (record { symbol = f; arity = n; below = slice_within sys.arities f n has; has = has; same = same })
+basic_to sys s ds d e (for_symbol f n has same) = inl (record { symbol = f; arity = n; below = slice_get_within sys.arities f n has; has = has; same = same })
 basic_to sys s ds d e (for_variables h) = inr (inl h)
 basic_to sys s ds d e (for_term h) = inr (inr (subst (λ z. Contains z d) (sym e) h))
 

@@ -2,6 +2,8 @@
 use Rattle.std.proofs.Common.{◌≡◌, ℕ, zero, suc, ◌+◌, ◌<◌, ◌≤◌, ◌^◌, ◌⊎◌, inl, inr, refl, sym, ap, ◌∙◌, subst, List, [], ◌∷◌, map, drop, length, get_or, Some, add-one, arith}
 use Rattle.std.specs.Prelude.{slice_get}
 use Rattle.std.proofs.Common.{add_assoc}
+use Rattle.std.proofs.lemmas.Option.{slice_get_within}
+use Rattle.general_lemmas.proofs.Places.{slice_get-map_read}
 use Rattle.rewriting.specs.Terms.{Term, var, app, size, Fits}
 use Rattle.rewriting.specs.Signatures.{Signature}
 use Rattle.rewriting.specs.Rules as math
@@ -13,12 +15,6 @@ use Rattle.term_core.specs.declared.systems.Rule.{Rule}
 use Rattle.automaton_grow.specs.Limits.{all_proper, IsWideFor, AreNarrowBelow, IsFirstWideFor}
 use Rattle.automaton_grow.proofs.Sizes.{inner_in_size}
 use Rattle.automaton_grow.proofs.States.{proper_at, proper_none, room_at}
-
--- the views of rules
-pub rule_seen : (rs : List Rule) (i : ℕ) (r : Rule) → i < length rs → r ≡ get_or rs i r → slice_get (map rule_view rs) i ≡ Some (rule_view r)
-rule_seen [] i r h e = absurd (omega arith)
-rule_seen (a ∷ rs) zero r h e = ap (λ z. Some (rule_view z)) (sym e)
-rule_seen (a ∷ rs) (suc i) r h e = rule_seen rs i r (omega arith) e
 
 pub rules_left : (rs : List Rule) (i : ℕ) (r : Rule) → i < length rs → r ≡ get_or rs i r → map rule_view (drop i rs) ≡ rule_view r ∷ map rule_view (drop (i + 1) rs)
 rules_left rs i r h e = rw add-one (go rs i h e)
@@ -81,12 +77,12 @@ narrow_next n rs i r h at below here k q less is_rule wide = go (split k i (omeg
     go (inl l) = below k q l is_rule wide
     go (inr e) =
         let one : slice_get (map rule_view rs) i ≡ Some q = subst (λ z. slice_get (map rule_view rs) z ≡ Some q) e is_rule in
-        let two : slice_get (map rule_view rs) i ≡ Some (rule_view r) = rule_seen rs i r h at in
+        let two : slice_get (map rule_view rs) i ≡ Some (rule_view r) = slice_get-map_read rule_view rs i r h at in
         let same : q ≡ rule_view r = cc in
         here (subst (λ z. IsWideFor n z.left) same wide)
 
 pub first_wide : (n : ℕ) (rs : List Rule) (i number : ℕ) (r : Rule) → i < length rs → r ≡ get_or rs i r → number ≡ i + 1 → AreNarrowBelow n (map rule_view rs) i → IsWideFor n (rule_view r).left → IsFirstWideFor n (map rule_view rs) number
-first_wide n rs i number r h at e below wide = record { place = i; rule = rule_view r; numbered = e ∙ add-one i; is_rule = rule_seen rs i r h at; wide = wide; earlier = below }
+first_wide n rs i number r h at e below wide = record { place = i; rule = rule_view r; numbered = e ∙ add-one i; is_rule = slice_get-map_read rule_view rs i r h at; wide = wide; earlier = below }
 
 pub narrow_power : (n k : ℕ) → (100000 < n ^ k → ⊥) → n ^ k ≤ 100000
 narrow_power n k h = go (n ^ k) h
@@ -94,13 +90,8 @@ narrow_power n k h = go (n ^ k) h
     go : (x : ℕ) → (100000 < x → ⊥) → x ≤ 100000
     go x never = omega arith
 
-index_within : {X : Type 0} (xs : List X) (i : ℕ) (x : X) → slice_get xs i ≡ Some x → i < length xs
-index_within [] i x e = absurd (cc)
-index_within (y ∷ xs) zero x e = omega arith
-index_within (y ∷ xs) (suc i) x e = let rest = index_within xs i x e in omega arith
-
 pub narrow_at : (n : ℕ) (rs : List math.Rule) (i : ℕ) (r : math.Rule) → AreNarrowBelow n rs (length rs) → slice_get rs i ≡ Some r → n ^ length (variable_occurrences r.left) ≤ 100000
-narrow_at n rs i r narrow at = narrow_power n (length (variable_occurrences r.left)) (narrow i r (index_within rs i r at) at)
+narrow_at n rs i r narrow at = narrow_power n (length (variable_occurrences r.left)) (narrow i r (slice_get_within rs i r at) at)
 
 -- numbers that fit
 pub symbols_few : (sys : math.System) → IsSystem sys → length sys.arities < 2 ^ 31
@@ -115,10 +106,10 @@ first_zero sys s n e = let z = proper_none sys.rules in omega arith
 -- a rule among those that a system hands out
 module _ (sys : math.System) (rs : List Rule) (same : map rule_view rs ≡ sys.rules) (i : ℕ) (r : Rule) (h : i < length rs) (at : r ≡ get_or rs i r) where
   pub rule_of : slice_get sys.rules i ≡ Some (rule_view r)
-  rule_of = subst (λ z. slice_get z i ≡ Some (rule_view r)) same (rule_seen rs i r h at)
+  rule_of = subst (λ z. slice_get z i ≡ Some (rule_view r)) same (slice_get-map_read rule_view rs i r h at)
 
   pub sides_fit : IsSystem sys → Fits (rule_view r).left × Fits (rule_view r).right
-  sides_fit sound = fits_at (map rule_view rs) i (rule_view r) (system_fits sys (map rule_view rs) same sound) (rule_seen rs i r h at)
+  sides_fit sound = fits_at (map rule_view rs) i (rule_view r) (system_fits sys (map rule_view rs) same sound) (slice_get-map_read rule_view rs i r h at)
 
   pub rule_low : i < length sys.rules
   rule_low = subst (λ z. i < z) (same_count rs sys same) h

@@ -3,24 +3,13 @@ use Rattle.std.proofs.Common.{◌≡◌, ℕ, zero, suc, ◌+◌, ◌<◌, ◌�
 use Rattle.std.specs.Prelude.{nat_eq, if◌then◌else◌}
 use Rattle.std.proofs.Common.{eqb-true}
 use Rattle.rewriting.specs.Terms as math
-use Rattle.rewriting.specs.Terms.{var, app, cons, size, size_all}
+use Rattle.rewriting.specs.Terms.{var, app, size, size_all}
 use Rattle.certificates.specs.Evidence as evidence
 use Rattle.automata.specs.Closed.{state_of}
 use Rattle.automata.specs.Growth.{inner, inner_in, top, tops, inside, inside_all, grown}
 use Rattle.term_core.specs.View.{view, views}
 use Rattle.term_core.specs.declared.terms.Term.{Term}
-
-pub args_left : (ts : List Term) (i : ℕ) (t : Term) → i < length ts → t ≡ get_or ts i t → views (drop i ts) ≡ cons (view t) (views (drop (i + 1) ts))
-args_left ts i t h e = rw add-one (go ts i h e)
-  where
-    go : (us : List Term) (k : ℕ) → k < length us → t ≡ get_or us k t → views (drop k us) ≡ cons (view t) (views (drop (suc k) us))
-    go [] k h e = absurd (omega arith)
-    go (u ∷ us) zero h e = ap (λ z. cons (view z) (views us)) (sym e)
-    go (u ∷ us) (suc k) h e = go us k (omega arith) e
-
-pub append_nil : {X : Type 0} (xs : List X) → xs ++ [] ≡ xs
-append_nil [] = refl
-append_nil (x ∷ xs) = ap (λ z. x ∷ z) (append_nil xs)
+use Rattle.term_core.proofs.Over.{views-drop}
 
 module _ (e : ℕ → ℕ) (ts : List Term) (i : ℕ) where
   pub tops_next : (t : Term) (qs more all : List ℕ) (n q k : ℕ) → i < length ts → t ≡ get_or ts i t → qs ++ tops e n (views (drop i ts)) ≡ all → more ≡ qs ++ q ∷ [] → q ≡ top e n (view t) → k ≡ n + inner (view t)
@@ -28,7 +17,7 @@ module _ (e : ℕ → ℕ) (ts : List Term) (i : ℕ) where
   tops_next t qs more all n q k h at inv put is next =
       ap₂ (λ z m. z ++ tops e m (views (drop (i + 1) ts))) (put ∙ ap (λ z. qs ++ z ∷ []) is) next
       ∙ append_assoc qs (top e n (view t) ∷ []) (tops e (n + inner (view t)) (views (drop (i + 1) ts)))
-      ∙ ap (λ z. qs ++ tops e n z) (sym (args_left ts i t h at)) ∙ inv
+      ∙ ap (λ z. qs ++ tops e n z) (sym (views-drop ts i t h at)) ∙ inv
 
   inside_grown : (n : ℕ) (t : math.Term) → inside e n t ≡ grown e (n + 1) t n
   inside_grown n (var x) = refl
@@ -39,14 +28,14 @@ module _ (e : ℕ → ℕ) (ts : List Term) (i : ℕ) where
   grown_next t out more all n k h at inv put next =
       ap₂ (λ z m. z ++ inside_all e m (views (drop (i + 1) ts))) (put ∙ ap (λ z. out ++ z) (sym (inside_grown n (view t)))) next
       ∙ append_assoc out (inside e n (view t)) (inside_all e (n + inner (view t)) (views (drop (i + 1) ts)))
-      ∙ ap (λ z. out ++ inside_all e n z) (sym (args_left ts i t h at)) ∙ inv
+      ∙ ap (λ z. out ++ inside_all e n z) (sym (views-drop ts i t h at)) ∙ inv
 
 -- how many nodes are left
 pub size_left : (ts : List Term) (i : ℕ) (t : Term) → i < length ts → t ≡ get_or ts i t → size_all (views (drop i ts)) ≡ size (view t) + size_all (views (drop (i + 1) ts))
-size_left ts i t h e = ap size_all (args_left ts i t h e)
+size_left ts i t h e = ap size_all (views-drop ts i t h e)
 
 pub inner_left : (ts : List Term) (i : ℕ) (t : Term) → i < length ts → t ≡ get_or ts i t → inner_in (views (drop i ts)) ≡ inner (view t) + inner_in (views (drop (i + 1) ts))
-inner_left ts i t h e = ap inner_in (args_left ts i t h e)
+inner_left ts i t h e = ap inner_in (views-drop ts i t h e)
 
 pub state_later : (xs cs : List ℕ) (i x : ℕ) → i < length xs → i < length cs → (x ≡ get_or xs i 0 → ⊥) → state_of (drop i xs) (drop i cs) x ≡ state_of (drop (i + 1) xs) (drop (i + 1) cs) x
 state_later xs cs i x h k other = rw add-one (go xs cs i h k other)

@@ -13,10 +13,9 @@ use Rattle.rewriting.specs.Lists.{IsAmong}
 use Rattle.automaton_runs.specs.Reached.{AreWhere}
 use Rattle.automaton_runs.specs.Arrivals.{IsArrivalBefore, AreArrivals, AreBatchArrivals, HaveBatchArrivals, IsFrontArrival, AreFrontArrivals}
 use Rattle.automaton_runs.specs.Choices.{Choices, Batch, Holds, choice_of, AreChoices}
-use Rattle.rewriting.proofs.Members.{among_place, place_among}
+use Rattle.rewriting.proofs.Members.{among_place, place_among, among_contained, contained_among}
 use Rattle.automaton_runs.proofs.ChoiceLists.{before_behind, before_fronts, pair_at}
 use Rattle.rewriting.proofs.Lists.{among_left, among_right, among_either, among_map, among_of_map}
-use Rattle.automaton_runs.proofs.Members.{contains_in, in_contains}
 use Rattle.automaton_runs.proofs.Ordered.{IsOrdered, ordered_append, ordered_from_pairs, pairs_from_ordered}
 
 -- a choice and a state
@@ -190,12 +189,12 @@ module _ (a : Indexed) (t : Term) where
     pub arrivals_end : AreChoices a t c → (n : ℕ) (rows : List Pair) → length c.fronts ≤ n → AreFrontArrivals a t c n rows → AreArrivals a t rows
     arrivals_end choices n rows past h = record {
       each = λ cs q i.
-          let e = h.each cs q (contains_in {X = Pair} (cs, q) rows i) in
+          let e = h.each cs q (among_contained {X = Pair} (cs, q) rows i) in
           (subst (IsChoice a.automaton.states t) (sym e.is) (choices.choices e.front e.tail (place_among c.fronts e.number e.front e.is_front) e.is_tail), e.reached);
       complete = λ cs q choice r.
           let (front, tail, first, last, is) = choices.complete cs q choice r in
           let j = among_place front c.fronts first in
           let within = slice_get_within c.fronts j.0 front j.1 in
-          in_contains {X = Pair} (cs, q) rows (h.complete cs q record { number = j.0; front = front; tail = tail; low = omega arith; is_front = j.1; is_tail = last; is = is; reached = r });
+          contained_among {X = Pair} (cs, q) rows (h.complete cs q record { number = j.0; front = front; tail = tail; low = omega arith; is_front = j.1; is_tail = last; is = is; reached = r });
       sorted = h.sorted;
     }

@@ -1,8 +1,9 @@
 -- Batches of choices: what their parts say of the choices.
 use Rattle.std.proofs.Common.{◌≡◌, ◌≢◌, ◌↔◌, ◌⊎◌, inl, inr, ⊎_elim, ℕ, zero, suc, ◌+◌, ◌<◌, ◌≤◌, Bool, true, false, nat_eq, if◌then◌else◌, List, [], ◌∷◌, ◌++◌, length, get_or, take, ltb, None, Some, slice_get, Vec, Global, refl, ap, sym, subst, ◌∙◌, arith, eq-eqb}
 use Rattle.std.proofs.lemmas.Bool.{cases_lt, eqb-true, ltb-true, ltb-false}
-use Rattle.std.proofs.lemmas.List.{take_more}
+use Rattle.std.proofs.lemmas.List.{take_more, take_all}
 use Rattle.std.proofs.lemmas.Option.{same_Some, get_or_from_slice_get, slice_get-get_or, slice_get_read, slice_get_within}
+use Rattle.general_lemmas.proofs.Places.{slice_get-append_left, slice_get-append_right, map-take_read}
 use Rattle.automata.specs.Closed.{state_of}
 use Rattle.rewriting.specs.Lists.{IsAmong}
 use Rattle.rewriting.proofs.Lists.{among_either}
@@ -12,8 +13,6 @@ use Rattle.automaton_runs.specs.Choices.{as_lists, Batch, Holds, choice_of}
 use Rattle.automaton_runs.specs.BatchView.{AreStatesAt, IsFirstPlace}
 use Rattle.automaton_runs.specs.Leaves.{AreStatesIn, AreZeros}
 use Rattle.rewriting.proofs.Members.{place_among}
-use Rattle.automaton_runs.proofs.Members.{mapped_more}
-use Rattle.automaton_runs.proofs.Twins.{all_of}
 
 pub each_more : {X : Type 0} (P : ℕ → X → Type 0) (xs : List X) (x : X) → ((i : ℕ) (y : X) → slice_get xs i ≡ Some y → P i y) → P (length xs) x
     → (i : ℕ) (y : X) → slice_get (xs ++ x ∷ []) i ≡ Some y → P i y
@@ -86,7 +85,7 @@ list_at (w ∷ vs) zero v h e = ap (λ (u : Vec ℕ Global). Some u.items) (sym 
 list_at (w ∷ vs) (suc i) v h e = list_at vs i v (omega arith) e
 
 pub lists_more : (vs : List (Vec ℕ Global)) (i : ℕ) (v : Vec ℕ Global) → i < length vs → v ≡ get_or vs i v → as_lists (take (i + 1) vs) ≡ as_lists (take i vs) ++ v.items ∷ []
-lists_more vs i v h e = mapped_more (λ (u : Vec ℕ Global). u.items) vs i v h e
+lists_more vs i v h e = map-take_read (λ (u : Vec ℕ Global). u.items) vs i v h e
 
 -- zeros up to a place
 pub zeros_more : (list : List ℕ) (i : ℕ) → i < length list → get_or list i 0 ≡ 0 → AreZeros (take i list) → AreZeros (take (i + 1) list)
@@ -94,22 +93,12 @@ zeros_more list i inside here front q h =
     ⊎_elim (λ k. front q k) (λ k. ⊎_elim (λ e. e ∙ here) (λ f. absurd f) k) (among_either q (take i list) (get_or list i 0 ∷ []) (subst (IsAmong q) (take_more list i 0 inside) h))
 
 pub zeros_all : (list : List ℕ) (i : ℕ) → length list ≤ i → AreZeros (take i list) → AreZeros list
-zeros_all list i past front = subst AreZeros (all_of list i past) front
-
--- places of two lists
-pub front_place : {X : Type 0} (xs ys : List X) (i : ℕ) → i < length xs → slice_get (xs ++ ys) i ≡ slice_get xs i
-front_place [] ys i h = absurd (omega arith)
-front_place (x ∷ xs) ys zero h = refl
-front_place (x ∷ xs) ys (suc i) h = front_place xs ys i (omega arith)
-
-pub behind_place : {X : Type 0} (xs ys : List X) (i : ℕ) → slice_get (xs ++ ys) (length xs + i) ≡ slice_get ys i
-behind_place [] ys i = let same : 0 + i ≡ i = omega arith in ap (slice_get ys) same
-behind_place (x ∷ xs) ys i = let same : suc (length xs) + i ≡ suc (length xs + i) = omega arith in ap (slice_get (x ∷ (xs ++ ys))) same ∙ behind_place xs ys i
+zeros_all list i past front = subst AreZeros (take_all i list past) front
 
 -- the states of a batch at a place of its front
 pub states_in_front : (b : Batch) (place state : ℕ) (r : NumberRelation) → slice_get b.front place ≡ Some state → ((q k : ℕ) → Relates r q k ↔ ((k < length b.tails) × (q ≡ state))) → AreStatesAt b place r
 states_in_front b place state r at is q k =
-    let here = front_place b.front (get_or b.tails k []) place (slice_get_within b.front place state at) ∙ at in (
+    let here = slice_get-append_left b.front (get_or b.tails k []) place (slice_get_within b.front place state at) ∙ at in (
       λ h. let g = (is q k).0 h in (g.0, here ∙ ap Some (sym g.1)),
       λ h. (is q k).1 (h.0, same_Some q state (sym h.1 ∙ here)),
     )
@@ -117,7 +106,7 @@ states_in_front b place state r at is q k =
 -- and behind it
 pub states_behind : (b : Batch) (place : ℕ) (r : NumberRelation) → AreStatesIn b.tails place r → AreStatesAt b (length b.front + place) r
 states_behind b place r is q k =
-    let there = behind_place b.front (get_or b.tails k []) place in (
+    let there = slice_get-append_right b.front (get_or b.tails k []) place in (
       λ h.
           let (list, at, has) = (is q k).0 h in
           let low = slice_get_within b.tails k list at in

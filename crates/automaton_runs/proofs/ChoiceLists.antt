@@ -107,11 +107,6 @@ pub before_behind : (front r s : List ℕ) → IsBefore r s → IsBefore (front 
 before_behind [] r s h = h
 before_behind (x ∷ front) r s h = inr (refl, before_behind front r s h)
 
-pub before_of_behind : (front r s : List ℕ) → IsBefore (front ++ r) (front ++ s) → IsBefore r s
-before_of_behind [] r s h = h
-before_of_behind (x ∷ front) r s (inl l) = absurd (omega arith)
-before_of_behind (x ∷ front) r s (inr (e, h)) = before_of_behind front r s h
-
 pub before_fronts : (f g r s : List ℕ) → length f ≡ length g → IsBefore f g → IsBefore (f ++ r) (g ++ s)
 before_fronts [] [] r s long h = absurd h
 before_fronts [] (y ∷ g) r s long h = absurd (omega arith)

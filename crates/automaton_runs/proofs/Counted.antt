@@ -3,12 +3,13 @@ use Rattle.std.proofs.Common.{◌≡◌, ℕ, ◌<◌, true, nat_lt, nat_eq, eq-
 use Rattle.std.specs.List.{filter, All}
 use Rattle.std.proofs.lemmas.Bool.{false≢true, and_parts, and_from, ltb-true, lt-ltb}
 use Rattle.std.proofs.lemmas.List.Elements.{All-nil, All-cons, All-head, All-tail}
+use Rattle.number_sets.proofs.Members.{in_filter, filter_in}
 use Rattle.certificates.specs.Evidence.{Transition}
 use Rattle.automata.specs.Runs.{Symbols, HasArity, IsHead}
 use Rattle.automaton_runs.specs.Counted.{Indexed, Finds}
 use Rattle.rewriting.specs.Lists.{IsAmong}
+use Rattle.rewriting.proofs.Members.{among_contained, contained_among}
 use Rattle.automaton_runs.specs.Counting.{are_below, has_arity, is_head, counts, is_number, chosen, symbol_key}
-use Rattle.automaton_runs.proofs.Members.{contains_in, in_contains, in_filter, filter_in}
 
 states_below : (n : ℕ) (qs : List ℕ) → are_below n qs ≡ true → All (λ q. q < n) qs
 states_below n [] e = All-nil (λ q. q < n)
@@ -49,7 +50,7 @@ pub has_from : (a : Indexed) (t : Transition) → IsAmong t a.automaton.transiti
 has_from a t i e =
     let p = and_parts _ _ e in
     let r = and_parts _ _ p.1 in record {
-      listed = in_contains t a.automaton.transitions i;
+      listed = contained_among t a.automaton.transitions i;
       head = head_from a.symbols t.symbol t.arguments p.0;
       arguments = states_below a.automaton.states t.arguments r.0;
       target = ltb-true t.target a.automaton.states r.1;
@@ -69,4 +70,4 @@ symbol_from a f t h =
 pub symbol_to : (a : Indexed) (f : ℕ) (qs : List ℕ) (q : ℕ) → Finds a (Some f) qs q → IsAmong (record { symbol = Some f; arguments = qs; target = q }) (filter (chosen a.symbols symbol_key a.automaton.states f) a.automaton.transitions)
 symbol_to a f qs q h =
     let t : Transition = record { symbol = Some f; arguments = qs; target = q } in
-    filter_in (chosen a.symbols symbol_key a.automaton.states f) t a.automaton.transitions (contains_in t a.automaton.transitions h.listed) (and_from (counts a.symbols a.automaton.states t) (nat_eq f f) (counts_has a (Some f) qs q h) (eq-eqb f f refl))
+    filter_in (chosen a.symbols symbol_key a.automaton.states f) t a.automaton.transitions (among_contained t a.automaton.transitions h.listed) (and_from (counts a.symbols a.automaton.states t) (nat_eq f f) (counts_has a (Some f) qs q h) (eq-eqb f f refl))

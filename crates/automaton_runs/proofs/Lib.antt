@@ -1,4 +1,3 @@
-pub mod Members
 pub mod Comparisons
 pub mod Counted
 pub mod Arguments

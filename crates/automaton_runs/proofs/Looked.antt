@@ -2,11 +2,12 @@
 use Rattle.std.proofs.Common.{◌≡◌, ℕ, true, eq-eqb, List, Option, Some, refl, ap, ◌∙◌}
 use Rattle.std.specs.List.{filter}
 use Rattle.std.proofs.lemmas.Bool.{and_parts, and_from}
+use Rattle.number_sets.proofs.Members.{in_filter, filter_in}
 use Rattle.certificates.specs.Evidence.{Transition}
 use Rattle.automaton_runs.specs.Counted.{Indexed, Finds}
 use Rattle.rewriting.specs.Lists.{IsAmong}
+use Rattle.rewriting.proofs.Members.{among_contained}
 use Rattle.automaton_runs.specs.Counting.{Key, counts, key_of, is_number, chosen}
-use Rattle.automaton_runs.proofs.Members.{contains_in, in_filter, filter_in}
 use Rattle.automaton_runs.proofs.Counted.{has_from, counts_has, number_is}
 
 module _ (a : Indexed) (key : Key) (k : ℕ) where
@@ -22,4 +23,4 @@ module _ (a : Indexed) (key : Key) (k : ℕ) where
   looked_to s qs q h e =
       let t : Transition = record { symbol = s; arguments = qs; target = q } in
       let same : is_number (key_of key t) k ≡ true = ap (λ (o : Option ℕ). is_number o k) e ∙ eq-eqb k k refl in
-      filter_in (chosen a.symbols key a.automaton.states k) t a.automaton.transitions (contains_in t a.automaton.transitions h.listed) (and_from (counts a.symbols a.automaton.states t) (is_number (key_of key t) k) (counts_has a s qs q h) same)
+      filter_in (chosen a.symbols key a.automaton.states k) t a.automaton.transitions (among_contained t a.automaton.transitions h.listed) (and_from (counts a.symbols a.automaton.states t) (is_number (key_of key t) k) (counts_has a s qs q h) same)

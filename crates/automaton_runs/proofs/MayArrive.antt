@@ -4,6 +4,7 @@ use Rattle.std.specs.List.{AllZip}
 use Rattle.std.proofs.lemmas.Bool.{cases_lt}
 use Rattle.std.proofs.lemmas.Option.{slice_get_within, slice_get-get_or, same_Some}
 use Rattle.std.proofs.lemmas.List.{get_or_append_left, get_or-append-add}
+use Rattle.general_lemmas.proofs.Places.{slice_get-append_left, slice_get-append_right}
 use Rattle.rewriting.specs.Terms as math
 use Rattle.rewriting.specs.Positions.{IsBefore}
 use Rattle.automata.specs.Runs.{Reach}
@@ -23,7 +24,6 @@ use Rattle.automaton_runs.specs.Reached.{IsOneOf, IsReachedFrom}
 use Rattle.automaton_runs.proofs.NumberedLeaves.{AreGiven, linear_reach}
 use Rattle.automaton_runs.proofs.Evaluated.{reach_related}
 use Rattle.automaton_runs.proofs.Shared.{one_of_all}
-use Rattle.automaton_runs.proofs.BatchParts.{front_place, behind_place}
 use Rattle.rewriting.proofs.Members.{among_place, at_place, place_among}
 use Rattle.automaton_runs.proofs.ChoiceLists.{in_choices, of_choices, of_long, ordered_choices, pair_at}
 use Rattle.automaton_runs.proofs.Ordered.{IsOrdered, ordered_append, pairs_from_ordered}
@@ -85,13 +85,13 @@ module _ (fronts pools : List (List ℕ)) (rs made : List NumberRelation) (all :
       in_front i l =
           let r = at_place rs i (omega arith) in
           let state : slice_get front i ≡ Some (get_or (front ++ cs) i 0) = slice_get-get_or front i 0 l ∙ ap Some (sym (get_or_append_left front cs 0 i l)) in
-          (r.0, front_place rs made i (omega arith) ∙ r.1, (each i r.0 r.1 (get_or (front ++ cs) i 0) j).1 (front, at, state))
+          (r.0, slice_get-append_left rs made i (omega arith) ∙ r.1, (each i r.0 r.1 (get_or (front ++ cs) i 0) j).1 (front, at, state))
 
       behind : (m : ℕ) → m < length cs → MayHave (rs ++ made) j (length rs + m) (get_or (front ++ cs) (length front + m) 0)
       behind m l =
           let pool = beside (λ qs c. IsAmong c qs) pools cs m (get_or cs m 0) of (slice_get-get_or cs m 0 l) in
           let r = facing (IsAnywhere all) pools made m pool.0 anywhere pool.1 in
-          subst (MayHave (rs ++ made) j (length rs + m)) (sym (get_or-append-add front cs m 0)) (r.0, behind_place rs made m ∙ r.1, r.2 (get_or cs m 0) j pool.2 number)
+          subst (MayHave (rs ++ made) j (length rs + m)) (sym (get_or-append-add front cs m 0)) (r.0, slice_get-append_right rs made m ∙ r.1, r.2 (get_or cs m 0) j pool.2 number)
 
   pub possible_are : (a : Indexed) (t u : math.Term) (start : ℕ) (places : List NumberRelation) (r : NumberRelation) (set : List ℕ) → places ≡ rs ++ made → u ≡ linear 0 t → length rs ≡ start → ((k : ℕ) → IsAmong k all ↔ (k < length fronts))
       → ((front : List ℕ) → IsAmong front fronts → length front ≡ start) → MayReach a all places u r → ((p q : ℕ) → Relates r p q → IsAmong q set) → ArePossible a t fronts pools set

@@ -11,10 +11,6 @@ use Rattle.number_sets.specs.Sets.{below}
 use Rattle.automaton_runs.specs.Linear.{linear, linear_all}
 use Rattle.automaton_runs.proofs.Arguments.{choice_length}
 
-pub length_below : (n : ℕ) → length (below n) ≡ n
-length_below zero = refl
-length_below (suc n) = omega (arith, length-append (below n) (n ∷ []), length_below n)
-
 -- n numbers from i on
 abbrev run : ℕ → ℕ → List ℕ
 run i zero = []

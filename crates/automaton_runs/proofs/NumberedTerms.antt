@@ -1,6 +1,7 @@
 -- A term with its occurrences numbered, argument by argument, and the states that it reaches.
 use Rattle.std.proofs.Common.{◌≡◌, ◌↔◌, ℕ, zero, suc, ◌+◌, ◌<◌, ◌≤◌, List, [], ◌∷◌, ◌++◌, length, get_or, take, drop, Vec, Global, refl, ap, ap₂, sym, subst, ◌∙◌, arith, append_assoc, length-append}
-use Rattle.std.proofs.lemmas.List.{take_more, take-append-drop}
+use Rattle.std.proofs.lemmas.List.{take-append-drop}
+use Rattle.general_lemmas.proofs.Places.{take_read}
 use Rattle.rewriting.specs.Terms as math
 use Rattle.rewriting.specs.Terms.{size, size_all}
 use Rattle.rewriting.specs.Variables.{variable_occurrences, variable_occurrences_of}
@@ -47,13 +48,9 @@ leaves_joined : (ts us : List Term) → variable_occurrences_of (views (ts ++ us
 leaves_joined [] us = refl
 leaves_joined (t ∷ ts) us = ap (λ (l : List ℕ). variable_occurrences (view t) ++ l) (leaves_joined ts us) ∙ sym (append_assoc (variable_occurrences (view t)) (variable_occurrences_of (views ts)) (variable_occurrences_of (views us)))
 
--- the arguments up to a place, and the one there
-front_is : (ts : List Term) (i : ℕ) (u : Term) → i < length ts → u ≡ get_or ts i u → take (i + 1) ts ≡ take i ts ++ u ∷ []
-front_is ts i u inside is = take_more ts i u inside ∙ ap (λ (w : Term). take i ts ++ w ∷ []) (sym is)
-
 pub count_more : (ts : List Term) (i : ℕ) (u : Term) → i < length ts → u ≡ get_or ts i u → length (variable_occurrences_of (views (take (i + 1) ts))) ≡ length (variable_occurrences_of (views (take i ts))) + length (variable_occurrences (view u))
 count_more ts i u inside is =
-    let joined : variable_occurrences_of (views (take (i + 1) ts)) ≡ variable_occurrences_of (views (take i ts)) ++ variable_occurrences_of (views (u ∷ [])) = ap (λ (l : List Term). variable_occurrences_of (views l)) (front_is ts i u inside is) ∙ leaves_joined (take i ts) (u ∷ []) in
+    let joined : variable_occurrences_of (views (take (i + 1) ts)) ≡ variable_occurrences_of (views (take i ts)) ++ variable_occurrences_of (views (u ∷ [])) = ap (λ (l : List Term). variable_occurrences_of (views l)) (take_read ts i u inside is) ∙ leaves_joined (take i ts) (u ∷ []) in
     let long = ap length joined in
     omega (arith, length-append (variable_occurrences_of (views (take i ts))) (variable_occurrences_of (views (u ∷ []))), length-append (variable_occurrences (view u)) [])
 
@@ -81,7 +78,7 @@ numbered_push n (t ∷ ts) (m ∷ ms) u v e h =
 pub numbered_more : (n next i : ℕ) (ts made new : List Term) (u v : Term) → i < length ts → u ≡ get_or ts i u → next ≡ n + length (variable_occurrences_of (views (take i ts))) → new ≡ made ++ v ∷ []
     → views made ≡ linear_all n (views (take i ts)) → view v ≡ linear next (view u) → views new ≡ linear_all n (views (take (i + 1) ts))
 numbered_more n next i ts made new u v inside is place put e h =
-    ap views put ∙ numbered_push n (take i ts) made u v e (h ∙ ap (λ (k : ℕ). linear k (view u)) place) ∙ ap (λ (l : List Term). linear_all n (views l)) (sym (front_is ts i u inside is))
+    ap views put ∙ numbered_push n (take i ts) made u v e (h ∙ ap (λ (k : ℕ). linear k (view u)) place) ∙ ap (λ (l : List Term). linear_all n (views l)) (sym (take_read ts i u inside is))
 
 pub numbered_symbol : (n : ℕ) (t : Term) (f : ℕ) (v made : Vec Term Global) (ts : List Term) → t ≡ Fun f v → ts ≡ v.items → views made.items ≡ linear_all n (views ts) → view (Fun f made) ≡ linear n (view t)
 numbered_symbol n t f v made ts is same e =

@@ -3,7 +3,7 @@ use Rattle.std.proofs.Common.{◌≡◌, ℕ, zero, suc, ◌<◌, List, [], ◌�
 use Rattle.std.specs.List.{AllPairs}
 use Rattle.rewriting.specs.Lists.{IsAmong}
 use Rattle.rewriting.proofs.Lists.{among_either}
-use Rattle.automaton_runs.proofs.Members.{contains_in, in_contains}
+use Rattle.rewriting.proofs.Members.{among_contained, contained_among}
 
 -- each item stands in the relation to all later ones
 abbrev pub IsOrdered : {X : Type 0} → (X → X → Type 0) → List X → Type 0
@@ -19,7 +19,7 @@ pub ordered_from_pairs : {X : Type 0} (R : X → X → Type 0) (xs : List X) →
 ordered_from_pairs R [] h = tt
 ordered_from_pairs {X = X} R (x ∷ xs) h = (
   λ y k.
-      let c = in_contains y xs k in
+      let c = contained_among y xs k in
       let place : suc c.0 < length (x ∷ xs) = let low = c.1 in omega arith in
       subst (λ (z : X). R x z) c.2 (h 0 (suc c.0) y (omega arith) place),
   ordered_from_pairs R xs (λ i j d l k. h (suc i) (suc j) d (omega arith) (omega arith)),
@@ -28,7 +28,7 @@ ordered_from_pairs {X = X} R (x ∷ xs) h = (
 pub pairs_from_ordered : {X : Type 0} (R : X → X → Type 0) (xs : List X) → IsOrdered R xs → AllPairs R xs
 pairs_from_ordered R [] o i j d l h = absurd (omega arith)
 pairs_from_ordered R (x ∷ xs) o zero zero d l h = absurd (omega arith)
-pairs_from_ordered R (x ∷ xs) o zero (suc j) d l h = o.0 (get_or xs j d) (contains_in (get_or xs j d) xs (j, omega arith, at xs j d (omega arith)))
+pairs_from_ordered R (x ∷ xs) o zero (suc j) d l h = o.0 (get_or xs j d) (among_contained (get_or xs j d) xs (j, omega arith, at xs j d (omega arith)))
   where
     at : {Y : Type 0} (ys : List Y) (m : ℕ) (e : Y) → m < length ys → get_or ys m (get_or ys m e) ≡ get_or ys m e
     at [] m e k = refl

@@ -1,6 +1,6 @@
 -- The states of pools: those that stand at a place in transitions, in order; and by no other does a term arrive.
 use Rattle.std.proofs.Common.{◌≡◌, ◌↔◌, ◌⊎◌, inl, inr, ⊎_elim, ℕ, zero, suc, ◌+◌, ◌<◌, Bool, true, List, [], ◌∷◌, ◌++◌, filter, length, AllPairs, All, Some, slice_get, refl, ap, sym, subst, ◌∙◌, length-append, arith}
-use Rattle.std.proofs.lemmas.Bool.{false≢true, or_cases}
+use Rattle.std.proofs.lemmas.Bool.{false≢true, or_cases, or_right, or_left}
 use Rattle.std.proofs.lemmas.List.Elements.{All-head}
 use Rattle.std.proofs.lemmas.Option.{get_or_from_slice_get, slice_get_within}
 use Rattle.rewriting.specs.Terms.{Term, Terms, var, app, nil, cons}
@@ -11,14 +11,12 @@ use Rattle.certificates.specs.Evidence.{Transition}
 use Rattle.automata.specs.Runs.{ReachBy, ReachAllBy}
 use Rattle.automata.specs.Closed.{IsChoice}
 use Rattle.number_sets.specs.Sets.{below}
-use Rattle.number_sets.proofs.Members.{in_below, of_below, below_ascending, filtered_ascending, same_numbers}
+use Rattle.number_sets.proofs.Members.{in_below, of_below, below_ascending, filtered_ascending, same_numbers, in_filter, filter_in}
 use Rattle.automaton_runs.specs.Counted.{Indexed, Finds}
 use Rattle.automaton_runs.specs.Counting.{is_number}
 use Rattle.automaton_runs.specs.Choices.{AreOf}
 use Rattle.automaton_runs.specs.Pools.{stands_in, with_symbol, states_at, pools_at, pools_from, pools_of}
 use Rattle.automaton_runs.proofs.Counted.{number_is, is_the_number, symbol_from, symbol_to}
-use Rattle.automaton_runs.proofs.Members.{in_filter, filter_in}
-use Rattle.automaton_runs.proofs.Twins.{or_first, or_second}
 use Rattle.automaton_runs.proofs.ChoiceLists.{of_both}
 
 -- a transition has the state at the place
@@ -30,8 +28,8 @@ stands_from place q (t ∷ ts) e =
 stands_to : (place q : ℕ) (ts : List Transition) (t : Transition) → IsAmong t ts → slice_get t.arguments place ≡ Some q → stands_in place q ts ≡ true
 stands_to place q [] t h e = absurd h
 stands_to place q (u ∷ ts) t (inl same) e =
-    or_first (is_number (slice_get u.arguments place) q) (stands_in place q ts) (is_the_number (slice_get u.arguments place) q (ap (λ (v : Transition). slice_get v.arguments place) (sym same) ∙ e))
-stands_to place q (u ∷ ts) t (inr h) e = or_second (is_number (slice_get u.arguments place) q) (stands_in place q ts) (stands_to place q ts t h e)
+    or_left (is_number (slice_get u.arguments place) q) (stands_in place q ts) (is_the_number (slice_get u.arguments place) q (ap (λ (v : Transition). slice_get v.arguments place) (sym same) ∙ e))
+stands_to place q (u ∷ ts) t (inr h) e = or_right (is_number (slice_get u.arguments place) q) (stands_in place q ts) (stands_to place q ts t h e)
 
 -- one more transition
 pub stands_more : (place q : ℕ) (ts : List Transition) (t : Transition) → (stands_in place q (ts ++ t ∷ []) ≡ true) ↔ ((stands_in place q ts ≡ true) ⊎ (slice_get t.arguments place ≡ Some q))

@@ -1,6 +1,6 @@
 -- The numbers that each of some relations has at the state at its place, and where they are put.
 use Rattle.std.proofs.Common.{◌≡◌, ◌↔◌, ◌⊎◌, inl, inr, ⊎_elim, ℕ, suc, ◌+◌, ◌<◌, ◌≤◌, List, [], ◌∷◌, length, get_or, take, drop, Option, None, Some, unwrap_or, Bor, refl, ap, sym, subst, ◌∙◌, arith}
-use Rattle.std.proofs.lemmas.List.{get_or-map}
+use Rattle.std.proofs.lemmas.List.{get_or-map, get_or_default}
 use Rattle.rewriting.specs.Lists.{IsAmong}
 use Rattle.number_sets.specs.Sets.{members}
 use Rattle.number_sets.specs.Relation.{Relates, row_of, members_at}
@@ -9,10 +9,7 @@ use Rattle.number_sets.specs.declared.words.NumberSet.{NumberSet}
 use Rattle.automaton_runs.specs.Reached.{AreRelated, IsOneOf}
 use Rattle.automaton_runs.specs.Relations.{relation_of, relations}
 use Rattle.automaton_runs.specs.declared.relations.Evaluated.{Evaluated}
-use Rattle.automaton_runs.proofs.Zips.{zip_length, zip_step, zip_all, zip_at, any_default}
-
-pub at_is : (qs : List ℕ) (i : ℕ) → i < length qs → get_or qs i 0 ≡ get_or qs i (get_or qs i 0)
-at_is qs i h = any_default qs i 0 (get_or qs i 0) h
+use Rattle.automaton_runs.proofs.Zips.{zip_length, zip_step, zip_all, zip_at}
 
 -- the relation at a place
 pub relation_at : (es : List Evaluated) (i : ℕ) (e : Evaluated) (r : NumberRelation) → i < length es → e ≡ get_or es i e → r ≡ relation_of e → r ≡ get_or (relations es) i r
@@ -28,7 +25,7 @@ module _ (all : List ℕ) (rs : List NumberRelation) (qs : List ℕ) where
     pub shared_more : (old new row : List ℕ) → row ≡ row_of r (get_or qs i 0) → ((k : ℕ) → IsAmong k new ↔ (IsAmong k old × IsAmong k row)) → ((k : ℕ) → IsAmong k old ↔ (IsAmong k all × AreRelated (take i rs) (take i qs) k))
         → (k : ℕ) → IsAmong k new ↔ (IsAmong k all × AreRelated (take (i + 1) rs) (take (i + 1) qs) k)
     shared_more old new row here kept front k =
-        let s = zip_step (λ r q. Relates r q k) rs qs i r (get_or qs i 0) inside (omega (arith, alike)) is (at_is qs i (omega (arith, alike))) in (
+        let s = zip_step (λ r q. Relates r q k) rs qs i r (get_or qs i 0) inside (omega (arith, alike)) is (get_or_default qs i 0 (get_or qs i 0) (omega (arith, alike))) in (
           λ h. let p = (kept k).0 h in let f = (front k).0 p.0 in (f.0, s.1 (f.1, subst (IsAmong k) here p.1)),
           λ (n, z). let p = s.0 z in (kept k).1 ((front k).1 (n, p.0), subst (IsAmong k) (sym here) p.1),
         )
@@ -39,7 +36,7 @@ module _ (all : List ℕ) (rs : List NumberRelation) (qs : List ℕ) where
 
 -- a state that one of the relations lacks
 pub not_related : (rs : List NumberRelation) (qs : List ℕ) (i : ℕ) (r : NumberRelation) → i < length rs → r ≡ get_or rs i r → (((k : ℕ) × Relates r (get_or qs i 0) k) → ⊥) → length rs ≡ length qs → (k : ℕ) → AreRelated rs qs k → ⊥
-not_related rs qs i r inside is never alike k z = never (k, zip_at (λ r q. Relates r q k) rs qs i r (get_or qs i 0) inside is (at_is qs i (omega (arith, alike))) z)
+not_related rs qs i r inside is never alike k z = never (k, zip_at (λ r q. Relates r q k) rs qs i r (get_or qs i 0) inside is (get_or_default qs i 0 (get_or qs i 0) (omega (arith, alike))) z)
 
 pub as_many : (rs : List NumberRelation) (qs : List ℕ) (k : ℕ) → AreRelated rs qs k → length rs ≡ length qs
 as_many rs qs k z = zip_length (λ r q. Relates r q k) rs qs z
@@ -68,10 +65,6 @@ module _ (r : NumberRelation) (rs : List NumberRelation) (qs : List ℕ) (n s : 
         λ h. let p = (kept k).0 h in f.0 (⊎_elim (λ o. absurd (subst (IsAmong k) none o)) (λ i. i) ((put k).0 p.0), p.1),
         λ z. let p = f.1 z in (kept k).1 ((put k).1 (inr p.0), p.1),
       )
-
-pub none_among : (xs : List ℕ) → ((k : ℕ) → IsAmong k xs → ⊥) → xs ≡ []
-none_among [] none = refl
-none_among (x ∷ xs) none = absurd (none x (inl refl))
 
 pub one_of_all : (rs : List NumberRelation) (all : List ℕ) (k : ℕ) → IsAmong k all → IsOneOf rs all k
 one_of_all [] all k h = h

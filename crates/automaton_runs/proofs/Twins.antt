@@ -1,5 +1,5 @@
 -- Transitions put into a set, and looked up there.
-use Rattle.std.proofs.Common.{◌≡◌, ◌↔◌, ◌⊎◌, ℕ, inl, inr, ⊎_elim, Bool, true, false, ◌||◌, List, [], ◌∷◌, ◌++◌, map, Option, None, Some, Ordering, nat_cmp, refl, ap, sym, subst, ◌∙◌}
+use Rattle.std.proofs.Common.{◌≡◌, ◌↔◌, ◌⊎◌, ℕ, inl, inr, ⊎_elim, Bool, true, List, [], ◌∷◌, ◌++◌, map, Option, None, Some, Ordering, nat_cmp, refl, ap, sym, subst, ◌∙◌}
 use Rattle.std.specs.List.{list_any, filter}
 use Rattle.std.specs.Ordering.{is_eq, ordering_then, match_ordering}
 use Rattle.std.specs.Option.{option_cmp}
@@ -8,9 +8,9 @@ use Rattle.std.specs.Cmp.Lexicographic.{slice_cmp}
 use Rattle.std.specs.BTreeMap.{is_at}
 use Rattle.std.specs.BTreeSet.{insert_key}
 use Rattle.std.specs.declared.cmp.Ordering.TheVariants.{Less, Equal, Greater}
-use Rattle.std.proofs.lemmas.Bool.{false≢true, or_cases}
+use Rattle.std.proofs.lemmas.Bool.{false≢true, or_cases, or_right, or_left}
 use Rattle.std.proofs.lemmas.Cmp.{tied_itself, nat_list_cmp_total}
-use Rattle.std.proofs.Common.{zero, suc, ◌≤◌, length, take, arith}
+use Rattle.number_sets.proofs.Members.{in_filter, filter_in}
 use Rattle.certificates.specs.Evidence.{Transition}
 use Rattle.cert_model.specs.EvidenceView.{transition_view}
 use Rattle.cert_model.specs.declared.evidence.Transition as cert
@@ -21,7 +21,7 @@ use Rattle.automaton_runs.specs.Counting.{counts}
 use Rattle.automaton_runs.specs.Twins.{known_view}
 use Rattle.automaton_runs.specs.declared.index.Known.{Known}
 use Rattle.rewriting.proofs.Lists.{among_left, among_right, among_either}
-use Rattle.automaton_runs.proofs.Members.{contains_in, in_filter, filter_in}
+use Rattle.rewriting.proofs.Members.{among_contained}
 use Rattle.automaton_runs.proofs.Comparisons.{same_of, equal_of, is_eq_of}
 use Rattle.automaton_runs.proofs.Counted.{has_from, counts_has}
 
@@ -79,29 +79,21 @@ pub in_inserted : (ks : List Known) (k : Known) (u : Transition) → IsAmong u (
 in_inserted [] k u = (λ h. ⊎_elim (λ f. inr f) (λ g. absurd g) h, λ h. ⊎_elim (λ g. absurd g) (λ f. inl f) h)
 in_inserted (x ∷ xs) k u = inserted k x xs (insert_key compare_known xs k) u (in_inserted xs k u) (compare_known k x) refl
 
-pub or_first : (a b : Bool) → a ≡ true → (a || b) ≡ true
-or_first true b e = refl
-or_first false b e = absurd (false≢true e)
-
-pub or_second : (a b : Bool) → b ≡ true → (a || b) ≡ true
-or_second true b e = refl
-or_second false b e = e
-
 found : (ks : List Known) (k : Known) → list_any (is_at (compare_known k)) ks ≡ true → IsAmong (known_view k) (map known_view ks)
 found [] k e = absurd (false≢true e)
 found (x ∷ xs) k e = ⊎_elim (λ h. inl (known_equal k x (is_eq_of _ h))) (λ h. inr (found xs k h)) (or_cases (is_at (compare_known k) x) (list_any (is_at (compare_known k)) xs) e)
 
 stands : (ks : List Known) (k : Known) → IsAmong (known_view k) (map known_view ks) → list_any (is_at (compare_known k)) ks ≡ true
 stands [] k h = absurd h
-stands (x ∷ xs) k (inl e) = or_first (is_at (compare_known k) x) _ (ap is_eq (known_tied k x e))
-stands (x ∷ xs) k (inr h) = or_second (is_at (compare_known k) x) _ (stands xs k h)
+stands (x ∷ xs) k (inl e) = or_left (is_at (compare_known k) x) _ (ap is_eq (known_tied k x e))
+stands (x ∷ xs) k (inr h) = or_right (is_at (compare_known k) x) _ (stands xs k h)
 
 -- a look-up answers whether the automaton has the transition
 pub looked_up : (a : Indexed) (ks : List Known) (k : Known) → ((t : Transition) → IsAmong t (map known_view ks) ↔ IsAmong t (filter (counts a.symbols a.automaton.states) a.automaton.transitions))
     → (list_any (is_at (compare_known k)) ks ≡ true) ↔ Finds a k.symbol k.args.now k.target
 looked_up a ks k same = (
   λ e. let i = in_filter (counts a.symbols a.automaton.states) (known_view k) a.automaton.transitions ((same (known_view k)).0 (found ks k e)) in has_from a (known_view k) i.0 i.1,
-  λ h. stands ks k ((same (known_view k)).1 (filter_in (counts a.symbols a.automaton.states) (known_view k) a.automaton.transitions (contains_in (known_view k) a.automaton.transitions h.listed) (counts_has a k.symbol k.args.now k.target h))),
+  λ h. stands ks k ((same (known_view k)).1 (filter_in (counts a.symbols a.automaton.states) (known_view k) a.automaton.transitions (among_contained (known_view k) a.automaton.transitions h.listed) (counts_has a k.symbol k.args.now k.target h))),
 )
 
 filter_parts : (p : Transition → Bool) (ts : List Transition) (t u : Transition) → IsAmong u (filter p (ts ++ t ∷ [])) ↔ (IsAmong u (filter p ts) ⊎ ((u ≡ t) × (p t ≡ true)))
@@ -138,9 +130,3 @@ pub fields : (k : Known) (t : cert.Transition) → k.symbol ≡ t.symbol → k.a
 unfolding made
 fields k t p s q =
     ap (λ (f : Option ℕ). made f k.args.now k.target) p ∙ ap (λ (qs : List ℕ). made t.symbol qs k.target) s ∙ ap (λ (r : ℕ). made t.symbol t.args.items r) q
-
-pub all_of : {X : Type 0} (xs : List X) (i : ℕ) → length xs ≤ i → take i xs ≡ xs
-all_of [] zero h = refl
-all_of [] (suc i) h = refl
-all_of (x ∷ xs) zero h = absurd (omega arith)
-all_of (x ∷ xs) (suc i) h = ap (λ l. x ∷ l) (all_of xs i (omega arith))

@@ -1,8 +1,7 @@
 -- Lists side by side.
 use Rattle.std.proofs.Common.{◌≡◌, ◌↔◌, ℕ, zero, suc, ◌+◌, ◌<◌, ◌≤◌, List, [], ◌∷◌, ◌++◌, length, get_or, take, drop, refl, ap, sym, subst, ◌∙◌, arith}
 use Rattle.std.specs.List.{AllZip}
-use Rattle.std.proofs.lemmas.List.{take_more}
-use Rattle.automaton_runs.proofs.Twins.{all_of}
+use Rattle.std.proofs.lemmas.List.{take_more, take_all}
 
 pub zip_length : {X Y : Type 0} (R : X → Y → Type 0) (xs : List X) (ys : List Y) → AllZip R xs ys → length xs ≡ length ys
 zip_length R [] [] z = refl
@@ -26,8 +25,8 @@ zip_step R xs ys i x y h k e f =
 
 pub zip_all : {X Y : Type 0} (R : X → Y → Type 0) (xs : List X) (ys : List Y) (i : ℕ) → length xs ≤ i → length ys ≤ i → AllZip R (take i xs) (take i ys) ↔ AllZip R xs ys
 zip_all {X = X} {Y = Y} R xs ys i h k =
-    subst (λ (l : List X). AllZip R l (take i ys) ↔ AllZip R xs ys) (sym (all_of xs i h))
-    (subst (λ (l : List Y). AllZip R xs l ↔ AllZip R xs ys) (sym (all_of ys i k)) (λ z. z, λ z. z))
+    subst (λ (l : List X). AllZip R l (take i ys) ↔ AllZip R xs ys) (sym (take_all i xs h))
+    (subst (λ (l : List Y). AllZip R xs l ↔ AllZip R xs ys) (sym (take_all i ys k)) (λ z. z, λ z. z))
 
 zip_push : {X Y : Type 0} (R : X → Y → Type 0) (xs : List X) (ys : List Y) (x : X) (y : Y) → AllZip R xs ys → R x y → AllZip R (xs ++ x ∷ []) (ys ++ y ∷ [])
 zip_push R [] [] x y z h = (h, tt)
@@ -39,11 +38,6 @@ pub zip_more : {X Y : Type 0} (R : X → Y → Type 0) (xs : List X) (ys : List 
     → AllZip R (take (i + 1) xs) (ys ++ y ∷ [])
 zip_more {X = X} R xs ys i x y inside is z h =
     subst (λ (l : List X). AllZip R l (ys ++ y ∷ [])) (sym (take_more xs i x inside ∙ ap (λ (u : X). take i xs ++ u ∷ []) (sym is))) (zip_push R (take i xs) ys x y z h)
-
-pub any_default : {X : Type 0} (xs : List X) (i : ℕ) (d e : X) → i < length xs → get_or xs i d ≡ get_or xs i e
-any_default [] i d e h = absurd (omega arith)
-any_default (y ∷ ys) zero d e h = refl
-any_default (y ∷ ys) (suc i) d e h = any_default ys i d e (omega arith)
 
 pub zip_at : {X Y : Type 0} (R : X → Y → Type 0) (xs : List X) (ys : List Y) (i : ℕ) (x : X) (y : Y) → i < length xs → x ≡ get_or xs i x → y ≡ get_or ys i y → AllZip R xs ys → R x y
 zip_at R [] ys i x y h e f z = absurd (omega arith)

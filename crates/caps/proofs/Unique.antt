@@ -29,13 +29,13 @@ first_rule_same sys t o p not_o not_p h k = go (order h.number k.number)
 pub clash_or_first : (sys : System) (t : Term) (o : Outcome) → (o ≡ clash → ⊥) → DoRulesClash sys t → IsFirstRule sys t o → ⊥
 clash_or_first sys t o not_o all h = not_o (runs_same h.outcome (all h.number h.rule h.is_rule))
 
-unifier_no_clash : (b : List Binding) → unifier b ≡ clash → ⊥
+pub unifier_no_clash : (b : List Binding) → unifier b ≡ clash → ⊥
 unifier_no_clash b e = cc
 
-large_no_clash : too_large ≡ clash → ⊥
+pub large_no_clash : too_large ≡ clash → ⊥
 large_no_clash e = cc
 
-unifier_or_large : (b : List Binding) → unifier b ≡ too_large → ⊥
+pub unifier_or_large : (b : List Binding) → unifier b ≡ too_large → ⊥
 unifier_or_large b e = cc
 
 top_same : (sys : System) (a b c d : Cap) → a ≡ b → IsTop sys a c → IsTop sys b d → c ≡ d

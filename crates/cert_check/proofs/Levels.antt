@@ -1,5 +1,5 @@
 -- What is judged of a body, behind steps, is judged of the certificate before them.
-use Rattle.std.proofs.Common.{◌≡◌, ℕ, suc, inl, inr, refl, sym, subst, List, map, ◌∙◌, Result, Ok, Err}
+use Rattle.std.proofs.Common.{◌≡◌, ℕ, suc, inl, inr, refl, sym, subst, List, map, Result, Ok, Err}
 use Rattle.std.specs.Prelude.{OnOk}
 use Rattle.rewriting.specs.Terms.{Term}
 use Rattle.rewriting.specs.Rules.{System}
@@ -22,9 +22,7 @@ use Rattle.valid_certificates.specs.Laws.{ReachesApart}
 use Rattle.valid_certificates.specs.CarriedBack.{IsPeakApart}
 use Rattle.valid_certificates.proofs.CarriedBack.{peaks_back}
 use Rattle.cert_check.specs.Kinds.{verdict_of, CanBeJudged}
-use Rattle.cert_check.specs.Answers.{StepsAnswer, VerdictAnswers, OnYes, OnNo}
-use Rattle.cert_check.specs.declared.Verdict.{Verdict}
-use Rattle.cert_check.specs.declared.Verdict.TheVariants.{Yes, No}
+use Rattle.cert_check.specs.Answers.{StepsAnswer, VerdictAnswers}
 
 -- a peak without steps before it
 pub peak_apart : (sys : System) (peak : Peak) → ReachesApart sys peak → IsPeakApart sys (peak_certificate peak)
@@ -98,23 +96,6 @@ module _ (sys : System) (c : Certificate) (last : System) (here body : Certifica
   pub level_rejected : (e : CheckError) → StepsAnswer last (map simp_view given) (Err e) → VerdictAnswers sys c (Err e)
   level_rejected e k =
       steps_rejected sys c last (map simp_view steps) body stands e (subst (λ (l : List Simp). StepsAnswer last (map simp_view l) (Err e)) same k)
-
--- the answer to the body is the answer to the certificate
-module _ (sys : System) (c : Certificate) (last : System) (body : Certificate) (h : StandsBehind sys c last body) where
-  pub judged_before : (r : Result Verdict CheckError) → VerdictAnswers last body r → VerdictAnswers sys c r
-  judged_before (Ok v) (e, k) = (e ∙ h.verdict, h.valid k)
-  judged_before (Err (Rejected reason)) k = h.rejected (rejected_view reason) k
-  judged_before (Err NoMemory) k = tt
-
-  pub yes_before : (r : Result Verdict CheckError) → OnYes r (IsConfluent last) → OnYes r (IsConfluent sys)
-  yes_before (Ok Yes) k = h.confluent k
-  yes_before (Ok No) k = tt
-  yes_before (Err e) k = tt
-
-  pub no_before : (r : Result Verdict CheckError) → OnNo r (IsPeakApart last body) → OnNo r (IsPeakApart sys c)
-  no_before (Ok Yes) k = tt
-  no_before (Ok No) k = h.apart k
-  no_before (Err e) k = tt
 
 -- how many levels of steps stand before the body
 abbrev pub levels_of : Certificate → ℕ

@@ -209,10 +209,6 @@ fits_none : (told : Bool) → is_answer told None ≡ true
 fits_none true = refl
 fits_none false = refl
 
-fits_some : (told : Bool) → is_answer told (Some told) ≡ true
-fits_some true = refl
-fits_some false = refl
-
 pub spelt_alone : (c : Certificate) (names : NameTable) (u : Uses) (bs : List Automaton) → AreShort u → HasHeading names u bs → IsWithin names c → Spells names (certificate_marks (name_of names) u bs None c) (heading_text (version_of u) names bs ++ (body_text names u c ++ codes "end\n"))
 spelt_alone c names u bs s k h = spelt_lines c names u bs None s k (fits_none (answer_of c)) h
 

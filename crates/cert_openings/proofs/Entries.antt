@@ -1,5 +1,6 @@
 -- One entry more, and the last line.
 use Rattle.std.proofs.Common.{◌≡◌, ◌⊎◌, inl, inr, ℕ, zero, suc, ◌+◌, ◌-◌, ◌≤◌, slice_get, Some, ◌<◌, cond, List, [], ◌∷◌, ◌++◌, length, refl, sym, ap, ◌∙◌, subst, codes, decimal, append_assoc, append-nil, length-append, arith}
+use Rattle.general_lemmas.proofs.Lists.{three_parts}
 use Rattle.certificates.specs.Evidence.{Automaton}
 use Rattle.certificates.specs.Certificates.{PairEntry, Certificate}
 use Rattle.cops_names.specs.NameTable.{NameTable}
@@ -216,9 +217,6 @@ whole_is_text names bytes o es at h e f = (h.version, record { spelt = (h.allowe
     by (inl q) = inl (text ∙ ap (λ (a : List ℕ). a ++ certificate_text h.version names c) q)
     by (inr q) = inr (text ∙ ap (λ (a : List ℕ). a ++ certificate_text h.version names c) (q ∙ sym (answer_is o es)))
 
-parts_behind : (a b c r : List ℕ) → a ++ (b ++ (c ++ r)) ≡ (a ++ (b ++ c)) ++ r
-parts_behind a b c r = ap (λ (w : List ℕ). a ++ w) (sym (append_assoc b c r)) ∙ sym (append_assoc a (b ++ c) r)
-
 pub text_is_whole : (names : NameTable) (bytes : List ℕ) (o : Opening) (es : List PairEntry) → IsCertificateText names bytes (certificate_for o es) → IsWhole names bytes o es
 text_is_whole names bytes o es (v, h) = by h.text
   where
@@ -243,7 +241,7 @@ text_is_whole names bytes o es (v, h) = by h.text
             is_answer = is_answer;
             rest = codes "end\n";
             text = text;
-            place = sym (ap length (text ∙ parts_behind answer heading body (codes "end\n")) ∙ length-append (answer ++ (heading ++ body)) (codes "end\n"));
+            place = sym (ap length (text ∙ three_parts answer heading body (codes "end\n")) ∙ length-append (answer ++ (heading ++ body)) (codes "end\n"));
           };
           all_used = refl;
           last = refl;

@@ -1,6 +1,7 @@
 -- Two readings of a text up to one place are one.
-use Rattle.std.proofs.Common.{◌≡◌, ◌⊎◌, inl, inr, ℕ, suc, ◌+◌, Bool, true, List, [], ◌∷◌, ◌++◌, length, Option, Some, None, refl, sym, ap, ◌∙◌, subst, codes, append_assoc, arith}
+use Rattle.std.proofs.Common.{◌≡◌, ◌⊎◌, inl, inr, ℕ, suc, ◌+◌, Bool, true, List, [], ◌∷◌, ◌++◌, length, Option, Some, None, refl, sym, ap, ◌∙◌, subst, codes, arith}
 use Rattle.std.proofs.lemmas.List.{append_cancel_left, length-append}
+use Rattle.general_lemmas.proofs.Lists.{three_parts}
 use Rattle.certificates.specs.Evidence.{Automaton}
 use Rattle.certificates.specs.Certificates.{PairEntry, Simplification, Certificate}
 use Rattle.cops_names.specs.NameTable.{NameTable}
@@ -51,9 +52,6 @@ openings_same (simplified_opening ss o) (simplified_opening ts p) es fs e =
 abbrev front_text : NameTable → Version → Certificate → List ℕ → List Automaton → List ℕ
 front_text names v c answer all = answer ++ (heading_text v names all ++ body_text names (uses_with v names all) c)
 
-regroup : (a h b r : List ℕ) → a ++ (h ++ (b ++ r)) ≡ (a ++ (h ++ b)) ++ r
-regroup a h b r = simp append_assoc
-
 same_uses : (v : Version) (names : NameTable) (all : List Automaton) → uses_with v names all ≡ numbered_in v names all
 same_uses first_version names all = refl
 same_uses second_version names all = refl
@@ -90,7 +88,7 @@ marked names bytes o es at h = by h.is_answer
         let p = spelt_alone c names u all (short_with h.version names c h.left h.are_left) (heading_with h.version names c h.left h.are_left) h.within in
         record {
           given = None;
-          text = p.text ∙ ap (λ (w : Version). heading_text w names all ++ behind) version ∙ ap (λ (a : List ℕ). a ++ (heading_text h.version names all ++ behind)) (sym e) ∙ regroup h.answer (heading_text h.version names all) (body_text names u c) (codes "end\n");
+          text = p.text ∙ ap (λ (w : Version). heading_text w names all ++ behind) version ∙ ap (λ (a : List ℕ). a ++ (heading_text h.version names all ++ behind)) (sym e) ∙ three_parts h.answer (heading_text h.version names all) (body_text names u c) (codes "end\n");
           named = p.named;
           allowed = allowed;
         }
@@ -99,7 +97,7 @@ marked names bytes o es at h = by h.is_answer
         record {
           given = Some (answer_of c);
           text = p.text ∙ ap (λ (w : Version). answer_line c ++ (heading_text w names all ++ behind)) version ∙ ap (λ (a : List ℕ). a ++ (heading_text h.version names all ++ behind)) (answer_is o es ∙ sym e)
-              ∙ regroup h.answer (heading_text h.version names all) (body_text names u c) (codes "end\n");
+              ∙ three_parts h.answer (heading_text h.version names all) (body_text names u c) (codes "end\n");
           named = p.named;
           allowed = allowed;
         }
@@ -127,7 +125,7 @@ one_reading names bytes o p es fs at h k =
     let other = k.place in
     let lengths : length h.rest ≡ length k.rest = omega (arith, place, other) in
     let cut = same_cut (front_text names h.version c h.answer bs) (front_text names k.version d k.answer ds) h.rest k.rest
-    (sym (h.text ∙ regroup h.answer (heading_text h.version names bs) (body_text names (uses_with h.version names bs) c) h.rest) ∙ (k.text ∙ regroup k.answer (heading_text k.version names ds) (body_text names (uses_with k.version names ds) d) k.rest)) lengths in
+    (sym (h.text ∙ three_parts h.answer (heading_text h.version names bs) (body_text names (uses_with h.version names bs) c) h.rest) ∙ (k.text ∙ three_parts k.answer (heading_text k.version names ds) (body_text names (uses_with k.version names ds) d) k.rest)) lengths in
     let s : Skeleton = record { names = x; uses = uses_with h.version names bs; shared = bs; answer = mine.given; certificate = c; allowed = mine.allowed; named = mine.named } in
     let t : Skeleton = record { names = x; uses = uses_with k.version names ds; shared = ds; answer = yours.given; certificate = d; allowed = yours.allowed; named = yours.named } in
     let marks = whole_same (alike_skeletons s t) (inr (closes_all s)) (inr (closes_all t)) (mine.text ∙ ap (λ (w : List ℕ). w ++ codes "end\n") cut.0 ∙ sym yours.text) in

@@ -1,5 +1,6 @@
 -- A read opening, with entries behind it, by its marks: they pass, and so do its shared automata.
-use Rattle.std.proofs.Common.{◌≡◌, ◌⊎◌, inl, inr, ℕ, suc, ◌≤◌, Bool, true, false, cond, List, [], ◌∷◌, ◌++◌, length, map, Option, Some, None, refl, sym, ap, ◌∙◌, subst, codes, append_assoc, length-append, arith}
+use Rattle.std.proofs.Common.{◌≡◌, ◌⊎◌, inl, inr, ℕ, suc, ◌≤◌, Bool, true, false, cond, List, [], ◌∷◌, ◌++◌, length, map, Option, Some, None, refl, sym, ap, ◌∙◌, subst, codes, length-append, arith}
+use Rattle.general_lemmas.proofs.Lists.{three_parts}
 use Rattle.certificates.specs.Evidence.{Automaton}
 use Rattle.certificates.specs.Certificates.{PairEntry, Certificate}
 use Rattle.cops_names.specs.NameTable.{NameTable}
@@ -127,7 +128,7 @@ new_with : (v : Version) (names : NameTable) (c : Certificate) (left : List Auto
 new_with first_version names c left h = tt
 new_with second_version names c left h = h.1
 
-told_is : (o : Opening) (es : List PairEntry) → answer_of (certificate_for o es) ≡ true
+pub told_is : (o : Opening) (es : List PairEntry) → answer_of (certificate_for o es) ≡ true
 told_is ortho_opening es = refl
 told_is (quasi_opening m) es = refl
 told_is (simplified_opening ss o) es = told_is o es
@@ -136,9 +137,6 @@ told_is (simplified_opening ss o) es = told_is o es
 given_of : (a : List ℕ) → (a ≡ []) ⊎ (a ≡ codes "YES\n") → (g : Option Bool) × (a ≡ marks_text (answer_marks g)) × (is_answer true g ≡ true) × ((names : NameTable) (ms : List Mark) (t : List ℕ) → Spells names ms t → Spells names (answer_marks g ++ ms) (a ++ t))
 given_of a (inl e) = (None, e, refl, λ names ms t s. subst (λ (b : List ℕ). Spells names ms (b ++ t)) (sym e) s)
 given_of a (inr e) = (Some true, e, refl, λ names ms t s. subst (λ (b : List ℕ). Spells names (fixed (codes "YES\n") ∷ ms) (b ++ t)) (sym e) (put_fixed names (codes "YES\n") ms t s))
-
-parts_behind : (a b c r : List ℕ) → a ++ (b ++ (c ++ r)) ≡ (a ++ (b ++ c)) ++ r
-parts_behind a b c r = ap (λ (w : List ℕ). a ++ w) (sym (append_assoc b c r)) ∙ sym (append_assoc a (b ++ c) r)
 
 pub gone : (names : NameTable) (bytes : List ℕ) (o : Opening) (es : List PairEntry) (end : ℕ) → IsRead names bytes o es end → Gone names bytes o es end
 gone names bytes o es end h =
@@ -156,7 +154,7 @@ gone names bytes o es end h =
     (spelt_body c names u g.0 (short_with v names c h.left h.are_left) (ap (λ (b : Bool). is_answer b g.0) (told_is o es) ∙ g.2) h.within)) in
     let text : bytes ≡ marks_text ms ++ h.rest =
     h.text ∙ ap (λ (w : Version). h.answer ++ (heading_text w names bs ++ (body_text names u c ++ h.rest))) (sym version)
-    ∙ parts_behind h.answer (heading_text (version_of u) names bs) (body_text names u c) h.rest ∙ ap (λ (w : List ℕ). w ++ h.rest) (sym spells.text) in
+    ∙ three_parts h.answer (heading_text (version_of u) names bs) (body_text names u c) h.rest ∙ ap (λ (w : List ℕ). w ++ h.rest) (sym spells.text) in
     let long = ap length text ∙ length-append (marks_text ms) h.rest in
     record {
       uses = u;

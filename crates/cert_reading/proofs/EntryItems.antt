@@ -3,7 +3,7 @@ use Rattle.std.proofs.Common.{◌≡◌, inl, inr, ◌+◌, ◌-◌, ℕ, suc, L
 use Rattle.cops_names.specs.NameTable.{NameTable}
 use Rattle.cert_grammar.specs.Words.{name_of}
 use Rattle.cert_grammar.specs.Marks.{CertificateCause, syntax, Naming, Mark}
-use Rattle.cert_grammar.specs.Items.{Item, Lead, keyword, leads, pair_or_end, pairs_from, entries_from, space, between, any_number}
+use Rattle.cert_grammar.specs.Items.{Item, Lead, keyword, leads, pair_or_end, pairs_from, space, between, any_number}
 use Rattle.cert_grammar.specs.Versions.{Version, first_version, second_version, HasMeasure}
 use Rattle.certificates.specs.Certificates.{MeasureCertificate, linear_measure, precedence_measure}
 use Rattle.cert_grammar.specs.Marks.{is_few, entries}
@@ -105,16 +105,6 @@ measure_where second_version (linear_measure es) has h some p x = symbol_where s
 measure_where second_version (precedence_measure order) has h some p x = symbol_where second_version (suc (length order)) _ _ _ (head_at (suc (length order))) h some p x
 
 -- ---- in the first version
-
-module _ (names : NameTable) (end n : ℕ) (b : List ℕ) (begins : BeginsEntry b) where
-  same_here : IsSame first_version (entries_from first_version n) b
-  same_here = symbol_same first_version n _ _ _ (entry_at first_version n) b begins
-
-  pub stopped_same : (P : Place) (sa : Shared) (t : Option (CertificateCause × ℕ)) → P (entries_from first_version n ∷ []) b → IsStoppedWhere P names end (pairs_from first_version 1 ∷ []) b sa t → IsStoppedWhere P names end (entries_from first_version n ∷ []) b sa t
-  stopped_same P sa t p x = symbol_stopped names end first_version (entries_from first_version n) b same_here P sa t p x
-
-  pub run_same : (f : Naming → List Mark) (to : List Item) (r : List ℕ) (sa sb : Shared) → (f (name_of names) ≡ [] → ⊥) → Run names end (pairs_from first_version 1 ∷ []) f to b r sa sb → Run names end (entries_from first_version n ∷ []) f to b r sa sb
-  run_same f to r sa sb some x = symbol_run names end first_version (entries_from first_version n) b same_here f to r sa sb some x
 
 pub last_some_two : (ms : List Mark) (m n : Mark) → ms ++ m ∷ n ∷ [] ≡ [] → ⊥
 last_some_two [] m n e = cc

@@ -1,9 +1,8 @@
 -- The first words stand before the entries.
-use Rattle.std.proofs.Common.{ℕ, Bool, List, [], ◌∷◌, ◌++◌, Option}
+use Rattle.std.proofs.Common.{ℕ, Bool, List, [], ◌∷◌, Option}
 use Rattle.cert_grammar.specs.Versions.{Version}
-use Rattle.cert_grammar.specs.Items.{Item, opening, heading, simplified, body}
+use Rattle.cert_grammar.specs.Items.{opening, heading, simplified, body}
 use Rattle.cert_reading.specs.Stops.{BeforeEntries}
-use Rattle.cert_reading.proofs.Stopping.{low_unopened}
 use Rattle.cert_reading.proofs.Opening.{other_item}
 
 pub opening_place : (q : List ℕ) → BeforeEntries (opening ∷ []) q
@@ -17,7 +16,3 @@ body_place w given q = λ v. other_item v (body w given) q (λ e. cc) (λ m e. c
 
 pub simplified_place : (given : Option Bool) (q : List ℕ) → BeforeEntries (simplified given ∷ []) q
 simplified_place given q = λ v. other_item v (simplified given) q (λ e. cc) (λ m e. cc) (λ m e. cc) (λ m e. cc)
-
--- and what stands above a body
-pub above_body : (w : Version) (given : Option Bool) (i : Item) (m : List Item) (q : List ℕ) → BeforeEntries (i ∷ (m ++ body w given ∷ [])) q
-above_body w given i m q = λ v. low_unopened v (body w given) (λ h. let e = h.1 in cc) i m q

@@ -7,7 +7,7 @@ use Rattle.cert_grammar.specs.Words.{largest, name_of, IsSpelt, AreSpelt}
 use Rattle.cert_grammar.specs.EvidenceText.{AreStates, IsHead, AreTransitions, IsAutomaton}
 use Rattle.cert_grammar.specs.Marks.{Counted, has_arity, is_few, Mark, fixed, word, symbol, behind, closed}
 use Rattle.cert_grammar.specs.WordMarks.{is_node, number_for, term_marks, arguments_marks, further_marks}
-use Rattle.cert_grammar.specs.CertificateMarks.{state, accepting_marks, further_states_marks, states_marks, head_marks, transitions_marks, automaton_marks}
+use Rattle.cert_grammar.specs.CertificateMarks.{state, accepting_marks, states_marks, head_marks, transitions_marks, automaton_marks}
 use Rattle.cert_grammar.specs.Refusals.{HaveNames, Pass}
 use Rattle.cert_grammar.specs.Items.{Lead, text, check, at_once, keyword, numeral_lead, position_lead, variable_lead, name_lead, leads}
 use Rattle.cert_grammar.specs.FirstRefusal.{is_there, mark_of, taken, Left}
@@ -16,6 +16,7 @@ use Rattle.cert_grammar.proofs.ScanWords.{name_is}
 use Rattle.cert_laws.proofs.Along.{have_append}
 use Rattle.cert_laws.proofs.Paths.{first_sound, found_there}
 use Rattle.cert_laws.proofs.PassTerms.{range_met, few_met, pass_append, symbol_met, arity_met, node_passed}
+use Rattle.cert_laws.proofs.PassEvidence.{accepting_met, states_met}
 use Rattle.cert_words.specs.Walks.{Walks, tagged, AreFound, HasNoStates, AreWithoutStates}
 
 -- ---- names that are walked over are identifiers
@@ -107,24 +108,12 @@ mutual
 
 -- ---- automata
 
-accepting_within : (qs : List ℕ) (names : NameTable) (bound : ℕ) → Pass names (accepting_marks bound qs) → AreStates bound qs
-accepting_within [] names bound h = tt
-accepting_within (q ∷ qs) names bound h = ((range_met names 0 0 bound q [] h.1.0).1, accepting_within qs names bound h.1.1)
-
-further_within_states : (qs : List ℕ) (names : NameTable) (bound : ℕ) → Pass names (further_states_marks bound qs) → AreStates bound qs
-further_within_states [] names bound h = tt
-further_within_states (q ∷ qs) names bound h = ((range_met names 0 0 bound q [] h.1.0).1, further_within_states qs names bound h.1.1)
-
-states_within : (qs : List ℕ) (names : NameTable) (bound : ℕ) → Pass names (states_marks bound qs) → AreStates bound qs
-states_within [] names bound h = tt
-states_within (q ∷ qs) names bound h = ((range_met names 0 0 bound q [] h.1.0).1, further_within_states qs names bound h.1.1)
-
 head_within : (g : Option ℕ) (names : NameTable) (bound : ℕ) (qs : List ℕ) → HasNoStates g qs → HaveNames (head_marks (name_of names) bound g qs) → Pass names (head_marks (name_of names) bound g qs) → AreFound names (head_marks tagged bound g qs) → IsHead names g qs × AreStates bound qs
 head_within None names bound qs e i h f = (e, subst (AreStates bound) (sym e) tt)
 head_within (Some g) names bound qs e i h f =
     let name = name_of names g in
     let parts = pass_append names (states_marks bound qs) (behind (has_arity name (length qs)) ∷ []) h.1 in
-    ((name, record { named = found_is_named names name g f.0; identifier = i.0; found = f.0; arity = arity_met names name (length qs) g f.0 parts.1.0 }), states_within qs names bound parts.0)
+    ((name, record { named = found_is_named names name g f.0; identifier = i.0; found = f.0; arity = arity_met names name (length qs) g f.0 parts.1.0 }), states_met qs names bound parts.0)
 
 abbrev target_marks : ℕ → ℕ → List Mark
 target_marks bound q = fixed (codes " ") ∷ state bound q ∷ fixed (codes "\n") ∷ []
@@ -149,7 +138,7 @@ automaton_within a names e i h f =
     record {
       some = bounds.0;
       few = (few_met names Counted.states a.states [] bounds.2).0;
-      accepting = accepting_within a.accepting names a.states parts.0;
+      accepting = accepting_met a.accepting names a.states parts.0;
       number = (few_met names Counted.transitions (length a.transitions) [] (range_met names 0 0 (suc largest) (length a.transitions) (is_few Counted.transitions (length a.transitions) ∷ []) parts.1.1.0).2).0;
       transitions = transitions_within a.transitions names a.states e names_in.1 parts.1.1.1.1 known.1;
     }

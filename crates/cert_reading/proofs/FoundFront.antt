@@ -1,6 +1,8 @@
 -- What is read along the marks of an opening and of entries is read up to its place, in either version: the shared automata
 -- that it uses come first among all, and the greatest number of a use tells how many they are.
-use Rattle.std.proofs.Common.{◌≡◌, ◌⊎◌, inl, inr, ℕ, zero, suc, ◌+◌, ◌≤◌, Bool, true, false, List, [], ◌∷◌, ◌++◌, length, map, drop, Option, Some, None, codes, refl, sym, ap, ◌∙◌, subst, arith, append_assoc}
+use Rattle.std.proofs.Common.{◌≡◌, ◌⊎◌, inl, inr, ℕ, zero, suc, ◌+◌, ◌≤◌, Bool, true, false, List, [], ◌∷◌, ◌++◌, length, map, drop, Option, Some, None, codes, refl, sym, ap, ◌∙◌, subst, arith}
+use Rattle.std.proofs.lemmas.List.{drop_at}
+use Rattle.general_lemmas.proofs.Lists.{three_parts}
 use Rattle.certificates.specs.Evidence.{Automaton}
 use Rattle.certificates.specs.Certificates.{PairEntry, Certificate}
 use Rattle.cops_names.specs.NameTable.{NameTable}
@@ -23,9 +25,9 @@ use Rattle.cert_sharing.proofs.FirstUses.{greatest, InOrder, texts_length, pick,
 use Rattle.cert_sharing.proofs.UseMarks.{state, AreStill, still_marks, PassUses, counts_body, pass_split, behind_both, marked_texts, automata_behind, automata_new}
 use Rattle.cert_sharing.proofs.PassShares.{uses_order, uses_light, uses_range, pick_unfolds, InRange}
 use Rattle.cert_sharing.proofs.SpeltShares.{place_most, marked_are}
-use Rattle.cert_openings.specs.Openings.{Opening, ortho_opening, quasi_opening, simplified_opening, certificate_for, uses_with, AreLeft}
+use Rattle.cert_openings.specs.Openings.{Opening, certificate_for, uses_with, AreLeft}
 use Rattle.cert_openings.specs.Laws.{IsReadTo}
-use Rattle.cert_openings.proofs.Opened.{front_marks}
+use Rattle.cert_openings.proofs.Opened.{front_marks, same_version, told_is}
 use Rattle.cert_reading.specs.Shared.{ArePlainAutomata}
 use Rattle.cert_reading.specs.Plain.{IsPlainBy}
 use Rattle.cert_reading.specs.Whole.{CanShare}
@@ -63,12 +65,6 @@ front_met x f bs given c b used h e =
     }
 
 -- ---- the automata that are left, and how uses are written
-
-drop_front : {A : Type 0} (a b : List A) (n : ℕ) → length a ≡ n → drop n (a ++ b) ≡ b
-drop_front [] b zero e = refl
-drop_front [] b (suc n) e = absurd cc
-drop_front (x ∷ a) b zero e = absurd cc
-drop_front (x ∷ a) b (suc n) e = drop_front a b n (let q : suc (length a) ≡ suc n = e in omega arith)
 
 record Front (v : Version) (names : NameTable) (all : List Automaton) (c : Certificate) (left : List Automaton) : Type 0 where
   within : IsWithin names c
@@ -122,7 +118,7 @@ second_front c names all given used plain plain_all along met =
     shared_is = ap (with_new names []) (sym tells) ∙ there.is
 
     left_is : drop used all ≡ there.left
-    left_is = ap (drop used) there.parts ∙ drop_front there.now there.left used (there.size ∙ met.most)
+    left_is = ap (drop used) there.parts ∙ drop_at there.now there.left used (there.size ∙ met.most)
 
     whole : shared_by names c ++ drop used all ≡ all
     whole = ap (λ (l : List Automaton). l ++ drop used all) shared_is ∙ ap (λ (l : List Automaton). there.now ++ l) left_is ∙ sym there.parts
@@ -152,11 +148,6 @@ first_front c names all given used none plain along = record {
     nothing (suc n) = refl
 
 -- ---- the text
-
-answer_yes : (o : Opening) (es : List PairEntry) → answer_of (certificate_for o es) ≡ true
-answer_yes ortho_opening es = refl
-answer_yes (quasi_opening m) es = refl
-answer_yes (simplified_opening ss o) es = answer_yes o es
 
 record FrontText (names : NameTable) (u : Uses) (all : List Automaton) (given : Option Bool) (c : Certificate) : Type 0 where
   answer : List ℕ
@@ -194,13 +185,6 @@ front_of : (v : Version) (c : Certificate) (names : NameTable) (all : List Autom
 front_of first_version c names all given used none p q a b h e = first_front c names all given used none p a
 front_of second_version c names all given used share p q a b h e = second_front c names all given used p q a (front_met (name_of names) (number_in names all) all given c b used h e)
 
-version_is : (v : Version) (names : NameTable) (all : List Automaton) → version_of (uses_with v names all) ≡ v
-version_is first_version names all = refl
-version_is second_version names all = refl
-
-regroup : (a h b r : List ℕ) → (a ++ (h ++ b)) ++ r ≡ a ++ (h ++ (b ++ r))
-regroup a h b r = append_assoc a (h ++ b) r ∙ ap (λ (w : List ℕ). a ++ w) (append_assoc h b r)
-
 pub front_found : (v : Version) (all : List Automaton) (names : NameTable) (bytes left : List ℕ) (given : Option Bool) (o : Opening) (es : List PairEntry) (at used : ℕ) → CanShare v all → IsPlainBy v all (certificate_for o es) → ArePlainAutomata all
     → Along names (λ u. front_marks u (uses_with v names all) all given (certificate_for o es)) → PassShares nothing_shared (front_marks (name_of names) (uses_with v names all) all given (certificate_for o es))
     → (behind_marks (front_marks (name_of names) (uses_with v names all) all given (certificate_for o es)) nothing_shared).used ≡ used
@@ -216,7 +200,7 @@ front_found v all names bytes left given o es at used share p q a h e text place
         answer = t.answer;
         is_answer = t.is_answer;
         rest = left;
-        text = text ∙ ap (λ (w : List ℕ). w ++ left) same ∙ regroup t.answer (heading_text v names now) (body_text names (uses_with v names now) c) left;
+        text = text ∙ ap (λ (w : List ℕ). w ++ left) same ∙ sym (three_parts t.answer (heading_text v names now) (body_text names (uses_with v names now) c) left);
         place = place;
       };
       is_version = refl;
@@ -242,10 +226,10 @@ front_found v all names bytes left given o es at used share p q a h e text place
         front_of v (certificate_for o es) names all given used share p q rest b.0 b.1.0 b.1.1
 
     t : FrontText names (uses_with v names all) all given (certificate_for o es)
-    t = front_text names (uses_with v names all) all given (certificate_for o es) k.short k.heading (answer_yes o es) k.within (pass_append names (heading_marks (name_of names) (uses_with v names all) all) (body_marks (name_of names) (uses_with v names all) given (certificate_for o es)) rest.passed).1
+    t = front_text names (uses_with v names all) all given (certificate_for o es) k.short k.heading (told_is o es) k.within (pass_append names (heading_marks (name_of names) (uses_with v names all) all) (body_marks (name_of names) (uses_with v names all) given (certificate_for o es)) rest.passed).1
 
     same : marks_text (front_marks (name_of names) (uses_with v names all) all given (certificate_for o es)) ≡ t.answer ++ (heading_text v names (shared_by names (certificate_for o es) ++ drop used all) ++ body_text names (uses_with v names (shared_by names (certificate_for o es) ++ drop used all)) (certificate_for o es))
     same =
-        t.text ∙ ap (λ (w : Version). t.answer ++ (heading_text w names all ++ body_text names (uses_with v names all) (certificate_for o es))) (version_is v names all)
+        t.text ∙ ap (λ (w : Version). t.answer ++ (heading_text w names all ++ body_text names (uses_with v names all) (certificate_for o es))) (same_version v names all)
         ∙ ap (λ (w : List ℕ). t.answer ++ (w ++ body_text names (uses_with v names all) (certificate_for o es))) k.texts.0
         ∙ ap (λ (w : List ℕ). t.answer ++ (heading_text v names (shared_by names (certificate_for o es) ++ drop used all) ++ w)) k.texts.1

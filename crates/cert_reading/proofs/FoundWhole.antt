@@ -6,7 +6,7 @@ use Rattle.certificates.specs.Certificates.{PairEntry, LinearEntry, MeasureCerti
 use Rattle.cops_names.specs.NameTable.{NameTable}
 use Rattle.cert_grammar.specs.Words.{largest, name_of}
 use Rattle.cert_grammar.specs.Versions.{Version, first_version, second_version, Uses, in_full, IsOfVersion}
-use Rattle.cert_grammar.specs.EvidenceText.{AreAtMost, IsAutomaton, IsInfeasibility, IsEvidence, ArePairs}
+use Rattle.cert_grammar.specs.EvidenceText.{IsAutomaton, IsInfeasibility, IsEvidence, ArePairs}
 use Rattle.cert_grammar.specs.SharedText.{AreAutomata}
 use Rattle.cert_grammar.specs.CertificateText.{IsMeasured, AreEntries, AreHeads, IsMeasure, AreRedexEntries, IsApart, AreSimplifications, IsWithin, IsVersionText}
 use Rattle.cert_grammar.specs.Marks as marks
@@ -19,6 +19,7 @@ use Rattle.cert_laws.proofs.Along.{have_append}
 use Rattle.cert_laws.proofs.PassTerms.{first_met, range_met, few_met, number_met, places_met, pass_append}
 use Rattle.cert_laws.proofs.PassSteps.{derivation_met}
 use Rattle.cert_laws.proofs.SpeltWhole.{answer_of, spelt_alone, spelt_answered}
+use Rattle.cert_laws.proofs.PassWhole.{coefficients_met}
 use Rattle.cert_sharing.proofs.FirstUses.{pick}
 use Rattle.cert_sharing.proofs.PassShares.{pick_is}
 use Rattle.cert_openings.specs.Openings.{uses_with}
@@ -46,16 +47,6 @@ record Counted (most n count : ℕ) (Are : Type 0) : Type 0 where
   are : Are
   few : n + count ≤ suc most
 
-coefficients_within : (ks : List ℕ) (names : NameTable) (n : ℕ) → n ≤ 201 → Pass names (coefficients_marks n ks) → (n + length ks ≤ 201) × AreAtMost largest ks
-coefficients_within [] names n le h = (omega arith, tt)
-coefficients_within (k ∷ ks) names n le h =
-    let r = range_met names 0 0 (suc largest) k (is_few marks.numbers n ∷ []) h.1.0 in
-    let this : n ≤ 200 = (few_met names marks.numbers n [] r.2).0 in
-    let others = coefficients_within ks names (suc n) (omega arith) h.1.1 in
-    let few = others.0 in
-    let small = r.1 in
-    ((let q : n + suc (length ks) ≤ 201 = omega arith in q), ((let q : k ≤ largest = omega arith in q), others.1))
-
 head_within : (a : Head) (names : NameTable) (n : ℕ) → Along names (λ u. measured_marks u n a) → IsMeasured names a × (n ≤ 25000)
 head_within (file f) names n h =
     let name = name_of names f in
@@ -72,7 +63,7 @@ entries_within (e ∷ es) names n le h =
     let line = split (λ u. measured_marks u n e.head) (λ u. numbers_with e.coefficients) parts.0 in
     let k = head_within e.head names n line.0 in
     let this = k.1 in
-    let numbers = coefficients_within e.coefficients names 1 (omega arith) (pass_append names (coefficients_marks 1 e.coefficients) (fixed (codes "\n") ∷ []) line.1.passed).0 in
+    let numbers = coefficients_met e.coefficients names 1 (omega arith) (pass_append names (coefficients_marks 1 e.coefficients) (fixed (codes "\n") ∷ []) line.1.passed).0 in
     let others = entries_within es names (suc n) (omega (arith, this)) parts.1 in
     let few = others.few in
     let short = numbers.0 in

@@ -5,7 +5,7 @@ use Rattle.rewriting.specs.Unraveling.{Head}
 use Rattle.certificates.specs.Certificates.{PairEntry, LinearEntry, Redex, Simplification, dropped, inlined}
 use Rattle.cert_grammar.specs.Words.{largest}
 use Rattle.certificates.specs.Evidence.{Automaton}
-use Rattle.cert_grammar.specs.Versions.{Version, Uses, in_full}
+use Rattle.cert_grammar.specs.Versions.{Version, Uses}
 use Rattle.cert_reading.specs.Plain.{HasUsed, EvidenceUses, PairsUse, RedexesUse, StepsUse}
 use Rattle.cert_grammar.specs.Marks.{Naming, Mark, fixed, word, numbers, pairs, redexes, in_range, is_few}
 use Rattle.cert_grammar.specs.WordMarks.{numeral, number, position}
@@ -32,13 +32,6 @@ pair_line_by u w n p = word (codes "pair") (is_few pairs n ∷ []) ∷ fixed (co
 
 abbrev pub redex_line_by : Naming → Uses → ℕ → Redex → List Mark
 redex_line_by u w n r = word (codes "redex") (is_few redexes n ∷ []) ∷ fixed (codes " ") ∷ number r.which ∷ fixed (codes " ") ∷ position r.position ∷ fixed (codes " ") ∷ number r.rule ∷ fixed (codes " ") ∷ infeasibility_marks u w r.evidence
-
--- those of the first version
-abbrev pub pair_line : Naming → ℕ → PairEntry → List Mark
-pair_line u n p = pair_line_by u in_full n p
-
-abbrev pub redex_line : Naming → ℕ → Redex → List Mark
-redex_line u n r = redex_line_by u in_full n r
 
 entries_first : (u : Naming) (n : ℕ) (e : LinearEntry) (es : List LinearEntry) → entries_marks u n (e ∷ es) ≡ entries_marks u n (e ∷ []) ++ entries_marks u (suc n) es
 entries_first u n e es = ap (λ (ms : List Mark). ms ++ entries_marks u (suc n) es) (sym (append-nil _))
@@ -104,6 +97,3 @@ plain_steps {A} v all f done after a e h k = subst (λ (xs : List A). StepsUse v
     by : (xs : List A) → StepsUse v all (map f xs) → StepsUse v all (map f (xs ++ a ∷ []))
     by [] p = k
     by (x ∷ xs) p = let q = plain_one v all (f x) (map f xs) p in plain_first v all (f x) (map f (xs ++ a ∷ [])) q.0 (by xs q.1)
-
-pub peak_parts : (t d e a z : List Mark) (m : Mark) → (t ++ (m ∷ [])) ++ (d ++ (e ++ (a ++ z))) ≡ (t ++ (m ∷ (d ++ (e ++ a)))) ++ z
-peak_parts t d e a z m = simp append_assoc

@@ -24,7 +24,7 @@ use Rattle.cert_reading.proofs.Stopping.{word_where, pair_later}
 
 -- ---- places within an opening
 
-same_item : (i j : Item) → i ∷ [] ≡ j ∷ [] → i ≡ j
+pub same_item : (i j : Item) → i ∷ [] ≡ j ∷ [] → i ≡ j
 same_item i j e = cc
 
 no_list : (v : Version) (i j : Item) → i ≡ j → ((m : ℕ) → i ≡ pairs_from v m → ⊥) → ((m : ℕ) → i ≡ entries_from v m → ⊥) → ((m : ℕ) → i ≡ heads_from m → ⊥) → BeginsList v j → ⊥

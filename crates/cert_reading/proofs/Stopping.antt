@@ -10,8 +10,8 @@ use Rattle.cert_words.specs.declared.error.CertError.{CertError}
 use Rattle.cert_words.specs.declared.reading.Reading.{Reading}
 use Rattle.cert_words.specs.Words.{told}
 use Rattle.cert_grammar.specs.Sharing.{Shared}
-use Rattle.cert_words.specs.Walks.{left_at, Walks, tagged, AreFound, Keeps, Run, IsStuckAt, IsStuckBehind, IsStopped, ReadsOn, IsFront, Reads}
-use Rattle.cert_words.proofs.Walking.{walks_then, walks_shorter, stops_then, run_then, framed_on, front_same, front_then, open_before, read_run}
+use Rattle.cert_words.specs.Walks.{left_at, Walks, tagged, AreFound, Keeps, Run, IsStuckAt, IsStuckBehind, IsStopped, ReadsOn, Reads}
+use Rattle.cert_words.proofs.Walking.{walks_then, walks_shorter, stops_then, run_then, framed_on, front_then, open_before, read_run}
 use Rattle.cert_reading.specs.Stops.{Place, IsStoppedWhere, ReadsOnWhere, ReadsWhere, Anywhere, lowest, IsBehind, AreBehind, WithinOpening, WithinEntry}
 
 module _ (P : Place) (names : NameTable) (end : ℕ) where
@@ -99,14 +99,6 @@ module _ (P : Place) (names : NameTable) (end : ℕ) where
   low_on from to low f b r sa sb (Some d) None p x = absurd x
   low_on from to low f b r sa sb (Some d) (Some e) p x = x
 
-  nothing_on : (from : List Item) (b : List ℕ) (sa : Shared) (r : Option CertError) → ReadsOnWhere P names end from (λ u. []) from b b sa sa r r
-  nothing_on from b sa None = record { walks = λ le items. refl; found = tt; shares = λ le k. (tt, refl) }
-  nothing_on from b sa (Some e) = refl
-
-  stays_on : (from to : List Item) (f : Naming → List Mark) (b : List ℕ) (sa : Shared) (r : Option CertError) (e : CertError) → r ≡ Some e → ReadsOnWhere P names end from f to b b sa sa r r
-  stays_on from to f b sa None e q = absurd cc
-  stays_on from to f b sa (Some d) e q = refl
-
 -- a part behind another
 pub then_where : {P : Place} {names : NameTable} {end : ℕ} {from mid to : List Item} {f g : Naming → List Mark} {s t u : Reading} → ReadsWhere P names end from f mid s t → ReadsWhere P names end mid g to t u → ReadsWhere P names end from (λ v. f v ++ g v) to s u
 then_where {P} {names} {end} {from} {mid} {to} {f} {g} {s} {t} {u} x y = record { front = front_then s.shares.texts t.shares.texts u.shares.texts x.front y.front; on = on_behind P names end from mid to f g s.left.now t.left.now u.left.now s.shares t.shares u.shares s.refused t.refused u.refused x.on y.on }
@@ -145,12 +137,6 @@ sealed_where {P} {names} {end} {i} {from} {to} {f} {g} {a} {s} {t} p none h x y 
 -- a part with an item below it
 pub low_where : {P : Place} {names : NameTable} {end : ℕ} {from to : List Item} {f : Naming → List Mark} {s t : Reading} (low : Item) → ((i : Item) (m : List Item) (q : List ℕ) → P (i ∷ (m ++ low ∷ [])) q) → Reads names end from f to s t → ReadsWhere P names end (from ++ low ∷ []) f (to ++ low ∷ []) s t
 low_where {P} {names} {end} {from} {to} {f} {s} {t} low p x = record { front = x.front; on = low_on P names end from to low f s.left.now t.left.now s.shares t.shares s.refused t.refused p x.on }
-
-pub nothing_where : {P : Place} {names : NameTable} {end : ℕ} {from : List Item} {s : Reading} → ReadsWhere P names end from (λ u. []) from s s
-nothing_where {P} {names} {end} {from} {s} = record { front = front_same s.shares.texts s.shares.texts refl; on = nothing_on P names end from s.left.now s.shares s.refused }
-
-pub stays_where : {P : Place} {names : NameTable} {end : ℕ} {from to : List Item} {f : Naming → List Mark} {s : Reading} (e : CertError) → s.refused ≡ Some e → ReadsWhere P names end from f to s s
-stays_where {P} {names} {end} {from} {to} {f} {s} e q = record { front = front_same s.shares.texts s.shares.texts refl; on = stays_on P names end from to f s.left.now s.shares s.refused e q }
 
 -- ---- at a place of which less is said
 
@@ -235,10 +221,6 @@ pub first_entry : (v : Version) (n : ℕ) (b q : List ℕ) → WithinEntry v n b
 first_entry v n b q = record { early = λ h. absurd (first_early v n h); going = λ e. let same : n ≡ suc n = cc in absurd (omega (arith, same)) }
 
 -- ---- what is known of a reading that began with nothing refused
-
--- texts of shared automata that stand there stay in front
-pub where_front : {P : Place} {names : NameTable} {end : ℕ} {from to : List Item} {f : Naming → List Mark} {s t : Reading} → ReadsWhere P names end from f to s t → IsFront s.shares.texts t.shares.texts
-where_front x = x.front
 
 ran_on : (P : Place) (names : NameTable) (end : ℕ) (from to : List Item) (f : Naming → List Mark) (b r : List ℕ) (sa sb : Shared) (s t : Option CertError) → s ≡ None → t ≡ None → ReadsOnWhere P names end from f to b r sa sb s t → Run names end from f to b r sa sb
 ran_on P names end from to f b r sa sb None None p q x = x

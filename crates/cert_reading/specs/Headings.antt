@@ -30,9 +30,6 @@ item_by v Ortho = pairs_from v 1
 item_by v Quasi = measure v
 item_by v Peak = start_line v
 
-abbrev pub item_of : Kind → Item
-item_of kind = item_by first_version kind
-
 -- the lines before the body
 abbrev pub heading_marks : Option Bool → Kind → List Mark
 heading_marks given kind = answer_marks given ++ (fixed (codes "concon 1\n") ∷ kind_mark given kind ∷ fixed (codes "\n") ∷ [])

@@ -45,20 +45,5 @@ IsPlainBy v all (simplified_certificate steps c) = CanSimplify v c × StepsUse v
 
 -- ---- in the first version
 
-abbrev pub IsPlainInfeasibility : InfeasibilityEvidence → Type 0
-IsPlainInfeasibility e = HasUsed first_version [] e
-
-abbrev pub IsPlainEvidence : PairEvidence → Type 0
-IsPlainEvidence e = EvidenceUses first_version [] e
-
-abbrev pub ArePlainPairs : List PairEntry → Type 0
-ArePlainPairs ps = PairsUse first_version [] ps
-
-abbrev pub ArePlainRedexes : List Redex → Type 0
-ArePlainRedexes rs = RedexesUse first_version [] rs
-
-abbrev pub IsPlainApart : Apartness → Type 0
-IsPlainApart a = ApartUses first_version [] a
-
 abbrev pub IsPlain : Certificate → Type 0
 IsPlain c = IsPlainBy first_version [] c

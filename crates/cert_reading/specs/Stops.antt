@@ -76,19 +76,3 @@ BeforeEntries items bytes = (v : Version) → WithinOpening v items bytes
 pub record WithinEntry (v : Version) (n : ℕ) (begun : List ℕ) (items : List Item) (bytes : List ℕ) : Type 0 where
   pub early : AreBehind v (suc n) items → begun ≡ codes "end" ++ bytes
   pub going : items ≡ pairs_from v (suc n) ∷ [] → ⊥
-
--- in the first version
-abbrev pub IsLater : ℕ → Item → Type 0
-IsLater n i = IsBehind first_version n i
-
-abbrev pub AreLater : ℕ → List Item → Type 0
-AreLater n items = AreBehind first_version n items
-
-abbrev pub IsList : Item → Type 0
-IsList i = BeginsList first_version i
-
-abbrev pub IsUnopened : Place
-IsUnopened = WithinOpening first_version
-
-abbrev pub IsInEntry : ℕ → List ℕ → Place
-IsInEntry n begun = WithinEntry first_version n begun

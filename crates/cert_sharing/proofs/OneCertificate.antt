@@ -1,5 +1,5 @@
 -- Bytes are the text of one certificate at most.
-use Rattle.std.proofs.Common.{◌≡◌, ◌⊎◌, inl, inr, ℕ, suc, Bool, true, false, List, [], ◌∷◌, ◌++◌, length, codes, Option, Some, None, refl, sym, ap, ◌∙◌, arith, append_assoc}
+use Rattle.std.proofs.Common.{◌≡◌, ◌⊎◌, inl, inr, ℕ, suc, Bool, true, false, List, [], ◌∷◌, ◌++◌, length, codes, Option, Some, None, refl, sym, ap, ◌∙◌, arith}
 use Rattle.std.proofs.lemmas.List.{append_cancel_left}
 use Rattle.rewriting.specs.Positions.{Position}
 use Rattle.rewriting.specs.Unraveling.{Head, file, auxiliary}
@@ -17,23 +17,21 @@ use Rattle.cert_grammar.specs.CertificateMarks.{closing, use_marks, automaton_ma
 use Rattle.cert_grammar.specs.SharedText.{is_among, texts_of, shared_by, number_in, uses_of, AreAutomata}
 use Rattle.cert_grammar.specs.Sharing.{text_at}
 use Rattle.cert_grammar.specs.Refusals.{Skeleton}
-use Rattle.cert_laws.specs.MarkLaws.{GoesAlong, Alike, ended, same, parted}
+use Rattle.cert_laws.specs.MarkLaws.{Alike, ended, same, parted}
 use Rattle.cert_laws.proofs.Along.{differ}
 use Rattle.cert_laws.proofs.AlikeEvidence.{alike_automata}
-use Rattle.cert_laws.proofs.AlikeWhole.{alike_skeletons}
+use Rattle.cert_laws.proofs.AlikeWhole.{alike_skeletons, flat, flat_line}
 use Rattle.cert_laws.proofs.OneAnswer.{closes_all}
 use Rattle.cert_laws.proofs.SpeltWhole.{spelt_automaton}
-use Rattle.cert_laws.proofs.OneRefusal.{Closes}
+use Rattle.cert_laws.proofs.OneRefusal.{Closes, whole_goes}
 use Rattle.cert_laws.proofs.Spelt.{text_both}
 use Rattle.cert_laws.proofs.PassEvidence.{AllOf, all_of}
+use Rattle.cert_laws.proofs.Moves.{head_same, tail_same}
 use Rattle.cert_sharing.proofs.FirstUses.{AreAmong, place_text}
 use Rattle.cert_sharing.proofs.SpeltShares.{of_certificate, shared_are, shared_numbered, spelt_marks}
-use Rattle.cert_sharing.proofs.SameParts.{same_symbol, regroup, head_same, tail_same, clash, number_same, place_same, same_terms, same_derivation, same_automata}
+use Rattle.cert_sharing.proofs.SameParts.{same_symbol, regroup, clash, number_same, place_same, same_terms, same_derivation, same_automata}
 
 -- ---- whole texts that are alike
-
-goes_whole : (ms : List Mark) (bytes : List ℕ) → Closes ms → bytes ≡ marks_text ms → GoesAlong ms bytes
-goes_whole ms bytes (front, t, e) q = (front, fixed t, record { back = []; parts = e; rest = []; text = q ∙ ap marks_text e ∙ text_both front (fixed t ∷ []); reached = tt })
 
 shorter : (m : Mark) (ms : List Mark) → (m ∷ ms ≡ []) ⊎ Closes (m ∷ ms) → (ms ≡ []) ⊎ Closes ms
 shorter m ms (inl c) = absurd cc
@@ -45,7 +43,7 @@ whole_same ended c d e = refl
 whole_same (same {m = m} {ms = ms} {ns = ns} k) c d e = ap (λ (l : List Mark). m ∷ l) (whole_same k (shorter m ms c) (shorter m ns d) (append_cancel_left (mark_text m) (marks_text ms) (marks_text ns) e))
 whole_same (parted {m = m} {n = n} {ms = ms} {ns = ns} f) (inl c) d e = let q : m ∷ ms ≡ [] = c in absurd cc
 whole_same (parted {m = m} {n = n} {ms = ms} {ns = ns} f) (inr c) (inl d) e = let q : n ∷ ns ≡ [] = d in absurd cc
-whole_same (parted {m = m} {n = n} {ms = ms} {ns = ns} f) (inr c) (inr d) e = absurd (f (marks_text (m ∷ ms)) (goes_whole (m ∷ ms) (marks_text (m ∷ ms)) c refl) (goes_whole (n ∷ ns) (marks_text (m ∷ ms)) d e))
+whole_same (parted {m = m} {n = n} {ms = ms} {ns = ns} f) (inr c) (inr d) e = absurd (f (marks_text (m ∷ ms)) (whole_goes (m ∷ ms) (marks_text (m ∷ ms)) c refl) (whole_goes (n ∷ ns) (marks_text (m ∷ ms)) d e))
 
 -- ---- parts that use automata
 
@@ -181,12 +179,6 @@ no_line (auxiliary r c) x w n (q ∷ qs) k e = clash _ _ _ _ refl e
 
 abbrev line_end : List Mark
 line_end = fixed (codes "\n") ∷ []
-
-flat : (a b c k : List Mark) → ((a ++ (b ++ line_end)) ++ c) ++ k ≡ a ++ (b ++ (fixed (codes "\n") ∷ (c ++ k)))
-flat a b c k = simp append_assoc
-
-flat_line : (a c k : List Mark) → ((a ++ line_end) ++ c) ++ k ≡ a ++ (fixed (codes "\n") ∷ (c ++ k))
-flat_line a c k = simp append_assoc
 
 same_entries : (ds es : List LinearEntry) (names : NameTable) (u w : Uses) (n : ℕ) (ps qs : List PairEntry) → AreEntries names ds → AreEntries names es → entries_marks (name_of names) n ds ++ (pairs_marks (name_of names) u 1 ps ++ closing) ≡ entries_marks (name_of names) n es ++ (pairs_marks (name_of names) w 1 qs ++ closing)
     → (ds ≡ es) × (pairs_marks (name_of names) u 1 ps ++ closing ≡ pairs_marks (name_of names) w 1 qs ++ closing)

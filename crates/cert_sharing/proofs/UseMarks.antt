@@ -1,5 +1,6 @@
 -- What the marks of a certificate ask of its shared automata: the numbers of its uses, in order.
 use Rattle.std.proofs.Common.{◌≡◌, ℕ, suc, ◌+◌, ◌-◌, ◌≤◌, max, nat_le, Bool, true, false, cond, not, ◌&&◌, List, [], ◌∷◌, ◌++◌, length, map, codes, Option, Some, None, refl, sym, ap, ◌∙◌, subst, append_assoc, append-nil, leb-true, le-leb}
+use Rattle.std.proofs.lemmas.Bool.{not-true, and_from, and_parts}
 use Rattle.rewriting.specs.Terms.{Term, var, app, Terms, nil, cons, size}
 use Rattle.rewriting.specs.Positions.{Position}
 use Rattle.rewriting.specs.Unraveling.{Head, file, auxiliary}
@@ -13,7 +14,6 @@ use Rattle.cert_grammar.specs.WordMarks.{numeral, are_places, number, number_for
 use Rattle.cert_grammar.specs.CertificateMarks.{use_mark, accepting_marks, further_states_marks, states_marks, head_marks, transitions_marks, automaton_marks, automata_marks, infeasibility_marks, evidence_marks, pairs_marks, coefficients_marks, measured_marks, entries_marks, heads_marks, measure_marks, redexes_marks, apart_marks, simplifications_marks, body_marks}
 use Rattle.cert_grammar.specs.SharedText.{is_among, AllNew}
 use Rattle.cert_grammar.specs.Sharing.{Shared, text_at, holds, first_of, share_verdict, effects, behind_mark, behind_marks, PassShares}
-use Rattle.cert_grammar.proofs.ScanLaws.{and_first, and_second}
 use Rattle.cert_sharing.proofs.FirstUses.{greatest}
 
 abbrev pub state : List (List ℕ) → List ℕ → ℕ → ℕ → Shared
@@ -198,16 +198,12 @@ automata_behind (a ∷ bs) x ts b u w =
     (r.0, behind_both (automaton_marks x a ++ seal) (automata_marks x bs) (state ts b u w) ∙ ap (behind_marks (automata_marks x bs)) (sealed_behind a x ts b u w) ∙ r.1 ∙ ap (λ (l : List (List ℕ)). state l r.0 u w) (append_assoc ts (t ∷ []) (marked_texts x bs)))
 
 -- a demand alone
-alone : (v : Bool) (x : CertificateCause × ℕ) → first_of (cond {A = Option (CertificateCause × ℕ)} v None (Some x)) None ≡ None → v ≡ true
+pub alone : (v : Bool) (x : CertificateCause × ℕ) → first_of (cond {A = Option (CertificateCause × ℕ)} v None (Some x)) None ≡ None → v ≡ true
 alone true x e = refl
 alone false x e = absurd cc
 
 pub alone_met : (v : Bool) (x : CertificateCause × ℕ) → v ≡ true → first_of (cond {A = Option (CertificateCause × ℕ)} v None (Some x)) None ≡ None
 alone_met v x e = ap (λ (t : Bool). first_of (cond {A = Option (CertificateCause × ℕ)} t None (Some x)) None) e
-
-not_false : (v : Bool) → not v ≡ true → v ≡ false
-not_false true e = absurd cc
-not_false false e = refl
 
 pub automata_new : (bs : List Automaton) (x : Naming) (ts : List (List ℕ)) (b : List ℕ) (u w : ℕ) → PassShares (state ts b u w) (automata_marks x bs) → AllNew ts (marked_texts x bs)
 automata_new [] x ts b u w h = tt
@@ -216,7 +212,7 @@ automata_new (a ∷ bs) x ts b u w h =
     let parts = pass_split (automaton_marks x a ++ seal) (automata_marks x bs) (state ts b u w) h in
     let first = subst (λ (s : Shared). PassShares s seal) (automaton_behind a x ts b u w) (pass_split (automaton_marks x a) seal (state ts b u w) parts.0).1 in
     let rest = subst (λ (s : Shared). PassShares s (automata_marks x bs)) (sealed_behind a x ts b u w) parts.1 in
-    (not_false (is_among t ts) (alone (not (is_among t ts)) (bad_share, 0 - length t) first.0), automata_new bs x (ts ++ t ∷ []) (t ++ []) u w rest)
+    (not-true (is_among t ts) (alone (not (is_among t ts)) (bad_share, 0 - length t) first.0), automata_new bs x (ts ++ t ∷ []) (t ++ []) u w rest)
 
 pub new_automata : (bs : List Automaton) (x : Naming) (ts : List (List ℕ)) (b : List ℕ) (u w : ℕ) → AllNew ts (marked_texts x bs) → PassShares (state ts b u w) (automata_marks x bs)
 new_automata [] x ts b u w h = tt
@@ -288,7 +284,7 @@ two true true x y e = (refl, refl)
 two true false x y e = absurd cc
 two false w x y e = absurd cc
 
-two_met : (v w : Bool) (x y : CertificateCause × ℕ) → v ≡ true → w ≡ true → first_of (cond {A = Option (CertificateCause × ℕ)} v None (Some x)) (first_of (cond {A = Option (CertificateCause × ℕ)} w None (Some y)) None) ≡ None
+pub two_met : (v w : Bool) (x y : CertificateCause × ℕ) → v ≡ true → w ≡ true → first_of (cond {A = Option (CertificateCause × ℕ)} v None (Some x)) (first_of (cond {A = Option (CertificateCause × ℕ)} w None (Some y)) None) ≡ None
 two_met true true x y e f = refl
 two_met true false x y e f = absurd cc
 two_met false w x y e f = absurd cc
@@ -296,21 +292,17 @@ two_met false w x y e f = absurd cc
 use_met : (n : ℕ) (ts : List (List ℕ)) (b : List ℕ) (u w : ℕ) → share_verdict (state ts b u w) 0 (demands_of (use_mark n)) ≡ None → (1 ≤ n) × (n ≤ length ts) × (n ≤ suc u) × (w + length (text_at n ts) ≤ limit unfolded)
 use_met n ts b u w e =
     let r = two (holds (state ts b u w) (is_use n)) (holds (state ts b u w) (is_light n)) (bad_share, 0) (too_many unfolded, 0) e in
-    let rest = and_second (nat_le 1 n) (nat_le n (length ts) && nat_le n (suc u)) r.0 in (
-      leb-true 1 n (and_first (nat_le 1 n) (nat_le n (length ts) && nat_le n (suc u)) r.0),
-      leb-true n (length ts) (and_first (nat_le n (length ts)) (nat_le n (suc u)) rest),
-      leb-true n (suc u) (and_second (nat_le n (length ts)) (nat_le n (suc u)) rest),
+    let rest = (and_parts (nat_le 1 n) (nat_le n (length ts) && nat_le n (suc u)) r.0).1 in (
+      leb-true 1 n (and_parts (nat_le 1 n) (nat_le n (length ts) && nat_le n (suc u)) r.0).0,
+      leb-true n (length ts) (and_parts (nat_le n (length ts)) (nat_le n (suc u)) rest).0,
+      leb-true n (suc u) (and_parts (nat_le n (length ts)) (nat_le n (suc u)) rest).1,
       leb-true (w + length (text_at n ts)) (limit unfolded) r.1,
     )
-
-and_true : (v w : Bool) → v ≡ true → w ≡ true → (v && w) ≡ true
-and_true true w e f = f
-and_true false w e f = absurd cc
 
 met_use : (n : ℕ) (ts : List (List ℕ)) (b : List ℕ) (u w : ℕ) → 1 ≤ n → n ≤ length ts → n ≤ suc u → w + length (text_at n ts) ≤ limit unfolded → share_verdict (state ts b u w) 0 (demands_of (use_mark n)) ≡ None
 met_use n ts b u w low high next light =
     two_met (holds (state ts b u w) (is_use n)) (holds (state ts b u w) (is_light n)) (bad_share, 0) (too_many unfolded, 0)
-    (and_true (nat_le 1 n) (nat_le n (length ts) && nat_le n (suc u)) (le-leb 1 n low) (and_true (nat_le n (length ts)) (nat_le n (suc u)) (le-leb n (length ts) high) (le-leb n (suc u) next)))
+    (and_from (nat_le 1 n) (nat_le n (length ts) && nat_le n (suc u)) (le-leb 1 n low) (and_from (nat_le n (length ts)) (nat_le n (suc u)) (le-leb n (length ts) high) (le-leb n (suc u) next)))
     (le-leb (w + length (text_at n ts)) (limit unfolded) light)
 
 pub counts_use : (n : ℕ) → Counts (use_mark n ∷ []) (n ∷ [])

@@ -1,6 +1,7 @@
 -- What one call of `Pairs::next` reads, or refuses.
-use Rattle.std.proofs.Common.{◌≡◌, inl, inr, ◌≤◌, ◌==◌, ℕ, zero, suc, Bool, true, false, cond, List, [], ◌∷◌, ◌++◌, length, drop, take, Option, Some, None, IfSome, IfNone, refl, sym, ap, ◌∙◌, subst, arith, eqb-true}
+use Rattle.std.proofs.Common.{◌≡◌, inl, inr, ◌≤◌, ◌==◌, ℕ, zero, suc, List, [], ◌∷◌, ◌++◌, length, drop, take, Option, Some, None, IfSome, IfNone, refl, sym, ap, ◌∙◌, subst, arith, eqb-true}
 use Rattle.std.proofs.lemmas.List.{length_push}
+use Rattle.std.proofs.Math.Seq.{take-append_seam}
 use Rattle.certificates.specs.Evidence.{Automaton}
 use Rattle.certificates.specs.Certificates as math
 use Rattle.certificates.specs.Certificates.{Certificate, quasi_certificate}
@@ -15,7 +16,7 @@ use Rattle.cert_grammar.specs.Marks.{CertificateCause, syntax, bad_share, Naming
 use Rattle.cert_grammar.specs.Refusals.{IsCertificateRefused}
 use Rattle.cert_grammar.specs.Items as Items
 use Rattle.cert_grammar.specs.Items.{Item, pairs_from}
-use Rattle.cert_grammar.specs.Sharing.{Shared, nothing_shared, first_of}
+use Rattle.cert_grammar.specs.Sharing.{Shared, nothing_shared}
 use Rattle.cert_sharing.proofs.FirstUses.{texts_length}
 use Rattle.cert_sharing.proofs.Whole.{never_both}
 use Rattle.cert_openings.specs.Openings.{BeginsEntry, Opening, ortho_opening, quasi_opening, simplified_opening, certificate_for, uses_with, IsRead}
@@ -33,12 +34,11 @@ use Rattle.cert_words.specs.Walks.{left_at, Walks, tagged, AreFound, Keeps, Run,
 use Rattle.cert_words.proofs.Walking.{run_then}
 use Rattle.cert_words.proofs.Whole.{walks_text}
 use Rattle.cert_reading.specs.declared.uses.Uses as uses_code
-use Rattle.cert_reading.specs.Uses.{version_by, automata_by, AreShared}
-use Rattle.cert_reading.specs.Shared.{IsKnown}
+use Rattle.cert_reading.specs.Uses.{version_by, automata_by}
 use Rattle.cert_reading.specs.Plain.{EvidenceUses, PairsUse, IsPlainBy}
 use Rattle.cert_reading.specs.Stops.{AreBehind, WithinEntry, IsStoppedWhere, ReadsWhere}
-use Rattle.cert_reading.proofs.Opening.{entry_at, head_at}
-use Rattle.cert_sharing.proofs.UseMarks.{counts_pairs}
+use Rattle.cert_reading.proofs.Opening.{entry_at, head_at, same_item}
+use Rattle.cert_sharing.proofs.UseMarks.{counts_pairs, alone}
 use Rattle.cert_reading.proofs.Stopping.{stop_behind, any_stop, stopped_where}
 use Rattle.cert_reading.proofs.EntryItems.{IsSame, symbol_same, symbol_stopped, symbol_run}
 use Rattle.cert_text.specs.Reading.{Reading, HasRead, IsAll, ReadsOn, IsAtEnd}
@@ -75,11 +75,8 @@ measure_early : (v : Version) (item : Item) → EndsMeasure v item → AreBehind
 measure_early v item x (inl h) = no_overlap v item h.0 x h.1
 measure_early v item x (inr s) = no_line v item x s
 
-one_item : (i j : Item) → i ∷ [] ≡ j ∷ [] → i ≡ j
-one_item i j e = cc
-
 measure_place : (v : Version) (item : Item) (b q : List ℕ) → EndsMeasure v item → WithinEntry v 1 b (item ∷ []) q
-measure_place v item b q x = record { early = λ h. absurd (measure_early v item x h); going = λ e. no_overlap v item 2 x (one_item item (pairs_from v 2) e) }
+measure_place v item b q x = record { early = λ h. absurd (measure_early v item x h); going = λ e. no_overlap v item 2 x (same_item item (pairs_from v 2) e) }
 
 next_stop : (names : NameTable) (end : ℕ) (v : Version) (n : ℕ) (item : Item) (b : List ℕ) (sa : Shared) (t : Option (CertificateCause × ℕ)) → IsNext v item n b → IsStoppedWhere (WithinEntry v n b) names end (pairs_from v n ∷ []) b sa t → IsStoppedWhere (WithinEntry v n b) names end (item ∷ []) b sa t
 next_stop names end v n item b sa t (inl e) h = subst (λ (i : Item). IsStoppedWhere (WithinEntry v n b) names end (i ∷ []) b sa t) (sym e) h
@@ -143,21 +140,13 @@ held_begun v shared names bytes left count now then texts used weight u = record
     same : with_begun [] then ≡ with_begun [] now
     same = let a = texts in let b = used in let c = weight in cc
 
-take_front : {A : Type 0} (a b : List A) → take (length a) (a ++ b) ≡ a
-take_front [] b = refl
-take_front (x ∷ a) b = ap (λ (l : List _). x ∷ l) (take_front a b)
-
 -- what came behind is let go of
 pub held_back : (v : Version) (shared : List Automaton) (names : NameTable) (bytes left : List ℕ) (count : ℕ) (now after back : Shared) (known : SoFar) → IsFront now.texts after.texts → known ≡ record { texts = length now.texts; used = now.used; unfolds_to = now.unfolds_to }
     → back ≡ record { texts = take known.texts after.texts; begun = after.begun; used = known.used; unfolds_to = known.unfolds_to } → IsUpTo v shared names bytes left count now → IsUpTo v shared names bytes left count back
 held_back v shared names bytes left count now after back known front is kept u =
     let size = ap (λ (k : SoFar). k.texts) is in
-    held_begun v shared names bytes left count now back (ap (λ (z : Shared). z.texts) kept ∙ ap (λ (n : ℕ). take n after.texts) size ∙ ap (take (length now.texts)) front.1 ∙ take_front now.texts front.0)
+    held_begun v shared names bytes left count now back (ap (λ (z : Shared). z.texts) kept ∙ ap (λ (n : ℕ). take n after.texts) size ∙ ap (take (length now.texts)) front.1 ∙ take-append_seam now.texts front.0)
     (ap (λ (z : Shared). z.used) kept ∙ ap (λ (k : SoFar). k.used) is) (ap (λ (z : Shared). z.unfolds_to) kept ∙ ap (λ (k : SoFar). k.unfolds_to) is) u
-
-are_shared : (v : Version) (names : NameTable) (all : List Automaton) (end : ℕ) (r : code.Reading) → length r.left.now ≤ end → IsKnown names all r.shares → AreShared v names all end r
-are_shared first_version names all end r le k = tt
-are_shared second_version names all end r le k = λ none. (le, k)
 
 -- ---- one entry more
 
@@ -182,20 +171,12 @@ drop_whole [] (suc n) e = refl
 drop_whole (x ∷ a) zero e = absurd cc
 drop_whole (x ∷ a) (suc n) e = drop_whole a n (let q : suc n ≡ suc (length a) = e in omega arith)
 
--- a demand alone
-alone : (t : Bool) (x : CertificateCause × ℕ) → first_of (cond {A = Option (CertificateCause × ℕ)} t None (Some x)) None ≡ None → t ≡ true
-alone true x e = refl
-alone false x e = absurd cc
-
 module _ (v : Version) (shared : List Automaton) (names : NameTable) (bytes left : List ℕ) (count n : ℕ) (now : Shared) (u : IsUpTo v shared names bytes left count now) (is_n : n ≡ suc count) where
   next : IsNext v u.item n left
   next = subst (λ (k : ℕ). IsNext v u.item k left) (sym is_n) u.next
 
   within : length left ≤ length bytes
   within = let place = u.read.read.place in let rest = ap length u.read.is_rest in omega (arith, place, rest)
-
-  pub known_here : (r : code.Reading) → r.left.now ≡ left → r.shares ≡ now → AreShared v names shared (length bytes) r
-  known_here r e f = are_shared v names shared (length bytes) r (subst (λ (b : List ℕ). length b ≤ length bytes) (sym e) within) (subst (λ (z : Shared). IsKnown names shared z) (sym f) u.known)
 
   -- an opening and entries that are read up to here leave these bytes, and are those
   left_there : (o : Opening) (es : List math.PairEntry) (r : IsRead names bytes o es (place_of bytes left)) → (o ≡ u.opening) × (es ≡ u.entries) × (r.rest ≡ left)

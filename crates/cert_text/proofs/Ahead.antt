@@ -4,7 +4,6 @@ use Rattle.std.proofs.lemmas.List.{append_cancel_left}
 use Rattle.cops_names.specs.NameTable.{NameTable}
 use Rattle.cert_grammar.specs.Marks.{CertificateCause, Demand, Mark, fixed, word, mark_text, marks_text, demands_of, verdict}
 use Rattle.cert_grammar.specs.Refusals.{Pass}
-use Rattle.cert_grammar.specs.Scans.{Scan, scan}
 use Rattle.cert_grammar.specs.Items.{Item, between, line, pairs_from, entries_from, heads_from, Lead, text, check, at_once, keyword, numeral_lead, position_lead, variable_lead, name_lead, leads}
 use Rattle.cert_grammar.specs.Versions.{Version, first_version, second_version}
 use Rattle.cert_grammar.specs.FirstRefusal as machine
@@ -16,15 +15,16 @@ use Rattle.cert_grammar.proofs.ScanLaws.{IsWordOf}
 use Rattle.cert_laws.proofs.LeadTables.{In}
 use Rattle.cert_laws.proofs.OneRefusal.{passed_anywhere}
 use Rattle.cert_laws.proofs.PassTerms.{pass_append}
-use Rattle.cert_laws.proofs.Paths.{Takes, Path, lead_scan, first_complete, take_front}
+use Rattle.cert_laws.proofs.Paths.{Takes, Path, first_complete}
 use Rattle.cert_laws.proofs.Moves.{There, takes_along}
-use Rattle.cert_laws.proofs.Reached.{Move, Moves, same_taken}
+use Rattle.cert_laws.proofs.Reached.{Move, Moves, same_taken, there_size}
 use Rattle.cert_openings.specs.Openings.{BeginsEntry}
 use Rattle.cert_openings.proofs.Lines.{apart}
 use Rattle.cert_sharing.proofs.UseMarks.{pass_split}
 use Rattle.cert_words.specs.Walks.{left_at, RefusesAt}
 use Rattle.cert_words.proofs.Walking.{step_on}
 use Rattle.cert_reading.specs.Stops.{lowest, IsBehind, AreBehind, BeginsList}
+use Rattle.cert_reading.proofs.Opening.{same_item}
 
 -- ---- from a path to moves
 
@@ -64,19 +64,15 @@ meet (m ∷ f) (n ∷ g) (i ∷ s) t u b r q h k =
     let rest : h.1 ≡ k.1 = append_cancel_left (mark_text m) h.1 k.1 (sym h.2.text ∙ k.2.text ∙ ap (λ (x : Mark). mark_text x ++ k.1) (sym same.marks)) in
     meet_more m n f g t r u q same.marks (meet f g (h.0 ++ s) t u h.1 r q h.3 (subst (λ (x : List ℕ). Moves g (h.0 ++ s) x u q) (sym rest) (subst (λ (x : List Item). Moves g (x ++ s) k.1 u q) (sym same.items) k.3)))
 
--- the word that is read with a lead
-read_size : (a : Lead) (w b : List ℕ) → IsWordOf (mode_of a) w → (t : There a w b) → take (scan (mode_of a) b).size b ≡ w
-read_size a w b h t = ap (λ (x : List ℕ). take (scan (mode_of a) x).size x) t.parts ∙ ap (λ (s : Scan). take s.size (w ++ t.rest)) (lead_scan a w t.rest h t.ends) ∙ take_front w t.rest
-
 mark_read : (a : Lead) (w b : List ℕ) → IsWordOf (mode_of a) w → There a w b → mark_of a (take (taken a b) b) ≡ mark_of a w
 mark_read (text bytes items) w b h t = refl
 mark_read (check demand byte items) w b h t = refl
 mark_read (at_once demand items) w b h t = refl
 mark_read (keyword bytes demands items) w b h t = refl
-mark_read (numeral_lead demands items) w b h t = ap (mark_of (numeral_lead demands items)) (read_size (numeral_lead demands items) w b h t)
-mark_read (position_lead items) w b h t = ap (mark_of (position_lead items)) (read_size (position_lead items) w b h t)
-mark_read (variable_lead demands items) w b h t = ap (mark_of (variable_lead demands items)) (read_size (variable_lead demands items) w b h t)
-mark_read (name_lead demands items) w b h t = ap (mark_of (name_lead demands items)) (read_size (name_lead demands items) w b h t)
+mark_read (numeral_lead demands items) w b h t = ap (mark_of (numeral_lead demands items)) (there_size (numeral_lead demands items) w b h t)
+mark_read (position_lead items) w b h t = ap (mark_of (position_lead items)) (there_size (position_lead items) w b h t)
+mark_read (variable_lead demands items) w b h t = ap (mark_of (variable_lead demands items)) (there_size (variable_lead demands items) w b h t)
+mark_read (name_lead demands items) w b h t = ap (mark_of (name_lead demands items)) (there_size (name_lead demands items) w b h t)
 
 ends_or_further : (r : Answer) (k : Left) (z : Shared) → further k z ≡ ends r → ⊥
 ends_or_further r k z e = cc
@@ -132,12 +128,9 @@ pair_step v n k m new less h = step_by (λ (x : List Item). AreBehind v n (x ++ 
 pub line_step : (v : Version) (n : ℕ) (m : Mark) (new : List Item) → Takes (between line) m new → AreBehind v n (new ++ [])
 line_step v n m new h = step_by (λ (x : List Item). AreBehind v n (x ++ [])) (between line) m new h ((λ w e. tt), tt)
 
-pub first_is : (i j : Item) → i ∷ [] ≡ j ∷ [] → i ≡ j
-first_is i j e = cc
-
-later_step : (v : Version) (n : ℕ) (i : Item) (s : List Item) (m : Mark) (new : List Item) → Takes i m new → AreBehind v n (i ∷ s) → AreBehind v n (new ++ s)
+pub later_step : (v : Version) (n : ℕ) (i : Item) (s : List Item) (m : Mark) (new : List Item) → Takes i m new → AreBehind v n (i ∷ s) → AreBehind v n (new ++ s)
 later_step v n i [] m new h (inl x) = let less = x.2 in pair_step v n x.0 m new (omega (arith, less)) (subst (λ (j : Item). Takes j m new) x.1 h)
-later_step v n i [] m new h (inr x) = line_step v n m new (subst (λ (j : Item). Takes j m new) (first_is i (between line) x) h)
+later_step v n i [] m new h (inr x) = line_step v n m new (subst (λ (j : Item). Takes j m new) (same_item i (between line) x) h)
 later_step v n i (j ∷ s) m [] h (inl x) = inl x
 later_step v n i (j ∷ s) m (k ∷ ks) h (inl x) = inl (subst (IsBehind v n) (sym (lowest_behind k ks j s)) x)
 later_step v n i (j ∷ s) m new h (inr x) = absurd cc
@@ -149,7 +142,7 @@ later_moves v n (m ∷ ms) (i ∷ s) t b r h x = later_moves v n ms (h.0 ++ s) t
 
 -- ---- behind an opening
 
-no_entry : (a : ℕ) (w b rest : List ℕ) → BeginsEntry b → b ≡ (a ∷ w) ++ rest → (a ≡ 112 → ⊥) → (a ≡ 101 → ⊥) → ⊥
+pub no_entry : (a : ℕ) (w b rest : List ℕ) → BeginsEntry b → b ≡ (a ∷ w) ++ rest → (a ≡ 112 → ⊥) → (a ≡ 101 → ⊥) → ⊥
 no_entry a w [] rest h e p q = h
 no_entry a w (c ∷ b) rest (inl x) e p q = let same : c ≡ a = cc in p (sym same ∙ x)
 no_entry a w (c ∷ b) rest (inr x) e p q = let same : c ≡ a = cc in q (sym same ∙ x)

@@ -5,7 +5,7 @@ use Rattle.certificates.specs.Evidence.{Automaton}
 use Rattle.cops_names.specs.NameTable.{NameTable}
 use Rattle.cert_grammar.specs.Words.{name_of}
 use Rattle.cert_grammar.specs.Versions.{Version, first_version, second_version, Uses, in_full, by_number, version_of}
-use Rattle.cert_grammar.specs.Marks.{CertificateCause, Naming, Mark, fixed, mark_text, marks_text}
+use Rattle.cert_grammar.specs.Marks.{CertificateCause, Naming, Mark, fixed, marks_text}
 use Rattle.cert_grammar.specs.CertificateMarks.{body_marks, answer_marks, heading_marks, closing}
 use Rattle.cert_grammar.specs.Refusals.{Pass}
 use Rattle.cert_grammar.specs.Items.{Item, opening, heading}
@@ -26,15 +26,13 @@ use Rattle.cert_reading.specs.Stops.{BeginsList, WithinOpening, StopsWhere}
 use Rattle.cert_text.proofs.Peakless.{Peakless, opening_peakless}
 use Rattle.cert_text.proofs.Low.{AreLow, shared_low, body_low, low_path, last_item}
 use Rattle.cert_text.proofs.Ahead.{step_by, moves_along, stops_ahead, later_moves, list_step}
+use Rattle.cert_text.proofs.SameMarks.{lines_apart}
 
 -- ---- behind an opening one list is left
 
 abbrev version_line : Uses → Mark
 version_line in_full = fixed (codes "concon 1\n")
 version_line (by_number f) = fixed (codes "concon 2\n")
-
-lines_apart : fixed (codes "concon 1\n") ≡ fixed (codes "concon 2\n") → ⊥
-lines_apart e = bytes_apart 49 50 _ _ refl (append_cancel_left (codes "concon ") (codes "1\n") (codes "2\n") (ap mark_text e))
 
 -- the first line tells the version
 first_step : (u : Uses) (new : List Item) → Takes opening (version_line u) new → AreLow (version_of u) (new ++ [])

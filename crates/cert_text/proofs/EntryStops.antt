@@ -29,10 +29,12 @@ use Rattle.cert_shares.specs.SharesView.{with_begun}
 use Rattle.cert_words.specs.Walks.{left_at, Walks, RefusesAt}
 use Rattle.cert_words.proofs.Walking.{same_begun, goes_where}
 use Rattle.cert_reading.specs.Stops.{lowest, IsBehind, AreBehind, WithinEntry, StopsWhere}
+use Rattle.cert_reading.proofs.Opening.{same_item}
 use Rattle.cert_text.specs.ReadingView.{place_of, EndsMeasure, IsNext, read_marks, IsUpTo}
 use Rattle.cert_text.proofs.Ends.{read_end, read_more}
-use Rattle.cert_text.proofs.Ahead.{moves_along, Meet, ahead, behind_it, meet, stops_ahead, lowest_behind}
+use Rattle.cert_text.proofs.Ahead.{moves_along, Meet, ahead, behind_it, meet, stops_ahead, later_moves, no_entry}
 use Rattle.cert_text.proofs.SameMarks.{no_front}
+use Rattle.cert_text.proofs.Low.{nothing_else, some_item}
 
 -- ---- moves
 
@@ -75,28 +77,6 @@ pair_step v n k m new less h = by h.among
     by (inr (inl e)) = given_items (Behind v n) (pairs_from v k) m new h _ e (inr refl)
     by (inr (inr x)) = absurd x
 
-line_step : (v : Version) (n : ℕ) (m : Mark) (new : List Item) → Takes (between line) m new → Behind v n new
-line_step v n m new h = by h.among
-  where
-    by : In h.lead (leads (between line)) → Behind v n new
-    by (inl e) = given_items (Behind v n) (between line) m new h _ e tt
-    by (inr x) = absurd x
-
-first_is : (i j : Item) → i ∷ [] ≡ j ∷ [] → i ≡ j
-first_is i j e = cc
-
-later_step : (v : Version) (n : ℕ) (i : Item) (s : List Item) (m : Mark) (new : List Item) → Takes i m new → AreBehind v n (i ∷ s) → AreBehind v n (new ++ s)
-later_step v n i [] m new h (inl x) = let less = x.2 in pair_step v n x.0 m new (omega (arith, less)) (subst (λ (j : Item). Takes j m new) x.1 h)
-later_step v n i [] m new h (inr x) = line_step v n m new (subst (λ (j : Item). Takes j m new) (first_is i (between line) x) h)
-later_step v n i (j ∷ s) m [] h (inl x) = inl x
-later_step v n i (j ∷ s) m (k ∷ ks) h (inl x) = inl (subst (IsBehind v n) (sym (lowest_behind k ks j s)) x)
-later_step v n i (j ∷ s) m new h (inr x) = absurd cc
-
-later_moves : (v : Version) (n : ℕ) (ms : List Mark) (s t : List Item) (b r : List ℕ) → Moves ms s b t r → AreBehind v n s → AreBehind v n t
-later_moves v n [] s t b r h x = subst (AreBehind v n) h.0 x
-later_moves v n (m ∷ ms) [] t b r h x = absurd h
-later_moves v n (m ∷ ms) (i ∷ s) t b r h x = later_moves v n ms (h.0 ++ s) t h.1 r h.3 (later_step v n i s m h.0 h.2.takes x)
-
 -- ---- the last line
 
 abbrev end_mark : Mark
@@ -123,13 +103,6 @@ line_of_pairs v k new h = by h.among
     by (inr (inl q)) = not_fixed _ (codes "end") (codes "\n") _ (mark _ q) refl
     by (inr (inr x)) = x
 
-nothing_else : (new s : List Item) → new ++ s ≡ [] → s ≡ []
-nothing_else [] s e = e
-nothing_else (i ∷ new) s e = absurd cc
-
-some_item : (j : Item) (s : List Item) → j ∷ s ≡ [] → ⊥
-some_item j s e = cc
-
 two_items : (v : Version) (n : ℕ) (j : Item) (s new : List Item) → IsBehind v n (lowest j s) → Path (fixed (codes "\n") ∷ []) (new ++ j ∷ s) [] → ⊥
 two_items v n j s [] o p =
     let low : IsBehind v n j = subst (λ (x : List Item). IsBehind v n (lowest j x)) (nothing_else p.0 s p.2) o in
@@ -141,7 +114,7 @@ last_item : (v : Version) (n : ℕ) (t : List Item) → AreBehind v n t → Path
 last_item v n [] o p = absurd p
 last_item v n (i ∷ []) (inl o) p = (o.0, o.2, ap (λ (x : Item). x ∷ []) o.1)
 last_item v n (i ∷ j ∷ s) (inl o) p = absurd (two_items v n j s p.0 o p.2)
-last_item v n (i ∷ []) (inr e) p = absurd (not_line p.0 (subst (λ (x : Item). Takes x end_mark p.0) (first_is i (between line) e) p.1))
+last_item v n (i ∷ []) (inr e) p = absurd (not_line p.0 (subst (λ (x : Item). Takes x end_mark p.0) (same_item i (between line) e) p.1))
 last_item v n (i ∷ j ∷ s) (inr e) p = absurd cc
 
 -- nor does the last line stand behind its own word
@@ -180,11 +153,6 @@ begins_with : (v : Version) (n k : ℕ) (i : Item) (m : Mark) (left behind : Lis
 begins_with v n k i m left behind new less h (inl e) = inl (given_items (Behind v n) i m new h.takes _ e (inl (suc k, refl, less)), no_last left h.there.rest (word_left i m left behind new h (codes "pair") _ _ e))
 begins_with v n k i m left behind new less h (inr (inl e)) = inr (given_items (λ (x : List Item). x ≡ between line ∷ []) i m new h.takes _ e refl)
 begins_with v n k i m left behind new less h (inr (inr x)) = absurd x
-
-no_entry : (a : ℕ) (w b rest : List ℕ) → BeginsEntry b → b ≡ (a ∷ w) ++ rest → (a ≡ 112 → ⊥) → (a ≡ 101 → ⊥) → ⊥
-no_entry a w [] rest h e p q = h
-no_entry a w (c ∷ b) rest (inl x) e p q = let same : c ≡ a = cc in p (sym same ∙ x)
-no_entry a w (c ∷ b) rest (inr x) e p q = let same : c ≡ a = cc in q (sym same ∙ x)
 
 symbol_begins : (v : Version) (i : Item) (m : Mark) (left behind : List ℕ) (new : List Item) (h : Move i m left behind new) (f a : List Demand × List Item) → BeginsEntry left → In h.takes.lead (keyword (codes "fun") f.0 f.1 ∷ keyword (codes "aux") a.0 a.1 ∷ pair_or_end v 1) → Begins v 1 left new
 symbol_begins v i m left behind new h f a b (inl e) = absurd (no_entry 102 (codes "un") left h.there.rest b (word_left i m left behind new h (codes "fun") f.0 f.1 e) (apart 102 112 refl) (apart 102 101 refl))

@@ -1,5 +1,5 @@
 -- Texts that are read up to a body, or behind the word of its kind.
-use Rattle.std.proofs.Common.{◌≡◌, inl, inr, ℕ, Bool, List, [], ◌∷◌, ◌++◌, length, Option, Some, None, codes, refl, sym, ap, ◌∙◌, subst, arith, append_assoc}
+use Rattle.std.proofs.Common.{◌≡◌, ℕ, Bool, List, [], ◌∷◌, ◌++◌, length, Option, Some, None, codes, refl, sym, ap, ◌∙◌, subst, arith, append_assoc}
 use Rattle.std.proofs.lemmas.List.{append-nil}
 use Rattle.certificates.specs.Evidence.{Automaton}
 use Rattle.certificates.specs.Certificates.{PairEntry, Simplification, Certificate, simplified_certificate}
@@ -16,11 +16,11 @@ use Rattle.cert_laws.proofs.Along.{have_append}
 use Rattle.cert_laws.proofs.Spelt.{text_both}
 use Rattle.cert_sharing.proofs.UseMarks.{AreStill, counts_still}
 use Rattle.cert_openings.specs.Openings.{IsLine, IsKindLine, AreHeadingLines, lines_text, Opening, certificate_for, uses_with, IsOpeningEnd, IsOpened}
-use Rattle.cert_openings.proofs.Lines.{bytes_apart, line_same, kind_line}
+use Rattle.cert_openings.proofs.Lines.{line_same, kind_line}
 use Rattle.cert_openings.proofs.EntryLines.{other}
 use Rattle.cert_openings.proofs.OwnLines.{Own, no_lines, own_both, own_answer, own_heading, own_simplify}
 use Rattle.cert_openings.proofs.Opened.{same_version}
-use Rattle.cert_openings.proofs.Bare.{openings_end}
+use Rattle.cert_openings.proofs.Bare.{openings_end, no_peak}
 use Rattle.cert_openings.proofs.BadOpenings.{bad_openings_are_refused}
 use Rattle.cert_words.specs.declared.error.CertError.{CertError}
 use Rattle.cert_words.specs.declared.reading.Reading.{Reading}
@@ -108,13 +108,8 @@ same_told {P} {names} {end} {from} {to} {f} {s} {t} h d e p q = told_on P names 
 peak_is_line : IsLine (codes "peak")
 peak_is_line = (other 112 refl, (other 101 refl, (other 97 refl, (other 107 refl, tt))))
 
-no_kind : IsKindLine (codes "peak") → ⊥
-no_kind (inl e) = bytes_apart 112 111 _ _ refl e
-no_kind (inr (inl e)) = bytes_apart 112 108 _ _ refl e
-no_kind (inr (inr e)) = bytes_apart 112 108 _ _ refl e
-
 past_peak : (ls ks : List (List ℕ)) (k r z : List ℕ) → AreHeadingLines ls → AreHeadingLines ks → IsKindLine k → lines_text ls ++ (codes "peak" ++ 10 ∷ r) ≡ lines_text ks ++ (k ++ 10 ∷ z) → ⊥
-past_peak [] [] k r z h j a e = no_kind (subst IsKindLine (sym (line_same (codes "peak") k r z peak_is_line (kind_line k a) e).0) a)
+past_peak [] [] k r z h j a e = no_peak (subst IsKindLine (sym (line_same (codes "peak") k r z peak_is_line (kind_line k a) e).0) a)
 past_peak [] (l ∷ ks) k r z h j a e = j.2 (sym (line_same (codes "peak") l r (lines_text ks ++ (k ++ 10 ∷ z)) peak_is_line j.0 (e ∙ append_assoc l (10 ∷ lines_text ks) (k ++ 10 ∷ z))).0)
 past_peak (l ∷ ls) [] k r z h j a e = h.1 (subst IsKindLine (sym (line_same l k (lines_text ls ++ (codes "peak" ++ 10 ∷ r)) z h.0 (kind_line k a) (sym (append_assoc l (10 ∷ lines_text ls) (codes "peak" ++ 10 ∷ r)) ∙ e)).0) a)
 past_peak (l ∷ ls) (m ∷ ks) k r z h j a e =

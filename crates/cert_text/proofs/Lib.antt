@@ -8,6 +8,5 @@ pub mod Advancing
 pub mod OpenedViews
 pub mod Fronts
 pub mod Openings
-pub mod Refusing
 pub mod SameMarks
 pub mod EntryStops

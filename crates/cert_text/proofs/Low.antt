@@ -7,8 +7,9 @@ use Rattle.cert_grammar.specs.Scans.{value}
 use Rattle.cert_grammar.specs.Items.{Item, shared_line, shared_count, automata_left, automaton_end, simplified, body, between, line, pairs_from, entries_from, heads_from, measure, leads, behind_automata, body_leads}
 use Rattle.cert_laws.proofs.Paths.{Takes, Path}
 use Rattle.cert_reading.specs.Stops.{lowest, BeginsList}
+use Rattle.cert_reading.proofs.Opening.{same_item}
 use Rattle.cert_text.proofs.Peakless.{is_peak, Peakless}
-use Rattle.cert_text.proofs.Ahead.{Each, step_by, lowest_behind, first_is}
+use Rattle.cert_text.proofs.Ahead.{Each, step_by, lowest_behind}
 
 -- the items of the second version before its body
 pub data IsEarly (i : Item) : Type 0 where
@@ -96,7 +97,7 @@ lone_step v i m new none h (at_list x) = lists_step v i m new h x
 
 low_step : (v : Version) (i : Item) (s : List Item) (m : Mark) (new : List Item) → is_peak m ≡ false → Takes i m new → AreLow v (i ∷ s) → AreLow v (new ++ s)
 low_step v i [] m new none h (inl x) = lone_step v i m new none h x
-low_step v i [] m new none h (inr x) = step_by (NewLow v) (between line) m new (subst (λ (j : Item). Takes j m new) (first_is i (between line) x) h) ((λ w e. tt), tt)
+low_step v i [] m new none h (inr x) = step_by (NewLow v) (between line) m new (subst (λ (j : Item). Takes j m new) (same_item i (between line) x) h) ((λ w e. tt), tt)
 low_step v i (j ∷ s) m [] none h (inl x) = inl x
 low_step v i (j ∷ s) m (k ∷ ks) none h (inl x) = inl (subst (IsLow v) (sym (lowest_behind k ks j s)) x)
 low_step v i (j ∷ s) m new none h (inr x) = absurd cc
@@ -180,11 +181,11 @@ no_line v i new (at_body g e) h = missing i (body v g) line_mark new e h (body_l
 no_line v i new (at_measure e) h = missing i (measure v) line_mark new e h (measure_line v)
 no_line v i new (at_list x) h = list_line v i new h x
 
-nothing_else : (new s : List Item) → new ++ s ≡ [] → s ≡ []
+pub nothing_else : (new s : List Item) → new ++ s ≡ [] → s ≡ []
 nothing_else [] s e = e
 nothing_else (i ∷ new) s e = absurd cc
 
-some_item : (j : Item) (s : List Item) → j ∷ s ≡ [] → ⊥
+pub some_item : (j : Item) (s : List Item) → j ∷ s ≡ [] → ⊥
 some_item j s e = cc
 
 two_items : (v : Version) (j : Item) (s new : List Item) → IsLow v (lowest j s) → Path (line_mark ∷ []) (new ++ j ∷ s) [] → ⊥
@@ -196,5 +197,5 @@ pub last_item : (v : Version) (t : List Item) → AreLow v t → Path closing t 
 last_item v [] o p = absurd p
 last_item v (i ∷ []) (inl o) p = (i, refl, list_there v i p.0 p.1 o)
 last_item v (i ∷ j ∷ s) (inl o) p = absurd (two_items v j s p.0 o p.2)
-last_item v (i ∷ []) (inr e) p = absurd (missing i (between line) end_mark p.0 (first_is i (between line) e) p.1 ((λ w q. cc), tt))
+last_item v (i ∷ []) (inr e) p = absurd (missing i (between line) end_mark p.0 (same_item i (between line) e) p.1 ((λ w q. cc), tt))
 last_item v (i ∷ j ∷ s) (inr e) p = absurd cc

@@ -33,11 +33,12 @@ use Rattle.cert_reading.specs.Whole.{CanShare}
 use Rattle.cert_reading.proofs.KindMarks.{kind_still, first_still}
 use Rattle.cert_reading.proofs.Stopping.{then_where, as_marks_where, low_where, low_unopened, open_before_where}
 use Rattle.cert_reading.proofs.UseReads.{known_behind, known_where}
+use Rattle.cert_reading.proofs.FoundSecond.{found_by}
 use Rattle.cert_text.specs.Reading.{Reading}
 use Rattle.cert_text.specs.ReadingView.{place_of, EndsMeasure, IsNext, read_marks, IsUpTo}
-use Rattle.cert_text.specs.OpenedText.{OpenedText, at_entries, whole, IsOpenedAs, IsRefusedBehind, HasNoEndAtWhole}
+use Rattle.cert_text.specs.OpenedText.{OpenedText, at_entries, whole, IsOpenedAs, IsRefusedBehind}
 use Rattle.cert_text.specs.Front.{steps_marks, opening_behind, opened_behind, CanStep, IsBegun}
-use Rattle.cert_text.proofs.Runs.{run_read, whole_found}
+use Rattle.cert_text.proofs.Runs.{run_read}
 use Rattle.cert_text.proofs.Fronts.{begun_on, certificate_behind, read_behind, whole_behind, run_of}
 
 -- ---- what follows for each text that is opened
@@ -45,11 +46,6 @@ use Rattle.cert_text.proofs.Fronts.{begun_on, certificate_behind, read_behind, w
 pub refused_late : (names : NameTable) (bytes : List ℕ) (t : OpenedText) → IsOpenedAs names bytes t → IsRefusedBehind names bytes t
 refused_late names bytes (at_entries o r) h = λ e at k. openings_pass names bytes o r.place e at h.2 k
 refused_late names bytes (whole c) h = λ e at k. never_both names bytes c e at h k
-
-pub behind_whole : (bytes : List ℕ) (steps : Option (List Simplification)) (t : OpenedText) → HasNoEndAtWhole bytes t → HasNoEndAtWhole bytes (opened_behind steps t)
-behind_whole bytes None t h = h
-behind_whole bytes (Some ss) (at_entries o r) h = tt
-behind_whole bytes (Some ss) (whole c) h = h
 
 pub if_ok : {A E : Type 0} (P Q : A → Type 0) (r : Result A E) → ((a : A) → P a → Q a) → IfOk r P → IfOk r Q
 if_ok P Q (Ok a) f h = f a h
@@ -128,7 +124,7 @@ module _ {names : NameTable} {bytes : List ℕ} {v : Version} {shared : List Aut
   peak_there {t} p none was ends plain h =
       let c = peak_certificate p in
       whole_there names bytes steps c
-      (whole_found v (certificate_behind steps c) names shared given bytes nothing_shared t.shares refl b.can_share (plain_behind v shared steps c tt (b.can_step was) plain) (b.plain_shared was)
+      (found_by v (certificate_behind steps c) names shared given bytes nothing_shared t.shares refl b.can_share (plain_behind v shared steps c tt (b.can_step was) plain) (b.plain_shared was)
       (subst (λ (r : List ℕ). Run names (length bytes) (Items.opening ∷ []) (λ u. certificate_marks u (uses_with v names shared) shared given (certificate_behind steps c)) [] bytes r nothing_shared t.shares) ends (run_of b none h)))
 
 -- ---- by kinds

@@ -1,15 +1,14 @@
 -- What a run along the marks of an opening and of entries has read, and where a run refuses a text.
-use Rattle.std.proofs.Common.{◌≡◌, ◌+◌, ◌-◌, ◌<◌, ◌==◌, ℕ, Bool, true, false, List, [], ◌∷◌, length, drop, Option, Some, refl, sym, ap, ◌∙◌, subst, arith, length-append}
+use Rattle.std.proofs.Common.{◌≡◌, ◌+◌, ◌-◌, ◌==◌, ℕ, Bool, true, false, List, [], ◌∷◌, length, drop, Option, Some, refl, sym, ap, ◌∙◌, subst, arith, length-append}
 use Rattle.std.proofs.lemmas.Bool.{eqb-true, false≢true}
+use Rattle.std.proofs.lemmas.List.{nil_from_length}
 use Rattle.certificates.specs.Evidence.{Automaton}
-use Rattle.certificates.specs.Certificates.{PairEntry, Certificate}
+use Rattle.certificates.specs.Certificates.{PairEntry}
 use Rattle.cops_names.specs.NameTable.{NameTable}
 use Rattle.cert_grammar.specs.Words.{name_of}
 use Rattle.cert_grammar.specs.Versions.{Version}
-use Rattle.cert_grammar.specs.CertificateText.{IsCertificateText}
 use Rattle.cert_grammar.specs.Refusals.{IsCertificateRefused}
 use Rattle.cert_grammar.specs.Marks.{CertificateCause, syntax, Naming, Mark, marks_text}
-use Rattle.cert_grammar.specs.CertificateMarks.{certificate_marks}
 use Rattle.cert_grammar.specs.Items.{Item, opening}
 use Rattle.cert_grammar.specs.Sharing.{Shared, nothing_shared, behind_marks}
 use Rattle.cert_openings.specs.Openings.{Opening, certificate_for, uses_with}
@@ -25,15 +24,10 @@ use Rattle.cert_reading.specs.Shared.{ArePlainAutomata}
 use Rattle.cert_reading.specs.Whole.{CanShare}
 use Rattle.cert_reading.specs.Stops.{Anywhere, StopsWhere, IsStoppedWhere}
 use Rattle.cert_reading.proofs.Found.{walks_named}
-use Rattle.cert_reading.proofs.FoundSecond.{found_by}
 use Rattle.cert_reading.proofs.FoundFront.{front_found}
 use Rattle.cert_text.specs.ReadingView.{place_of, read_marks}
 
 -- ---- a run to the end, and one behind an opening and entries
-
-pub whole_found : (v : Version) (c : Certificate) (names : NameTable) (all : List Automaton) (given : Option Bool) (bytes : List ℕ) (s t : Shared) → s ≡ nothing_shared → CanShare v all → IsPlainBy v all c → ArePlainAutomata all
-    → Run names (length bytes) (opening ∷ []) (λ u. certificate_marks u (uses_with v names all) all given c) [] bytes [] s t → IsCertificateText names bytes c
-whole_found v c names all given bytes s t fresh share p q r = found_by v c names all given bytes s t fresh share p q r
 
 pub run_read : {t : Shared} (v : Version) (all : List Automaton) (names : NameTable) (bytes left : List ℕ) (given : Option Bool) (o : Opening) (es : List PairEntry) (to : List Item) → CanShare v all → IsPlainBy v all (certificate_for o es) → ArePlainAutomata all
     → Run names (length bytes) (opening ∷ []) (λ u. read_marks u (uses_with v names all) all given o es) to bytes left nothing_shared t → IsReadTo names bytes o es (place_of bytes left) v (drop t.used all) left
@@ -93,19 +87,9 @@ refused_as_told names bytes NoMemory f at h t = absurd cc
 
 -- ---- bytes that are left, or none
 
-pub no_bytes : (b : List ℕ) → length b ≡ 0 → b ≡ []
-no_bytes [] e = refl
-no_bytes (x ∷ b) e = absurd (omega (arith, e))
-
-pub some_bytes : (b : List ℕ) → 0 < length b → b ≡ [] → ⊥
-some_bytes b h e = let none = ap length e in omega (arith, h, none)
-
 -- the same by the code's test
 pub left_none : (b : List ℕ) (e : Bool) → e ≡ (length b == 0) → e ≡ true → b ≡ []
-left_none b e is q = no_bytes b (eqb-true (length b) 0 (sym is ∙ q))
+left_none b e is q = nil_from_length b (eqb-true (length b) 0 (sym is ∙ q))
 
 pub left_some : (b : List ℕ) (e : Bool) → e ≡ (length b == 0) → e ≡ false → b ≡ [] → ⊥
 left_some b e is q none = false≢true (sym q ∙ is ∙ ap (λ (x : List ℕ). length x == 0) none)
-
-pub run_to : {s t : Shared} (names : NameTable) (end : ℕ) (from to : List Item) (f : Naming → List Mark) (b r : List ℕ) → r ≡ [] → Run names end from f to b r s t → Run names end from f to b [] s t
-run_to {s} {t} names end from to f b r e h = subst (λ (q : List ℕ). Run names end from f to b q s t) e h

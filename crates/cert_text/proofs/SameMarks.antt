@@ -81,16 +81,16 @@ automata_rest (p ∷ all) (q ∷ bs) x a b n e =
 marks_apart : (b c : ℕ) (t v : List ℕ) → (b == c) ≡ false → fixed (b ∷ t) ≡ fixed (c ∷ v) → ⊥
 marks_apart b c t v n e = bytes_apart b c t v n (ap mark_text e)
 
-versions_apart : fixed (codes "concon 1\n") ≡ fixed (codes "concon 2\n") → ⊥
-versions_apart e = bytes_apart 49 50 _ _ refl (append_cancel_left (codes "concon ") (codes "1\n") (codes "2\n") (ap mark_text e))
+pub lines_apart : fixed (codes "concon 1\n") ≡ fixed (codes "concon 2\n") → ⊥
+lines_apart e = bytes_apart 49 50 _ _ refl (append_cancel_left (codes "concon ") (codes "1\n") (codes "2\n") (ap mark_text e))
 
 same_count : (n m : ℕ) → number_for marks.shared_automata n ≡ number_for marks.shared_automata m → n ≡ m
 same_count n m e = cc
 
 heading_rest : (u w : Uses) (all bs : List Automaton) (x : Naming) (a b : List Mark) → heading_marks x u all ++ a ≡ heading_marks x w bs ++ b → (version_of u ≡ version_of w) × (a ≡ b)
 heading_rest in_full in_full all bs x a b e = (refl, append_cancel_left (fixed (codes "concon 1\n") ∷ []) a b e)
-heading_rest in_full (by_number h) all bs x a b e = let first : fixed (codes "concon 1\n") ≡ fixed (codes "concon 2\n") = cc in absurd (versions_apart first)
-heading_rest (by_number f) in_full all bs x a b e = let first : fixed (codes "concon 2\n") ≡ fixed (codes "concon 1\n") = cc in absurd (versions_apart (sym first))
+heading_rest in_full (by_number h) all bs x a b e = let first : fixed (codes "concon 1\n") ≡ fixed (codes "concon 2\n") = cc in absurd (lines_apart first)
+heading_rest (by_number f) in_full all bs x a b e = let first : fixed (codes "concon 2\n") ≡ fixed (codes "concon 1\n") = cc in absurd (lines_apart (sym first))
 heading_rest (by_number f) (by_number h) all bs x a b e =
     let behind : number_for marks.shared_automata (length all) ∷ (fixed (codes "\n") ∷ (automata_marks x all ++ a)) ≡ number_for marks.shared_automata (length bs) ∷ (fixed (codes "\n") ∷ (automata_marks x bs ++ b)) =
     append_cancel_left (fixed (codes "concon 2\n") ∷ fixed (codes "shared ") ∷ []) _ _ e in

@@ -1,9 +1,11 @@
 -- Which lead stands at the front of bytes, and how far leads are read.
 use Rattle.cert_grammar.specs.Items.{text, check, is_short}
 use Rattle.cert_grammar.specs.FirstRefusal.{is_there}
-use Rattle.cert_grammar.proofs.ScanLaws.{spelling_whole, by_test}
-use Rattle.cert_laws.proofs.Paths.{text_is, lead_there, drop_behind, take_front, found_there}
+use Rattle.cert_grammar.proofs.ScanLaws.{spelling_whole}
+use Rattle.cert_laws.proofs.Paths.{text_is, lead_there, found_there}
 use Rattle.std.proofs.Common.{length-append, ◌++◌, ◌≡◌, ◌≤◌, ℕ, suc, Bool, true, false, if◌then◌else◌, List, [], ◌∷◌, Some, None, max, map, length, take, drop, refl, sym, ap, ◌∙◌, subst, ◌==◌, arith}
+use Rattle.std.proofs.lemmas.Bool.{false_from_ne_true}
+use Rattle.std.proofs.Math.Seq.{drop-append_seam, take-append_seam}
 use Rattle.cert_words.specs.declared.leads.Lead as code
 use Rattle.cert_words.specs.declared.leads.Lead.TheVariants as leading
 use Rattle.cert_grammar.specs.Scans.{spelling, scan, scan_next, is_word}
@@ -45,21 +47,18 @@ is_front a bytes w behind size n h e le first last ends =
 -- bytes at the front
 pub text_front : (w bytes rest : List ℕ) → bytes ≡ w ++ rest → IsLeadRead (text w []) bytes w rest
 text_front w bytes rest e =
-    let back = ap (drop (length w)) e ∙ drop_behind w rest in
+    let back = ap (drop (length w)) e ∙ drop-append_seam w rest in
     let size = ap length e ∙ length-append w rest in
     record {
       there = ap (is_there (text w [])) e ∙ lead_there (text w []) w rest (record { last = spelling []; goes = spelling_whole w; whole = refl }) refl;
-      word = sym (ap (take (length w)) e ∙ take_front w rest);
+      word = sym (ap (take (length w)) e ∙ take-append_seam w rest);
       rest = sym back;
       within = omega (arith, size);
     }
 
 pub no_text : (w bytes : List ℕ) → ((rest : List ℕ) → bytes ≡ w ++ rest → ⊥) → is_there (text w []) bytes ≡ false
-no_text w bytes n = by_test _ (λ e. let f = found_there (text w []) bytes e in n f.rest (f.parts ∙ ap (λ (v : List ℕ). v ++ f.rest) (text_is w f.word_of f.spelt)))
+no_text w bytes n = false_from_ne_true _ (λ e. let f = found_there (text w []) bytes e in n f.rest (f.parts ∙ ap (λ (v : List ℕ). v ++ f.rest) (text_is w f.word_of f.spelt)))
 
 -- a byte at the front
 pub check_front : (b : ℕ) (bytes rest : List ℕ) → bytes ≡ b ∷ rest → IsLeadRead (check (is_short 0) b []) bytes [] bytes
 check_front b bytes rest e = record { there = (text_front (b ∷ []) bytes rest e).there; word = refl; rest = refl; within = omega arith }
-
-pub no_check : (b : ℕ) (bytes : List ℕ) → ((rest : List ℕ) → bytes ≡ b ∷ rest → ⊥) → is_there (check (is_short 0) b []) bytes ≡ false
-no_check b bytes n = no_text (b ∷ []) bytes n

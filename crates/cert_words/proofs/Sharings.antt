@@ -1,5 +1,6 @@
 -- Words at which shared automata are judged.
 use Rattle.std.proofs.Common.{◌≡◌, ◌≤◌, ◌-◌, nat_le, nat_lt, ℕ, suc, Bool, true, false, not, cond, ◌&&◌, List, [], ◌∷◌, ◌++◌, length, take, Option, Some, None, refl, sym, ap, ◌∙◌, subst, arith, length-append}
+use Rattle.std.proofs.Math.Seq.{take-append_seam}
 use Rattle.cops_names.specs.NameTable.{NameTable}
 use Rattle.cert_grammar.specs.Words.{largest, name_of}
 use Rattle.cert_grammar.specs.Marks.{CertificateCause, bad_share, too_many, unfolded, automaton_begins, automaton_ends, is_use, is_light, all_used, Demand, shares, Naming, Mark, word, closed, marks_text, verdict}
@@ -10,9 +11,8 @@ use Rattle.cert_grammar.specs.Items.{Item, Lead, at_once, keyword, numeral_lead,
 use Rattle.cert_grammar.specs.SharedText.{is_among}
 use Rattle.cert_grammar.specs.Sharing.{Shared, holds, first_of, share_verdict, share_effect, behind_marks, PassShares}
 use Rattle.cert_grammar.specs.FirstRefusal.{is_there, first_there}
-use Rattle.cert_laws.proofs.Paths.{take_front}
 use Rattle.cert_shares.specs.SharesView.{with_begun, behind_end}
-use Rattle.cert_sharing.proofs.UseMarks.{behind_both, pass_join, alone_met}
+use Rattle.cert_sharing.proofs.UseMarks.{behind_both, pass_join, alone_met, two_met}
 use Rattle.cert_words.specs.declared.error.CertError.{CertError}
 use Rattle.cert_words.specs.declared.reading.Reading.{Reading}
 use Rattle.cert_words.specs.Words.{IsLeadRead, told}
@@ -38,9 +38,6 @@ end_stop names end bytes s i w v rest new t f h e missed = λ items b.
     (alone_missed (holds s all_used) (bad_share, end - length bytes) (sym e ∙ missed))
 
 -- ---- a use
-
-two_met : (v w : Bool) (x y : CertificateCause × ℕ) → v ≡ true → w ≡ true → first_of (cond {A = Option (CertificateCause × ℕ)} v None (Some x)) (first_of (cond {A = Option (CertificateCause × ℕ)} w None (Some y)) None) ≡ None
-two_met v w x y e f = ap (λ (t : Bool). first_of (cond {A = Option (CertificateCause × ℕ)} t None (Some x)) (first_of (cond {A = Option (CertificateCause × ℕ)} w None (Some y)) None)) e ∙ alone_met w y f
 
 first_out : (v : Bool) (x : CertificateCause × ℕ) (o : Option (CertificateCause × ℕ)) → v ≡ false → first_of (cond {A = Option (CertificateCause × ℕ)} v None (Some x)) o ≡ Some x
 first_out v x o e = ap (λ (t : Bool). first_of (cond {A = Option (CertificateCause × ℕ)} t None (Some x)) o) e
@@ -118,7 +115,7 @@ module _ (names : NameTable) (end : ℕ) (from : List Item) (f : Naming → List
       let whole = since r le in
       let long = ap length whole ∙ length-append (marks_text done) s.left.now in
       let size : length a.left.now - length s.left.now ≡ length (marks_text done) = omega (arith, long) in
-      e ∙ ap (λ (n : ℕ). take n a.left.now) size ∙ ap (take (length (marks_text done))) whole ∙ take_front (marks_text done) s.left.now
+      e ∙ ap (λ (n : ℕ). take n a.left.now) size ∙ ap (take (length (marks_text done))) whole ∙ take-append_seam (marks_text done) s.left.now
 
   -- what is known where it ends
   behind_all : Run names end from f (i ∷ []) a.left.now s.left.now a.shares s.shares → length a.left.now ≤ end → BeginsAnew done → (b : List ℕ) → behind_marks done (with_begun b a.shares) ≡ with_begun (marks_text done) s.shares

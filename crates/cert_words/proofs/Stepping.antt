@@ -1,7 +1,8 @@
 -- One word, which is let through or refused.
 use Rattle.std.proofs.Common.{◌≡◌, ◌≤◌, ◌<◌, ◌+◌, ◌-◌, nat_le, nat_lt, ℕ, suc, Bool, true, false, ◌&&◌, List, [], ◌∷◌, ◌++◌, length, take, drop, codes, Option, Some, None, is_some, unwrap_or, Bor, refl, sym, ap, ◌∙◌, subst, arith, length-drop}
-use Rattle.std.proofs.lemmas.Bool.{lt-leb, le-leb, lt-ltb, le-ltb}
+use Rattle.std.proofs.lemmas.Bool.{lt-leb, le-leb, lt-ltb, le-ltb, and_parts}
 use Rattle.std.specs.Option.{option_and_then}
+use Rattle.std.proofs.Math.Seq.{drop-append_seam}
 use Rattle.cops_names.specs.NameTable.{NameTable, number_of, arity_at}
 use Rattle.cert_grammar.specs.Words.{largest, name_of, IsIdentifier}
 use Rattle.cert_grammar.specs.Marks.{is_number, Counted, limit, counted_as, CertificateCause, syntax, unknown_name, wrong_arity, bad_number, too_many, too_deep, has_arity, in_range, is_few, is_shallow, Naming, Demand, meets, Mark, fixed, word, symbol, behind, demands_of, verdict}
@@ -14,10 +15,10 @@ use Rattle.cert_grammar.specs.FirstRefusal as machine
 use Rattle.cert_grammar.specs.SharedReader.{ends, next_lead, shared_judged, behind_lead_shared, after_step}
 use Rattle.cert_shares.specs.SharesView.{with_begun}
 use Rattle.cert_sharing.proofs.UseMarks.{IsStill, still_marks, still_pass, places_still}
-use Rattle.cert_grammar.proofs.ScanLaws.{IsWordOf, scanned, and_first}
+use Rattle.cert_grammar.proofs.ScanLaws.{IsWordOf, scanned}
 use Rattle.cert_grammar.proofs.ScanWords.{number_is, place_is, bar_is, name_is}
 use Rattle.cert_grammar.proofs.Names.{found_is_named}
-use Rattle.cert_laws.proofs.Paths.{found_there, text_is, drop_behind}
+use Rattle.cert_laws.proofs.Paths.{found_there, text_is}
 use Rattle.cert_words.specs.declared.error.CertError.{CertError}
 use Rattle.cert_words.specs.declared.error.CertCount as counts
 use Rattle.cert_words.specs.declared.error.CertCount.TheVariants as counting
@@ -123,7 +124,7 @@ first_is i bytes ls a e f = ap (λ (x : List Lead). first_there x bytes) e ∙ f
 
 -- the word of a lead that is there
 word_of_lead : (m : Mode) (bytes w : List ℕ) (t : Bool) → (is_word (scan m bytes).mode && t) ≡ true → w ≡ take (scan m bytes).size bytes → IsWordOf m w
-word_of_lead m bytes w t h e = subst (IsWordOf m) (sym e) (record { last = (scan m bytes).mode; goes = (scanned bytes m).goes; whole = and_first (is_word (scan m bytes).mode) t h })
+word_of_lead m bytes w t h e = subst (IsWordOf m) (sym e) (record { last = (scan m bytes).mode; goes = (scanned bytes m).goes; whole = (and_parts (is_word (scan m bytes).mode) t h).0 })
 
 module _ (names : NameTable) (end : ℕ) (bytes : List ℕ) (s : Shared) (i : Item) where
   stuck_told : (e : CertError) (ls : List Lead) → leads i ≡ ls → first_there ls bytes ≡ None → told e ≡ Some (syntax, (end - length bytes) + longest ls bytes) → IsStuckAt names end i bytes s (told e)
@@ -321,4 +322,4 @@ pub word_text : (w v bytes rest : List ℕ) → IsLeadRead (keyword w [] []) byt
 word_text w v bytes rest h =
     let f = found_there (keyword w [] []) bytes h.there in
     let whole : bytes ≡ w ++ f.rest = f.parts ∙ ap (λ (x : List ℕ). x ++ f.rest) (text_is w f.word_of f.spelt) in
-    whole ∙ ap (λ (x : List ℕ). w ++ x) (sym (ap (drop (length w)) whole ∙ drop_behind w f.rest) ∙ sym h.rest)
+    whole ∙ ap (λ (x : List ℕ). w ++ x) (sym (ap (drop (length w)) whole ∙ drop-append_seam w f.rest) ∙ sym h.rest)

@@ -172,13 +172,6 @@ framed {names} {end} {from} {to} {f} {s} {t} more x = record { front = x.front; 
 pub already : {names : NameTable} {end : ℕ} {from to other : List Item} {f g : Naming → List Mark} {s t : Reading} (e : CertError) → t.refused ≡ Some e → Reads names end from f to s t → Reads names end from g other s t
 already {names} {end} {from} {to} {other} {f} {g} {s} {t} e q x = record { front = x.front; on = any_on names end from to other f g s.left.now t.left.now s.shares t.shares s.refused t.refused e q x.on }
 
-nothing_on : (names : NameTable) (end : ℕ) (from : List Item) (b : List ℕ) (x : Shared) (r : Option CertError) → ReadsOn names end from (λ u. []) from b b x x r r
-nothing_on names end from b x None = record { walks = λ le items. refl; found = tt; shares = λ le k. (tt, refl) }
-nothing_on names end from b x (Some e) = refl
-
-pub reads_nothing : {names : NameTable} {end : ℕ} {from : List Item} {s : Reading} → Reads names end from (λ u. []) from s s
-reads_nothing {names} {end} {from} {s} = record { front = front_same s.shares.texts s.shares.texts refl; on = nothing_on names end from s.left.now s.shares s.refused }
-
 -- what is refused stays so
 pub stays : {names : NameTable} {end : ℕ} {from to : List Item} {f : Naming → List Mark} {s : Reading} (e : CertError) → s.refused ≡ Some e → Reads names end from f to s s
 stays {names} {end} {from} {to} {f} {s} e q = record { front = front_same s.shares.texts s.shares.texts refl; on = stays_on names end from to f s.left.now s.shares s.refused e q }
@@ -228,10 +221,6 @@ run_on : (names : NameTable) (end : ℕ) (from to : List Item) (f : Naming → L
 run_on names end from to f b r x y None None e h = h
 run_on names end from to f b r x y (Some d) None e h = absurd h
 run_on names end from to f b r x y s (Some d) e h = absurd cc
-
--- texts of shared automata that stand there stay in front
-pub read_front : {names : NameTable} {end : ℕ} {from to : List Item} {f : Naming → List Mark} {s t : Reading} → Reads names end from f to s t → IsFront s.shares.texts t.shares.texts
-read_front x = x.front
 
 pub read_run : {names : NameTable} {end : ℕ} {from to : List Item} {f : Naming → List Mark} {s t : Reading} → t.refused ≡ None → Reads names end from f to s t → Run names end from f to s.left.now t.left.now s.shares t.shares
 read_run {names} {end} {from} {to} {f} {s} {t} e x = run_on names end from to f s.left.now t.left.now s.shares t.shares s.refused t.refused e x.on

@@ -8,8 +8,7 @@ use Rattle.cert_words.specs.declared.error.CertCount as counts
 use Rattle.cert_words.specs.declared.error.CertCount.TheVariants as counting
 use Rattle.cert_words.specs.declared.error.CertError as errors
 use Rattle.cert_words.specs.declared.error.CertError.TheVariants as refusing
-use Rattle.cops_names.specs.NameTable.{NameTable}
-use Rattle.cert_grammar.specs.Marks.{Counted, pairs, entries, numbers, steps, redexes, states, transitions, nodes, shared_automata, unfolded, CertificateCause, syntax, unknown_name, wrong_arity, bad_number, bad_share, too_many, too_deep, Demand, verdict}
+use Rattle.cert_grammar.specs.Marks.{Counted, pairs, entries, numbers, steps, redexes, states, transitions, nodes, shared_automata, unfolded, CertificateCause, syntax, unknown_name, wrong_arity, bad_number, bad_share, too_many, too_deep}
 use Rattle.cert_grammar.specs.Items.{Lead, text, check, keyword, numeral_lead, position_lead, variable_lead, name_lead, is_short}
 use Rattle.cert_grammar.specs.FirstRefusal.{is_there, taken}
 use Rattle.cert_grammar.specs.Scans.{Mode, spelling, bar_begins, number_begins, number_zero, number_more, place_begins, place_root, place_number, place_zero, place_more, name_begins, name_dash, name_equals, name_more}
@@ -80,6 +79,3 @@ IsTold wanted (Some r) = wanted ≡ Some r
 abbrev pub Judges : {A : Type 0} → Option (CertificateCause × ℕ) → Result A errors.CertError → Type 0
 Judges wanted (Ok x) = wanted ≡ None
 Judges wanted (Err e) = IsTold wanted (told e)
-
-abbrev pub Demands : {A : Type 0} → ℕ → List Demand → Result A errors.CertError → Type 0
-Demands at demands r = (names : NameTable) → Judges (verdict names at demands) r

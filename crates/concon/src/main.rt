@@ -1,21 +1,10 @@
 //! The program: hands the words, the real files and the two standard streams to `concon_run`, and ends with its status.
 #![tactic(auto)]
 
-mod adapters;
-
-use adapters::{DiskShelf, StreamSink};
 use concon_run::{Status, run};
-use std::env;
+use disk_io::{DiskShelf, StreamSink, words_of};
 use std::io::ErrorKind;
 use std::process::ExitCode;
-
-fn words_of(rt: &HostRuntime) -> std::io::Result<Vec<String>> {
-    let mut words = Vec::new(rt.alloc());
-    for word in env::args(rt)?.skip(1) {
-        words.push(word)?;
-    }
-    Ok(words)
-}
 
 // How a run ends whose words were not taken, since memory was refused or they are no texts. Nothing is written.
 fn without_words(error: &std::io::Error) -> Status {

@@ -2,15 +2,15 @@
 use Rattle.std.proofs.Common.{◌≡◌, ◌⊎◌, ℕ, ◌<◌, ◌≤◌, List, [], ◌∷◌, length, Option, Some, None, Result, Ok, Err, codes, inl, inr, refl, sym, ap, ap₂, ◌∙◌, subst, subst₂, arith}
 use Rattle.std.specs.Prelude.{IfSome, IsErrOf, option_map}
 use Rattle.rewriting.specs.Rules.{Condition, System}
-use Rattle.cops_read.specs.NameTable.{NameTable}
+use Rattle.cops_names.specs.NameTable.{NameTable}
 use Rattle.cops_names.specs.NamesView.{texts_of}
 use Rattle.cc_count.specs.Counts.{Counts}
 use Rattle.cc_io.specs.Errors.{IsTooLong}
 use Rattle.cc_io.specs.declared.shelf.ReadAllError.{ReadAllError}
 use Rattle.cc_io.specs.declared.shelf.ReadAllError.TheVariants as reading
-use Rattle.cops_systems.specs.declared.errors.Count.{Count}
-use Rattle.cops_systems.specs.declared.errors.Count.TheVariants as count
-use Rattle.first_found.specs.Spaces.{Ending, IsBarren, IsPrice, IsDearer}
+use Rattle.cops_read.specs.declared.errors.Count.{Count}
+use Rattle.cops_read.specs.declared.errors.Count.TheVariants as count
+use Rattle.first_found.specs.Spaces.{Ending, IsBarren, IsDearer}
 use Rattle.first_found.specs.Spaces as ending
 use Rattle.query.specs.Answers.{conditions_of, AskAnswers}
 use Rattle.query_space.specs.Items.{QueryAnswer, never_met, met_by}
@@ -25,10 +25,14 @@ use Rattle.query_terms.specs.declared.reader.QueryError.{QueryError}
 use Rattle.query_terms.specs.declared.reader.QueryError.TheVariants as error
 use Rattle.query_text.specs.Laws as texts
 use Rattle.query_text.specs.Query as text
-use Rattle.concon_run.specs.QueryRefusals.{QueryRefusal, long_query, no_query_text, most_query_bytes, IsQueryRefused, query_cause_words, query_error_cause, query_refusal_text, query_refusal_of}
-use Rattle.concon_run.specs.Run.{ShelfRun, Run, HasFailed, BeginsAtMost}
+use Rattle.run_parts.specs.Bytes.{most_query_bytes, Bytes, told_or_any, bytes_of, SpellsSystem}
+use Rattle.refusal_texts.specs.Queries.{query_cause_words, query_error_cause, query_refusal_text}
+use Rattle.run_parts.specs.Devices.{ShelfRun, HasFailed, BeginsAtMost}
+use Rattle.run_parts.proofs.Numbers.{same_budget}
+use Rattle.run_parts.proofs.LongTexts.{long_text}
+use Rattle.concon_run.specs.QueryRefusals.{QueryRefusal, long_query, no_query_text, IsQueryRefused, query_refusal_of}
+use Rattle.concon_run.specs.Run.{Run}
 use Rattle.concon_run.specs.Said.{Said, IsSaidIfMemory, Tells, TellsIfMemory, IsUnlessHindered}
-use Rattle.concon_run.specs.Systems.{Bytes, told_or_any, bytes_of, SpellsSystem}
 use Rattle.concon_run.specs.Query.{IsQuery, SpellsQuery, IsRefusedQuery, QueryOutcome, bad_file, bad_query, answer_found, over_budget, exhausted, Spells, HoldsNoAnswer, QueryComesTo, QueryMustComeTo, said_of_answer, said_of_question, QueryReply, queried, file_unread, query_unread, said_of_query, IsQueryReply, QueryCalmlyComesTo}
 use Rattle.concon_run.specs.Querying.{EndsWith, BytesReply, QueryReplies, ending_outcome, query_reply}
 use Rattle.concon_run.specs.Files.{SystemAnswers, no_system_said}
@@ -41,9 +45,8 @@ use Rattle.concon_run.specs.declared.queries.Queried.{Queried}
 use Rattle.concon_run.specs.declared.status.Status.{Status}
 use Rattle.concon_run.specs.declared.status.Status.TheVariants as status
 use Rattle.concon_run.proofs.Letters.{first_letter}
-use Rattle.concon_run.proofs.Numbers.{same_budget}
 use Rattle.concon_run.proofs.OneSystem.{KnownSystems, Told, same_bytes, one_pair, spells_or_none, none_or_spells, one_refused}
-use Rattle.concon_run.proofs.Unread.{long_text, given_none, no_system_is_said}
+use Rattle.concon_run.proofs.Unread.{given_none, no_system_is_said}
 
 pub letter_of_query : (words : List (List ℕ)) (file query : List ℕ) (budget : ℕ) → IsQuery words file query budget → first_letter words ≡ 113
 letter_of_query words file query budget (inl (e, b)) = ap first_letter e

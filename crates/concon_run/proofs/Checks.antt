@@ -7,7 +7,7 @@ use Rattle.join_systems.specs.FileRelation.{IsFromFile, IsFileConfluent}
 use Rattle.certificates.specs.Certificates.{Certificate, ortho_certificate, quasi_certificate, peak_certificate, simplified_certificate}
 use Rattle.certificates.specs.Reasons.{Rejection, simplification_fails}
 use Rattle.valid_certificates.specs.CarriedBack.{IsPeakApart}
-use Rattle.cops_read.specs.NameTable.{NameTable}
+use Rattle.cops_names.specs.NameTable.{NameTable}
 use Rattle.cc_io.specs.Faults.{Rose}
 use Rattle.cc_io.specs.Errors.{IsTooLong}
 use Rattle.cc_io.specs.declared.shelf.ReadAllError.{ReadAllError}
@@ -26,10 +26,13 @@ use Rattle.cert_check.specs.declared.bytes.BytesError.{BytesError}
 use Rattle.cert_check.specs.declared.bytes.BytesError.TheVariants as bytes_error
 use Rattle.cert_words.specs.declared.error.CertError.{CertError}
 use Rattle.cert_words.specs.declared.error.CertError.TheVariants as cert_causes
-use Rattle.concon_run.specs.CertRefusals.{CertRefusal, long_certificate, no_certificate_text, most_cert_bytes, cert_cause_words, cert_error_cause, cert_refusal_text, cert_refusal_of}
-use Rattle.concon_run.specs.Run.{ShelfRun, Run, HasFailed, BeginsAtMost}
+use Rattle.run_parts.specs.Bytes.{most_cert_bytes, Bytes, told_or_any, bytes_of, SpellsSystem}
+use Rattle.refusal_texts.specs.Certificates.{cert_cause_words, cert_error_cause, cert_refusal_text}
+use Rattle.run_parts.specs.Devices.{ShelfRun, HasFailed, BeginsAtMost}
+use Rattle.run_parts.proofs.LongTexts.{long_text}
+use Rattle.concon_run.specs.CertRefusals.{CertRefusal, long_certificate, no_certificate_text, cert_refusal_of}
+use Rattle.concon_run.specs.Run.{Run}
 use Rattle.concon_run.specs.Said.{Said, IsSaidIfMemory, Tells, TellsIfMemory}
-use Rattle.concon_run.specs.Systems.{Bytes, told_or_any, bytes_of, SpellsSystem}
 use Rattle.concon_run.specs.Check.{IsCheck, names_behind, names_judged, IsRefusedCertificate, CheckOutcome, no_system, no_certificate, IsTrueOf, CheckAnswer, checked, file_unread, cert_unread, said_of_check, said_of_outcome, IsCheckAnswer, CalmlyComesTo}
 use Rattle.concon_run.specs.Checking.{CertificateAnswers, IsShownBy, check_answer}
 use Rattle.concon_run.specs.Files.{SystemAnswers, no_system_said}
@@ -42,7 +45,7 @@ use Rattle.concon_run.specs.declared.status.Status.TheVariants as status
 use Rattle.concon_run.proofs.Letters.{first_letter}
 use Rattle.concon_run.proofs.OneSystem.{KnownSystems}
 use Rattle.concon_run.proofs.OneOutcome.{KnownCertificates, one_outcome}
-use Rattle.concon_run.proofs.Unread.{long_text, given_none, no_system_is_said}
+use Rattle.concon_run.proofs.Unread.{given_none, no_system_is_said}
 
 pub letter_of_check : (words : List (List ℕ)) (file cert : List ℕ) → IsCheck words file cert → first_letter words ≡ 99
 letter_of_check words file cert e = ap first_letter e

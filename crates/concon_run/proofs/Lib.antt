@@ -1,6 +1,4 @@
 pub mod PieceLists
-pub mod FewWords
-pub mod Numbers
 pub mod Letters
 pub mod Answered
 pub mod Unread

@@ -4,14 +4,17 @@ use Rattle.std.proofs.lemmas.List.{append-nil}
 use Rattle.cc_io.specs.Bytes.{appended}
 use Rattle.certificates.specs.Certificates.{Certificate}
 use Rattle.cert_check.specs.Kinds.{verdict_of}
+use Rattle.run_parts.specs.Devices.{HasFailed}
+use Rattle.run_parts.specs.Taken.{TakesWhole}
+use Rattle.run_parts.specs.Answers.{proof_text}
 use Rattle.concon_run.specs.Verdicts.{status_of}
 use Rattle.cert_check.specs.declared.Verdict.{Verdict}
 use Rattle.cert_check.specs.declared.Verdict.TheVariants.{Yes, No}
-use Rattle.cops_read.specs.NameTable.{NameTable}
-use Rattle.concon_run.specs.Run.{Run, HasFailed}
-use Rattle.concon_run.specs.Said.{Said, TakesWhole, no_memory_said}
+use Rattle.cops_names.specs.NameTable.{NameTable}
+use Rattle.concon_run.specs.Run.{Run}
+use Rattle.concon_run.specs.Said.{Said, no_memory_said}
 use Rattle.concon_run.specs.Check.{IsCheck, no_system, no_certificate, rejected, shown, CheckAnswer, checked, file_unread, cert_unread, said_of_check, IsCheckAnswer, CheckComesTo, IsOfCheck}
-use Rattle.concon_run.specs.Prove.{IsProve, bad_file, found, over_budget, exhausted, proof_text, ProveAnswer, searched, said_of_prove, IsProveAnswer, ProveComesTo, TookProof, ProofStandsBelow, IsOfProve}
+use Rattle.concon_run.specs.Prove.{IsProve, bad_file, found, over_budget, exhausted, ProveAnswer, searched, said_of_prove, IsProveAnswer, ProveComesTo, TookProof, ProofStandsBelow, IsOfProve}
 use Rattle.concon_run.specs.Prove as search
 use Rattle.concon_run.specs.Query.{IsQuery, bad_query, answer_found, said_of_answer, QueryReply, queried, query_unread, said_of_query, IsQueryReply, RunQueryComesTo, TookAnswer, AnswerStandsBelow, IsOfQuery}
 use Rattle.concon_run.specs.Query as asking

@@ -1,6 +1,7 @@
 -- Words are one command at most, and what is said of a run is said to that.
 use Rattle.std.proofs.Common.{◌≡◌, ◌⊎◌, ℕ, List, inl, inr, ap, ap₂, sym, ◌∙◌, subst, arith}
-use Rattle.concon_run.specs.Run.{Run, AsksNothing}
+use Rattle.run_parts.specs.Devices.{AsksNothing}
+use Rattle.concon_run.specs.Run.{Run}
 use Rattle.concon_run.specs.Said.{Said, Tells, TellsIfMemory, no_memory_said}
 use Rattle.concon_run.specs.Check.{IsCheck}
 use Rattle.concon_run.specs.Prove.{IsProve}

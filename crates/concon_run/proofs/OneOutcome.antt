@@ -6,13 +6,13 @@ use Rattle.certificates.specs.Reasons.{Rejection}
 use Rattle.valid_certificates.specs.Certificates.{IsRejected, IsValid}
 use Rattle.valid_certificates.specs.Laws.{CertificatesHaveOneAnswer}
 use Rattle.cert_check.specs.Kinds.{verdict_of}
-use Rattle.cops_read.specs.NameTable.{NameTable}
+use Rattle.cops_names.specs.NameTable.{NameTable}
 use Rattle.cert_grammar.specs.CertificateText.{IsCertificateText}
 use Rattle.cert_sharing.specs.SharedLaws as texts
 use Rattle.cert_sharing.proofs.OneCertificate.{one_certificate}
-use Rattle.concon_run.specs.CertRefusals.{CertRefusal, long_certificate, no_certificate_text, most_cert_bytes, IsCertRefused}
-use Rattle.concon_run.specs.Systems.{told_or_any}
-use Rattle.concon_run.specs.Check.{names_judged, CheckOutcome, no_system, no_certificate, rejected, shown, SpellsCertificate, IsRefusedCertificate, ComesTo}
+use Rattle.run_parts.specs.Bytes.{most_cert_bytes, told_or_any, SpellsCertificate}
+use Rattle.concon_run.specs.CertRefusals.{CertRefusal, long_certificate, no_certificate_text, IsCertRefused}
+use Rattle.concon_run.specs.Check.{names_judged, CheckOutcome, no_system, no_certificate, rejected, shown, IsRefusedCertificate, ComesTo}
 use Rattle.concon_run.proofs.OneSystem.{KnownSystems, Told, same_bytes, one_pair, spells_or_none, none_or_spells, one_refused}
 
 -- what is known of the texts of certificates, and of certificates

@@ -1,11 +1,12 @@
 -- A text is that of one system, or is refused once, and never both.
 use Rattle.std.proofs.Common.{◌≡◌, ◌≤◌, ℕ, List, length, Option, Some, None, refl, sym, ap₂, ◌∙◌, subst, arith}
 use Rattle.rewriting.specs.Rules.{System}
-use Rattle.cops_read.specs.NameTable.{NameTable}
+use Rattle.cops_names.specs.NameTable.{NameTable}
 use Rattle.cops_read.specs.File.{IsFile}
 use Rattle.cops_read.specs.Answers.{OneSystem, OneRefusal, NeverSystemAndRefusal}
-use Rattle.concon_run.specs.FileRefusals.{FileRefusal, long_file, no_system_text, IsFileRefused, most_file_bytes}
-use Rattle.concon_run.specs.Systems.{Bytes, told_or_any, SpellsSystem, IsRefusedFile}
+use Rattle.run_parts.specs.Bytes.{most_file_bytes, Bytes, told_or_any, SpellsSystem}
+use Rattle.concon_run.specs.FileRefusals.{FileRefusal, long_file, no_system_text, IsFileRefused}
+use Rattle.concon_run.specs.Systems.{IsRefusedFile}
 
 pub same_bytes : (told : Option (List ℕ)) (a b : List ℕ) → told ≡ Some a → told_or_any told b → b ≡ a
 same_bytes None a b e h = absurd cc

@@ -2,7 +2,7 @@
 use Rattle.std.proofs.Common.{◌≡◌, ℕ, ◌≤◌, List, [], ◌∷◌, Option, Result, Ok, Err, codes, inl, inr, refl, sym, ap, ap₂, ◌∙◌, subst, subst₂, arith}
 use Rattle.std.specs.Prelude.{IfSome}
 use Rattle.rewriting.specs.Rules.{System}
-use Rattle.certificates.specs.Certificates.{Certificate, ortho_certificate, quasi_certificate, peak_certificate, simplified_certificate}
+use Rattle.certificates.specs.Certificates.{Certificate}
 use Rattle.valid_certificates.specs.Certificates.{IsValid}
 use Rattle.cc_count.specs.Counts.{Counts}
 use Rattle.first_found.specs.Spaces.{IsBarren, IsDearer}
@@ -16,13 +16,14 @@ use Rattle.proof_spaces.specs.Laws.{ProofSpacesAreSearchable, PrunedProofsArePro
 use Rattle.portfolio.specs.declared.Outcome.{Outcome}
 use Rattle.portfolio.specs.declared.Outcome.TheVariants.{Found, Exhausted, Spent}
 use Rattle.portfolio.specs.Answers.{Proves, IfProved, IfExhausted}
-use Rattle.cert_grammar.specs.CertificateText.{answer_line}
-use Rattle.cops_read.specs.NameTable.{NameTable}
+use Rattle.cops_names.specs.NameTable.{NameTable}
 use Rattle.cert_check.specs.Kinds.{verdict_of}
-use Rattle.concon_run.specs.Run.{ShelfRun, Run, HasFailed}
+use Rattle.run_parts.specs.Devices.{ShelfRun, HasFailed}
+use Rattle.run_parts.specs.Bytes.{told_or_any, bytes_of, SpellsSystem}
+use Rattle.run_parts.proofs.Numbers.{same_budget}
+use Rattle.concon_run.specs.Run.{Run}
 use Rattle.concon_run.specs.Said.{Said, IsSaidIfMemory, Tells, TellsIfMemory}
-use Rattle.concon_run.specs.Systems.{told_or_any, bytes_of, SpellsSystem}
-use Rattle.concon_run.specs.Verdicts.{IsShown, verdict_text}
+use Rattle.concon_run.specs.Verdicts.{IsShown}
 use Rattle.concon_run.specs.Files.{SystemAnswers, no_system_said}
 use Rattle.concon_run.specs.Prove.{IsProve, SearchOutcome, bad_file, found, over_budget, exhausted, HoldsNone, SearchComesTo, Spaces, SearchMustComeTo, said_of_search, ProveAnswer, searched, file_unread, said_of_prove, IsProveAnswer, CalmlyMustComeTo}
 use Rattle.concon_run.specs.Proving.{SearchAnswers, outcome_of, prove_answer}
@@ -30,7 +31,6 @@ use Rattle.concon_run.specs.Replies.{said_if_any}
 use Rattle.concon_run.specs.declared.files.NoSystem.{NoSystem}
 use Rattle.concon_run.specs.declared.prove.NoOutcome.TheVariants as no_outcome
 use Rattle.concon_run.proofs.Letters.{first_letter}
-use Rattle.concon_run.proofs.Numbers.{same_budget}
 use Rattle.concon_run.proofs.OneSystem.{KnownSystems, Told, one_pair, spells_or_none, none_or_spells, one_refused}
 use Rattle.concon_run.proofs.Unread.{given_none, no_system_is_said}
 
@@ -154,10 +154,3 @@ pub prove_exactly : KnownSystems → (spaces : Spaces) → ArePriced spaces → 
 prove_exactly k spaces priced run file budget outcome calm (searched o) h told =
     inl (subst (λ p. Tells run (said_of_search file p)) (sym (one_search k spaces priced (run.shelf.contents file) budget outcome o calm.1 h.cause)) told)
 prove_exactly k spaces priced run file budget outcome calm file_unread h told = absurd (calm.2 h.cause)
-
--- the answer line is the one of what a certificate shows
-pub verdict_told : (c : Certificate) → verdict_text (verdict_of c) ≡ answer_line c
-verdict_told (ortho_certificate pairs) = refl
-verdict_told (quasi_certificate measure pairs) = refl
-verdict_told (peak_certificate peak) = refl
-verdict_told (simplified_certificate steps c) = verdict_told c

@@ -14,7 +14,7 @@ use Rattle.valid_certificates.specs.CarriedBack.{IsPeakApart}
 use Rattle.valid_certificates.specs.Laws.{ValidPeaksReachApart}
 use Rattle.ortho_check.specs.Laws.{ValidSystemsAreConfluent}
 use Rattle.quasi_check.specs.Laws.{ValidMeasuredSystemsAreConfluent}
-use Rattle.cops_read.specs.NameTable.{NameTable}
+use Rattle.cops_names.specs.NameTable.{NameTable}
 use Rattle.cert_grammar.specs.CertificateText.{IsWithin}
 use Rattle.search_spaces.specs.Texts.{HasText}
 use Rattle.cert_check.specs.Kinds.{verdict_of}

@@ -6,10 +6,12 @@ use Rattle.certificates.specs.Certificates.{Certificate, ortho_certificate, quas
 use Rattle.cert_grammar.specs.Versions.{second_version}
 use Rattle.cert_grammar.specs.CertificateText.{answer_line, certificate_text}
 use Rattle.cert_check.specs.Kinds.{verdict_of}
+use Rattle.run_parts.specs.Devices.{SinkRun}
+use Rattle.run_parts.specs.Taken.{TakesWhole, TakesPart}
 use Rattle.concon_run.specs.Verdicts.{IsShown}
 use Rattle.cert_check.specs.declared.Verdict.TheVariants.{Yes, No}
-use Rattle.concon_run.specs.Run.{SinkRun, Run}
-use Rattle.concon_run.specs.Said.{Said, Tells, TakesWhole, TakesPart, no_memory_said}
+use Rattle.concon_run.specs.Run.{Run}
+use Rattle.concon_run.specs.Said.{Said, Tells, no_memory_said}
 use Rattle.concon_run.specs.Check.{IsCheck, no_system, no_certificate, rejected, shown, CheckAnswer, checked, file_unread, cert_unread, said_of_check, IsCheckAnswer}
 use Rattle.concon_run.specs.Prove.{IsProve, bad_file, found, over_budget, exhausted, ProveAnswer, searched, said_of_prove, IsProveAnswer}
 use Rattle.concon_run.specs.Prove as search

@@ -13,9 +13,9 @@ use Rattle.file_text.specs.Tokens.{bad_byte, long_id, open_comment}
 use Rattle.file_text.specs.Refusals.{unknown_block, repeated_block, other_condition_type, wrong_syntax, missing_rules}
 use Rattle.cops_read.specs.Answers.{NeverSystemAndRefusal, IsRefusedFor, cause_of_count}
 use Rattle.cops_read.specs.Refusals.{conditions_without_type, too_deep, variable_with_arguments, left_variable, arity_differs}
-use Rattle.cops_systems.specs.File.{IsFile, no_tokens, no_tree, no_meaning}
-use Rattle.cops_systems.specs.declared.errors.ReadError.{ReadError}
-use Rattle.cops_systems.specs.declared.errors.ReadError.TheVariants as unread
+use Rattle.cops_read.specs.File.{IsFile, no_tokens, no_tree, no_meaning}
+use Rattle.cops_read.specs.declared.errors.ReadError.{ReadError}
+use Rattle.cops_read.specs.declared.errors.ReadError.TheVariants as unread
 use Rattle.cops_write.specs.Text.{system_text}
 use Rattle.cert_grammar.specs.Versions.{second_version}
 use Rattle.cert_grammar.specs.CertificateText.{certificate_text, CanBeSpelt, IsCertificateText}
@@ -37,13 +37,13 @@ use Rattle.generated_systems.specs.Generated.{generated, generated_names}
 use Rattle.generated_systems.specs.Certificate.{overlap_for, conflict, generated_certificate}
 use Rattle.generated_systems.specs.Laws.{CertificatesHaveTexts, CertificatesAreFound}
 use Rattle.generator.proofs.Sound.{rule_count}
+use Rattle.run_parts.specs.Words.{IsBudget}
+use Rattle.run_parts.proofs.Numbers.{same_budget}
 use Rattle.concon_run.specs.Said.{Said, IsSaidIfMemory}
 use Rattle.concon_run.specs.Verdicts.{status_of}
-use Rattle.concon_run.specs.Words.{IsBudget}
 use Rattle.concon_run.specs.Selftest.{IsSelftest, said_of_test, pair_count, tested_line, IsPassed}
 use Rattle.concon_run.specs.declared.selftest.Tested.{Tested}
 use Rattle.concon_run.proofs.Letters.{first_letter}
-use Rattle.concon_run.proofs.Numbers.{same_budget}
 
 -- what was written of a generated system spells it
 pub written_file : (n : ℕ) (start bytes : List ℕ) (made : System) (names : NameTable) → start ≡ [] → bytes ≡ start ++ system_text names made → made ≡ generated n → names ≡ generated_names n

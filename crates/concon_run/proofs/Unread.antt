@@ -1,26 +1,23 @@
 -- What is answered, and said, where FILE gives no system.
-use Rattle.std.proofs.Common.{◌≡◌, ℕ, ◌+◌, ◌<◌, List, [], length, replicate, Option, Some, None, Err, refl, sym, subst, arith}
+use Rattle.std.proofs.Common.{◌≡◌, ℕ, ◌<◌, List, [], length, Option, Some, None, Err, refl, sym, subst}
 use Rattle.std.specs.Prelude.{IfSome, IsErrOf, option_map}
-use Rattle.std.proofs.lemmas.List.{length-replicate}
 use Rattle.cops_read.specs.File.{FileCause}
 use Rattle.cc_io.specs.Errors.{IsTooLong}
 use Rattle.cc_io.specs.declared.shelf.ReadAllError.{ReadAllError}
 use Rattle.cc_io.specs.declared.shelf.ReadAllError.TheVariants as reading
-use Rattle.concon_run.specs.FileRefusals.{FileRefusal, long_file, no_system_text, most_file_bytes, file_cause_words, file_error_cause, file_refusal_of, file_refused_line}
-use Rattle.concon_run.specs.Run.{ShelfRun, HasFailed}
+use Rattle.run_parts.specs.Bytes.{most_file_bytes, told_or_any, bytes_of}
+use Rattle.refusal_texts.specs.Files.{file_cause_words, file_error_cause}
+use Rattle.run_parts.specs.Devices.{ShelfRun, HasFailed}
+use Rattle.run_parts.proofs.LongTexts.{long_text}
+use Rattle.concon_run.specs.FileRefusals.{FileRefusal, long_file, no_system_text, file_refusal_of, file_refused_line}
 use Rattle.concon_run.specs.Said.{Said, IsSaidIfMemory, read_fault_said}
-use Rattle.concon_run.specs.Systems.{told_or_any, bytes_of, IsRefusedFile}
+use Rattle.concon_run.specs.Systems.{IsRefusedFile}
 use Rattle.concon_run.specs.Files.{SystemAnswers, no_system_answer, no_system_said}
 use Rattle.concon_run.specs.Refusals.{refused_said}
 use Rattle.concon_run.specs.Replies.{said_if_any}
 use Rattle.concon_run.specs.declared.files.NoSystem.{NoSystem}
 use Rattle.concon_run.specs.declared.files.NoSystem.TheVariants.{Unread, Refused}
 use Rattle.concon_run.specs.declared.status.Status.TheVariants as status
-
--- some text is longer, and if one is told it is
-pub long_text : (told : Option (List ℕ)) (limit : ℕ) → IfSome told (λ bytes. limit < length bytes) → (bytes : List ℕ) × told_or_any told bytes × (limit < length bytes)
-long_text None limit l = (replicate (limit + 1) 0, tt, rw (length-replicate {A = ℕ} (limit + 1) 0) (omega arith))
-long_text (Some bytes) limit l = (bytes, refl, l)
 
 no_system_beyond : (told : Option (List ℕ)) → IfSome told (λ bytes. most_file_bytes < length bytes) → IsRefusedFile (told_or_any told) long_file
 no_system_beyond told l = long_text told most_file_bytes l

@@ -1,16 +1,12 @@
 -- Why a text is that of no certificate, and the text that says so.
-use Rattle.std.specs.Prelude.{◌≤◌, ◌<◌, ℕ, List, length, Option, Some, None, option_map, codes}
-use Rattle.cops_read.specs.NameTable.{NameTable}
+use Rattle.std.specs.Prelude.{◌≤◌, ◌<◌, ℕ, List, length, Option, option_map, codes}
+use Rattle.cops_names.specs.NameTable.{NameTable}
 use Rattle.cert_grammar.specs.Marks as marks
 use Rattle.cert_grammar.specs.Refusals.{IsCertificateRefused}
-use Rattle.cert_words.specs.Words.{counted_view}
 use Rattle.cert_words.specs.declared.error.CertError.{CertError}
-use Rattle.cert_words.specs.declared.error.CertError.TheVariants.{CertSyntax, UnknownName, WrongArity, BadNumber, BadShare, CertTooDeep, TooMany, NoMemory}
+use Rattle.run_parts.specs.Bytes.{most_cert_bytes}
+use Rattle.refusal_texts.specs.Certificates.{cert_cause_words, cert_error_cause}
 use Rattle.concon_run.specs.FileRefusals.{refused_line}
-
--- no certificate is longer
-abbrev pub most_cert_bytes : ℕ
-most_cert_bytes = 67108864
 
 -- it is too long, or refused for a cause at a place
 pub data CertRefusal : Type 0 where
@@ -21,32 +17,9 @@ abbrev pub IsCertRefused : NameTable → List ℕ → CertRefusal → Type 0
 IsCertRefused names bytes long_certificate = most_cert_bytes < length bytes
 IsCertRefused names bytes (no_certificate_text cause at) = (length bytes ≤ most_cert_bytes) × IsCertificateRefused names bytes cause at
 
-abbrev pub cert_cause_words : marks.CertificateCause → List ℕ
-cert_cause_words marks.syntax = codes "syntax"
-cert_cause_words marks.unknown_name = codes "unknown name"
-cert_cause_words marks.wrong_arity = codes "wrong arity"
-cert_cause_words marks.bad_number = codes "bad number"
-cert_cause_words marks.bad_share = codes "bad share"
-cert_cause_words (marks.too_many what) = codes "too many"
-cert_cause_words marks.too_deep = codes "too deep"
-
 abbrev pub cert_refused_line : List ℕ → CertRefusal → List ℕ
 cert_refused_line name long_certificate = refused_line name most_cert_bytes (codes "too long")
 cert_refused_line name (no_certificate_text cause at) = refused_line name at (cert_cause_words cause)
-
--- the cause and the place that the reader's error tells; want of memory is no refusal
-abbrev pub cert_error_cause : CertError → Option (marks.CertificateCause × ℕ)
-cert_error_cause (CertSyntax at) = Some (marks.syntax, at)
-cert_error_cause (UnknownName at) = Some (marks.unknown_name, at)
-cert_error_cause (WrongArity at) = Some (marks.wrong_arity, at)
-cert_error_cause (BadNumber at) = Some (marks.bad_number, at)
-cert_error_cause (BadShare at) = Some (marks.bad_share, at)
-cert_error_cause (CertTooDeep at) = Some (marks.too_deep, at)
-cert_error_cause (TooMany what at) = Some (marks.too_many (counted_view what), at)
-cert_error_cause NoMemory = None
-
-abbrev pub cert_refusal_text : CertError → Option (ℕ × List ℕ)
-cert_refusal_text e = option_map (λ r. (r.1, cert_cause_words r.0)) (cert_error_cause e)
 
 abbrev pub cert_refusal_of : CertError → Option CertRefusal
 cert_refusal_of e = option_map (λ r. no_certificate_text r.0 r.1) (cert_error_cause e)

@@ -1,5 +1,5 @@
 -- The command check: its words, what it may answer and why, the texts of that, and what each answer means.
-use Rattle.std.specs.Prelude.{◌≡◌, ◌⊎◌, ◌≤◌, ℕ, List, [], ◌∷◌, Option, Some, None, length, codes}
+use Rattle.std.specs.Prelude.{◌≡◌, ◌⊎◌, ℕ, List, [], ◌∷◌, Option, Some, None, codes}
 use Rattle.rewriting.specs.Rules.{System}
 use Rattle.certificates.specs.Certificates.{Certificate, ortho_certificate, quasi_certificate, peak_certificate, simplified_certificate}
 use Rattle.certificates.specs.Reasons.{Rejection, simplification_fails}
@@ -8,15 +8,17 @@ use Rattle.valid_certificates.specs.CarriedBack.{IsPeakApart}
 use Rattle.cert_check.specs.Kinds.{verdict_of}
 use Rattle.cert_check.specs.declared.Verdict.{Verdict}
 use Rattle.cert_check.specs.declared.Verdict.TheVariants as verdict
-use Rattle.cops_read.specs.NameTable.{NameTable}
-use Rattle.cert_grammar.specs.CertificateText.{IsCertificateText}
+use Rattle.cops_names.specs.NameTable.{NameTable}
+use Rattle.run_parts.specs.Bytes.{Bytes, bytes_of, told_bytes, SpellsSystem, SpellsCertificate}
+use Rattle.run_parts.specs.Devices.{ShelfRun, HasFailed, BeginsAtMost}
+use Rattle.run_parts.specs.Answers.{verdict_text}
 use Rattle.concon_run.specs.Rejections.{rejected_line}
 use Rattle.concon_run.specs.FileRefusals.{FileRefusal, file_refused_line}
-use Rattle.concon_run.specs.CertRefusals.{CertRefusal, most_cert_bytes, IsCertRefused, cert_refused_line}
-use Rattle.concon_run.specs.Run.{ShelfRun, Run, HasFailed, BeginsAtMost}
+use Rattle.concon_run.specs.CertRefusals.{CertRefusal, IsCertRefused, cert_refused_line}
+use Rattle.concon_run.specs.Run.{Run}
 use Rattle.concon_run.specs.Said.{Said, TellsIfMemory, IsUnlessHindered, read_fault_said}
-use Rattle.concon_run.specs.Systems.{Bytes, bytes_of, told_bytes, SpellsSystem, IsRefusedFile, IsConfirmed}
-use Rattle.concon_run.specs.Verdicts.{status_of, verdict_text}
+use Rattle.concon_run.specs.Systems.{IsRefusedFile, IsConfirmed}
+use Rattle.concon_run.specs.Verdicts.{status_of}
 use Rattle.concon_run.specs.declared.status.Status.{Status}
 use Rattle.concon_run.specs.declared.status.Status.TheVariants as status
 
@@ -24,10 +26,7 @@ use Rattle.concon_run.specs.declared.status.Status.TheVariants as status
 abbrev pub IsCheck : List (List ℕ) → List ℕ → List ℕ → Type 0
 IsCheck words file cert = words ≡ codes "check" ∷ file ∷ cert ∷ []
 
--- with these names the text is that of the certificate, or refused
-abbrev pub SpellsCertificate : Bytes → NameTable → Certificate → Type 0
-SpellsCertificate cert names c = (bytes : List ℕ) × cert bytes × (length bytes ≤ most_cert_bytes) × IsCertificateText names bytes c
-
+-- with these names the text is refused
 abbrev pub IsRefusedCertificate : Bytes → NameTable → CertRefusal → Type 0
 IsRefusedCertificate cert names refusal = (bytes : List ℕ) × cert bytes × IsCertRefused names bytes refusal
 

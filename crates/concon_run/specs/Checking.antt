@@ -5,18 +5,19 @@ use Rattle.certificates.specs.Certificates as math
 use Rattle.certificates.specs.Reasons.{Rejection}
 use Rattle.valid_certificates.specs.Certificates.{IsValid, IsRejected}
 use Rattle.valid_certificates.specs.CarriedBack.{IsPeakApart}
-use Rattle.cops_read.specs.NameTable.{NameTable}
+use Rattle.cops_names.specs.NameTable.{NameTable}
 use Rattle.cert_model.specs.ReasonView.{rejected_view}
 use Rattle.cert_check.specs.Kinds.{verdict_of}
 use Rattle.cert_check.specs.declared.Verdict.{Verdict}
 use Rattle.cert_check.specs.declared.Verdict.TheVariants as verdict
 use Rattle.cc_io.specs.declared.shelf.ReadAllError.TheVariants as reading
+use Rattle.run_parts.specs.Bytes.{Bytes, SpellsCertificate}
 use Rattle.concon_run.specs.Rejections.{rejected_line}
 use Rattle.concon_run.specs.CertRefusals.{long_certificate, cert_refusal_of}
 use Rattle.concon_run.specs.Said.{Said}
-use Rattle.concon_run.specs.Systems.{Bytes, IsWhollyConfluent}
+use Rattle.concon_run.specs.Systems.{IsWhollyConfluent}
 use Rattle.concon_run.specs.Files.{no_system_answer}
-use Rattle.concon_run.specs.Check.{names_judged, SpellsCertificate, IsRefusedCertificate, no_system, no_certificate, rejected, shown, CheckAnswer, checked, file_unread, cert_unread}
+use Rattle.concon_run.specs.Check.{names_judged, IsRefusedCertificate, no_system, no_certificate, rejected, shown, CheckAnswer, checked, file_unread, cert_unread}
 use Rattle.concon_run.specs.declared.check.NoVerdict.{NoVerdict}
 use Rattle.concon_run.specs.declared.check.NoVerdict.TheVariants as why
 use Rattle.concon_run.specs.declared.status.Status.TheVariants as status

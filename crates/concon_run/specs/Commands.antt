@@ -1,6 +1,7 @@
 -- The commands, one line for each: its words, its answers, what is said of them, and why.
 use Rattle.std.specs.Prelude.{◌≡◌, ◌⊎◌, ℕ, List, [], codes}
-use Rattle.concon_run.specs.Run.{ShelfRun, Run, BeginsAtMost, AsksNothing}
+use Rattle.run_parts.specs.Devices.{ShelfRun, BeginsAtMost, AsksNothing}
+use Rattle.concon_run.specs.Run.{Run}
 use Rattle.concon_run.specs.Said.{Said, Tells, no_memory_said}
 use Rattle.concon_run.specs.Check.{IsCheck, CheckAnswer, said_of_check, IsCheckAnswer, BeginsForCheck}
 use Rattle.concon_run.specs.Prove.{IsProve, ProveAnswer, said_of_prove, IsProveAnswer}

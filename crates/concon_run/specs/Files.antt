@@ -1,12 +1,14 @@
 -- What is read of FILE, and what is answered where it gives no system.
 use Rattle.std.specs.Prelude.{ℕ, List, Option, Some, None, IfSome, option_map, Result, Ok, Err}
 use Rattle.rewriting.specs.Rules.{System}
-use Rattle.cops_read.specs.NameTable.{NameTable}
+use Rattle.cops_names.specs.NameTable.{NameTable}
 use Rattle.cc_io.specs.declared.shelf.ReadAllError.TheVariants as reading
-use Rattle.concon_run.specs.FileRefusals.{FileRefusal, long_file, file_refusal_of, most_file_bytes, file_refusal_text}
+use Rattle.run_parts.specs.Bytes.{most_file_bytes, Bytes, SpellsSystem}
+use Rattle.refusal_texts.specs.Files.{file_refusal_text}
+use Rattle.concon_run.specs.FileRefusals.{FileRefusal, long_file, file_refusal_of}
 use Rattle.concon_run.specs.Refusals.{refused_said, unread_said}
 use Rattle.concon_run.specs.Said.{Said}
-use Rattle.concon_run.specs.Systems.{Bytes, SpellsSystem, IsRefusedFile}
+use Rattle.concon_run.specs.Systems.{IsRefusedFile}
 use Rattle.concon_run.specs.declared.files.NoSystem.{NoSystem}
 use Rattle.concon_run.specs.declared.files.NoSystem.TheVariants.{Unread, Refused}
 use Rattle.concon_run.specs.declared.status.Status.TheVariants as status

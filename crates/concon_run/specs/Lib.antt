@@ -1,5 +1,4 @@
 pub mod Status
-pub mod Words
 pub mod Run
 pub mod Said
 pub mod Paths

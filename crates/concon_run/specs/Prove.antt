@@ -1,5 +1,5 @@
 -- The command prove: its words, what it may answer and why, the texts of that, and what each answer means.
-use Rattle.std.specs.Prelude.{◌≡◌, ◌⊎◌, ◌≤◌, ◌++◌, ℕ, List, [], ◌∷◌, codes}
+use Rattle.std.specs.Prelude.{◌≡◌, ◌⊎◌, ◌≤◌, ℕ, List, [], ◌∷◌, codes}
 use Rattle.rewriting.specs.Rules.{System}
 use Rattle.certificates.specs.Certificates.{Certificate}
 use Rattle.valid_certificates.specs.Certificates.{IsValid}
@@ -7,14 +7,16 @@ use Rattle.first_found.specs.Spaces.{Space}
 use Rattle.proof_spaces.specs.Proofs.{proof_space}
 use Rattle.proof_spaces.specs.Endings.{IsTooLittle}
 use Rattle.cops_names.specs.NameTable.{NameTable}
-use Rattle.cert_grammar.specs.Versions.{second_version}
-use Rattle.cert_grammar.specs.CertificateText.{answer_line, certificate_text}
 use Rattle.cert_check.specs.Kinds.{verdict_of}
-use Rattle.concon_run.specs.Words.{usual_budget, IsBudget}
+use Rattle.run_parts.specs.Words.{usual_budget, IsBudget}
+use Rattle.run_parts.specs.Devices.{ShelfRun, HasFailed}
+use Rattle.run_parts.specs.Taken.{TakesWhole}
+use Rattle.run_parts.specs.Bytes.{Bytes, bytes_of, told_bytes, SpellsSystem}
+use Rattle.run_parts.specs.Answers.{proof_text}
 use Rattle.concon_run.specs.FileRefusals.{FileRefusal, file_refused_line}
-use Rattle.concon_run.specs.Run.{ShelfRun, Run, HasFailed}
-use Rattle.concon_run.specs.Said.{Said, TakesWhole, TellsIfMemory, IsUnlessHindered, read_fault_said}
-use Rattle.concon_run.specs.Systems.{Bytes, bytes_of, told_bytes, SpellsSystem, IsRefusedFile}
+use Rattle.concon_run.specs.Run.{Run}
+use Rattle.concon_run.specs.Said.{Said, TellsIfMemory, IsUnlessHindered, read_fault_said}
+use Rattle.concon_run.specs.Systems.{IsRefusedFile}
 use Rattle.concon_run.specs.Verdicts.{IsShown, status_of}
 use Rattle.concon_run.specs.declared.status.Status.{Status}
 use Rattle.concon_run.specs.declared.status.Status.TheVariants as status
@@ -62,10 +64,6 @@ SearchMustComeTo spaces file budget (found names c) = (sys : System) × (n : ℕ
 SearchMustComeTo spaces file budget exhausted =
     (sys : System) × (names : NameTable) × (n : ℕ) × SpellsSystem file sys names × HoldsNone names sys × (spaces names sys).Costs n × (n ≤ budget)
 SearchMustComeTo spaces file budget over_budget = ⊥
-
--- the answer, and below it the certificate in the second version
-abbrev pub proof_text : NameTable → Certificate → List ℕ
-proof_text names c = answer_line c ++ certificate_text second_version names c
 
 -- what is said of it, with the word for the file
 abbrev pub said_of_search : List ℕ → SearchOutcome → Said

@@ -1,7 +1,7 @@
 -- What the parts of a search answer.
 use Rattle.std.specs.Prelude.{ℕ, Option, Some, None, Result, Ok, Err}
 use Rattle.rewriting.specs.Rules.{System}
-use Rattle.cops_read.specs.NameTable.{NameTable}
+use Rattle.cops_names.specs.NameTable.{NameTable}
 use Rattle.cert_model.specs.CertificateView.{certificate_view}
 use Rattle.proof_spaces.specs.Endings.{IsTooLittle}
 use Rattle.term_core.specs.declared.terms.NoMemory.{NoMemory}

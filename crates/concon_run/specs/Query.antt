@@ -16,12 +16,15 @@ use Rattle.query_space.specs.Items.{QueryAnswer, never_met, met_by, IsGoodAnswer
 use Rattle.query_space.specs.Space.{query_space, IsHeld, IsQueryPrice}
 use Rattle.query_space.specs.Laws.{SaysTrue}
 use Rattle.query_space.specs.Met.{IsMet}
-use Rattle.concon_run.specs.Words.{usual_budget, IsBudget}
+use Rattle.run_parts.specs.Words.{usual_budget, IsBudget}
+use Rattle.run_parts.specs.Bytes.{most_query_bytes, Bytes, bytes_of, told_bytes, SpellsSystem}
+use Rattle.run_parts.specs.Devices.{ShelfRun, HasFailed, BeginsAtMost}
+use Rattle.run_parts.specs.Taken.{TakesWhole}
 use Rattle.concon_run.specs.FileRefusals.{FileRefusal, file_refused_line}
-use Rattle.concon_run.specs.QueryRefusals.{QueryRefusal, most_query_bytes, IsQueryRefused, query_refused_line}
-use Rattle.concon_run.specs.Run.{ShelfRun, Run, HasFailed, BeginsAtMost}
-use Rattle.concon_run.specs.Said.{Said, TakesWhole, TellsIfMemory, IsUnlessHindered, read_fault_said}
-use Rattle.concon_run.specs.Systems.{Bytes, bytes_of, told_bytes, SpellsSystem, IsRefusedFile}
+use Rattle.concon_run.specs.QueryRefusals.{QueryRefusal, IsQueryRefused, query_refused_line}
+use Rattle.concon_run.specs.Run.{Run}
+use Rattle.concon_run.specs.Said.{Said, TellsIfMemory, IsUnlessHindered, read_fault_said}
+use Rattle.concon_run.specs.Systems.{IsRefusedFile}
 use Rattle.concon_run.specs.declared.status.Status.{Status}
 use Rattle.concon_run.specs.declared.status.Status.TheVariants as status
 

@@ -1,7 +1,7 @@
 -- What the parts of a query answer.
 use Rattle.std.specs.Prelude.{◌≡◌, ℕ, List, Option, Some, None, IfSome, option_map, Result, Ok, Err}
 use Rattle.rewriting.specs.Rules.{Condition, System}
-use Rattle.cops_read.specs.NameTable.{NameTable}
+use Rattle.cops_names.specs.NameTable.{NameTable}
 use Rattle.cops_names.specs.NamesView.{texts_of}
 use Rattle.first_found.specs.Spaces.{Ending, IsDearer}
 use Rattle.first_found.specs.Spaces as ending
@@ -16,10 +16,10 @@ use Rattle.query_terms.specs.Queries.{IsRefused}
 use Rattle.query_terms.specs.declared.reader.Query.{Query}
 use Rattle.query_terms.specs.declared.reader.QueryError.{QueryError}
 use Rattle.query_text.specs.Query as text
+use Rattle.run_parts.specs.Bytes.{Bytes}
 use Rattle.concon_run.specs.Files.{no_system_answer}
 use Rattle.concon_run.specs.QueryRefusals.{long_query, query_refusal_of}
 use Rattle.concon_run.specs.Query.{QueryOutcome, bad_file, bad_query, answer_found, over_budget, exhausted, SpellsQuery, IsRefusedQuery, IsFirstAnswer, HoldsNoAnswer, QueryReply, queried, file_unread, query_unread}
-use Rattle.concon_run.specs.Systems.{Bytes}
 use Rattle.concon_run.specs.declared.queries.NoReply.{NoReply}
 use Rattle.concon_run.specs.declared.queries.NoReply.TheVariants as why
 use Rattle.concon_run.specs.declared.queries.Queried.{Queried}

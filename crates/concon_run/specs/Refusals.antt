@@ -4,11 +4,7 @@ use Rattle.cc_io.specs.declared.shelf.ReadAllError.{ReadAllError}
 use Rattle.cc_io.specs.declared.shelf.ReadAllError.TheVariants.{ReadFault, TooLong, NoMemory}
 use Rattle.concon_run.specs.FileRefusals.{refused_line}
 use Rattle.concon_run.specs.Said.{Said, no_memory_said, read_fault_said}
-use Rattle.concon_run.specs.declared.refusals.RefusedAt.{RefusedAt}
 use Rattle.concon_run.specs.declared.status.Status.{Status}
-
-abbrev pub place_and_words : RefusedAt → ℕ × List ℕ
-place_and_words r = (r.at, r.why.now)
 
 abbrev pub refused_said : Status → List ℕ → Option (ℕ × List ℕ) → Said
 refused_said refused name (Some r) = record { status = refused; out = []; err = refused_line name r.0 r.1 }

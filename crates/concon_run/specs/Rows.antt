@@ -5,13 +5,17 @@ use Rattle.certificates.specs.Reasons.{Rejection}
 use Rattle.cert_check.specs.Kinds.{verdict_of}
 use Rattle.cert_check.specs.declared.Verdict.{Verdict}
 use Rattle.cert_check.specs.declared.Verdict.TheVariants as verdict
-use Rattle.cops_read.specs.NameTable.{NameTable}
+use Rattle.cops_names.specs.NameTable.{NameTable}
 use Rattle.proof_spaces.specs.Proofs.{proof_space, pruned_proof_space}
-use Rattle.concon_run.specs.Run.{SinkRun, Run, HasFailed, AsksNothing}
-use Rattle.concon_run.specs.Said.{Said, TakesWhole, TakesPart}
+use Rattle.run_parts.specs.Devices.{SinkRun, HasFailed, AsksNothing}
+use Rattle.run_parts.specs.Taken.{TakesWhole, TakesPart}
+use Rattle.run_parts.specs.Bytes.{bytes_of}
+use Rattle.run_parts.specs.Texts.{no_memory_text, read_fault_text}
+use Rattle.concon_run.specs.Run.{Run}
+use Rattle.concon_run.specs.Said.{Said}
 use Rattle.concon_run.specs.FileRefusals.{FileRefusal}
 use Rattle.concon_run.specs.CertRefusals.{CertRefusal}
-use Rattle.concon_run.specs.Systems.{bytes_of, IsRefusedFile, IsConfirmed, IsDisproved}
+use Rattle.concon_run.specs.Systems.{IsRefusedFile, IsConfirmed, IsDisproved}
 use Rattle.concon_run.specs.Check.{IsCheck, no_certificate, rejected, shown, IsRefuted, CheckComesTo, CheckIsExact, CheckIsComplete, IsOfCheck}
 use Rattle.concon_run.specs.Prove.{IsProve, found, exhausted, over_budget, ProveComesTo, ProveIsExact, ProveIsComplete, ProofStandsBelow, IsOfProve}
 use Rattle.concon_run.specs.QueryRefusals.{QueryRefusal}
@@ -82,7 +86,7 @@ IsUndecided run =
 
 -- the shelf failed at the file that err names
 abbrev pub IsReadFault : Run → Type 0
-IsReadFault run = (name : List ℕ) × HasFailed run.shelf name × TakesWhole (name ++ codes ": read fault\n") run.err
+IsReadFault run = (name : List ℕ) × HasFailed run.shelf name × TakesWhole (read_fault_text name) run.err
 
 -- of the answer's text a sink took a proper front, and its faults rose; the other sink took nothing
 abbrev pub IsWriteFault : Run → Type 0
@@ -91,7 +95,7 @@ IsWriteFault run = (said : Said) × IsSaidFor run.words run.shelf said × TakesP
 -- out took nothing
 pub record IsWanting (run : Run) : Type 0 where
   pub out : run.out.written_now ≡ run.out.written_before
-  pub err : TakesWhole (codes "no memory\n") run.err
+  pub err : TakesWhole no_memory_text run.err
 
 -- all that is known of a run
 pub record IsRun (run : Run) : Type 0 where

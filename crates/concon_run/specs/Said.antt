@@ -1,8 +1,9 @@
 -- What the program says, and how much of it the sinks take.
-use Rattle.std.specs.Prelude.{◌≡◌, ◌⊎◌, ◌<◌, ◌++◌, ℕ, List, [], length, take, codes}
-use Rattle.cc_io.specs.Faults.{Rose}
-use Rattle.cc_io.specs.Bytes.{appended}
-use Rattle.concon_run.specs.Run.{SinkRun, Run}
+use Rattle.std.specs.Prelude.{◌≡◌, ◌⊎◌, ℕ, List, []}
+use Rattle.run_parts.specs.Devices.{SinkRun}
+use Rattle.run_parts.specs.Taken.{TakesWhole, TakesPart}
+use Rattle.run_parts.specs.Texts.{no_memory_text, read_fault_text}
+use Rattle.concon_run.specs.Run.{Run}
 use Rattle.concon_run.specs.declared.status.Status.{Status}
 use Rattle.concon_run.specs.declared.status.Status.TheVariants as statuses
 
@@ -11,16 +12,6 @@ pub record Said : Type 0 where
   pub status : Status
   pub out : List ℕ
   pub err : List ℕ
-
--- the sink took a text whole
-abbrev pub TakesWhole : List ℕ → SinkRun → Type 0
-TakesWhole text sink = sink.written_now ≡ appended sink.written_before text
-
--- A text that goes to a sink was not taken whole: a proper front of it was, and the faults rose. Of no text nothing was taken.
-abbrev pub TakesPart : List ℕ → SinkRun → Type 0
-TakesPart text sink =
-    ((text ≡ []) × (sink.written_now ≡ sink.written_before))
-    ⊎ (Rose sink.faults_before sink.faults_now × ((n : ℕ) × (n < length text) × (sink.written_now ≡ appended sink.written_before (take n text))))
 
 -- the texts are what out and err took
 abbrev pub IsWhole : Said → Status → SinkRun → SinkRun → Type 0
@@ -35,7 +26,7 @@ abbrev pub Tells : Run → Said → Type 0
 Tells run said = IsTold said run.status run.out run.err
 
 abbrev pub no_memory_said : Said
-no_memory_said = record { status = statuses.NoMemory; out = []; err = codes "no memory\n" }
+no_memory_said = record { status = statuses.NoMemory; out = []; err = no_memory_text }
 
 -- this is said, or that memory was refused
 abbrev pub IsSaidIfMemory : Said → Said → Type 0
@@ -51,4 +42,4 @@ IsUnlessHindered wanted answer = (answer ≡ wanted) ⊎ ((answer ≡ statuses.N
 
 -- of a file that the shelf failed at
 abbrev pub read_fault_said : List ℕ → Said
-read_fault_said name = record { status = statuses.ReadFault; out = []; err = name ++ codes ": read fault\n" }
+read_fault_said name = record { status = statuses.ReadFault; out = []; err = read_fault_text name }

@@ -18,11 +18,7 @@ abbrev pub status_of : Verdict → Status
 status_of Yes = status.Yes
 status_of No = status.No
 
--- the answer that a verdict is, as a line and as a word
-abbrev pub verdict_text : Verdict → List ℕ
-verdict_text Yes = codes "YES\n"
-verdict_text No = codes "NO\n"
-
+-- the answer that a verdict is, as a word
 abbrev pub verdict_word : Verdict → List ℕ
 verdict_word Yes = codes "YES"
 verdict_word No = codes "NO"

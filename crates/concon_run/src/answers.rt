@@ -1,7 +1,7 @@
 //! What is said of a verdict.
 ghost use Rattle.std.specs.Prelude.{◌≡◌};
 ghost use Rattle.concon_run.specs.Verdicts as verdicts;
-ghost use Rattle.concon_run.specs.Verdicts.{verdict_text, verdict_word};
+ghost use Rattle.concon_run.specs.Verdicts.{verdict_word};
 
 use crate::status::Status;
 use cert_check::Verdict;
@@ -13,16 +13,6 @@ pub fn status_of(verdict: Verdict) -> Status
     match verdict {
         Verdict::Yes => Status::Yes,
         Verdict::No => Status::No,
-    }
-}
-
-/// The line that is the answer.
-pub fn verdict_line(verdict: Verdict) -> &'static [u8]
-    ensures { result.now ≡ verdict_text verdict }
-{
-    match verdict {
-        Verdict::Yes => b"YES\n",
-        Verdict::No => b"NO\n",
     }
 }
 

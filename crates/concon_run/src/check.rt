@@ -1,24 +1,22 @@
 //! The command check: reads the two texts, judges the certificate, and says what came of it.
-ghost use Rattle.std.specs.Prelude.{◌≡◌, ℕ, List, IfSome, IfNone, Err, option_map};
+ghost use Rattle.std.specs.Prelude.{ℕ, List, IfSome, IfNone, Err};
 ghost use Rattle.std.specs.Option.{option_copied};
 ghost use Rattle.cc_io.specs.Errors.{IsBegunIfAny};
 ghost use Rattle.cc_io.specs.Faults.{Rose};
 ghost use Rattle.cert_model.specs.ReasonView.{rejected_view};
 ghost use Rattle.cops_read.specs.File.{IsFile};
-ghost use Rattle.concon_run.specs.CertRefusals.{cert_refusal_text};
+ghost use Rattle.run_parts.specs.Devices.{shelf_run};
+ghost use Rattle.run_parts.specs.Bytes.{told_or_any};
+ghost use Rattle.run_parts.specs.Words.{texts};
 ghost use Rattle.concon_run.specs.Check.{IsCheck, IsCheckAnswer, BeginsForCheck, said_of_check};
 ghost use Rattle.concon_run.specs.Checking.{CertificateAnswers, check_answer, rejected_said};
 ghost use Rattle.concon_run.specs.Commands.{IsSaidTo, Command};
-ghost use Rattle.concon_run.specs.Refusals.{place_and_words};
 ghost use Rattle.concon_run.specs.Replies.{reply_said, said_if_any};
-ghost use Rattle.concon_run.specs.Run.{shelf_run};
 ghost use Rattle.concon_run.specs.Said.{IsSaidIfMemory};
-ghost use Rattle.concon_run.specs.Systems.{told_or_any};
-ghost use Rattle.concon_run.specs.Words.{texts};
 
-use crate::answers::{status_of, verdict_line};
+use crate::answers::status_of;
 use crate::files::{NoSystem, no_system_reply, system_of};
-use crate::refusals::{RefusedAt, refused, refused_at, unread};
+use crate::refusals::{refused, unread};
 use crate::rejections::rejection_line;
 use crate::reply::{Reply, Text, no_memory};
 use crate::status::Status;
@@ -27,6 +25,8 @@ use cert_check::{BytesError, Verdict, check_bytes};
 use cert_model::Rejected;
 use cert_text::CertError;
 use cops_read::{Names, one_reading};
+use refusal_texts::cert_refusal;
+use run_parts::{CERT_LIMIT, two_words, verdict_line};
 use std::alloc::{AllocError, Global};
 use term_core::System;
 
@@ -42,19 +42,11 @@ pub fn check_of<'a>(words: &[&'a str]) -> Option<Check<'a>>
     ensures found { IfSome result (λ check. IsCheck (texts words.now) check.file.now check.cert.now) }
     ensures none { IfNone result ((file cert : List ℕ) → IsCheck (texts words.now) file cert → ⊥) }
 {
-    if let [command, file, cert] = words {
-        if *command == "check" {
-            return Some(Check {
-                file: *file,
-                cert: *cert,
-            });
-        }
+    match two_words(words, "check") {
+        Some((file, cert)) => Some(Check { file, cert }),
+        None => None,
     }
-    None
 }
-
-// How many bytes a certificate may have.
-const CERT_LIMIT: u64 = 67108864;
 
 /// Why there is no verdict.
 #[derive(Drop)]
@@ -112,22 +104,6 @@ fn judge<S: Shelf>(
         Err(why) => return Err(NoVerdict::NoSystem(why)),
     };
     verdict_on(alloc, shelf, cert, &sys, names)
-}
-
-// Where and why a text is that of no certificate; want of memory is no refusal.
-fn cert_refusal(error: &CertError) -> Option<RefusedAt>
-    ensures { option_map place_and_words result ≡ cert_refusal_text error.now }
-{
-    match error {
-        CertError::CertSyntax { at } => refused_at(*at, b"syntax"),
-        CertError::UnknownName { at } => refused_at(*at, b"unknown name"),
-        CertError::WrongArity { at } => refused_at(*at, b"wrong arity"),
-        CertError::BadNumber { at } => refused_at(*at, b"bad number"),
-        CertError::BadShare { at } => refused_at(*at, b"bad share"),
-        CertError::CertTooDeep { at } => refused_at(*at, b"too deep"),
-        CertError::TooMany { at, .. } => refused_at(*at, b"too many"),
-        CertError::NoMemory => None,
-    }
 }
 
 // Says why a certificate is rejected.

@@ -1,6 +1,6 @@
 //! What the words of the command line ask for.
 ghost use Rattle.std.specs.Prelude.{IfSome, IfNone};
-ghost use Rattle.concon_run.specs.Words.{texts};
+ghost use Rattle.run_parts.specs.Words.{texts};
 ghost use Rattle.concon_run.specs.Commands.{command_view, IsCommand, IsNoCommand};
 
 use crate::check::{Check, check_of};

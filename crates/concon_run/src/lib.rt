@@ -18,7 +18,6 @@ mod reply;
 mod selftest;
 mod status;
 mod top;
-mod words;
 
 pub use status::Status;
 pub use top::run;

@@ -1,34 +1,32 @@
 //! The command prove: reads a file, searches for a certificate, and says what came of it.
-ghost use Rattle.std.specs.Prelude.{◌≡◌, ◌∷◌, [], ℕ, List, Err, IfOk, IfSome, IfNone, codes};
+ghost use Rattle.std.specs.Prelude.{ℕ, List, Err, IfSome, IfNone};
 ghost use Rattle.cc_io.specs.Errors.{IsBegunIfAny};
 ghost use Rattle.cert_model.specs.CertificateView.{certificate_view};
-ghost use Rattle.cert_check.specs.Kinds as kinds;
 ghost use Rattle.cops_read.specs.File.{IsFile};
+ghost use Rattle.run_parts.specs.Answers.{proof_text};
+ghost use Rattle.run_parts.specs.Devices.{shelf_run};
+ghost use Rattle.run_parts.specs.Words.{texts};
 ghost use Rattle.concon_run.specs.Commands.{IsSaidTo, Command};
 ghost use Rattle.concon_run.specs.Prove as outcome;
-ghost use Rattle.concon_run.specs.Prove.{IsProve, IsProveAnswer, proof_text, said_of_search, said_of_prove};
+ghost use Rattle.concon_run.specs.Prove.{IsProve, IsProveAnswer, said_of_search, said_of_prove};
 ghost use Rattle.concon_run.specs.Proving.{SearchAnswers, outcome_of, prove_answer};
 ghost use Rattle.concon_run.specs.Replies.{reply_said, said_if_any};
-ghost use Rattle.concon_run.specs.Run.{shelf_run};
 ghost use Rattle.concon_run.specs.Said.{IsSaidIfMemory};
-ghost use Rattle.concon_run.specs.Words.{texts};
 
-use crate::answers::{status_of, verdict_line};
+use crate::answers::status_of;
 use crate::files::{NoSystem, no_system_reply, system_of};
 use crate::reply::{Reply, Text, no_memory};
 use crate::status::Status;
-use crate::words::{USUAL_BUDGET, budget_of};
 use cc_count::Budget;
 use cc_io::Shelf;
-use cert_check::Verdict;
 use cert_model::Certificate;
-use cert_text::write_cert;
 use cops_read::{Names, one_reading};
 use join_systems::join_systems_keep_their_rules;
 use ortho_check::valid_certificates_are_confluent;
 use portfolio::{Outcome, prove};
 use proof_spaces::proof_spaces_are_searchable;
 use quasi_check::valid_measured_systems_are_confluent;
+use run_parts::{USUAL_BUDGET, around_option, budget_of, one_word, proof_text, verdict_of};
 use std::alloc::Global;
 use term_core::{NoMemory, System};
 use valid_certificates::valid_peaks_reach_apart;
@@ -40,44 +38,18 @@ pub struct Prove<'a> {
     pub budget: u64,
 }
 
-// The file of a search that is given no budget.
-fn usual_file<'a>(words: &[&'a str]) -> Option<&'a str>
-    ensures found { IfSome result (λ file. texts words.now ≡ codes "prove" ∷ file.now ∷ []) }
-    ensures none { IfNone result ((file : List ℕ) → texts words.now ≡ codes "prove" ∷ file ∷ [] → ⊥) }
-{
-    if let [command, file] = words {
-        if *command == "prove" {
-            return Some(*file);
-        }
-    }
-    None
-}
-
-// The file of a search that is given one, and the word for it.
-fn file_and_number<'a>(words: &[&'a str]) -> Option<(&'a str, &'a str)>
-    ensures found { IfSome result (λ w. texts words.now ≡ codes "prove" ∷ w.0.now ∷ codes "--budget" ∷ w.1.now ∷ []) }
-    ensures none { IfNone result ((file number : List ℕ) → texts words.now ≡ codes "prove" ∷ file ∷ codes "--budget" ∷ number ∷ [] → ⊥) }
-{
-    if let [command, file, option, number] = words {
-        if *command == "prove" && *option == "--budget" {
-            return Some((*file, *number));
-        }
-    }
-    None
-}
-
 /// The search that the words ask for.
 pub fn prove_of<'a>(words: &[&'a str]) -> Option<Prove<'a>>
     ensures found { IfSome result (λ prove. IsProve (texts words.now) prove.file.now prove.budget) }
     ensures none { IfNone result ((file : List ℕ) (budget : ℕ) → IsProve (texts words.now) file budget → ⊥) }
 {
-    if let Some(file) = usual_file(words) {
+    if let Some(file) = one_word(words, "prove") {
         return Some(Prove {
             file,
             budget: USUAL_BUDGET,
         });
     }
-    let Some((file, number)) = file_and_number(words) else {
+    let Some((file, number)) = around_option(words, "prove", "--budget") else {
         return None;
     };
     match budget_of(number) {
@@ -143,42 +115,12 @@ fn search<S: Shelf>(
     }
 }
 
-// What the certificate shows, by its kind.
-#[cycle(verdict_of)]
-#[tactic(auto, using(cert_model::proofs::CertificateViews::ortho_shown, cert_model::proofs::CertificateViews::quasi_shown, cert_model::proofs::CertificateViews::peak_shown, cert_model::proofs::CertificateViews::simplified_shown))]
-fn verdict_of(cert: &Certificate) -> Verdict
-    ensures { result ≡ kinds.verdict_of (certificate_view cert.now) }
-{
-    match cert {
-        Certificate::Ortho(_) | Certificate::Quasi(_, _) => Verdict::Yes,
-        Certificate::Peak(_) => Verdict::No,
-        Certificate::Simplified { body, .. } => verdict_of(body),
-    }
-}
-
-// The answer, and below it the certificate.
-fn text_of(
-    alloc: Global,
-    names: &Names,
-    verdict: Verdict,
-    cert: &Certificate,
-) -> Result<Vec<u8>, NoMemory>
-    requires { verdict ≡ kinds.verdict_of (certificate_view cert.now) }
-    ensures { IfOk result (λ text. text.items ≡ proof_text names.now (certificate_view cert.now)) }
-{
-    let mut text = Vec::new(alloc);
-    text.extend_from_slice(verdict_line(verdict))?;
-    write_cert(alloc, names, cert, &mut text)?;
-    Ok(text)
-}
-
 fn found_reply(alloc: Global, names: &Names, cert: &Certificate) -> Reply
     ensures { (file : List ℕ) → IsSaidIfMemory (said_of_search file (outcome.found names.now (certificate_view cert.now))) (reply_said result) }
 {
-    let verdict = verdict_of(cert);
-    match text_of(alloc, names, verdict, cert) {
+    match proof_text(alloc, names, cert) {
         Ok(text) => Reply {
-            status: status_of(verdict),
+            status: status_of(verdict_of(cert)),
             to_out: true,
             text: Text::Made(text),
         },

@@ -1,5 +1,5 @@
 //! The command query: reads the two texts, asks whether values meet the conditions, and says what came of it.
-ghost use Rattle.std.specs.Prelude.{◌≡◌, ◌∷◌, ◌++◌, [], ℕ, List, Err, IfOk, OnOk, IfSome, IfNone, codes, map, option_map};
+ghost use Rattle.std.specs.Prelude.{◌≡◌, ◌++◌, ℕ, List, Err, IfOk, OnOk, IfSome, IfNone, map};
 ghost use Rattle.cc_io.specs.Errors.{IsBegunIfAny};
 ghost use Rattle.cc_io.specs.Faults.{Rose};
 ghost use Rattle.cert_model.specs.DerivationView.{derivation_view};
@@ -8,29 +8,28 @@ ghost use Rattle.cops_names.specs.NamesView.{texts_of};
 ghost use Rattle.cops_read.specs.File.{IsFile};
 ghost use Rattle.term_core.specs.View.{view};
 ghost use Rattle.query_search.specs.Answers.{reply_view};
+ghost use Rattle.run_parts.specs.Devices.{shelf_run};
+ghost use Rattle.run_parts.specs.Bytes.{told_or_any};
+ghost use Rattle.run_parts.specs.Words.{texts};
 ghost use Rattle.concon_run.specs.Commands.{IsSaidTo, Command};
 ghost use Rattle.concon_run.specs.Query.{IsQuery, IsQueryReply, BeginsForQuery, value_line, value_lines, derivation_lines, never_text, met_text, said_of_question, said_of_query};
-ghost use Rattle.concon_run.specs.QueryRefusals.{query_refusal_text};
 ghost use Rattle.concon_run.specs.Querying.{BytesReply, QueryReplies, ending_outcome, query_reply};
-ghost use Rattle.concon_run.specs.Refusals.{place_and_words};
 ghost use Rattle.concon_run.specs.Replies.{reply_said, said_if_any, IsMade};
-ghost use Rattle.concon_run.specs.Run.{shelf_run};
 ghost use Rattle.concon_run.specs.Said.{IsSaidIfMemory};
-ghost use Rattle.concon_run.specs.Systems.{told_or_any};
-ghost use Rattle.concon_run.specs.Words.{texts};
 
 use crate::files::{NoSystem, no_system_reply, system_of};
-use crate::refusals::{RefusedAt, refused, refused_at, unread};
+use crate::refusals::{refused, unread};
 use crate::reply::{Reply, Text, no_memory};
 use crate::status::Status;
-use crate::words::{USUAL_BUDGET, budget_of};
 use cc_count::Budget;
 use cc_io::{ReadAllError, Shelf, read_all};
 use cert_model::{Derivation, InfEvidence};
 use cert_writing::{write_cert_term, write_deriv, write_inf};
-use cops_read::{Count, Names, one_reading};
+use cops_read::{Names, one_reading};
 use query::{Query, QueryError, ask};
 use query_space::query_spaces_are_searchable;
+use refusal_texts::query_refusal;
+use run_parts::{QUERY_LIMIT, USUAL_BUDGET, budget_of, two_around_option, two_words};
 use std::alloc::Global;
 use term_core::{NoMemory, System, Term};
 
@@ -42,45 +41,19 @@ pub struct Question<'a> {
     pub budget: u64,
 }
 
-// The file and the query of a search that is given no budget.
-fn usual_files<'a>(words: &[&'a str]) -> Option<(&'a str, &'a str)>
-    ensures found { IfSome result (λ w. texts words.now ≡ codes "query" ∷ w.0.now ∷ w.1.now ∷ []) }
-    ensures none { IfNone result ((file query : List ℕ) → texts words.now ≡ codes "query" ∷ file ∷ query ∷ [] → ⊥) }
-{
-    if let [command, file, query] = words {
-        if *command == "query" {
-            return Some((*file, *query));
-        }
-    }
-    None
-}
-
-// The file and the query of a search that is given one, and the word for it.
-fn files_and_number<'a>(words: &[&'a str]) -> Option<(&'a str, &'a str, &'a str)>
-    ensures found { IfSome result (λ w. texts words.now ≡ codes "query" ∷ w.0.now ∷ w.1.now ∷ codes "--budget" ∷ w.2.now ∷ []) }
-    ensures none { IfNone result ((file query number : List ℕ) → texts words.now ≡ codes "query" ∷ file ∷ query ∷ codes "--budget" ∷ number ∷ [] → ⊥) }
-{
-    if let [command, file, query, option, number] = words {
-        if *command == "query" && *option == "--budget" {
-            return Some((*file, *query, *number));
-        }
-    }
-    None
-}
-
 /// The question that the words ask.
 pub fn question_of<'a>(words: &[&'a str]) -> Option<Question<'a>>
     ensures found { IfSome result (λ q. IsQuery (texts words.now) q.file.now q.query.now q.budget) }
     ensures none { IfNone result ((file query : List ℕ) (budget : ℕ) → IsQuery (texts words.now) file query budget → ⊥) }
 {
-    if let Some((file, query)) = usual_files(words) {
+    if let Some((file, query)) = two_words(words, "query") {
         return Some(Question {
             file,
             query,
             budget: USUAL_BUDGET,
         });
     }
-    let Some((file, query, number)) = files_and_number(words) else {
+    let Some((file, query, number)) = two_around_option(words, "query", "--budget") else {
         return None;
     };
     match budget_of(number) {
@@ -92,9 +65,6 @@ pub fn question_of<'a>(words: &[&'a str]) -> Option<Question<'a>>
         None => None,
     }
 }
-
-// How many bytes a query may have.
-const QUERY_LIMIT: u64 = 1048576;
 
 /// How the search for an answer ended, with the names of the file.
 #[derive(Drop)]
@@ -173,30 +143,6 @@ fn answer_to<S: Shelf>(
         Err(why) => return Err(NoReply::NoSystem(why)),
     };
     reply_on(alloc, shelf, query, units, &sys, names)
-}
-
-// Where and why a text is no query; want of memory is no refusal.
-fn query_refusal(error: &QueryError) -> Option<RefusedAt>
-    ensures { option_map place_and_words result ≡ query_refusal_text error.now }
-{
-    match error {
-        QueryError::JoinSystem { at } => refused_at(*at, b"join system"),
-        QueryError::BadByte { at } => refused_at(*at, b"bad byte"),
-        QueryError::IdTooLong { at } => refused_at(*at, b"identifier too long"),
-        QueryError::CommentNotClosed { at } => refused_at(*at, b"comment not closed"),
-        QueryError::Syntax { at } => refused_at(*at, b"syntax"),
-        QueryError::TooMany { what, at, .. } => match what {
-            Count::Conditions => refused_at(*at, b"too many conditions"),
-            Count::Nodes => refused_at(*at, b"too many nodes"),
-            Count::Variables => refused_at(*at, b"too many variables"),
-            Count::Rules | Count::Arity | Count::Symbols => None,
-        },
-        QueryError::TooDeep { at } => refused_at(*at, b"too deep"),
-        QueryError::VariableWithArguments { at } => refused_at(*at, b"variable with arguments"),
-        QueryError::UnknownName { at } => refused_at(*at, b"unknown name"),
-        QueryError::ArityDiffers { at } => refused_at(*at, b"arity differs"),
-        QueryError::NoMemory => None,
-    }
 }
 
 fn no_reply_reply(alloc: Global, question: Question, why: &NoReply) -> Reply

@@ -1,13 +1,14 @@
 //! What is to be said, made whole before any of it is written.
 ghost use Rattle.std.specs.Prelude.{◌≡◌, IfOk, []};
+ghost use Rattle.run_parts.specs.Devices.{sink_run};
 ghost use Rattle.concon_run.specs.Pieces.{pieces_text};
 ghost use Rattle.concon_run.specs.Replies.{text_bytes, reply_said};
-ghost use Rattle.concon_run.specs.Run.{sink_run};
 ghost use Rattle.concon_run.specs.Said.{IsTold, IsSaidIfMemory, no_memory_said};
 
 use crate::pieces::{Piece, put_all};
 use crate::status::Status;
-use cc_io::{Sink, write_all};
+use cc_io::Sink;
+use run_parts::{no_memory_text, written};
 use std::alloc::{AllocError, Global};
 
 /// A text that was made, or that the program has.
@@ -41,7 +42,7 @@ pub fn no_memory() -> Reply
     Reply {
         status: Status::NoMemory,
         to_out: false,
-        text: Text::Fixed(b"no memory\n"),
+        text: Text::Fixed(no_memory_text()),
     }
 }
 
@@ -87,14 +88,8 @@ pub fn deliver<K: Sink, E: Sink>(reply: &Reply, out: &mut K, err: &mut E) -> Sta
 {
     let bytes = bytes_of_text(&reply.text);
     if reply.to_out {
-        match write_all(out, bytes) {
-            Ok(()) => reply.status,
-            Err(_) => Status::WriteFault,
-        }
+        written(out, bytes, reply.status, Status::WriteFault)
     } else {
-        match write_all(err, bytes) {
-            Ok(()) => reply.status,
-            Err(_) => Status::WriteFault,
-        }
+        written(err, bytes, reply.status, Status::WriteFault)
     }
 }

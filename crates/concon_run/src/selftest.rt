@@ -1,6 +1,6 @@
 //! The command selftest: does with a generated system what a user does with a file: it is written and read, a certificate is
 //! searched for, and what is read of that one's text is checked.
-ghost use Rattle.std.specs.Prelude.{◌≡◌, ◌≤◌, ◌∷◌, ℕ, List, [], IfOk, IfSome, IfNone, MatchOption, codes, decimal};
+ghost use Rattle.std.specs.Prelude.{◌≡◌, ◌≤◌, ℕ, [], IfOk, IfSome, IfNone, MatchOption, decimal};
 ghost use Rattle.certificates.specs.Certificates as math;
 ghost use Rattle.valid_certificates.specs.Certificates.{IsValid};
 ghost use Rattle.cert_grammar.specs.Versions.{second_version};
@@ -9,16 +9,15 @@ ghost use Rattle.cert_model.specs.CertificateView.{certificate_view};
 ghost use Rattle.cert_check.specs.Kinds.{verdict_of, CanBeJudged};
 ghost use Rattle.search_spaces.specs.Ortho.{ortho_space};
 ghost use Rattle.generated_systems.specs.Generated.{generated, generated_names};
+ghost use Rattle.run_parts.specs.Words.{texts};
 ghost use Rattle.concon_run.specs.Verdicts as verdicts;
 ghost use Rattle.concon_run.specs.Replies.{reply_said};
 ghost use Rattle.concon_run.specs.Said.{IsSaidIfMemory};
 ghost use Rattle.concon_run.specs.Selftest.{IsSelftest, said_of_test, pair_count, tested_line, IsPassed};
-ghost use Rattle.concon_run.specs.Words.{texts};
 
 use crate::answers::{status_of, verdict_word};
 use crate::pieces::Piece;
 use crate::reply::{Reply, answer, no_memory};
-use crate::words::budget_of;
 use cc_count::Budget;
 use cert_check::{CheckError, Verdict, check};
 use cert_model::Certificate;
@@ -28,6 +27,7 @@ use cops_write::write_system;
 use generated_systems::generated_systems_have_certificates;
 use generator::system_of;
 use portfolio::{Outcome, prove};
+use run_parts::{budget_of, one_word};
 use std::alloc::Global;
 use term_core::{NoMemory, System};
 use valid_certificates::certificates_have_one_answer;
@@ -47,25 +47,12 @@ fn test_number(word: &str) -> Option<u32>
     }
 }
 
-// The word for the number of a test.
-fn test_word<'a>(words: &[&'a str]) -> Option<&'a str>
-    ensures found { IfSome result (λ number. texts words.now ≡ codes "selftest" ∷ number.now ∷ []) }
-    ensures none { IfNone result ((number : List ℕ) → texts words.now ≡ codes "selftest" ∷ number ∷ [] → ⊥) }
-{
-    if let [command, number] = words {
-        if *command == "selftest" {
-            return Some(*number);
-        }
-    }
-    None
-}
-
 /// The number of the test that the words ask for.
 pub fn selftest_of(words: &[&str]) -> Option<u32>
     ensures found { IfSome result (IsSelftest (texts words.now)) }
     ensures none { IfNone result ((n : ℕ) → IsSelftest (texts words.now) n → ⊥) }
 {
-    let word = test_word(words)?;
+    let word = one_word(words, "selftest")?;
     test_number(word)
 }
 

@@ -2,15 +2,16 @@
 ghost use Rattle.std.specs.Prelude.{◌≡◌, ◌⊎◌, ℕ, List};
 ghost use Rattle.cc_io.specs.Errors.{IsBegunIfAny};
 ghost use Rattle.proof_spaces.specs.Proofs.{proof_space, pruned_proof_space};
+ghost use Rattle.run_parts.specs.Devices.{shelf_run};
+ghost use Rattle.run_parts.specs.Words.{texts};
 ghost use Rattle.concon_run.specs.Check.{IsCheck, CheckIsExact, CheckIsComplete, IsOfCheck};
 ghost use Rattle.concon_run.specs.Commands.{IsNoCommand, IsSaidFor, IsAnswered, usage_said};
 ghost use Rattle.concon_run.specs.Prove.{IsProve, ProveIsExact, ProveIsComplete, ProofStandsBelow, IsOfProve};
 ghost use Rattle.concon_run.specs.Query.{IsQuery, QueryIsExact, QueryIsComplete, AnswerStandsBelow, IsOfQuery};
 ghost use Rattle.concon_run.specs.Replies.{reply_said};
 ghost use Rattle.concon_run.specs.Rows.{YesIsSound, NoIsSound, IsYes, IsNo, IsUndecided, IsRejection, IsFileRefusal, IsCertificateRefusal, IsQueryRefusal, IsReadFault, IsWriteFault, IsWanting, IsRun};
-ghost use Rattle.concon_run.specs.Run.{shelf_run, run_of};
+ghost use Rattle.concon_run.specs.Run.{run_of};
 ghost use Rattle.concon_run.specs.Selftest.{IsSelftest, TestIsExact};
-ghost use Rattle.concon_run.specs.Words.{texts};
 
 use crate::check::check_reply;
 use crate::commands::{Asked, asked_of};

@@ -1,7 +1,7 @@
 -- What stands at a front: what follows from the kind of a token, and that the text ends there, or why it has no tokens.
 use Rattle.std.proofs.Common.{◌≡◌, ℕ, ◌<◌, true, List, [], ◌∷◌, ◌++◌, length, drop, Option, Some, None, refl, sym, ap, subst, ◌∙◌, arith, length-drop}
 use Rattle.file_text.specs.declared.Kind.{Kind}
-use Rattle.file_text.specs.declared.Kind.TheVariants.{Id, LeftParen, RightParen, Comma, Bar, Arrow, Equal}
+use Rattle.file_text.specs.declared.Kind.TheVariants.{Id}
 use Rattle.file_text.specs.declared.Token.{Token}
 use Rattle.file_text.specs.Bytes.{comment_len}
 use Rattle.file_text.specs.Tokens.{kind_at, len_at, longest, is_comment_at, behind_white, StandInTurn, IsReached, IsBadByte, IsLongId, IsOpenComment, TokenCause, bad_byte, long_id, open_comment}
@@ -9,6 +9,7 @@ use Rattle.cops_lex.specs.Reading.{Reading, reading, HasRead, HasNoNext, IsAtEnd
 use Rattle.file_text.proofs.OneReading.{Last, no_more}
 pub use Rattle.file_text.proofs.Fronts.{kind_some, arrow_two, equal_two}
 pub use Rattle.file_text.proofs.Names.{id_runs}
+use Rattle.file_text.proofs.SomeReading.{long_is_id}
 
 pub front_of : (inside now : Reading) (place : ℕ) → inside ≡ now → IsFront now place → IsFront inside place
 front_of inside now place e f = subst (λ (r : Reading). IsFront r place) (sym e) f
@@ -29,21 +30,11 @@ bad_there r rest from ts f h is some none =
     let inside : from < length r.bytes = omega (arith, length-drop from r.bytes, f.within, some, ap (λ (bs : List ℕ). length bs) is) in
     (r.count, reached r from ts f h, inside, ap kind_at (sym is) ∙ sym none)
 
--- an identifier alone is so long
-only_id : (k : Kind) (rest : List ℕ) → longest < len_at k rest → k ≡ Id
-only_id Id rest long = refl
-only_id LeftParen rest long = absurd (omega (arith, long))
-only_id RightParen rest long = absurd (omega (arith, long))
-only_id Comma rest long = absurd (omega (arith, long))
-only_id Bar rest long = absurd (omega (arith, long))
-only_id Arrow rest long = absurd (omega (arith, long))
-only_id Equal rest long = absurd (omega (arith, long))
-
 pub long_there : (r : Reading) (rest : List ℕ) (from len : ℕ) (k : Kind) (ts : List Token) → IsFront r from → HasRead r ts → rest ≡ drop from r.bytes → Some k ≡ kind_at rest → len ≡ len_at k rest
     → longest < len → IsLongId r.bytes from
 long_there r rest from len k ts f h is kind e long =
     let far : longest < len_at k rest = subst (λ n. longest < n) e long in
-    let id : k ≡ Id = only_id k rest far in (
+    let id : k ≡ Id = long_is_id k rest far in (
       r.count,
       reached r from ts f h,
       ap kind_at (sym is) ∙ sym kind ∙ ap (λ (q : Kind). Some q) id,

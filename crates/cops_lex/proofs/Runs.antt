@@ -1,19 +1,17 @@
 -- Longest runs and comments, as a loop goes over them.
-use Rattle.std.proofs.Common.{◌≡◌, ℕ, suc, ◌+◌, ◌<◌, ◌≤◌, Bool, true, false, cond, eqb, List, ◌∷◌, length, drop, get_or, Option, Some, None, option_map, refl, sym, ap, ◌∙◌, drop-cons, add-one, ◌&&◌, ◌||◌, not, arith}
+use Rattle.std.proofs.Common.{◌≡◌, ℕ, suc, ◌+◌, ◌<◌, ◌≤◌, Bool, true, false, cond, eqb, List, length, drop, get_or, Option, Some, None, option_map, refl, sym, ap, ◌∙◌, ◌&&◌, ◌||◌, not, arith}
 use Rattle.std.proofs.Math.ListN.{drop_of_length-le}
-use Rattle.std.proofs.lemmas.Bool.{eqb-true, false_from_ne_true}
+use Rattle.std.proofs.lemmas.Bool.{eqb-true, false_from_ne_true, or_right}
+use Rattle.std.proofs.lemmas.List.{drop_more}
 use Rattle.file_text.specs.Bytes.{is_white, is_id, begins_arrow, begins_equal, white_len, run_len, count_after, closing_len, comment_len}
-
-front : (bytes : List ℕ) (n : ℕ) → n < length bytes → drop n bytes ≡ get_or bytes n 0 ∷ drop (n + 1) bytes
-front bytes n lt = rw (add-one, drop-cons bytes n 0) refl
 
 pub white_more : (bytes : List ℕ) (n : ℕ) → n < length bytes → is_white (get_or bytes n 0) ≡ true → white_len (drop n bytes) ≡ suc (white_len (drop (n + 1) bytes))
 unfolding white_len
-white_more bytes n lt w = ap white_len (front bytes n lt) ∙ ap (λ (b : Bool). cond b (suc (white_len (drop (n + 1) bytes))) 0) w
+white_more bytes n lt w = ap white_len (drop_more bytes n 0 lt) ∙ ap (λ (b : Bool). cond b (suc (white_len (drop (n + 1) bytes))) 0) w
 
 pub white_stops : (bytes : List ℕ) (n : ℕ) → n < length bytes → is_white (get_or bytes n 0) ≡ false → white_len (drop n bytes) ≡ 0
 unfolding white_len
-white_stops bytes n lt w = ap white_len (front bytes n lt) ∙ ap (λ (b : Bool). cond b (suc (white_len (drop (n + 1) bytes))) 0) w
+white_stops bytes n lt w = ap white_len (drop_more bytes n 0 lt) ∙ ap (λ (b : Bool). cond b (suc (white_len (drop (n + 1) bytes))) 0) w
 
 pub white_end : (bytes : List ℕ) (n : ℕ) → length bytes ≤ n → white_len (drop n bytes) ≡ 0
 unfolding white_len
@@ -26,7 +24,7 @@ goes_on bytes n i a e = cond (i && not (a || e)) (suc (run_len (drop (n + 1) byt
 run_here : (bytes : List ℕ) (n : ℕ) → n < length bytes → run_len (drop n bytes) ≡ goes_on bytes n (is_id (get_or bytes n 0)) (begins_arrow (drop n bytes)) (begins_equal (drop n bytes))
 unfolding run_len
 run_here bytes n lt =
-    let here = front bytes n lt in
+    let here = drop_more bytes n 0 lt in
     ap run_len here ∙ ap (λ (bs : List ℕ). goes_on bytes n (is_id (get_or bytes n 0)) (begins_arrow bs) (begins_equal bs)) (sym here)
 
 pub run_more : (bytes : List ℕ) (n : ℕ) → n < length bytes → is_id (get_or bytes n 0) ≡ true → begins_arrow (drop n bytes) ≡ false → begins_equal (drop n bytes) ≡ false
@@ -40,10 +38,6 @@ stopped : (bytes : List ℕ) (n : ℕ) (i a e : Bool) → (a || e) ≡ true → 
 stopped bytes n true a e s = rw s refl
 stopped bytes n false a e s = refl
 
-right_true : (a e : Bool) → e ≡ true → (a || e) ≡ true
-right_true true e s = refl
-right_true false e s = s
-
 pub run_stops_arrow : (bytes : List ℕ) (n : ℕ) → n < length bytes → begins_arrow (drop n bytes) ≡ true → run_len (drop n bytes) ≡ 0
 run_stops_arrow bytes n lt a =
     run_here bytes n lt
@@ -52,7 +46,7 @@ run_stops_arrow bytes n lt a =
 pub run_stops_equal : (bytes : List ℕ) (n : ℕ) → n < length bytes → begins_equal (drop n bytes) ≡ true → run_len (drop n bytes) ≡ 0
 run_stops_equal bytes n lt e =
     run_here bytes n lt
-    ∙ stopped bytes n (is_id (get_or bytes n 0)) (begins_arrow (drop n bytes)) (begins_equal (drop n bytes)) (right_true (begins_arrow (drop n bytes)) (begins_equal (drop n bytes)) e)
+    ∙ stopped bytes n (is_id (get_or bytes n 0)) (begins_arrow (drop n bytes)) (begins_equal (drop n bytes)) (or_right (begins_arrow (drop n bytes)) (begins_equal (drop n bytes)) e)
 
 pub run_end : (bytes : List ℕ) (n : ℕ) → length bytes ≤ n → run_len (drop n bytes) ≡ 0
 unfolding run_len
@@ -78,7 +72,7 @@ choice b count bs = cond b (Some 1) (option_map (λ k. suc k) (closing_len count
 
 closing_here : (bytes : List ℕ) (n count : ℕ) → n < length bytes → closing_len count (drop n bytes) ≡ choice (eqb (count_after count (get_or bytes n 0)) 0) (count_after count (get_or bytes n 0)) (drop (n + 1) bytes)
 unfolding closing_len
-closing_here bytes n count lt = ap (closing_len count) (front bytes n lt)
+closing_here bytes n count lt = ap (closing_len count) (drop_more bytes n 0 lt)
 
 pub comment_more : (bytes : List ℕ) (n count m : ℕ) → n < length bytes → m ≡ count_after count (get_or bytes n 0) → (m ≡ 0 → ⊥)
     → option_map (λ k. n + 1 + k) (closing_len m (drop (n + 1) bytes)) ≡ option_map (λ k. n + k) (closing_len count (drop n bytes))

@@ -1,26 +1,15 @@
 -- An identifier is ASCII, and so text.
-use Rattle.std.proofs.Common.{◌≡◌, ℕ, zero, suc, ◌+◌, ◌-◌, ◌<◌, Bool, true, false, cond, nat_lt, not, ◌&&◌, ◌||◌, List, [], ◌∷◌, length, get_or, take, drop, refl, sym, ap, ap₂, ◌∙◌, subst, arith}
+use Rattle.std.proofs.Common.{◌≡◌, ℕ, zero, suc, ◌+◌, ◌-◌, ◌<◌, Bool, true, false, cond, not, ◌&&◌, ◌||◌, List, [], ◌∷◌, length, get_or, take, drop, refl, sym, ap, ap₂, ◌∙◌, subst, arith}
 use Rattle.std.specs.List.{AllByRecursion}
 use Rattle.std.specs.Str.{IsUtf8}
 use Rattle.std.proofs.lemmas.Str.{IsUtf8-from_ascii}
-use Rattle.std.proofs.lemmas.Bool.{ltb-true}
 use Rattle.file_text.specs.declared.Kind.{Kind}
 use Rattle.file_text.specs.declared.Kind.TheVariants.{Id}
 use Rattle.file_text.specs.Bytes.{is_id, begins_arrow, begins_equal, run_len}
 use Rattle.file_text.specs.Tokens.{len_at}
+use Rattle.file_text.proofs.Names.{id_small}
 use Rattle.cops_lex.specs.Reading.{IsIdText}
 use Rattle.cops_lex.proofs.Pieces.{made}
-
-left_true : (a b : Bool) → (a && b) ≡ true → a ≡ true
-left_true true b e = refl
-left_true false b e = e
-
-right_true : (a b : Bool) → (a && b) ≡ true → b ≡ true
-right_true true b e = e
-right_true false b e = absurd cc
-
-id_small : (b : ℕ) → is_id b ≡ true → b < 127
-id_small b e = ltb-true b 127 (right_true (nat_lt 32 b) (nat_lt b 127) (left_true (nat_lt 32 b && nat_lt b 127) _ e))
 
 run_small : (bs : List ℕ) → AllByRecursion (λ b. b < 127) (take (run_len bs) bs)
 unfolding run_len

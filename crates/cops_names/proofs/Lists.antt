@@ -1,9 +1,10 @@
 -- The place of the first member that passes a test, and lists that begin with a list.
 use Prim.Native.Nat.compare
 use lib.Dec.{is_le}
-use Rattle.std.proofs.Common.{◌≡◌, ℕ, zero, suc, Bool, true, false, cond, List, [], ◌∷◌, ◌++◌, length, Option, Some, None, refl, sym, ap, ◌∙◌, arith, append_assoc, append-nil, lt-ltb}
+use Rattle.std.proofs.Common.{◌≡◌, ℕ, suc, Bool, true, false, cond, List, [], ◌∷◌, ◌++◌, length, Option, Some, None, refl, sym, ap, ◌∙◌, arith, append_assoc, append-nil, lt-ltb}
 use Rattle.std.specs.Prelude.{position, option_map, nat_lt, slice_get, if◌then◌else◌}
 use Rattle.std.specs.List.{position_or_len, list_any}
+use Rattle.general_lemmas.proofs.Places.{slice_get_longer}
 
 -- the second list begins with the first
 pub record Extends {A : Type 0} (xs ys : List A) : Type 0 where
@@ -87,10 +88,5 @@ extends_one false xs x = record { rest = x ∷ []; split = refl }
 pub extends_position : {A : Type 0} (p : A → Bool) (xs ys : List A) (i : ℕ) → Extends xs ys → position p xs ≡ Some i → position p ys ≡ Some i
 extends_position p xs ys i e h = ap (position p) e.split ∙ position_append p xs e.rest i h
 
-get_append : {A : Type 0} (xs ys : List A) (i : ℕ) (x : A) → slice_get xs i ≡ Some x → slice_get (xs ++ ys) i ≡ Some x
-get_append [] ys i x e = cc
-get_append (z ∷ xs) ys zero x e = e
-get_append (z ∷ xs) ys (suc i) x e = get_append xs ys i x e
-
 pub extends_get : {A : Type 0} (xs ys : List A) (i : ℕ) (x : A) → Extends xs ys → slice_get xs i ≡ Some x → slice_get ys i ≡ Some x
-extends_get xs ys i x e h = ap (λ (ws : List _). slice_get ws i) e.split ∙ get_append xs e.rest i x h
+extends_get xs ys i x e h = ap (λ (ws : List _). slice_get ws i) e.split ∙ slice_get_longer xs e.rest i x h

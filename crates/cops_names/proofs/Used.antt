@@ -2,6 +2,7 @@
 use Rattle.std.proofs.Common.{◌≡◌, ℕ, suc, Bool, true, false, ◌||◌, List, [], ◌∷◌, ◌++◌, map, Option, None, Some, option_map, is_some, refl, sym, ap, ◌∙◌, if◌then◌else◌, zero, ◌+◌, ◌<◌, length, drop, get_or, add-one, arith}
 use Rattle.std.specs.Str.{bytes_eq}
 use Rattle.std.proofs.lemmas.Slice.Eq.{bytes_eq-Decides}
+use Rattle.std.proofs.Math.Bool.{or_assoc}
 use Rattle.cops_names.specs.NameTable.{number_of, all_of}
 use Rattle.cops_names.specs.NameLists.{is_among, with_name, with_names}
 use Rattle.cops_names.proofs.Lists.{position_here, position_later}
@@ -30,10 +31,6 @@ used_by (s ∷ symbols) others name = go (used_by symbols others name) (bytes_eq
 or_right : (b c : Bool) → c ≡ false → (b || c) ≡ b
 or_right true c e = refl
 or_right false c e = e
-
-or_assoc : (a b c : Bool) → ((a || b) || c) ≡ (a || (b || c))
-or_assoc true b c = refl
-or_assoc false b c = refl
 
 more_among : (xs : List (List ℕ)) (x name : List ℕ) → is_among (xs ++ x ∷ []) name ≡ (is_among xs name || bytes_eq name x)
 more_among [] x name = or_right (bytes_eq name x) false refl

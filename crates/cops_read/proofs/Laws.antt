@@ -1,11 +1,11 @@
 -- The laws of files.
-use Rattle.cops_systems.specs.File.{no_tokens, no_tree, no_meaning}
+use Rattle.cops_read.specs.File.{no_tokens, no_tree, no_meaning}
 use Rattle.cops_read.specs.Answers.{SystemsAreSound, SystemsAreWithinLimits, SymbolsAreNamed, SystemsTellTheirFile, RefusalsAreWithin}
 use Rattle.file_text.proofs.Within.{no_tokens_within, no_text_within}
-use Rattle.cops_systems.proofs.Meant.{meant_is_system, meant_from_file}
-use Rattle.cops_systems.proofs.Named.{meant_arities}
-use Rattle.cops_systems.proofs.Kept.{kept}
-use Rattle.cops_systems.proofs.Places.{means_nothing_within}
+use Rattle.cops_read.proofs.Meant.{meant_is_system, meant_from_file}
+use Rattle.cops_read.proofs.Named.{meant_arities}
+use Rattle.cops_read.proofs.Kept.{kept}
+use Rattle.cops_read.proofs.Places.{means_nothing_within}
 
 pub sound : SystemsAreSound
 sound bytes sys names h = meant_is_system h.tree sys names h.meant

@@ -2,17 +2,17 @@
 use Rattle.std.proofs.Common.{ℕ, List, Result, Ok, Err}
 use Rattle.file_text.specs.Syntax.{FileTree}
 use Rattle.file_text.specs.Texts.{IsText}
-use Rattle.cops_trees.specs.Answers.{IsCauseOf}
-use Rattle.cops_trees.specs.declared.reader.SyntaxError.{SyntaxError}
-use Rattle.cops_trees.specs.declared.reader.SyntaxError.TheVariants as syntax
+use Rattle.cops_syntax.specs.Answers.{IsCauseOf}
+use Rattle.cops_syntax.specs.declared.reader.SyntaxError.{SyntaxError}
+use Rattle.cops_syntax.specs.declared.reader.SyntaxError.TheVariants as syntax
 use Rattle.rewriting.specs.Rules.{System}
 use Rattle.cops_names.specs.NameTable.{NameTable}
-use Rattle.cops_systems.specs.Refusals.{refusal_of}
+use Rattle.cops_read.specs.Refusals.{refusal_of}
 use Rattle.cops_read.specs.Answers.{IsRefusedFor, ReadAnswers}
-use Rattle.cops_systems.specs.Steps.{Tells, read_error_of}
-use Rattle.cops_systems.specs.RuleSteps.{FileAnswers}
-use Rattle.cops_systems.specs.declared.errors.ReadError.{ReadError}
-use Rattle.cops_systems.specs.declared.errors.ReadError.TheVariants.{BadByte, IdTooLong, CommentNotClosed, Syntax, UnknownBlock, RepeatedBlock, ConditionTypeOther, MissingRules, ConditionsWithoutType, VariableWithArguments, ArityDiffers, LeftVariable, TooDeep, TooMany, NoMemory}
+use Rattle.cops_read.specs.Steps.{Tells, read_error_of}
+use Rattle.cops_read.specs.RuleSteps.{FileAnswers}
+use Rattle.cops_read.specs.declared.errors.ReadError.{ReadError}
+use Rattle.cops_read.specs.declared.errors.ReadError.TheVariants.{BadByte, IdTooLong, CommentNotClosed, Syntax, UnknownBlock, RepeatedBlock, ConditionTypeOther, MissingRules, ConditionsWithoutType, VariableWithArguments, ArityDiffers, LeftVariable, TooDeep, TooMany, NoMemory}
 
 -- a text without a tree
 pub no_tree : (bytes : List ℕ) (e : SyntaxError) → IsCauseOf bytes e → IsRefusedFor bytes (read_error_of e)

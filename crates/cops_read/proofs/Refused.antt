@@ -10,10 +10,10 @@ use Rattle.file_text.proofs.SomeReading.{tokens_or_refusal}
 use Rattle.file_text.proofs.TextLaws.{one_tree_of, one_refusal_of, never_tree_and_refusal, tree_or_refusal}
 use Rattle.rewriting.specs.Rules.{System}
 use Rattle.cops_names.specs.NameTable.{NameTable}
-use Rattle.cops_systems.specs.Refusals.{MeaningCause, refusal_of}
-use Rattle.cops_systems.specs.File.{IsFile, IsMeant, FileCause, no_tokens, no_tree, no_meaning, IsNoFile}
+use Rattle.cops_read.specs.Refusals.{MeaningCause, refusal_of}
+use Rattle.cops_read.specs.File.{IsFile, IsMeant, FileCause, no_tokens, no_tree, no_meaning, IsNoFile}
 use Rattle.cops_read.specs.Answers.{OneSystem, OneRefusal, NeverSystemAndRefusal, SystemOrRefusal}
-use Rattle.cops_systems.proofs.Meant.{one_meaning, meant_accepted, some_meaning}
+use Rattle.cops_read.proofs.Meant.{one_meaning, meant_accepted, some_meaning}
 
 pub one_reading : OneSystem
 one_reading bytes sys other names others h g =

@@ -7,12 +7,12 @@ use Rattle.file_text.specs.Syntax.{has_type}
 use Rattle.file_text.specs.Tokens.{bad_byte, long_id, open_comment}
 use Rattle.file_text.specs.Refusals.{unknown_block, repeated_block, other_condition_type, wrong_syntax, missing_rules}
 use Rattle.cops_names.specs.NameTable.{NameTable}
-use Rattle.cops_systems.specs.Limits.{KeepsLimits}
-use Rattle.cops_systems.specs.File.{IsFile, FileCause, no_tokens, no_tree, no_meaning, IsNoFile}
-use Rattle.cops_systems.specs.Refusals.{conditions_without_type, too_deep, variable_with_arguments, left_variable, arity_differs}
-pub use Rattle.cops_systems.specs.Counts.{cause_of_count, most_of}
-use Rattle.cops_systems.specs.declared.errors.ReadError.{ReadError}
-use Rattle.cops_systems.specs.declared.errors.ReadError.TheVariants.{BadByte, IdTooLong, CommentNotClosed, Syntax, UnknownBlock, RepeatedBlock, ConditionTypeOther, MissingRules, ConditionsWithoutType, VariableWithArguments, ArityDiffers, LeftVariable, TooDeep, TooMany, NoMemory}
+use Rattle.cops_read.specs.Limits.{KeepsLimits}
+use Rattle.cops_read.specs.File.{IsFile, FileCause, no_tokens, no_tree, no_meaning, IsNoFile}
+use Rattle.cops_read.specs.Refusals.{conditions_without_type, too_deep, variable_with_arguments, left_variable, arity_differs}
+pub use Rattle.cops_read.specs.Counts.{cause_of_count, most_of}
+use Rattle.cops_read.specs.declared.errors.ReadError.{ReadError}
+use Rattle.cops_read.specs.declared.errors.ReadError.TheVariants.{BadByte, IdTooLong, CommentNotClosed, Syntax, UnknownBlock, RepeatedBlock, ConditionTypeOther, MissingRules, ConditionsWithoutType, VariableWithArguments, ArityDiffers, LeftVariable, TooDeep, TooMany, NoMemory}
 
 -- the error tells why the text spells no system, and where; memory may be refused at any text
 abbrev pub IsRefusedFor : List ℕ → ReadError → Type 0

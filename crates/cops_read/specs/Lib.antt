@@ -1,4 +1,14 @@
-pub mod NameTable
+pub mod Bounds
+pub mod Meaning
+pub mod Uses
 pub mod Refusals
+pub mod Limits
 pub mod File
+pub mod Counts
+pub mod Steps
+pub mod RuleSteps
+pub mod Heads
+pub mod Texts
+pub mod Shapes
+pub mod ReadNames
 pub mod Answers

@@ -3,10 +3,19 @@
 
 ghost use Rattle.cops_read.specs.Answers.{ReadAnswers, OneSystem, SystemsAreSound, SystemsAreWithinLimits, SymbolsAreNamed, SystemsTellTheirFile, OneRefusal, RefusalsAreWithin, NeverSystemAndRefusal, SystemOrRefusal};
 
+mod block;
+mod errors;
+mod files;
+mod heads;
+mod read_names;
+mod rules;
+mod terms;
+
 pub use cops_names::{NameSet, Names};
 use cops_syntax::parse;
-use cops_systems::read_file;
-pub use cops_systems::{Count, MOST_DEPTH, ReadError};
+pub use errors::{Count, ReadError};
+pub use files::read_file;
+pub use heads::MOST_DEPTH;
 use std::alloc::Global;
 use term_core::System;
 

@@ -2,7 +2,7 @@
 use Rattle.std.proofs.Common.{◌≡◌, ◌⊎◌, inl, inr, ℕ, Bool, true, false, List, [], ◌∷◌, ◌++◌, map, Option, None, Some, refl, sym, ◌∙◌, subst}
 use Rattle.std.specs.Prelude.{if◌then◌else◌, ◌||◌}
 use Rattle.std.specs.Str.{bytes_eq}
-use Rattle.std.proofs.lemmas.Bool.{false_from_ne_true}
+use Rattle.std.proofs.lemmas.Bool.{false_from_ne_true, or_right, or_left, or_cases}
 use Rattle.std.proofs.lemmas.Slice.Eq.{bytes_eq-Decides}
 use Rattle.file_text.specs.Syntax.{Phrase, Phrases, word, call, none, more, ConditionTree, Guard, RuleTree, conditions_of}
 use Rattle.file_text.proofs.Names.{IsName}
@@ -10,8 +10,8 @@ use Rattle.rewriting.specs.Terms.{Term, var, app, Terms, nil, cons}
 use Rattle.rewriting.specs.Rules.{Rule}
 use Rattle.rewriting.specs.Systems.{terms_of_rule}
 use Rattle.cops_names.specs.NameLists.{is_among, with_name, with_names}
-use Rattle.cops_systems.specs.Meaning.{sides, phrases_of_rule, with_variables, with_all_variables, rule_variables, IsTermOf, AreTermsOf, AreRulesOf}
-use Rattle.cops_systems.proofs.Sound.{terms_are}
+use Rattle.cops_read.specs.Meaning.{sides, phrases_of_rule, with_variables, with_all_variables, rule_variables, IsTermOf, AreTermsOf, AreRulesOf}
+use Rattle.cops_read.proofs.Sound.{terms_are}
 use Rattle.cops_write.proofs.Trees.{HasNames, HaveNames, ConditionsHaveNames, GuardHasNames, RulesHaveNames}
 use Rattle.cops_write.proofs.SameText.{joined}
 
@@ -25,17 +25,6 @@ same_name m n h = (bytes_eq-Decides m n).0 h
 
 pub itself : (n : List ℕ) → bytes_eq n n ≡ true
 itself n = (bytes_eq-Decides n n).1 refl
-
-pub or_left : (a b : Bool) → a ≡ true → (a || b) ≡ true
-or_left a b h = rw h refl
-
-pub or_right : (a b : Bool) → b ≡ true → (a || b) ≡ true
-or_right true b h = refl
-or_right false b h = h
-
-pub either_of : (a b : Bool) → (a || b) ≡ true → (a ≡ true) ⊎ (b ≡ true)
-either_of true b h = inl refl
-either_of false b h = inr h
 
 pub in_left : (xs ys : Names) (n : List ℕ) → is_among xs n ≡ true → is_among (xs ++ ys) n ≡ true
 in_left [] ys n h = absurd cc
@@ -95,7 +84,7 @@ kept_all xs (y ∷ ys) n h = kept_all (with_name xs y) ys n (kept xs y n h)
 
 pub added_all : (xs ys : Names) (n : List ℕ) → is_among ys n ≡ true → is_among (with_names xs ys) n ≡ true
 added_all xs [] n h = absurd cc
-added_all xs (y ∷ ys) n h = by (either_of (bytes_eq n y) (is_among ys n) h) (added_all (with_name xs y) ys n)
+added_all xs (y ∷ ys) n h = by (or_cases (bytes_eq n y) (is_among ys n) h) (added_all (with_name xs y) ys n)
   where
     by : (bytes_eq n y ≡ true) ⊎ (is_among ys n ≡ true) → (is_among ys n ≡ true → is_among (with_names (with_name xs y) ys) n ≡ true) → is_among (with_names (with_name xs y) ys) n ≡ true
     by (inl e) again = kept_all (with_name xs y) ys n (subst (λ (m : List ℕ). is_among (with_name xs y) m ≡ true) (sym (same_name n y e)) (added xs y))

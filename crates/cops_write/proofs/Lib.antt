@@ -1,6 +1,5 @@
 pub mod Growing
 pub mod Members
-pub mod Sets
 pub mod Rules
 pub mod Trees
 pub mod TreeTokens

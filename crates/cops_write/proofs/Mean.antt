@@ -1,14 +1,15 @@
 -- Trees that are alike mean the same, under blocks that agree.
-use Rattle.std.proofs.Common.{◌≡◌, ℕ, suc, Bool, false, List, [], ◌∷◌, map, Option, None, Some, refl, sym, ap, ap₂, ◌∙◌, subst}
+use Rattle.std.proofs.Common.{◌≡◌, ℕ, suc, Bool, List, [], ◌∷◌, map, Option, None, Some, refl, sym, ap, ap₂, ◌∙◌, subst}
 use Rattle.std.specs.Prelude.{if◌then◌else◌}
+use Rattle.std.proofs.lemmas.Bool.{cond-false}
 use Rattle.file_text.specs.Syntax.{Name, Phrase, Phrases, word, call, none, more, count, ConditionTree, Guard, RuleTree, conditions_of, guarded}
 use Rattle.rewriting.specs.Terms.{Term, var, app, Terms, nil, cons}
 use Rattle.rewriting.specs.Rules.{Condition, Rule}
 use Rattle.rewriting.specs.Systems.{terms_of_rule}
 use Rattle.cops_names.specs.NameTable.{number_of}
 use Rattle.cops_names.specs.NameLists.{name_index, is_among, with_name}
-use Rattle.cops_systems.specs.Meaning.{with_symbol, sides, phrases_of_rule, with_variables, with_all_variables, with_symbols, with_all_symbols, rule_variables, with_rule_symbols, IsSymbolOf, IsTermOf, AreTermsOf, AreConditionsOf, IsRuleOf, AreRulesOf}
-use Rattle.cops_systems.proofs.Sound.{terms_are}
+use Rattle.cops_read.specs.Meaning.{with_symbol, sides, phrases_of_rule, with_variables, with_all_variables, with_symbols, with_all_symbols, rule_variables, with_rule_symbols, IsSymbolOf, IsTermOf, AreTermsOf, AreConditionsOf, IsRuleOf, AreRulesOf}
+use Rattle.cops_read.proofs.Sound.{terms_are}
 use Rattle.cops_write.proofs.Trees.{Alike, AreAlike, ConditionsAlike, GuardsAlike, RulesAlike}
 use Rattle.cops_write.proofs.Agree.{Names, Agree, AgreeAll, RulesAgree}
 
@@ -17,9 +18,6 @@ same_count none none h = refl
 same_count none (more u us) h = absurd h
 same_count (more t ts) none h = absurd h
 same_count (more t ts) (more u us) h = ap suc (same_count ts us h.1)
-
-if_false : {A : Type 0} (b : Bool) (x y : A) → b ≡ false → (if b then x else y) ≡ y
-if_false b x y h = rw h refl
 
 sides_alike : (cs ds : List ConditionTree) → ConditionsAlike cs ds → AreAlike (sides cs) (sides ds)
 sides_alike [] [] h = tt
@@ -79,7 +77,7 @@ module _ (block other : Names) where
       same_variables names (word f) (call g ts) t l a h = absurd l
       same_variables names (call f ts) q (var x) l a h = absurd h
       same_variables names (call f ts) (word g) (app k us) l a h =
-          ap (with_all_variables block names) l.1 ∙ sym (if_false (is_among other g.text) (with_name names g.text) names (sym (told f g a.0 l.0) ∙ h.0.0))
+          ap (with_all_variables block names) l.1 ∙ sym (cond-false (is_among other g.text) (with_name names g.text) names (sym (told f g a.0 l.0) ∙ h.0.0))
       same_variables names (call f ts) (call g vs) (app k us) l a h = same_variables_all names ts vs us l.1 a.1 h.1
 
       same_variables_all : (names : Names) (ps qs : Phrases) (ts : Terms) → AreAlike ps qs → AgreeAll block other ps → AreTermsOf block table vars ps ts
@@ -99,7 +97,7 @@ module _ (block other : Names) where
       same_symbols now (call f ts) (word g) (app k us) l a h =
           ap (λ (vs : Phrases). with_all_symbols block (with_symbol now f.text (count vs)) vs) l.1
           ∙ ap (λ (s : List ℕ). with_symbol now s 0) l.0
-          ∙ sym (if_false (is_among other g.text) now (with_symbol now g.text 0) (sym (told f g a.0 l.0) ∙ h.0.0))
+          ∙ sym (cond-false (is_among other g.text) now (with_symbol now g.text 0) (sym (told f g a.0 l.0) ∙ h.0.0))
       same_symbols now (call f ts) (call g vs) (app k us) l a h =
           ap (λ (w : List (List ℕ × ℕ)). with_all_symbols block w ts) (ap₂ (with_symbol now) l.0 (same_count ts vs l.1))
           ∙ same_symbols_all (with_symbol now g.text (count vs)) ts vs us l.1 a.1 h.1

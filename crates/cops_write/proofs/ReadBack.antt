@@ -1,6 +1,7 @@
 -- What is written of a file's system is a file of it.
 use Rattle.std.proofs.Common.{◌≡◌, ◌⊎◌, inl, inr, ℕ, Bool, true, false, Option, is_some, refl, List, [], ◌∷◌, ◌++◌, map, sym, ap, ap₂, ◌∙◌, subst, codes, ◌&&◌}
 use Rattle.std.specs.Str.{bytes_eq}
+use Rattle.std.proofs.lemmas.Bool.{or_right, or_left}
 use Rattle.file_text.specs.declared.ConditionType.{ConditionType}
 use Rattle.file_text.specs.Syntax.{RuleTree, FileTree, has_type}
 use Rattle.file_text.specs.Texts.{IsText}
@@ -8,15 +9,15 @@ use Rattle.file_text.proofs.Names.{IsName}
 use Rattle.rewriting.specs.Rules.{System}
 use Rattle.cops_names.specs.NameTable.{NameTable}
 use Rattle.cops_names.specs.NameLists.{is_among, with_names}
-use Rattle.cops_systems.specs.Meaning.{variables_of, rule_variables}
-use Rattle.cops_systems.specs.Uses.{events}
-use Rattle.cops_systems.specs.File.{IsSystemOf, is_join, have_conditions, asks_joins, IsFile}
-use Rattle.cops_systems.proofs.Meant.{own_meant}
+use Rattle.cops_read.specs.Meaning.{variables_of, rule_variables}
+use Rattle.cops_read.specs.Uses.{events}
+use Rattle.cops_read.specs.File.{IsSystemOf, is_join, have_conditions, asks_joins, IsFile}
+use Rattle.cops_read.proofs.Meant.{own_meant}
 use Rattle.cops_write.specs.Text.{block_text, type_text, system_text}
 use Rattle.cops_write.specs.Laws.{WrittenIsRead}
 use Rattle.cops_write.proofs.Trees.{RulesHaveNames}
 use Rattle.cops_write.proofs.SameText.{joined, AreListed, are_listed, same_names, same_rules, same_guards, some_guard}
-use Rattle.cops_write.proofs.Agree.{Names, itself, known_all, added_all, all_known, rules_agree, RulesAgree, or_left, or_right}
+use Rattle.cops_write.proofs.Agree.{Names, itself, known_all, added_all, all_known, rules_agree, RulesAgree}
 use Rattle.cops_write.proofs.Mean.{same_lists, same_table, rules_mean}
 use Rattle.cops_write.proofs.Refuse.{events_alike, not_refused}
 use Rattle.cops_write.proofs.FileNames.{text_has}

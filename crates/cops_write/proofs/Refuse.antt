@@ -4,9 +4,9 @@ use Rattle.std.specs.Prelude.{◌==◌, ◌&&◌, ◌||◌, if◌then◌else◌,
 use Rattle.file_text.specs.Syntax.{Phrase, Phrases, word, call, none, more, count, ConditionTree, Guard, RuleTree}
 use Rattle.cops_names.specs.NameTable.{number_of}
 use Rattle.cops_names.specs.NameLists.{is_among, with_name}
-use Rattle.cops_systems.specs.Meaning.{with_symbol, sides, phrases_of_rule}
-use Rattle.cops_systems.specs.Uses.{Spot, spots, spots_of_all, Side, side_of, Use, Event, use_of, bar_at, uses_from, term_events, condition_events, guard_events, rule_events, rules_events}
-use Rattle.cops_systems.specs.Refusals.{MeaningCause, cause_or, limit_cause, variable_cause, symbol_cause, known_symbol_cause, arity_in, arity_differs, variable_with_arguments, left_variable, too_many_variables, first_or, symbols_used, variables_used, cause_at, event_cause, first_refusal}
+use Rattle.cops_read.specs.Meaning.{with_symbol, sides, phrases_of_rule}
+use Rattle.cops_read.specs.Uses.{Spot, spots, spots_of_all, Side, side_of, Use, Event, use_of, bar_at, uses_from, term_events, condition_events, guard_events, rule_events, rules_events}
+use Rattle.cops_read.specs.Refusals.{MeaningCause, cause_or, limit_cause, variable_cause, symbol_cause, known_symbol_cause, arity_in, arity_differs, variable_with_arguments, left_variable, too_many_variables, first_or, symbols_used, variables_used, cause_at, event_cause, first_refusal}
 use Rattle.cops_write.proofs.Trees.{Alike, AreAlike, ConditionsAlike, GuardsAlike, RulesAlike}
 use Rattle.cops_write.proofs.Agree.{Names, Agree, AgreeAll, RulesAgree}
 use Rattle.cops_write.proofs.SameText.{has_guard, some_guard}

@@ -9,9 +9,9 @@ use Rattle.term_core.specs.Numbering.{IsNumbered, numbers_from}
 use Rattle.term_core.proofs.Numbers.{counts_first}
 use Rattle.cops_names.specs.NameTable.{NameTable}
 use Rattle.cops_names.specs.NameLists.{with_name, with_names}
+use Rattle.cops_names.proofs.Used.{with_both}
 use Rattle.cops_write.specs.Numbered.{AreNumbered}
 use Rattle.cops_write.specs.Text.{rule_names, names_from, has_conditions, type_text, block_text, rules_text, system_text}
-use Rattle.cops_write.proofs.Sets.{with_names-append}
 
 -- what is left of the rules begins with the one at the place
 pub rules_left : (rs : List Rule) (i : ℕ) (r : Rule) → i < length rs → r ≡ get_or rs i r → drop i rs ≡ r ∷ drop (i + 1) rs
@@ -37,7 +37,7 @@ pub names_behind : (names : NameTable) (set : List (List ℕ)) (number : ℕ) (r
     → with_names set (names_from names number (map rule_view (drop i rs))) ≡ with_names (with_names set (rule_names names number (rule_view r))) (names_from names (suc number) (map rule_view (drop (i + 1) rs)))
 names_behind names set number rs i r lt is =
     ap (λ (w : List Rule). with_names set (names_from names number (map rule_view w))) (rules_left rs i r lt is)
-    ∙ with_names-append set (rule_names names number (rule_view r)) (names_from names (suc number) (map rule_view (drop (i + 1) rs)))
+    ∙ with_both set (rule_names names number (rule_view r)) (names_from names (suc number) (map rule_view (drop (i + 1) rs)))
 
 -- the next of a rule's variables, and no further one
 pub next_variable : (text : ℕ → List ℕ) (set after : List (List ℕ)) (x n : ℕ) → x < n → after ≡ with_name set (text x)

@@ -8,13 +8,14 @@ use Rattle.std.proofs.lemmas.List.{map-append}
 use Rattle.std.proofs.Math.Seq.{take-suc, take-length}
 use Rattle.std.proofs.lemmas.List.Quantifiers.{position-Some}
 use Rattle.std.proofs.lemmas.Slice.Eq.{bytes_eq-Decides}
+use Rattle.general_lemmas.proofs.Places.{slice_get_seam}
 use Rattle.file_text.specs.Syntax.{Phrase, Phrases, word, call, none, more, ConditionTree, Guard, RuleTree, conditions_of}
 use Rattle.rewriting.specs.Terms.{Term, var, app, Terms, nil, cons}
 use Rattle.rewriting.specs.Rules.{Condition, Rule}
 use Rattle.cops_names.specs.NameTable.{NameTable, variable_at, number_of}
 use Rattle.cops_names.specs.NameLists.{name_index}
-use Rattle.cops_systems.specs.Meaning.{rule_variables, IsTermOf, AreTermsOf, AreConditionsOf, IsRuleOf, AreRulesOf}
-use Rattle.cops_systems.proofs.Sound.{upto, variables_are}
+use Rattle.cops_read.specs.Meaning.{rule_variables, IsTermOf, AreTermsOf, AreConditionsOf, IsRuleOf, AreRulesOf}
+use Rattle.cops_read.proofs.Sound.{upto, variables_are}
 use Rattle.cops_write.specs.Text.{symbol_text, variable_text, term_text, arguments_text, further_text, condition_text, conditions_text, others_text, rule_text, rules_text, rule_names, names_from, has_conditions}
 use Rattle.cops_write.proofs.Trees.{text, arguments, further, condition, others, guarded, rule, rules}
 
@@ -185,15 +186,10 @@ same_guards block table [] (r ∷ rs) h = absurd h
 same_guards block table (t ∷ ts) [] h = absurd h
 same_guards block table (t ∷ ts) (r ∷ rs) h = ap₂ (λ (a b : Bool). a || b) (guard_told block table (rule_variables block t) t.guard t.left t.right r.conditions h.0.conditions) (same_guards block table ts rs h.1)
 
--- the lists of a table stand at their numbers
-in_the_middle : {A : Type 0} (front : List A) (x : A) (xs : List A) → slice_get (front ++ x ∷ xs) (length front) ≡ Some x
-in_the_middle [] x xs = refl
-in_the_middle (y ∷ front) x xs = in_the_middle front x xs
-
 listed_behind : (vs : List (List (List ℕ))) (names : NameTable) (front : List (List (List ℕ))) (number : ℕ) → number ≡ suc (length front) → names.variables ≡ front ++ vs → AreListed names number vs
 listed_behind [] names front number is e = tt
 listed_behind (v ∷ vs) names front number is e =
-    let here : slice_get names.variables (length front) ≡ Some v = ap (λ (w : List (List (List ℕ))). slice_get w (length front)) e ∙ in_the_middle front v vs in (
+    let here : slice_get names.variables (length front) ≡ Some v = ap (λ (w : List (List (List ℕ))). slice_get w (length front)) e ∙ slice_get_seam front v vs in (
       λ x. ap (λ (n : ℕ). variable_at names n x) is ∙ ap (λ (o : Option (List (List ℕ))). option_and_then (λ (w : List (List ℕ)). slice_get w x) o) here,
       listed_behind vs names (front ++ v ∷ []) (suc number) (omega (arith, is, length-append front (v ∷ []))) (e ∙ sym (append_assoc front (v ∷ []) vs)),
     )

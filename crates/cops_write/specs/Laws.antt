@@ -2,7 +2,7 @@
 use Rattle.std.specs.Prelude.{◌≡◌, ℕ, List, length}
 use Rattle.rewriting.specs.Rules.{System}
 use Rattle.cops_names.specs.NameTable.{NameTable}
-use Rattle.cops_systems.specs.File.{IsFile}
+use Rattle.cops_read.specs.File.{IsFile}
 use Rattle.cops_write.specs.Text.{system_text}
 
 abbrev pub WrittenIsRead : Type 0

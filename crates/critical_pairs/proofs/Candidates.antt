@@ -1,7 +1,8 @@
 -- The inner rules between two candidates at a place have other roots, so their runs clash.
 use Rattle.std.proofs.Common.{ℕ, zero, suc, ◌≡◌, ◌≢◌, ◌+◌, ◌-◌, ◌<◌, ◌≤◌, ◌⊎◌, inl, inr, Bool, true, false, List, [], ◌∷◌, ◌++◌, length, get_or, slice_get, None, Some, refl, sym, ap, ◌∙◌, subst, subst₂, arith}
 use Rattle.std.proofs.lemmas.Bool.{cases_lt, eqb-false}
-use Rattle.std.proofs.lemmas.Option.{slice_get_within}
+use Rattle.std.proofs.lemmas.Option.{slice_get_within, slice_get-get_or}
+use Rattle.std.proofs.lemmas.List.{get_or_past, get_or_default}
 use Rattle.rewriting.specs.Lists.{IsAmong}
 use Rattle.rewriting.specs.Terms.{Term, Terms, var, app, IsVariable, Fits}
 use Rattle.rewriting.specs.Positions.{Position, subterm}
@@ -9,6 +10,7 @@ use Rattle.rewriting.specs.Substitutions.{apply_all}
 use Rattle.rewriting.specs.Unifiers.{even, odd}
 use Rattle.rewriting.specs.Rules.{Rule, System, rule_at}
 use Rattle.rewriting.specs.Systems.{IsSystem}
+use Rattle.rewriting.proofs.Systems.{numbered_rule}
 use Rattle.rule_index.specs.Roots.{has_root, rules_with_root}
 use Rattle.rule_index.proofs.Walks.{ascending, is_listed, listed_rule, Stands}
 use Rattle.unifier_run.specs.Run.{clash}
@@ -20,7 +22,7 @@ use Rattle.critical_pairs.specs.Offers.{DoesPass}
 use Rattle.critical_pairs.specs.Places.{IsRootAt}
 use Rattle.critical_pairs.specs.Cursors.{done, triples_behind, CandidateAnswers}
 use Rattle.critical_pairs.proofs.Passing.{pass_all}
-use Rattle.critical_pairs.proofs.Spot.{renamed_fits, numbered_rule, same_rule, same_term}
+use Rattle.critical_pairs.proofs.Spot.{renamed_fits, same_rule, same_term}
 use Rattle.critical_pairs.proofs.Sizes.{fits_part}
 
 -- a listed number counts from 1 and not beyond the rules
@@ -41,21 +43,6 @@ pub get_there : (ns : List ℕ) (c i d : ℕ) → slice_get ns c ≡ Some i → 
 get_there [] c i d e = absurd (cc)
 get_there (n ∷ ns) zero i d e = (omega arith, let same : n ≡ i = cc in same)
 get_there (n ∷ ns) (suc c) i d e = let r = get_there ns c i d e in let l = r.0 in (omega arith, r.1)
-
-there_get : (ns : List ℕ) (c d : ℕ) → c < length ns → slice_get ns c ≡ Some (get_or ns c d)
-there_get [] c d h = absurd (omega arith)
-there_get (n ∷ ns) zero d h = refl
-there_get (n ∷ ns) (suc c) d h = there_get ns c d (omega arith)
-
-no_more : (ns : List ℕ) (c d : ℕ) → length ns ≤ c → get_or ns c d ≡ d
-no_more [] c d h = refl
-no_more (n ∷ ns) zero d h = absurd (omega arith)
-no_more (n ∷ ns) (suc c) d h = no_more ns c d (omega arith)
-
-get_any : (ns : List ℕ) (c d e : ℕ) → c < length ns → get_or ns c d ≡ get_or ns c e
-get_any [] c d e h = absurd (omega arith)
-get_any (n ∷ ns) zero d e h = refl
-get_any (n ∷ ns) (suc c) d e h = get_any ns c d e (omega arith)
 
 -- the triples of one place are those before an inner rule, its own, and those behind it
 at_parts : (j : ℕ) (p : Position) (a n m k : ℕ) → k ≡ n + suc m → triples_at j p a k ≡ triples_at j p a n ++ (suc (a + n), (p, j)) ∷ triples_at j p (suc (a + n)) m
@@ -92,7 +79,7 @@ module _ (sys : System) (f : ℕ) where
       let before : c < length ns = omega (arith, inside) in
       let up = ascending sys f c (suc c) (omega arith) inside in
       let same = at.1 in
-      let other = get_any ns c m 0 before in
+      let other = get_or_default ns c m 0 before in
       omega (arith, up, same, other)
 
   -- no rule with the root lies between
@@ -111,8 +98,8 @@ module _ (sys : System) (f : ℕ) where
       before (suc c) k low l w s = by (cases_lt c (length ns))
         where
           by : (c < length ns) ⊎ (length ns ≤ c) → ⊥
-          by (inl h) = let up = later k c (omega (arith, l)) h in let other = get_any ns c m 0 h in omega (arith, up, other, low, s)
-          by (inr h) = let all = no_more ns c m h in omega (arith, all, low, high)
+          by (inl h) = let up = later k c (omega (arith, l)) h in let other = get_or_default ns c m 0 h in omega (arith, up, other, low, s)
+          by (inr h) = let all = get_or_past ns c m h in omega (arith, all, low, high)
 
       listed : Stands i ns → ⊥
       listed (k, w, s) = by (cases_lt k c)
@@ -122,7 +109,7 @@ module _ (sys : System) (f : ℕ) where
           by (inr l) =
               let inside : c < length ns = omega (arith, l, w) in
               let up = later c k l w in
-              let less = next (get_or ns c 0) (there_get ns c 0 inside) in
+              let less = next (get_or ns c 0) (slice_get-get_or ns c 0 inside) in
               omega (arith, up, less, s)
 
       go : (b : Bool) → has_root f r.left ≡ b → has_root f r.left ≡ false

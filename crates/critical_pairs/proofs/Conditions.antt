@@ -1,5 +1,6 @@
 -- Conditions of a list, one by one.
-use Rattle.std.proofs.Common.{ℕ, zero, suc, ◌≡◌, ◌+◌, ◌<◌, ◌≤◌, true, List, [], ◌∷◌, ◌++◌, map, length, take, get_or, refl, sym, ap, ◌∙◌, subst, arith, add-one}
+use Rattle.std.proofs.Common.{ℕ, zero, suc, ◌≡◌, ◌<◌, true, List, [], ◌∷◌, ◌++◌, map, length, get_or, refl, sym, ap, ◌∙◌, subst, arith}
+use Rattle.std.proofs.lemmas.Bool.{or_right, or_left}
 use Rattle.rewriting.specs.Terms.{Fits}
 use Rattle.rewriting.specs.Substitutions.{Substitution, apply}
 use Rattle.rewriting.specs.Variables.{occurs, occurs_in}
@@ -7,7 +8,6 @@ use Rattle.rewriting.specs.Rules as math
 use Rattle.rewriting.specs.Rules.{sides}
 use Rattle.rewriting.specs.Systems.{Each}
 use Rattle.rewriting.specs.Overlaps.{condition_under, conditions_under}
-use Rattle.rewriting.proofs.Instances.{or_left, or_right}
 use Rattle.term_core.specs.View.{view}
 use Rattle.term_core.specs.RuleView.{condition_view}
 use Rattle.term_core.specs.declared.systems.Cond.{Cond}
@@ -48,21 +48,6 @@ pub one_fits : (m : Substitution) (cs : List Cond) (i : ℕ) (c : Cond) → i < 
 one_fits m [] i c h e f = absurd (omega arith)
 one_fits m (d ∷ cs) zero c h e f = (subst (λ z. Fits (apply m (view z.left))) (sym e) f.0, subst (λ z. Fits (apply m (view z.right))) (sym e) f.1.0)
 one_fits m (d ∷ cs) (suc i) c h e f = one_fits m cs i c (omega arith) e f.1.1
-
--- the first conditions of a list, and one more
-map_take_suc : (cs : List Cond) (i : ℕ) (c : Cond) → i < length cs → c ≡ get_or cs i c → map condition_view (take (suc i) cs) ≡ map condition_view (take i cs) ++ condition_view c ∷ []
-map_take_suc [] i c h e = absurd (omega arith)
-map_take_suc (d ∷ cs) zero c h e = ap (λ z. condition_view z ∷ []) (sym e)
-map_take_suc (d ∷ cs) (suc i) c h e = ap (λ z. condition_view d ∷ z) (map_take_suc cs i c (omega arith) e)
-
-pub map_take_next : (cs : List Cond) (i : ℕ) (c : Cond) → i < length cs → c ≡ get_or cs i c → map condition_view (take (i + 1) cs) ≡ map condition_view (take i cs) ++ condition_view c ∷ []
-map_take_next cs i c h e = rw add-one (map_take_suc cs i c h e)
-
-pub map_take_all : (cs : List Cond) (i : ℕ) → length cs ≤ i → map condition_view (take i cs) ≡ map condition_view cs
-map_take_all [] zero h = refl
-map_take_all [] (suc i) h = refl
-map_take_all (c ∷ cs) zero h = absurd (omega arith)
-map_take_all (c ∷ cs) (suc i) h = ap (λ z. condition_view c ∷ z) (map_take_all cs i (omega arith))
 
 pub map-append : (cs ds : List Cond) → map condition_view (cs ++ ds) ≡ map condition_view cs ++ map condition_view ds
 map-append [] ds = refl

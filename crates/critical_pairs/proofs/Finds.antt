@@ -17,7 +17,7 @@ use Rattle.critical_pairs.proofs.Passing.{pass_more}
 use Rattle.critical_pairs.proofs.Rests.{next_there, spot_there}
 
 module _ (sys : System) (c : Cursor) (i : ℕ) (s : StandsBefore sys c i) (t : Named.Triple) (is : IsTripleAt c i t) where
-  same : ◌≡◌ {A = Triple} (t.inner, (t.pos.now, t.outer)) (i, (s.at.0, c.outer))
+  pub same : ◌≡◌ {A = Triple} (t.inner, (t.pos.now, t.outer)) (i, (s.at.0, c.outer))
   same = ap₂ (λ x y. (x, y)) is.inner (ap₂ (λ x y. (x, y)) (is.position s.at s.is_place) is.outer)
 
   pub spot_here : IsSystem sys → IsCursor sys c → IsSpotOf sys t.inner t.pos.now t.outer

@@ -11,3 +11,8 @@ pub mod Roots
 pub mod Rests
 pub mod Finds
 pub mod Whole
+pub mod Origins
+pub mod Numbers
+pub mod OldTriples
+pub mod Taken
+pub mod Walk

@@ -1,6 +1,7 @@
 -- The triples that are still to come, as a search goes on.
 use Rattle.std.proofs.Common.{ℕ, zero, suc, ◌≡◌, ◌+◌, ◌-◌, ◌<◌, ◌≤◌, List, [], ◌∷◌, ◌++◌, map, length, drop, get_or, slice_get, None, Some, refl, sym, ap, ap₂, ◌∙◌, subst, subst₂, arith, ◌^◌}
 use Rattle.std.proofs.lemmas.Option.{slice_get_within}
+use Rattle.std.proofs.lemmas.List.{drop_all}
 use Rattle.rewriting.specs.Lists.{IsAmong}
 use Rattle.rewriting.specs.Terms.{app, Fits}
 use Rattle.rewriting.specs.Rules.{Rule, System, rule_at}
@@ -9,8 +10,9 @@ use Rattle.rule_index.specs.Index.{listed, IsIndexOf}
 use Rattle.rule_index.specs.Roots.{rules_with_root}
 use Rattle.rule_index.proofs.Walks.{ascending, listed_rule}
 use Rattle.unifier_run.specs.Overlaps.{Triple}
-use Rattle.unifier_run.specs.Triples.{triples_at, counted, triples_from, all_triples}
+use Rattle.unifier_run.specs.Triples.{triples_at, counted, triples_from}
 use Rattle.rewriting.proofs.Members.{place_among}
+use Rattle.rewriting.proofs.Systems.{numbered_rule}
 use Rattle.critical_pairs.specs.Offers.{DoesPass}
 use Rattle.critical_pairs.specs.Places.{RootAt, place_view, places_of, triples_of, IsRootAt}
 use Rattle.critical_pairs.specs.Cursors.{rest_of_places, rest_of, IsCursor, StandsBefore, CandidateAnswers, IsEntered}
@@ -19,7 +21,6 @@ use Rattle.critical_pairs.specs.declared.cursor.Cursor.{Cursor}
 use Rattle.critical_pairs.specs.declared.places.Place as Program
 use Rattle.term_core.specs.RuleView.{rule_view}
 use Rattle.term_core.specs.declared.systems.Rule as Looked
-use Rattle.critical_pairs.proofs.Spot.{numbered_rule}
 use Rattle.critical_pairs.proofs.Passing.{pass_before, pass_all}
 use Rattle.critical_pairs.proofs.Candidates.{to_candidate, past_candidates, get_there, listed_within}
 use Rattle.critical_pairs.proofs.Roots.{places_triples, is_root}
@@ -29,12 +30,6 @@ pub drop_at : {A : Type 0} (xs : List A) (k : ℕ) (x : A) → slice_get xs k �
 drop_at [] k x e = absurd (cc)
 drop_at (y ∷ ys) zero x e = (let same : y ≡ x = cc in ap (λ z. z ∷ ys) same)
 drop_at (y ∷ ys) (suc k) x e = drop_at ys k x e
-
-pub drop_end : {A : Type 0} (xs : List A) (k : ℕ) → length xs ≤ k → drop k xs ≡ []
-drop_end [] zero h = refl
-drop_end [] (suc k) h = refl
-drop_end (x ∷ xs) zero h = absurd (omega arith)
-drop_end (x ∷ xs) (suc k) h = drop_end xs k (omega arith)
 
 none_done : (sys : System) (j : ℕ) (qs : List RootAt) → rest_of_places sys j qs 0 ≡ triples_of j (length sys.rules) qs
 none_done sys j [] = refl
@@ -89,7 +84,7 @@ module _ (sys : System) (h : IsSystem sys) (c d : Cursor) (i : ℕ) (is : IsCurs
 pub entered : (sys : System) (c d : Cursor) (r : Rule) → IsCursor sys c → length c.places.items ≤ c.place → slice_get sys.rules c.outer ≡ Some r → IsEntered c r.left d → rest_of sys c ≡ rest_of sys d
 entered sys c d r is past e n =
     let ends = triples_from (length sys.rules) c.outer (drop c.outer sys.rules) in
-    ap (λ z. rest_of_places sys c.outer z c.candidate ++ ends) (drop_end (map place_view c.places.items) c.place (subst (λ z. z ≤ c.place) (sym (length_map c.places.items)) past))
+    ap (λ z. rest_of_places sys c.outer z c.candidate ++ ends) (drop_all c.place (map place_view c.places.items) (subst (λ z. z ≤ c.place) (sym (length_map c.places.items)) past))
     ∙ (ap (λ z. triples_from (length sys.rules) c.outer z) (drop_at sys.rules c.outer r e)
     ∙ (ap (λ z. z ++ triples_from (length sys.rules) (suc c.outer) (drop (suc c.outer) sys.rules)) (sym (none_done sys (suc c.outer) (places_of r.left) ∙ places_triples c.outer (length sys.rules) r.left)) ∙ sym there))
   where
@@ -108,19 +103,6 @@ entered_cursor sys c d r e n =
       within = subst (λ z. z ≤ length sys.rules) (sym n.outer) (slice_get_within sys.rules c.outer r e);
       places = λ q m. subst (λ z. IsRootAt sys z q) (sym n.outer) (is_root sys (suc c.outer) r q e (subst (IsAmong q) n.places m));
     }
-
-pub all_done : (sys : System) (c : Cursor) → length (map place_view c.places.items) ≤ c.place → length sys.rules ≤ c.outer → rest_of sys c ≡ []
-all_done sys c h l =
-    ap₂ (λ x y. rest_of_places sys c.outer x c.candidate ++ triples_from (length sys.rules) c.outer y) (drop_end (map place_view c.places.items) c.place h) (drop_end sys.rules c.outer l)
-
-pub at_start : (sys : System) (c : Cursor) → c.outer ≡ 0 → c.places.items ≡ [] → rest_of sys c ≡ all_triples sys
-at_start sys c o p =
-    ap₂ (λ x y. rest_of_places sys x (drop c.place (map place_view y)) c.candidate ++ triples_from (length sys.rules) x (drop x sys.rules)) o p
-    ∙ ap (λ z. rest_of_places sys 0 z c.candidate ++ all_triples sys) (drop_nothing c.place)
-  where
-    drop_nothing : (k : ℕ) → drop {A = RootAt} k [] ≡ []
-    drop_nothing zero = refl
-    drop_nothing (suc k) = refl
 
 -- a place of the list
 pub view_at : (ps : List Program.Place) (k : ℕ) (x : Program.Place) → k < length ps → x ≡ get_or ps k x → slice_get (map place_view ps) k ≡ Some (place_view x)

@@ -1,5 +1,6 @@
 -- What a run of two rules of a system says, where they are renamed apart.
 use Rattle.std.proofs.Common.{ℕ, zero, suc, ◌≡◌, ◌-◌, List, [], ◌∷◌, map, get_or, slice_get, Some, None, IsSome, refl, sym, ap, ◌∙◌, subst, arith}
+use Rattle.std.proofs.lemmas.Option.{none-some, same_Some}
 use Rattle.rewriting.specs.Terms.{Term}
 use Rattle.rewriting.specs.Positions.{Position, subterm}
 use Rattle.rewriting.specs.Substitutions.{apply}
@@ -27,12 +28,6 @@ renamed_rule : (sys : System) (f : Rule → Rule) (xs : List Program.Rule) (i : 
 renamed_rule sys f xs zero x r e h g = absurd (cc)
 renamed_rule sys f xs (suc i) x r e h g = let one : suc i - 1 ≡ i = omega arith in renamed_at f xs sys.rules i x r e h (subst (λ z. x ≡ get_or xs z x) one g)
 
-some_same : (t u : Term) → Some t ≡ Some u → t ≡ u
-some_same t u e = cc
-
-none_some : {A : Type 0} (a : A) → None ≡ Some a → ⊥
-none_some a e = cc
-
 module _ (s : Sides) (are : AreSides s) (i : ℕ) (p : Position) (j : ℕ) (spot : IsSpotOf s.sys.now i p j) (low high : Program.Rule) (at_low : low ≡ get_or s.inners.items (i - 1) low) (at_high : high ≡ get_or s.outers.items (j - 1) high) where
   pub low_renamed : rule_view low ≡ rule_under even spot.inner
   low_renamed = renamed_rule s.sys.now (rule_under even) s.inners.items i low spot.inner are.inners spot.place.is_inner at_low
@@ -44,10 +39,10 @@ module _ (s : Sides) (are : AreSides s) (i : ℕ) (p : Position) (j : ℕ) (spot
   part_there = ap (λ z. subterm z.left p) high_renamed ∙ subterm-apply odd spot.outer.left p spot.part spot.place.is_part
 
   pub has_part : None ≡ subterm (view high.left) p → ⊥
-  has_part e = none_some (apply odd spot.part) (e ∙ part_there)
+  has_part e = none-some (apply odd spot.part) (e ∙ part_there)
 
   pub part_renamed : (t : Term) → Some t ≡ subterm (view high.left) p → t ≡ apply odd spot.part
-  part_renamed t e = some_same t (apply odd spot.part) (e ∙ part_there)
+  part_renamed t e = same_Some t (apply odd spot.part) (e ∙ part_there)
 
   pub has_position : IsSome (subterm (view high.left) p)
   has_position = subst IsSome (sym part_there) refl

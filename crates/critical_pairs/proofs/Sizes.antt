@@ -1,13 +1,12 @@
 -- Parts of terms that fit, and answers carried from parts to wholes.
 use Rattle.std.proofs.Common.{ℕ, zero, suc, ◌≡◌, ◌<◌, ◌≤◌, List, [], ◌∷◌, map, length, get_or, Option, Some, None, IsSome, refl, sym, ap, ◌∙◌, subst, arith, Result, Ok, Err}
 use Rattle.std.proofs.lemmas.Bool.{false≢true}
+use Rattle.std.proofs.lemmas.Option.{none-some, same_Some}
 use Rattle.rewriting.specs.Terms as terms
 use Rattle.rewriting.specs.Terms.{var, app, Terms, nil, cons, size, size_all, depth, depth_all, Fits}
-use Rattle.rewriting.specs.Positions.{Position, argument, subterm, replace}
+use Rattle.rewriting.specs.Positions.{Position, argument, subterm}
 use Rattle.rewriting.specs.Substitutions.{Substitution, apply}
-use Rattle.rewriting.specs.Rules.{sides}
 use Rattle.rewriting.specs.Rules as math
-use Rattle.rewriting.specs.Systems.{Each}
 use Rattle.rewriting.specs.Overlaps.{conditions_under}
 use Rattle.rewriting.proofs.Positions.{within, subterm-replace, replaceable}
 use Rattle.term_core.specs.RuleView.{condition_view}
@@ -17,7 +16,7 @@ use Rattle.term_core.specs.declared.terms.Term.{Term}
 use Rattle.term_core.specs.declared.terms.TermError.{TermError}
 use Rattle.term_core.specs.declared.terms.TermError.TheVariants.{NoPosition, TooLarge, NoMemory}
 use Rattle.term_core.specs.declared.systems.Cond.{Cond}
-use Rattle.critical_pairs.specs.Building.{InstanceAnswers, InstancesAnswers, ContractedAnswers, ConditionsAnswers, PairAnswers}
+use Rattle.critical_pairs.specs.Building.{InstanceAnswers, InstancesAnswers, ContractedAnswers, ConditionsAnswers}
 use Rattle.critical_pairs.proofs.Conditions.{one_fits, fit_left, fit_right}
 use Rattle.rewriting.proofs.Places.{subterm-apply}
 
@@ -43,7 +42,7 @@ part_small (app f ts) (k ∷ p) u e =
 pub fits_part : (t : terms.Term) (p : Position) (u : terms.Term) → subterm t p ≡ Some u → Fits t → Fits u
 fits_part t p u e f = let h = part_small t p u e in record { nodes = omega (arith, h.nodes, f.nodes); levels = omega (arith, h.levels, f.levels) }
 
-some_is : {A : Type 0} (o : Option A) → IsSome o → (a : A) × (o ≡ Some a)
+pub some_is : {A : Type 0} (o : Option A) → IsSome o → (a : A) × (o ≡ Some a)
 some_is None h = absurd (false≢true h)
 some_is (Some a) h = (a, refl)
 
@@ -58,42 +57,14 @@ contracted_error t p u NoPosition a = a
 contracted_error t p u TooLarge a = λ v r f. a (fits_part v p u (subterm-replace t p u v r) f)
 contracted_error t p u NoMemory a = tt
 
-same_some : {A : Type 0} (a b : A) → Some a ≡ Some b → a ≡ b
-same_some a b e = cc
-
-none_some : {A : Type 0} (a : A) → None ≡ Some a → ⊥
-none_some a e = cc
-
 pub contracted_whole : (t : terms.Term) (p : Position) (u : terms.Term) (r : Result Term TermError) → IsSome (subterm t p) → ReplaceAnswers t p u r → ContractedAnswers t p u r
 contracted_whole t p u (Ok v) h a = a
 contracted_whole t p u (Err NoPosition) h a =
     let s = some_is (subterm t p) h in
     let q = replaceable t p s.0 u s.1 in
-    none_some q.0 (sym a ∙ q.1)
-contracted_whole t p u (Err TooLarge) h (v, e, n) = λ w k f. n (subst Fits (same_some w v (sym k ∙ e)) f)
+    none-some q.0 (sym a ∙ q.1)
+contracted_whole t p u (Err TooLarge) h (v, e, n) = λ w k f. n (subst Fits (same_Some w v (sym k ∙ e)) f)
 contracted_whole t p u (Err NoMemory) h a = tt
-
--- refusals of the parts of a pair are refusals of the pair
-module _ (m : Substitution) (i : ℕ) (p : Position) (j : ℕ) (inner outer : math.Rule) where
-  pub source_error : (e : TermError) → ApplyAnswers (apply m outer.left) (Err e) → PairAnswers m i p j inner outer (Err e)
-  source_error NoPosition a = a
-  source_error TooLarge a = λ pair made f. a (subst Fits made.source f.source)
-  source_error NoMemory a = tt
-
-  pub left_error : (s : terms.Term) (e : TermError) → s ≡ apply m outer.left → ContractedAnswers s p (apply m inner.right) (Err e) → PairAnswers m i p j inner outer (Err e)
-  left_error s NoPosition h a = a
-  left_error s TooLarge h a = λ pair made f. a pair.left (subst (λ z. replace z p (apply m inner.right) ≡ Some pair.left) (sym h) made.left) f.left
-  left_error s NoMemory h a = tt
-
-  pub right_error : (e : TermError) → ApplyAnswers (apply m outer.right) (Err e) → PairAnswers m i p j inner outer (Err e)
-  right_error NoPosition a = a
-  right_error TooLarge a = λ pair made f. a (subst Fits made.right f.right)
-  right_error NoMemory a = tt
-
-  pub conditions_error : (e : TermError) → ConditionsAnswers m inner.conditions outer.conditions (Err e) → PairAnswers m i p j inner outer (Err e)
-  conditions_error NoPosition a = a
-  conditions_error TooLarge a = λ pair made f. a (subst (λ z. Each Fits (sides z)) made.conditions f.conditions)
-  conditions_error NoMemory a = tt
 
 pub there_under : (m : Substitution) (t s : terms.Term) (p : Position) → s ≡ apply m t → IsSome (subterm t p) → IsSome (subterm s p)
 there_under m t s p e h =

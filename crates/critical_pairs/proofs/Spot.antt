@@ -1,16 +1,18 @@
 -- What a run at a triple says of the system's overlaps.
-use Rattle.std.proofs.Common.{ℕ, zero, suc, ◌≡◌, ◌+◌, ◌<◌, inl, inr, List, [], ◌∷◌, ◌++◌, map, length, Option, Some, refl, sym, ap, ap₂, ◌∙◌, subst, subst₂, arith, slice_get, ◌^◌, max}
+use Rattle.std.proofs.Common.{ℕ, suc, ◌≡◌, ◌+◌, ◌<◌, inl, inr, List, [], ◌∷◌, ◌++◌, map, length, Option, Some, refl, sym, ap, ap₂, ◌∙◌, subst, subst₂, arith, ◌^◌, max}
 use Rattle.rewriting.specs.Terms.{Term, Terms, var, app, nil, cons, size, size_all, depth, depth_all, Fits}
 use Rattle.rewriting.specs.Positions.{Position, subterm, replace}
 use Rattle.rewriting.specs.Substitutions.{Substitution, apply, apply_all, compose, Bindings, values_of}
 use Rattle.rewriting.specs.Unifiers.{even, odd}
 use Rattle.rewriting.specs.Rules.{Condition, Rule, System, rule_at, sides}
-use Rattle.rewriting.specs.Systems.{Each, terms_of_rule, IsRule, AreRules, IsSystem}
+use Rattle.rewriting.specs.Systems.{Each, terms_of_rule, IsSystem}
 use Rattle.rewriting.specs.Overlaps.{CriticalPair, IsCriticalPair, conditions_under}
 use Rattle.rewriting.proofs.Instances.{apply-apply, apply-agree}
 use Rattle.rewriting.proofs.Positions.{replaceable}
 use Rattle.rewriting.proofs.Places.{subterm-apply}
 use Rattle.rewriting.proofs.Unifiers.{of_list}
+use Rattle.rewriting.proofs.Conditions.{length-conditions_under}
+use Rattle.rewriting.proofs.Systems.{numbered_rule}
 use Rattle.unifier_run.specs.Run.{Binding, value, Outcome, unifier, clash, too_large, IsOutcome}
 use Rattle.unifier_run.specs.Laws.{as_map}
 use Rattle.unifier_run.specs.Overlaps.{Overlap, IsOutcomeOf, DoesPairFit, IsTooLargeAt}
@@ -49,10 +51,6 @@ made_agree s t p inner outer pair h m =
       right = m.right ∙ apply-agree s t outer.right (λ x o. h x);
       conditions = m.conditions ∙ ap₂ (λ x y. x ++ y) (under_agree s t inner.conditions h) (under_agree s t outer.conditions h);
     }
-
-length_under : (s : Substitution) (cs : List Condition) → length (conditions_under s cs) ≡ length cs
-length_under s [] = refl
-length_under s (c ∷ cs) = ap suc (length_under s cs)
 
 same_overlap : {a b k n c d : ℕ} {p q : Position} (pair : CriticalPair) → a ≡ b → p ≡ q → k ≡ n → c ≡ d
     → ◌≡◌ {A = Overlap} (record { inner = a; position = p; outer = k; pair = pair; inner_conditions = c }) (record { inner = b; position = q; outer = n; pair = pair; inner_conditions = d })
@@ -113,7 +111,7 @@ module _ (sys : System) (i : ℕ) (p : Position) (j : ℕ) (m : Bindings) (u : I
       outcome = u.outcome;
       pair = critical pair made;
       fits = fit;
-      counted = ap (λ z. length z.conditions) low ∙ length_under even R.conditions;
+      counted = ap (λ z. length z.conditions) low ∙ length-conditions_under even R.conditions;
     },
     refl,
   )
@@ -168,15 +166,6 @@ sides_fit s h (c ∷ cs) f = (renamed_fits s h c.left f.0, (renamed_fits s h c.r
 rule_fits : (s : Substitution) → IsRenaming s → (r : Rule) → Each Fits (terms_of_rule r) → Each Fits (terms_of_rule (rule_under s r))
 rule_fits s h r f = (renamed_fits s h r.left f.0, (renamed_fits s h r.right f.1.0, sides_fit s h r.conditions f.1.1))
 
-list_rule : (arities : List ℕ) (rs : List Rule) (k : ℕ) (r : Rule) → AreRules arities rs → slice_get rs k ≡ Some r → IsRule arities r
-list_rule arities [] k r h e = absurd (cc)
-list_rule arities (s ∷ rs) zero r h e = let same : s ≡ r = cc in subst (IsRule arities) same h.0
-list_rule arities (s ∷ rs) (suc k) r h e = list_rule arities rs k r h.1 e
-
-pub numbered_rule : (sys : System) (i : ℕ) (r : Rule) → IsSystem sys → rule_at sys i ≡ Some r → IsRule sys.arities r
-numbered_rule sys zero r h e = absurd (cc)
-numbered_rule sys (suc i) r h e = list_rule sys.arities sys.rules i r h.rules e
-
 length_views : (cs : List Cond) → length (map condition_view cs) ≡ length cs
 length_views [] = refl
 length_views (c ∷ cs) = ap suc (length_views cs)
@@ -191,5 +180,5 @@ module _ (sys : System) (h : IsSystem sys) (i : ℕ) (p : Position) (j : ℕ) (s
   pub few_conditions : length inner.conds.items < 2 ^ 32
   few_conditions =
       let few = (numbered_rule sys i spot.inner h spot.place.is_inner).few_conditions in
-      let same : length inner.conds.items ≡ length spot.inner.conditions = sym (length_views inner.conds.items) ∙ (ap (λ z. length z.conditions) low ∙ length_under even spot.inner.conditions) in
+      let same : length inner.conds.items ≡ length spot.inner.conditions = sym (length_views inner.conds.items) ∙ (ap (λ z. length z.conditions) low ∙ length-conditions_under even spot.inner.conditions) in
       omega (arith, few, same)

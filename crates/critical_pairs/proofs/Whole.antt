@@ -1,42 +1,20 @@
 -- The list of the overlaps that a search offers.
-use Rattle.std.proofs.Common.{ℕ, suc, ◌≡◌, ◌+◌, ◌*◌, ◌≤◌, List, [], ◌∷◌, ◌++◌, map, length, refl, sym, ap, ap₂, ◌∙◌, subst, arith, Err, append_assoc, inr}
-use Rattle.rewriting.specs.Terms.{Term, var}
-use Rattle.rewriting.specs.Substitutions.{Substitution}
-use Rattle.rewriting.specs.Unifiers.{even, odd}
-use Rattle.rewriting.specs.Rules.{Condition, Rule, System}
-use Rattle.rewriting.proofs.Instances.{apply-agree}
+use Rattle.std.proofs.Common.{suc, ◌≡◌, ◌≤◌, List, [], ◌∷◌, ◌++◌, map, length, refl, sym, ap, ◌∙◌, subst, Err, append_assoc, inr}
+use Rattle.std.proofs.lemmas.List.{append-nil}
+use Rattle.rewriting.specs.Rules.{System}
 use Rattle.rewriting.specs.Overlaps.{IsEarlierOverlap}
 use Rattle.unifier_run.specs.Overlaps.{Triple, Overlap, triple, IsOverlapOf, IsTooLargeAt, AreOverlapsAt, AreOverlaps}
 use Rattle.rewriting.specs.Lists.{IsAmong}
 use Rattle.unifier_run.proofs.Triples.{AreInOrder, AreThose, those_append, overlaps_at, overlaps_before}
 use Rattle.unifier_run.proofs.Spots.{has_all, order_all}
 use Rattle.unifier_run.specs.Triples.{all_triples, DoesClash}
-use Rattle.unification.specs.Answers.{renaming}
-use Rattle.critical_pairs.specs.Building.{rule_under}
 use Rattle.critical_pairs.specs.Offers.{Search, DoesPass, IsNext, IsOffered, IsDone, IsRefused}
 use Rattle.critical_pairs.specs.Answers.{OverlapsAnswers}
 use Rattle.critical_pairs.specs.View.{overlap_view}
 use Rattle.critical_pairs.specs.declared.Overlap as Made
 use Rattle.critical_pairs.specs.declared.OverlapError.{OverlapError}
 use Rattle.critical_pairs.specs.declared.OverlapError.TheVariants.{PairTooLarge, TooManyPairs, NoMemory}
-use Rattle.critical_pairs.proofs.Spot.{under_agree}
 use Rattle.critical_pairs.proofs.Passing.{none_there}
-
-rule_agree : (s t : Substitution) (r : Rule) → ((x : ℕ) → s x ≡ t x) → rule_under s r ≡ rule_under t r
-rule_agree s t r h = three _ _ _ _ _ _ (apply-agree s t r.left (λ x o. h x)) (apply-agree s t r.right (λ x o. h x)) (under_agree s t r.conditions h)
-  where
-    three : (a b c d : Term) (cs ds : List Condition) → a ≡ b → c ≡ d → cs ≡ ds → ◌≡◌ {A = Rule} (record { left = a; right = c; conditions = cs }) (record { left = b; right = d; conditions = ds })
-    three a b c d cs ds e f g = ap₂ (λ x y. record { left = x; right = c; conditions = y }) e g ∙ ap (λ x. record { left = b; right = x; conditions = ds }) f
-
-rules_agree : (s t : Substitution) (rs : List Rule) → ((x : ℕ) → s x ≡ t x) → map (rule_under s) rs ≡ map (rule_under t) rs
-rules_agree s t [] h = refl
-rules_agree s t (r ∷ rs) h = ap₂ (λ x y. x ∷ y) (rule_agree s t r h) (rules_agree s t rs h)
-
-pub evens : (rs : List Rule) → map (rule_under (renaming 2 0)) rs ≡ map (rule_under even) rs
-evens rs = rules_agree (renaming 2 0) even rs (λ x. let e : 2 * x + 0 ≡ 2 * x = omega arith in ap var e)
-
-pub odds : (rs : List Rule) → map (rule_under (renaming 2 1)) rs ≡ map (rule_under odd) rs
-odds rs = rules_agree (renaming 2 1) odd rs (λ x. refl)
 
 -- a list of the overlaps that were offered
 pub record Gathered (sys : System) (s : Search) (os : List Overlap) : Type 0 where
@@ -47,21 +25,20 @@ pub record Gathered (sys : System) (s : Search) (os : List Overlap) : Type 0 whe
   pub counted : s.offered ≡ length os
   pub few : s.offered ≤ 20000
 
-append_nothing : {A : Type 0} (os : List A) → os ++ [] ≡ os
-append_nothing [] = refl
-append_nothing (o ∷ os) = ap (λ z. o ∷ z) (append_nothing os)
-
 module _ (sys : System) (s : Search) (os : List Overlap) (g : Gathered sys s os) where
   further : (later : List Triple) (h : DoesPass s.system s.rest later) → all_triples sys ≡ (g.earlier ++ h.passed) ++ later
   further later h = g.split ∙ (ap (λ z. g.earlier ++ z) h.split ∙ sym (append_assoc g.earlier h.passed later))
 
   none_further : (later : List Triple) (h : DoesPass s.system s.rest later) → AreThose sys (g.earlier ++ h.passed) os
   none_further later h =
-      subst (AreThose sys (g.earlier ++ h.passed)) (append_nothing os)
+      subst (AreThose sys (g.earlier ++ h.passed)) (append-nil os)
       (those_append sys g.earlier h.passed os [] g.those (none_there sys h.passed (λ t m. subst (λ z. DoesClash z t) g.system (h.clash t m))))
 
   overlap_there : (o : Overlap) → IsOverlapOf s.system o → IsOverlapOf sys o
   overlap_there o h = subst (λ z. IsOverlapOf z o) g.system h
+
+  pub none_more : (t : Search) → t.system ≡ s.system → t.offered ≡ s.offered → DoesPass s.system s.rest t.rest → Gathered sys t os
+  none_more t e n h = record { system = e ∙ g.system; earlier = g.earlier ++ h.passed; split = further t.rest h; those = none_further t.rest h; counted = n ∙ g.counted; few = subst (λ z. z ≤ 20000) (sym n) g.few }
 
   pub one_more : (t : Search) (o : Overlap) → t.system ≡ s.system → IsOffered s t o → Gathered sys t (os ++ o ∷ [])
   one_more t o e h =
@@ -80,7 +57,7 @@ module _ (sys : System) (s : Search) (os : List Overlap) (g : Gathered sys s os)
 
   pub all_found : (t : Search) → IsDone s t → AreOverlaps sys os
   all_found t h =
-      let all : g.earlier ++ h.passes.passed ≡ all_triples sys = sym (append_nothing (g.earlier ++ h.passes.passed)) ∙ sym (further [] h.passes) in
+      let all : g.earlier ++ h.passes.passed ≡ all_triples sys = sym (append-nil (g.earlier ++ h.passes.passed)) ∙ sym (further [] h.passes) in
       record {
         are = overlaps_at sys (λ t. Unit {0}) (all_triples sys) os (order_all sys) (λ t m. tt) (λ i p j inner outer part place u. has_all sys i p j inner outer part place) (subst (λ z. AreThose sys z os) all (none_further [] h.passes));
         few = subst (λ z. z ≤ 20000) g.counted g.few;

@@ -1,5 +1,5 @@
 -- What the list of overlaps answers.
-use Rattle.std.specs.Prelude.{map, Vec, Result, Ok, Err}
+use Rattle.std.specs.Prelude.{◌≡◌, ◌≢◌, List, [], ◌∷◌, ◌++◌, map, length, Option, Some, None, Vec, Result, Ok, Err}
 use Rattle.std.specs.Global.{Global}
 use Rattle.rewriting.specs.Rules as rules
 use Rattle.unifier_run.specs.Overlaps.{AreOverlaps, IsPairTooLarge, AreTooManyOverlaps}
@@ -14,3 +14,12 @@ OverlapsAnswers sys (Ok os) = AreOverlaps sys (map overlap_view os.items)
 OverlapsAnswers sys (Err (PairTooLarge inner pos outer)) = IsPairTooLarge sys inner pos.items outer
 OverlapsAnswers sys (Err TooManyPairs) = AreTooManyOverlaps sys
 OverlapsAnswers sys (Err NoMemory) = Unit {0}
+
+-- one more overlap, if there is one, unless there are 20,000
+abbrev pub PutAnswers : List Overlap → Option Overlap → List Overlap → Result (Unit {0}) OverlapError → Type 0
+PutAnswers before None after (Ok u) = after ≡ before
+PutAnswers before None after (Err e) = ⊥
+PutAnswers before (Some o) after (Ok u) = (after ≡ before ++ o ∷ []) × (length before ≢ 20000)
+PutAnswers before (Some o) after (Err (PairTooLarge inner pos outer)) = ⊥
+PutAnswers before (Some o) after (Err TooManyPairs) = length before ≡ 20000
+PutAnswers before (Some o) after (Err NoMemory) = Unit {0}

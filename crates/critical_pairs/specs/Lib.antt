@@ -7,3 +7,4 @@ pub mod Cursors
 pub mod Sides
 pub mod Finding
 pub mod SearchView
+pub mod Kept

@@ -69,6 +69,12 @@ abbrev pub OverlapAnswers : System → ℕ → Position → ℕ → Result Overl
 OverlapAnswers sys i p j (Ok o) = IsOverlapAt sys i p j (overlap_view o)
 OverlapAnswers sys i p j (Err e) = IsRefusedAt sys i p j e
 
+-- the overlap at the triple, or none where the run clashes
+abbrev pub SpotAnswers : System → ℕ → Position → ℕ → Result (Option Overlap) OverlapError → Type 0
+SpotAnswers sys i p j (Ok None) = DoesClash sys (i, (p, j))
+SpotAnswers sys i p j (Ok (Some o)) = IsOverlapAt sys i p j (overlap_view o)
+SpotAnswers sys i p j (Err e) = IsRefusedAt sys i p j e
+
 -- that there is one
 abbrev pub MeasureAnswers : System → ℕ → Position → ℕ → Result (Unit {0}) OverlapError → Type 0
 MeasureAnswers sys i p j (Ok u) = (o : math.Overlap) × IsOverlapAt sys i p j o

@@ -7,18 +7,25 @@
 //! `OverlapSearch` offers the same overlaps one after the other, and keeps none of them; or it passes them, and makes none.
 #![tactic(auto)]
 
-ghost use Rattle.std.specs.Prelude.{◌≡◌};
-ghost use Rattle.critical_pairs.specs.Answers.{OverlapsAnswers};
+ghost use Rattle.std.specs.Prelude.{◌≡◌, ◌<◌, ◌^◌, ◌≤◌, ◌++◌, ◌∷◌, [], OnOk, map, length};
+ghost use Rattle.critical_pairs.specs.Answers.{OverlapsAnswers, PutAnswers};
+ghost use Rattle.critical_pairs.specs.View.{overlap_view};
+ghost use Rattle.critical_pairs.specs.Kept.{AreKnown};
 
 mod cursor;
 mod fitting;
+mod kept;
 mod pairs;
 mod places;
 mod renaming;
 mod search;
 mod sides;
 
+use cursor::Cursor;
+use kept::{Kept, overlap_at};
+use search::MOST;
 pub use search::OverlapSearch;
+use sides::Sides;
 use std::alloc::{AllocError, AllocFailed, Global};
 use term_core::{Cond, NoMemory, System, Term};
 
@@ -98,4 +105,43 @@ pub fn overlaps(alloc: Global, sys: &System) -> Result<Vec<Overlap>, OverlapErro
         found.push(overlap)?;
     }
     Ok(found)
+}
+
+// Appends the overlap, if there is one, unless there are 20,000.
+fn put(found: &mut Vec<Overlap>, overlap: Option<Overlap>) -> Result<(), OverlapError>
+    ensures { PutAnswers found.old.items overlap found.new.items result }
+{
+    let Some(overlap) = overlap else {
+        return Ok(());
+    };
+    if found.len() == MOST {
+        return Err(OverlapError::TooManyPairs);
+    }
+    found.push(overlap)?;
+    Ok(())
+}
+
+/// The same of a system that has rules of an earlier one, whose overlaps are known: those of two such rules are moved, and get
+/// the numbers that these have now, so that no run is made for them. For each rule `origins` has its number in the earlier system,
+/// if it is a rule of that.
+pub fn overlaps_with(
+    alloc: Global,
+    sys: &System,
+    earlier: &System,
+    origins: &[Option<u32>],
+    known: Vec<Overlap>,
+) -> Result<Vec<Overlap>, OverlapError>
+    requires { AreKnown earlier.now sys.now origins.now (map overlap_view known.items) }
+    ensures { OverlapsAnswers sys.now result }
+{
+    let sides = Sides::new(alloc, sys)?;
+    let mut kept = Kept::new(alloc, earlier, origins, known)?;
+    let mut cursor = Cursor::new(alloc);
+    let mut all = Vec::new(alloc);
+    'triples: while let Some(inner) = cursor.settle(alloc, &sides)? {
+        let overlap = overlap_at(alloc, &sides, &mut kept, &cursor.triple(inner))?;
+        put(&mut all, overlap)?;
+        cursor.candidate += 1;
+    }
+    Ok(all)
 }

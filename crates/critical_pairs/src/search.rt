@@ -12,8 +12,8 @@ use std::alloc::Global;
 use std::marker::Model;
 use term_core::{NoMemory, Subst, System};
 
-// The greatest number of overlaps.
-const MOST: usize = 20_000;
+/// The greatest number of overlaps.
+pub const MOST: usize = 20_000;
 
 /// A search for the overlaps of a system. It offers or passes them one after the other, in order by the outer rule, the
 /// position and the inner rule, and keeps none: memory is taken for the rules and for the positions of one left side.

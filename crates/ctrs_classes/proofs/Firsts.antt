@@ -1,13 +1,13 @@
 -- The first variable that passes a test.
-use Rattle.std.proofs.Common.{ℕ, suc, ◌≡◌, inl, inr, ◌+◌, Bool, true, false, not, ◌||◌, if◌then◌else◌, List, [], ◌∷◌, ◌++◌, take, map, Option, None, Some, refl, sym, ap, ◌∙◌, subst, arith}
-use Rattle.std.proofs.lemmas.Bool.{false≢true, true≢false, or_left}
+use Rattle.std.proofs.Common.{ℕ, suc, ◌≡◌, inl, inr, ◌+◌, Bool, true, false, ◌||◌, if◌then◌else◌, List, [], ◌∷◌, ◌++◌, take, map, Option, None, Some, refl, sym, ap, ◌∙◌, subst, arith}
+use Rattle.std.proofs.lemmas.Bool.{false≢true, or_left, or_right, not-true, not-false}
 use Rattle.std.specs.List.{take-map}
 use Rattle.rewriting.specs.Terms as math
 use Rattle.rewriting.specs.Terms.{cons}
 use Rattle.rewriting.specs.Variables.{occurs, occurs_in, variable_occurrences}
 use Rattle.rewriting.specs.Rules.{Condition, left_sides, right_sides, sides}
 use Rattle.rewriting.specs.Classes.{known}
-use Rattle.rewriting.proofs.Instances.{or_right, or_cases}
+use Rattle.rewriting.proofs.Instances.{or_cases}
 use Rattle.term_core.specs.declared.systems.Cond.{Cond}
 use Rattle.term_core.specs.declared.systems.Rule.{Rule}
 use Rattle.term_core.specs.View.{view}
@@ -53,14 +53,6 @@ pub none_found : (test : ℕ → Bool) (xs : List ℕ) → first_where test xs �
 none_found test [] e y a = absurd a
 none_found test (z ∷ zs) e y a = none_cons test z zs (test z) refl e (λ h. none_found test zs h) y a
 
-not_false : (b : Bool) → not b ≡ false → b ≡ true
-not_false true e = refl
-not_false false e = absurd (true≢false e)
-
-not_true : (b : Bool) → not b ≡ true → b ≡ false
-not_true true e = absurd (false≢true e)
-not_true false e = refl
-
 -- a walk for variables outside: it finds the first, or all are inside
 pub outside_found : (inside stands : ℕ → Bool) (t : math.Term) (x : ℕ) → ((y : ℕ) → inside y ≡ stands y) → first_where (λ y. same false (inside y)) (variable_occurrences t) ≡ Some x
     → IsFirstVariable (λ y. stands y ≡ false) t x
@@ -70,14 +62,14 @@ outside_found inside stands t x agree e =
       before = f.before;
       after = f.after;
       split = f.split;
-      none_before = λ y a out. false≢true (sym out ∙ sym (agree y) ∙ not_false (inside y) (f.passed y a));
-      here = sym (agree x) ∙ not_true (inside x) f.here;
+      none_before = λ y a out. false≢true (sym out ∙ sym (agree y) ∙ not-false (inside y) (f.passed y a));
+      here = sym (agree x) ∙ not-true (inside x) f.here;
     }
 
 pub all_inside : (inside stands : ℕ → Bool) (t : math.Term) → ((y : ℕ) → inside y ≡ stands y) → first_where (λ y. same false (inside y)) (variable_occurrences t) ≡ None
     → (x : ℕ) → occurs x t ≡ true → stands x ≡ true
 all_inside inside stands t agree e x o =
-    sym (agree x) ∙ not_false (inside x) (none_found (λ y. same false (inside y)) (variable_occurrences t) e x (occurring x t o))
+    sym (agree x) ∙ not-false (inside x) (none_found (λ y. same false (inside y)) (variable_occurrences t) e x (occurring x t o))
 
 or_swap : (a b L R : Bool) → (a || (b || (L || R))) ≡ ((a || L) || (b || R))
 or_swap true b L R = refl

@@ -1,4 +1,3 @@
-pub mod Sizes
 pub mod Lists
 pub mod Firsts
 pub mod Linear

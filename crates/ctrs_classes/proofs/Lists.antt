@@ -1,6 +1,7 @@
 -- The walks over lists of variables.
 use Rattle.std.proofs.Common.{ℕ, suc, ◌≡◌, ◌+◌, ◌≤◌, ◌-◌, Bool, true, false, ◌||◌, nat_lt, List, [], ◌∷◌, ◌++◌, length, get_or, take, drop, Option, None, Some, refl, sym, ap, ◌∙◌, arith, Result, Ok, Err}
 use Rattle.std.proofs.lemmas.List.{length-append}
+use Rattle.std.proofs.Math.Bool.{or_assoc}
 use Rattle.term_core.specs.declared.terms.Term.{Term}
 use Rattle.term_core.specs.View.{view, views}
 use Rattle.term_core.proofs.Views.{rest_of}
@@ -58,10 +59,6 @@ module _ (args : List Term) (first : Term) (some : 1 ≤ length args) (is : firs
   where_in_rest test o e h =
       h ∙ sym (ap (first_where test) (leaves_split args first some is) ∙ first_where-append test (variable_occurrences (view first)) (others args) ∙ ap (λ p. first_some p (first_where test (others args))) (sym e))
 
-or_assoc : (a b c : Bool) → (a || (b || c)) ≡ ((a || b) || c)
-or_assoc true b c = refl
-or_assoc false b c = refl
-
 pub any_append : (test : ℕ → Bool) (xs ys : List ℕ) → any_where test (xs ++ ys) ≡ (any_where test xs || any_where test ys)
 any_append test [] ys = refl
-any_append test (x ∷ xs) ys = ap (λ b. test x || b) (any_append test xs ys) ∙ or_assoc (test x) (any_where test xs) (any_where test ys)
+any_append test (x ∷ xs) ys = ap (λ b. test x || b) (any_append test xs ys) ∙ sym (or_assoc (test x) (any_where test xs) (any_where test ys))

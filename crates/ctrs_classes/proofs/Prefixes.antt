@@ -1,6 +1,6 @@
 -- Conditions one after another.
 use Rattle.std.proofs.Common.{ℕ, zero, suc, ◌≡◌, ◌⊎◌, inl, inr, ◌<◌, ◌≤◌, ◌+◌, Bool, true, false, not, ◌||◌, ◌&&◌, List, [], ◌∷◌, length, get_or, take, drop, map, None, Some, option_map, refl, sym, ap, ap₂, ◌∙◌, subst, arith}
-use Rattle.std.proofs.lemmas.Bool.{false≢true, true≢false, or_left}
+use Rattle.std.proofs.lemmas.Bool.{false≢true, true≢false, or_left, or_right, and_from, and_parts, true_from_ne_false}
 use Rattle.std.proofs.lemmas.Bool.Decides.{leb_tells}
 use Rattle.std.proofs.lemmas.Option.{slice_get-get_or, slice_get-map, slice_get_past}
 use Rattle.std.proofs.Math.Dec.{leb}
@@ -12,7 +12,7 @@ use Rattle.rewriting.specs.Rules as rules
 use Rattle.rewriting.specs.Rules.{Condition, right_sides, sides, rule_at}
 use Rattle.rewriting.specs.Systems.{IsRule, AreRules}
 use Rattle.rewriting.specs.Classes.{IsAt, known, IsExtendedOrientedRule}
-use Rattle.rewriting.proofs.Instances.{or_right, or_cases}
+use Rattle.rewriting.proofs.Instances.{or_cases}
 use Rattle.term_core.specs.declared.systems.Cond.{Cond}
 use Rattle.term_core.specs.declared.systems.Rule.{Rule}
 use Rattle.term_core.specs.View.{view}
@@ -23,6 +23,7 @@ use Rattle.certificates.proofs.Blames.{first_occurs}
 use Rattle.ctrs_classes.specs.Walks.{any_where, first_where, same}
 use Rattle.ctrs_classes.specs.Faults.{IsKnownPrefix}
 use Rattle.rewriting.proofs.Variables.{occurring, among_occurs}
+use Rattle.rewriting.proofs.Prefixes.{in_range}
 use Rattle.ctrs_classes.proofs.Firsts.{outside_found, all_inside, everywhere, stood, known_before}
 
 -- of type 3, or not
@@ -43,13 +44,6 @@ cond_at rule items i c value low is =
     let there : slice_get items i ≡ Some c = slice_get-get_or items i c low ∙ ap Some (sym is) in
     subst (λ us. slice_get (map condition_view us) i ≡ Some (condition_view c)) value (slice_get-map condition_view items i ∙ ap (option_map condition_view) there)
 
-at_low : (cs : List Condition) (j : ℕ) (d : Condition) → IsAt cs j d → j < length cs
-at_low cs j d at = go (leb_tells (suc j) (length cs))
-  where
-    go : ((leb (suc j) (length cs) ≡ true) × (suc j ≤ length cs)) ⊎ ((leb (suc j) (length cs) ≡ false) × (length cs < suc j)) → j < length cs
-    go (inl (_, h)) = omega (arith, h)
-    go (inr (_, h)) = absurd (let past = slice_get_past cs j (omega (arith, h)) in cc)
-
 -- a property of the conditions before a place goes on, and holds of all at the end
 module _ (P : ℕ → Condition → Type 0) (cs : List Condition) where
   pub good_next : (i : ℕ) (d : Condition) → IsAt cs i d → P i d → ((j : ℕ) (e : Condition) → j < i → IsAt cs j e → P j e) → (j : ℕ) (e : Condition) → j < i + 1 → IsAt cs j e → P j e
@@ -64,7 +58,7 @@ module _ (P : ℕ → Condition → Type 0) (cs : List Condition) where
           subst (λ k. P k e) same (subst (λ u. P i u) one here)
 
   pub good_all : (i : ℕ) → length cs ≤ i → ((j : ℕ) (e : Condition) → j < i → IsAt cs j e → P j e) → (j : ℕ) (e : Condition) → IsAt cs j e → P j e
-  good_all i end before j e at = before j e (let low = at_low cs j e at in omega (arith, low, end)) at
+  good_all i end before j e at = before j e (let low = in_range cs j e at in omega (arith, low, end)) at
 
 pub conditions_length : (items : List Cond) (rule : Rule) → items ≡ rule.conds.items → (i : ℕ) → length items ≤ i → length (map condition_view rule.conds.items) ≤ i
 conditions_length items rule value i h = subst (λ us. length (map condition_view us) ≤ i) value (go items h)
@@ -133,26 +127,14 @@ rights_grow x (suc a) (suc b) (c ∷ cs) le o =
 known_grows : (x a b : ℕ) (r : rules.Rule) → a ≤ b → occurs_in x (known r a) ≡ true → occurs_in x (known r b) ≡ true
 known_grows x a b r le o = or_cases (occurs x r.left) (occurs_in x (right_sides (take a r.conditions))) o (λ h. or_left _ _ h) (λ h. or_right _ _ (rights_grow x a b r.conditions le h))
 
-and_both : (a b : Bool) → (a && b) ≡ true → (a ≡ true) × (b ≡ true)
-and_both true b e = (refl, e)
-and_both false b e = absurd (false≢true e)
-
-both_and : (a b : Bool) → a ≡ true → b ≡ true → (a && b) ≡ true
-both_and true b e f = f
-both_and false b e f = absurd (false≢true e)
-
-decide : (b : Bool) → (b ≡ false → ⊥) → b ≡ true
-decide true h = refl
-decide false h = absurd (h refl)
-
 module _ (r : rules.Rule) (m : ℕ) (prefix : IsKnownPrefix r m) (test : ℕ → Bool) (tests : (x : ℕ) → test x ≡ (occurs_in x (sides (drop m r.conditions)) && not (occurs_in x (known r m)))) where
   pub is_oriented : any_where test (variable_occurrences r.right) ≡ false → IsExtendedOrientedRule r
   is_oriented none = record { m = m; at_most = prefix.at_most; before = prefix.before; behind = go }
     where
       go : (j : ℕ) (c : Condition) → m ≤ j → IsAt r.conditions j c → (x : ℕ) → occurs x r.right ≡ true → occurs_in x (cons c.left (cons c.right nil)) ≡ true → occurs_in x (known r m) ≡ true
       go j c le at x o oc =
-          decide (occurs_in x (known r m)) (λ unknown. true≢false (
-          sym (none_any test (variable_occurrences r.right) x (occurring x r.right o) (tests x ∙ both_and _ _ (here_from x m r.conditions j c le at oc) (ap not unknown))) ∙ none
+          true_from_ne_false (occurs_in x (known r m)) (λ unknown. true≢false (
+          sym (none_any test (variable_occurrences r.right) x (occurring x r.right o) (tests x ∙ and_from _ _ (here_from x m r.conditions j c le at oc) (ap not unknown))) ∙ none
           ))
 
   pub not_oriented : any_where test (variable_occurrences r.right) ≡ true → IsExtendedOrientedRule r → ⊥
@@ -162,7 +144,7 @@ module _ (r : rules.Rule) (m : ℕ) (prefix : IsKnownPrefix r m) (test : ℕ →
       f = any_found test (variable_occurrences r.right) some
 
       both : (occurs_in f.0 (sides (drop m r.conditions)) ≡ true) × (not (occurs_in f.0 (known r m)) ≡ true)
-      both = and_both _ _ (sym (tests f.0) ∙ f.2)
+      both = and_parts _ _ (sym (tests f.0) ∙ f.2)
 
       unknown : (b : Bool) → not b ≡ true → b ≡ true → ⊥
       unknown true e h = false≢true e
@@ -196,7 +178,7 @@ pub stops_here : (rule : Rule) (items : List Cond) (i : ℕ) (c : Cond) (x : ℕ
     → IsFirstVariable (λ y. occurs_in y (known (rule_view rule) i) ≡ false) (view c.left) x → IsKnownPrefix (rule_view rule) i
 stops_here rule items i c x value low here before f =
     record {
-      at_most = (let h = at_low (map condition_view rule.conds.items) i (condition_view c) here in omega (arith, h));
+      at_most = (let h = in_range (map condition_view rule.conds.items) i (condition_view c) here in omega (arith, h));
       before = before;
       next = λ d at within.
           let same : d ≡ condition_view c = cc in
@@ -211,7 +193,7 @@ goes_through rule items i n value high low before e =
     record {
       at_most = omega (arith, long, e);
       before = subst (λ k. (j : ℕ) (d : Condition) → j < k → IsAt (map condition_view rule.conds.items) j d → IsWithin d.left (known (rule_view rule) j)) same before;
-      next = λ d at within. let h = at_low (map condition_view rule.conds.items) n d at in omega (arith, h, long, e);
+      next = λ d at within. let h = in_range (map condition_view rule.conds.items) n d at in omega (arith, h, long, e);
     }
 
 -- the test of the walk over the right side

@@ -13,7 +13,7 @@ use term_core::{Cond, Term};
 
 // Whether a variable occurs in a term.
 #[cycle(occurs)]
-#[tactic(auto, using(crate::proofs::Sizes::size_pos))]
+#[tactic(auto, using(rewriting::proofs::Lengths::size_positive))]
 pub(crate) fn occurs(x: u32, t: &Term) -> bool
     ensures { result ≡ math.occurs x (view t.now) }
 {
@@ -24,7 +24,7 @@ pub(crate) fn occurs(x: u32, t: &Term) -> bool
 }
 
 #[cycle(occurs)]
-#[tactic(auto, using(crate::proofs::Sizes::size_pos))]
+#[tactic(auto, using(rewriting::proofs::Lengths::size_positive))]
 fn occurs_any(x: u32, args: &[Term]) -> bool
     ensures { result ≡ math.occurs_in x (views args.now) }
 {
@@ -84,7 +84,7 @@ fn is_wanted(x: u32, region: &Region<'_>, inside: bool) -> bool
 
 // The first variable of a term that stands in the region, or that does not.
 #[cycle(first)]
-#[tactic(auto, using(crate::proofs::Sizes::size_pos))]
+#[tactic(auto, using(rewriting::proofs::Lengths::size_positive))]
 pub(crate) fn first_variable(t: &Term, region: &Region<'_>, inside: bool) -> Option<u32>
     ensures { result ≡ first_where (λ x. same inside (in_region region.now x)) (variable_occurrences (view t.now)) }
 {
@@ -101,7 +101,7 @@ pub(crate) fn first_variable(t: &Term, region: &Region<'_>, inside: bool) -> Opt
 }
 
 #[cycle(first)]
-#[tactic(auto, using(crate::proofs::Sizes::size_pos))]
+#[tactic(auto, using(rewriting::proofs::Lengths::size_positive))]
 fn first_among(args: &[Term], region: &Region<'_>, inside: bool) -> Option<u32>
     ensures { result ≡ first_where (λ x. same inside (in_region region.now x)) (variable_occurrences_of (views args.now)) }
 {
@@ -117,7 +117,7 @@ fn first_among(args: &[Term], region: &Region<'_>, inside: bool) -> Option<u32>
 // With the variables numbered as they come, and those below `next` seen: the first that is seen again, or
 // how many there are then, each counted as it stands.
 #[cycle(repeated)]
-#[tactic(auto, using(crate::proofs::Sizes::size_pos))]
+#[tactic(auto, using(rewriting::proofs::Lengths::size_positive))]
 pub(crate) fn first_repeated(t: &Term, next: u32) -> Result<u32, u32>
     requires { next + size (view t.now) ≤ 20000 }
     ensures found { SeenAnswers next (variable_occurrences (view t.now)) result }
@@ -130,7 +130,7 @@ pub(crate) fn first_repeated(t: &Term, next: u32) -> Result<u32, u32>
 }
 
 #[cycle(repeated)]
-#[tactic(auto, using(crate::proofs::Sizes::size_pos))]
+#[tactic(auto, using(rewriting::proofs::Lengths::size_positive))]
 fn first_repeated_among(args: &[Term], next: u32) -> Result<u32, u32>
     requires { next + size_all (views args.now) ≤ 20000 }
     ensures found { SeenAnswers next (variable_occurrences_of (views args.now)) result }
@@ -159,7 +159,7 @@ fn is_asked(x: u32, conds: &[Cond]) -> bool
 
 // Whether a variable of the term stands in some conditions, and not in the region.
 #[cycle(shares)]
-#[tactic(auto, using(crate::proofs::Sizes::size_pos))]
+#[tactic(auto, using(rewriting::proofs::Lengths::size_positive))]
 pub(crate) fn shares_unknown(t: &Term, region: &Region<'_>, conds: &[Cond]) -> bool
     ensures { result ≡ any_where (λ x. math.occurs_in x (sides (map condition_view conds.now)) && not (in_region region.now x)) (variable_occurrences (view t.now)) }
 {
@@ -170,7 +170,7 @@ pub(crate) fn shares_unknown(t: &Term, region: &Region<'_>, conds: &[Cond]) -> b
 }
 
 #[cycle(shares)]
-#[tactic(auto, using(crate::proofs::Sizes::size_pos, crate::proofs::Lists::any_append, crate::proofs::Lists::leaves_split))]
+#[tactic(auto, using(rewriting::proofs::Lengths::size_positive, crate::proofs::Lists::any_append, crate::proofs::Lists::leaves_split))]
 fn share_unknown(args: &[Term], region: &Region<'_>, conds: &[Cond]) -> bool
     ensures { result ≡ any_where (λ x. math.occurs_in x (sides (map condition_view conds.now)) && not (in_region region.now x)) (variable_occurrences_of (views args.now)) }
 {
@@ -184,7 +184,7 @@ fn share_unknown(args: &[Term], region: &Region<'_>, conds: &[Cond]) -> bool
 
 // Whether a variable occurs in the term.
 #[cycle(has_variable)]
-#[tactic(auto, using(crate::proofs::Sizes::size_pos))]
+#[tactic(auto, using(rewriting::proofs::Lengths::size_positive))]
 pub(crate) fn has_variable(t: &Term) -> bool
     ensures { result ≡ is_open (view t.now) }
 {
@@ -195,7 +195,7 @@ pub(crate) fn has_variable(t: &Term) -> bool
 }
 
 #[cycle(has_variable)]
-#[tactic(auto, using(crate::proofs::Sizes::size_pos))]
+#[tactic(auto, using(rewriting::proofs::Lengths::size_positive))]
 fn have_variable(args: &[Term]) -> bool
     ensures { result ≡ are_open (views args.now) }
 {

@@ -1,5 +1,6 @@
 -- Loops over the steps of a derivation and over conditions, item by item.
 use Rattle.std.proofs.Common.{◌≡◌, ℕ, suc, ◌+◌, ◌<◌, List, ◌∷◌, map, drop, length, get_or, sym, ap, subst, subst₂, arith}
+use Rattle.general_lemmas.proofs.Places.{map-drop_read}
 use Rattle.rewriting.specs.Terms as math
 use Rattle.rewriting.specs.Substitutions.{Bindings}
 use Rattle.rewriting.specs.Rules.{Condition, System}
@@ -13,12 +14,11 @@ use Rattle.term_core.specs.declared.systems.Cond.{Cond}
 use Rattle.cert_model.specs.DerivationView.{derivation_view, step_view}
 use Rattle.cert_model.specs.declared.derivations.Step.{Step}
 use Rattle.cert_model.specs.declared.derivations.Derivation.{Derivation}
-use Rattle.derivation.proofs.Shown.{map-drop}
 use Rattle.derivation.proofs.Loops.{Running, run_goes_on, run_fails, Meeting, meeting_goes_on, meeting_fails, Fulfils, Misses}
 
 module _ (xs : List Step) (i : ℕ) (x : Step) (low : i < length xs) (is : x ≡ get_or xs i x) where
   pub steps_open : derivation_of (map step_view (drop i xs)) ≡ first_step (step_view x) (derivation_of (map step_view (drop (i + 1) xs)))
-  steps_open = ap derivation_of (map-drop step_view xs i x low is)
+  steps_open = ap derivation_of (map-drop_read step_view xs i x low is)
 
   pub short_rest : AreStepsShort (derivation_of (map step_view (drop i xs))) → AreStepsShort (derivation_of (map step_view (drop (i + 1) xs)))
   short_rest h = (subst AreStepsShort steps_open h).1
@@ -40,10 +40,10 @@ module _ (xs : List Step) (i : ℕ) (x : Step) (low : i < length xs) (is : x ≡
 
 module _ (cs : List Cond) (ds : List Derivation) (k : ℕ) (c : Cond) (d : Derivation) (low : k < length ds) (paired : length ds ≡ length cs) (c_is : c ≡ get_or cs k c) (d_is : d ≡ get_or ds k d) where
   conditions_open : map condition_view (drop k cs) ≡ condition_view c ∷ map condition_view (drop (k + 1) cs)
-  conditions_open = map-drop condition_view cs k c (omega (arith, low, paired)) c_is
+  conditions_open = map-drop_read condition_view cs k c (omega (arith, low, paired)) c_is
 
   derivations_open : derivations_of (map derivation_view (drop k ds)) ≡ first_derivation (derivation_view d) (derivations_of (map derivation_view (drop (k + 1) ds)))
-  derivations_open = ap derivations_of (map-drop derivation_view ds k d low d_is)
+  derivations_open = ap derivations_of (map-drop_read derivation_view ds k d low d_is)
 
   pub fits_rest : DoConditionsFit (map condition_view (drop k cs)) → DoConditionsFit (map condition_view (drop (k + 1) cs))
   fits_rest h = (subst DoConditionsFit conditions_open h).2

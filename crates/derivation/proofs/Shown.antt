@@ -1,5 +1,5 @@
 -- Steps and derivations, as what they stand for.
-use Rattle.std.proofs.Common.{◌≡◌, ℕ, zero, suc, List, [], ◌∷◌, map, length, Vec, Global, refl, sym, ap, ◌∙◌, rules, vec_len, drop, get_or, ◌+◌, ◌<◌, ◌≤◌, add-one, arith}
+use Rattle.std.proofs.Common.{◌≡◌, ℕ, zero, suc, List, [], ◌∷◌, map, length, Vec, Global, refl, sym, ap, ◌∙◌, rules, vec_len, get_or, ◌<◌, arith}
 use Rattle.std.proofs.lemmas.List.{length-map}
 use Rattle.term_core.specs.RuleView.{condition_view}
 use Rattle.term_core.specs.declared.systems.Cond.{Cond}
@@ -26,25 +26,6 @@ counted_derivations ds = derivations_counted (map derivation_view ds.items) ∙ 
 
 pub counted_conditions : (cs : Vec Cond Global) → length (map condition_view cs.items) ≡ vec_len cs
 counted_conditions cs = length-map cs.items condition_view ∙ sym cs.ok.0
-
--- the rest of a list from an index, through what its items stand for
-pub map-drop : {A B : Type 0} (f : A → B) (xs : List A) (i : ℕ) (x : A) → i < length xs → x ≡ get_or xs i x → map f (drop i xs) ≡ f x ∷ map f (drop (i + 1) xs)
-map-drop {A = A} f xs i x h e = rw add-one (go xs i h e)
-  where
-    go : (ys : List A) (k : ℕ) → k < length ys → x ≡ get_or ys k x → map f (drop k ys) ≡ f x ∷ map f (drop (suc k) ys)
-    go [] k h e = absurd (omega arith)
-    go (y ∷ ys) zero h e = ap (λ z. f z ∷ map f ys) (sym e)
-    go (y ∷ ys) (suc k) h e = go ys k (omega arith) e
-
--- nothing is left behind the end
-pub map-drop-all : {A B : Type 0} (f : A → B) (xs : List A) (i : ℕ) → length xs ≤ i → map f (drop i xs) ≡ []
-map-drop-all f [] i h = drop_nothing i
-  where
-    drop_nothing : (k : ℕ) → map f (drop k []) ≡ []
-    drop_nothing zero = refl
-    drop_nothing (suc k) = refl
-map-drop-all f (x ∷ xs) zero h = absurd (omega arith)
-map-drop-all f (x ∷ xs) (suc i) h = map-drop-all f xs i (omega arith)
 
 pub step_count_of : (xs : List program.Step) → step_count (derivation_of (map step_view xs)) ≡ length xs
 step_count_of xs = steps_counted (map step_view xs) ∙ length-map xs step_view

@@ -1,7 +1,8 @@
 -- What grows from the left side of a condition, and what it shows.
 use Rattle.std.proofs.Common.{ℕ, zero, suc, ◌≡◌, ◌<◌, ◌^◌, inl, inr, List, [], ◌∷◌, length, Option, None, Some, Result, Ok, Err, refl, sym, ap, subst, arith}
 use Rattle.std.specs.Prelude.{slice_get}
-use Rattle.rewriting.specs.Terms.{Term, Fits}
+use Rattle.std.proofs.lemmas.List.Elements.{All-nil, All-cons}
+use Rattle.rewriting.specs.Terms.{Term, var, Fits}
 use Rattle.rewriting.specs.Rules.{Condition, System}
 use Rattle.rewriting.specs.Variables.{variable_occurrences}
 use Rattle.rewriting.proofs.Once.{same_some}
@@ -10,8 +11,8 @@ use Rattle.certificates.specs.Evidence.{InfeasibilityEvidence, by_automaton}
 use Rattle.certificates.specs.Judging.{hypothesis_at}
 use Rattle.certificates.specs.Reasons.{EvidenceReason}
 use Rattle.certificates.specs.Sizes.{DoConditionsFit}
-use Rattle.automata.specs.Closed.{AreNarrow}
-use Rattle.automata.specs.Evidence.{IsConditionJudged, JudgedByAutomaton}
+use Rattle.automata.specs.Closed.{AreNarrow, Excludes}
+use Rattle.automata.specs.Evidence.{IsConditionJudged, right_side, JudgedByAutomaton}
 use Rattle.automata.specs.Laws.{IsWellGrown}
 use Rattle.judged_evidence.specs.Evidence.{IsInfeasibilityJudged}
 use Rattle.judged_evidence.proofs.Judged.{evidence_once}
@@ -61,6 +62,10 @@ module _ (sys : System) (s : Term) where
   growth_refused growing.TooManyTransitions (Ok None) h n = λ a g. not_many sys s a g h.2
   growth_refused growing.NoMemory (Ok x) h n = absurd n
 
+never_excluded : (sys : System) (c : Condition) (a : math.Automaton) (x : ℕ) → c.right ≡ var x → IsConditionJudged sys c a None → ⊥
+never_excluded sys c a x is (right_side None all (q, accepting, run) closed (narrow, excludes)) =
+    subst (Excludes (Some sys.arities) a) is excludes (q ∷ []) q (record { each = refl; states = All-cons (λ p. p < a.states) q [] accepting.1 (All-nil (λ p. p < a.states)) }) accepting refl
+
 module _ (sys : System) (cs : List Condition) (k : ℕ) where
   judged_other : (a : math.Automaton) (why : EvidenceReason) → JudgedByAutomaton sys cs k a (Some why) → JudgedByAutomaton sys cs k a None → ⊥
   judged_other a why h j = let same = evidence_once sys cs (by_automaton k a) None (Some why) j h in cc
@@ -83,6 +88,10 @@ module _ (sys : System) (cs : List Condition) (k : ℕ) where
 
     pub gives_none : ((a : math.Automaton) → GrowsTo sys c.left a → ⊥) → MayGive sys (hypothesis_at cs k) None
     gives_none bare = gives_there None (λ a g j. bare a g)
+
+    -- a variable is not excluded by what accepts the left side
+    pub gives_none_for : (x : ℕ) → c.right ≡ var x → MayGive sys (hypothesis_at cs k) None
+    gives_none_for x is = gives_there None (λ a g j. never_excluded sys c a x is j)
 
     pub gives_shown : (a : math.Automaton) → GrowsTo sys c.left a → (r : Result (Option Automaton) NoMemory) → ShownAnswers sys cs k a r → ValidGrowthAnswers sys cs k r
     gives_shown a g (Ok (Some b)) (same, j) =

@@ -77,6 +77,10 @@ pub fn valid_growth(
     let Some(asked) = condition(conds, cond) else {
         return Ok(None);
     };
+    // A variable may be what the automaton accepts, so nothing needs to grow.
+    if let Term::Var(_) = &asked.right {
+        return Ok(None);
+    }
     match grown(alloc, sys, &asked.left)? {
         Some(automaton) => shown(alloc, sys, conds, cond, automaton),
         None => Ok(None),

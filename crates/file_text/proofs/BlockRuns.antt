@@ -1,7 +1,9 @@
 -- Blocks that are spelled are read.
-use Rattle.std.proofs.Common.{◌≡◌, ℕ, Bool, true, false, ◌&&◌, if◌then◌else◌, List, [], ◌∷◌, ◌++◌, map, Option, Some, None, refl, sym, ap, ◌∙◌, append_assoc, codes}
+use Rattle.std.proofs.Common.{◌≡◌, ℕ, Bool, false, ◌&&◌, if◌then◌else◌, List, [], ◌∷◌, ◌++◌, map, Option, Some, None, refl, sym, ap, ◌∙◌, append_assoc, codes}
 use Rattle.std.proofs.lemmas.List.{append-nil}
-use Rattle.std.specs.Option.{option_and_then, option_map}
+use Rattle.std.specs.Option.{option_map}
+use Rattle.std.proofs.Math.Bool.{and-false}
+use Rattle.general_lemmas.proofs.Options.{bound}
 use Rattle.file_text.specs.declared.ConditionType.TheVariants.{Oriented, Join}
 use Rattle.file_text.specs.Syntax.{Name, Phrase, word, RuleTree}
 use Rattle.file_text.specs.Grammar.{Word, id, left_paren, right_paren, comma, bar, arrow, equal, id_at, Block, condition_type, variables, rules, title, spelled_block, spelled_blocks, spelled_rules, has_block}
@@ -12,7 +14,7 @@ use Rattle.file_text.proofs.Goes.{taken, goes_one, goes, goes_then, goes_step}
 
 -- ---- rules
 
-no_bracket : (p : Part) (t : Phrase) → next_part p t right_paren ≡ None
+pub no_bracket : (p : Part) (t : Phrase) → next_part p t right_paren ≡ None
 no_bracket left t = refl
 no_bracket (right l) t = refl
 no_bracket (condition_left l r at cs) t = refl
@@ -37,10 +39,6 @@ no_closing s comma r e = refl
 no_closing s (bar at) r e = refl
 no_closing s arrow r e = refl
 no_closing s equal r e = refl
-
-bound : {A B : Type 0} (f : A → Option B) (o : Option A) (y : B) → option_and_then f o ≡ Some y → (x : A) × (o ≡ Some x) × (f x ≡ Some y)
-bound f None y e = absurd cc
-bound f (Some x) y e = (x, refl, e)
 
 rules_step : (k : Bool) (bs : List Block) (at : ℕ) (s r : Reading) (w : Word) → step_term s.rules s.part s.opens s.last w ≡ Some r → goes_one k (in_rules bs at s) w ≡ Some (in_rules bs at r)
 rules_step k bs at s r w e =
@@ -92,13 +90,9 @@ blocks_go k (c ∷ cs) bs free =
     goes_then k (spelled_block c) (spelled_blocks cs) (outside bs) (outside (bs ++ c ∷ [])) (block_goes k bs c free.0)
     ∙ blocks_go k cs (bs ++ c ∷ []) free.1 ∙ ap (λ (cs : List Block). Some (outside cs)) (append_assoc bs (c ∷ []) cs)
 
-and_false : (b : Bool) → (b && false) ≡ false
-and_false true = refl
-and_false false = refl
-
 pub free_any : (cs bs : List Block) → AreFree false bs cs
 free_any [] bs = tt
-free_any (c ∷ cs) bs = (and_false (has_block bs (title c)), free_any cs (bs ++ c ∷ []))
+free_any (c ∷ cs) bs = (and-false (has_block bs (title c)), free_any cs (bs ++ c ∷ []))
 
 -- blocks that may repeat
 pub any_go : (bs : List Block) → goes false (outside []) (spelled_blocks bs) ≡ Some (outside bs)

@@ -27,7 +27,7 @@ some_term : Phrase
 some_term = word some_name
 
 -- what was read last is the front of a term
-last_closes : (l : Last) → (rest : List Word) × (t : Phrase) × (last_words l ++ rest ≡ spelled t)
+pub last_closes : (l : Last) → (rest : List Word) × (t : Phrase) × (last_words l ++ rest ≡ spelled t)
 unfolding some_term
 last_closes want = (id some_name ∷ [], some_term, refl)
 last_closes (first g) = (right_paren ∷ [], call g none, refl)
@@ -35,7 +35,7 @@ last_closes (bare f) = ([], word f, refl)
 last_closes (done t) = ([], t, append-nil (spelled t))
 
 -- the open terms can be closed behind an argument
-opens_close : (os : Opens) (t : Phrase) → (rest : List Word) × (u : Phrase) × (open_words os ++ (spelled t ++ rest) ≡ spelled u)
+pub opens_close : (os : Opens) (t : Phrase) → (rest : List Word) × (u : Phrase) × (open_words os ++ (spelled t ++ rest) ≡ spelled u)
 opens_close [] t = ([], t, append-nil (spelled t))
 opens_close (o ∷ os) t =
     let outer = opens_close os (call o.0 (with_last o.1 t)) in (
@@ -50,7 +50,7 @@ opens_close (o ∷ os) t =
     argument : (a b c : List Word) → a ++ (b ++ right_paren ∷ c) ≡ ((a ++ b) ++ right_paren ∷ []) ++ c
     argument a b c = simp append_assoc
 
-term_closes : (os : Opens) (l : Last) → (rest : List Word) × (t : Phrase) × (open_words os ++ (last_words l ++ rest) ≡ spelled t)
+pub term_closes : (os : Opens) (l : Last) → (rest : List Word) × (t : Phrase) × (open_words os ++ (last_words l ++ rest) ≡ spelled t)
 term_closes os l =
     let inner = last_closes l in
     let outer = opens_close os inner.1 in (
@@ -67,7 +67,7 @@ ended_closes : (p : Part) (t : Phrase) (r : RuleTree) → ended p t ≡ Some r �
 ended_closes p t r e = ([], r, ap (λ (ws : List Word). part_words p ++ ws) (append-nil (spelled t)) ∙ sym (ended_reads p t r e))
 
 -- a rule can be ended behind a term
-rule_closes : (p : Part) (t : Phrase) → (rest : List Word) × (r : RuleTree) × (part_words p ++ (spelled t ++ rest) ≡ spelled_rule r)
+pub rule_closes : (p : Part) (t : Phrase) → (rest : List Word) × (r : RuleTree) × (part_words p ++ (spelled t ++ rest) ≡ spelled_rule r)
 unfolding some_term
 rule_closes left t = (arrow ∷ id some_name ∷ [], record { left = t; right = some_term; guard = None }, refl)
 rule_closes (right l) t = ended_closes (right l) t record { left = l; right = t; guard = None } refl

@@ -1,20 +1,19 @@
 -- The reader of files, one token of a text after the other.
 use Rattle.std.proofs.Common.{◌≡◌, ℕ, zero, suc, ◌+◌, true, List, [], ◌∷◌, ◌++◌, length, take, slice_get, Some, option_map, Result, Ok, Err, refl, sym, ap, ◌∙◌, arith}
 use Rattle.std.proofs.lemmas.List.{take-map, length-map}
-use Rattle.std.proofs.lemmas.Option.{slice_get-map}
+use Rattle.std.proofs.lemmas.Option.{slice_get-map, same_Some}
 use Rattle.std.proofs.Math.Seq.{take-length}
 use Rattle.file_text.specs.declared.Token.{Token}
 use Rattle.file_text.specs.Syntax.{FileTree}
 use Rattle.file_text.specs.Refusals.{SyntaxCause}
 use Rattle.file_text.specs.Texts.{word_of, words_of}
 use Rattle.file_text.proofs.Machine.{State, outside, step, finish, numbered, run, finished, read_file}
-use Rattle.file_text.proofs.ReadingWords.{some_is}
 use Rattle.file_text.proofs.Goes.{goes, goes_then, goes_one_end, step_goes, run_goes, goes_run, stop_run}
 
 -- a list around the element with this number
 pub around : {A : Type 0} (xs : List A) (k : ℕ) (x : A) → slice_get xs k ≡ Some x → (rest : List A) × (xs ≡ take k xs ++ x ∷ rest) × (take (suc k) xs ≡ take k xs ++ x ∷ []) × (length (take k xs) ≡ k)
 around [] k x e = absurd cc
-around (y ∷ xs) zero x e = let same = some_is y x e in (xs, ap (λ z. z ∷ xs) same, ap (λ z. z ∷ []) same, refl)
+around (y ∷ xs) zero x e = let same = same_Some y x e in (xs, ap (λ z. z ∷ xs) same, ap (λ z. z ∷ []) same, refl)
 around (y ∷ xs) (suc k) x e = let h = around xs k x e in (h.0, ap (λ zs. y ∷ zs) h.1, ap (λ zs. y ∷ zs) h.2, ap suc h.3)
 
 -- the state behind the first tokens

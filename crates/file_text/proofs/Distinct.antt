@@ -2,6 +2,7 @@
 use Rattle.std.proofs.Common.{◌≡◌, ℕ, Bool, true, false, ◌&&◌, ◌||◌, not, if◌then◌else◌, List, [], ◌∷◌, ◌++◌, Option, Some, None, Result, Ok, Err, refl, sym, subst, ◌∙◌, append_assoc, codes, bytes_eq}
 use Rattle.std.proofs.lemmas.List.Folds.{list_any-append}
 use Rattle.std.proofs.lemmas.Slice.Eq.{bytes_eq-Decides}
+use Rattle.std.proofs.lemmas.Bool.{not-true, and_parts, or_from, or_parts, and_left}
 use Rattle.file_text.specs.declared.ConditionType.{ConditionType}
 use Rattle.file_text.specs.declared.ConditionType.TheVariants.{Oriented, Join}
 use Rattle.file_text.specs.Syntax.{Name, RuleTree}
@@ -12,29 +13,9 @@ use Rattle.file_text.proofs.Goes.{taken, goes, goes_word}
 use Rattle.file_text.proofs.StateReads.{made, made_is, one_or, one_of}
 use Rattle.file_text.proofs.BlockRuns.{AreFree}
 
-and_parts : (a b : Bool) → (a && b) ≡ true → (a ≡ true) × (b ≡ true)
-and_parts true b e = (refl, e)
-and_parts false b e = absurd cc
-
-pub or_parts : (a b : Bool) → (a || b) ≡ false → (a ≡ false) × (b ≡ false)
-or_parts true b e = absurd cc
-or_parts false b e = (refl, e)
-
-not_true : (a : Bool) → not a ≡ true → a ≡ false
-not_true true e = absurd cc
-not_true false e = refl
-
 both_true : (a b : Bool) → a ≡ false → b ≡ true → (not a && b) ≡ true
 both_true true b e h = absurd cc
 both_true false b e h = h
-
-both_false : (a b : Bool) → a ≡ false → b ≡ false → (a || b) ≡ false
-both_false true b e h = absurd cc
-both_false false b e h = h
-
-and_is_false : (a b : Bool) → a ≡ false → (a && b) ≡ false
-and_is_false true b e = absurd cc
-and_is_false false b e = refl
 
 apart_sym : (xs ys : List ℕ) → bytes_eq xs ys ≡ false → bytes_eq ys xs ≡ false
 apart_sym xs ys e = go (bytes_eq ys xs) refl
@@ -54,23 +35,23 @@ distinct_push [] b d h = refl
 distinct_push (c ∷ cs) b d h =
     let here = and_parts (not (has_block cs (title c))) (are_distinct cs) d in
     let apart = or_parts (bytes_eq (title b) (title c)) (has_block cs (title b)) h in
-    let there : has_block (b ∷ []) (title c) ≡ false = both_false (bytes_eq (title c) (title b)) false (apart_sym (title b) (title c) apart.0) refl in
+    let there : has_block (b ∷ []) (title c) ≡ false = or_from (bytes_eq (title c) (title b)) false (apart_sym (title b) (title c) apart.0) refl in
     both_true (has_block (cs ++ b ∷ []) (title c)) (are_distinct (cs ++ b ∷ []))
-    (has-append cs (b ∷ []) (title c) ∙ both_false (has_block cs (title c)) (has_block (b ∷ []) (title c)) (not_true (has_block cs (title c)) here.0) there)
+    (has-append cs (b ∷ []) (title c) ∙ or_from (has_block cs (title c)) (has_block (b ∷ []) (title c)) (not-true (has_block cs (title c)) here.0) there)
     (distinct_push cs b here.1 apart.1)
 
 distinct_before : (bs : List Block) (c : Block) (cs : List Block) → are_distinct (bs ++ c ∷ cs) ≡ true → has_block bs (title c) ≡ false
 distinct_before [] c cs d = refl
 distinct_before (b ∷ bs) c cs d =
     let here = and_parts (not (has_block (bs ++ c ∷ cs) (title b))) (are_distinct (bs ++ c ∷ cs)) d in
-    let apart = or_parts (has_block bs (title b)) (has_block (c ∷ cs) (title b)) (sym (has-append bs (c ∷ cs) (title b)) ∙ not_true (has_block (bs ++ c ∷ cs) (title b)) here.0) in
+    let apart = or_parts (has_block bs (title b)) (has_block (c ∷ cs) (title b)) (sym (has-append bs (c ∷ cs) (title b)) ∙ not-true (has_block (bs ++ c ∷ cs) (title b)) here.0) in
     let first = or_parts (bytes_eq (title b) (title c)) (has_block cs (title b)) apart.1 in
-    both_false (bytes_eq (title c) (title b)) (has_block bs (title c)) (apart_sym (title b) (title c) first.0) (distinct_before bs c cs here.1)
+    or_from (bytes_eq (title c) (title b)) (has_block bs (title c)) (apart_sym (title b) (title c) first.0) (distinct_before bs c cs here.1)
 
 pub distinct_free : (cs bs : List Block) → are_distinct (bs ++ cs) ≡ true → AreFree true bs cs
 distinct_free [] bs d = tt
 distinct_free (c ∷ cs) bs d =
-    (and_is_false (has_block bs (title c)) true (distinct_before bs c cs d), distinct_free cs (bs ++ c ∷ []) (subst (λ (ds : List Block). are_distinct ds ≡ true) (sym (append_assoc bs (c ∷ []) cs)) d))
+    (and_left (has_block bs (title c)) true (distinct_before bs c cs d), distinct_free cs (bs ++ c ∷ []) (subst (λ (ds : List Block). are_distinct ds ≡ true) (sym (append_assoc bs (c ∷ []) cs)) d))
 
 -- the blocks are distinct, and the one that is begun has a new title
 abbrev pub HasNew : List Block → List ℕ → Type 0

@@ -1,12 +1,12 @@
 -- The reader of files accepts the words exactly where they spell a file.
 use Rattle.std.proofs.Common.{◌≡◌, ℕ, Bool, true, false, ◌&&◌, if◌then◌else◌, List, [], ◌∷◌, ◌++◌, length, Option, Some, None, Result, Ok, Err, refl, sym, ap, subst, ◌∙◌, append_assoc}
 use Rattle.std.proofs.lemmas.List.{append-nil}
+use Rattle.std.proofs.lemmas.Option.{same_Some}
 use Rattle.file_text.specs.declared.ConditionType.{ConditionType}
 use Rattle.file_text.specs.Syntax.{Name, RuleTree, FileTree}
 use Rattle.file_text.specs.Grammar.{Word, Block, spelled_blocks, are_distinct, type_in, variables_in, rules_in, SpellTree}
 use Rattle.file_text.specs.Refusals.{SyntaxCause}
 use Rattle.file_text.proofs.Machine.{State, outside, behind_bracket, behind_type, behind_type_word, in_variables, in_rules, step_any, repeats, file_or_missing, finish, numbered, run, finished, read_file}
-use Rattle.file_text.proofs.ReadingWords.{some_is}
 use Rattle.file_text.proofs.Closing.{state_words}
 use Rattle.file_text.proofs.Goes.{taken, goes, goes_word, goes_any, run_goes, goes_run}
 use Rattle.file_text.proofs.StateReads.{any_reads}
@@ -18,7 +18,7 @@ any_step true r t e = taken_is r t e
 any_step false r t e = taken_is r t e
 
 any_words : (ws : List Word) (s t : State) → goes false s ws ≡ Some t → state_words t ≡ state_words s ++ ws
-any_words [] s t e = ap state_words (sym (some_is s t e)) ∙ sym (append-nil (state_words s))
+any_words [] s t e = ap state_words (sym (same_Some s t e)) ∙ sym (append-nil (state_words s))
 any_words (w ∷ ws) s t e =
     let h = goes_word false w ws s t e in
     any_words ws h.0 t h.2

@@ -1,10 +1,11 @@
 -- Runs of the reader of files, with blocks that may repeat or may not.
 use Rattle.std.proofs.Common.{◌≡◌, ℕ, suc, ◌+◌, Bool, true, false, ◌&&◌, if◌then◌else◌, List, [], ◌∷◌, ◌++◌, length, Option, Some, None, Result, Ok, Err, refl, sym, ap, ◌∙◌, arith}
 use Rattle.std.specs.Option.{option_and_then}
+use Rattle.std.proofs.lemmas.Option.{same_Some}
+use Rattle.general_lemmas.proofs.Options.{bound}
 use Rattle.file_text.specs.Grammar.{Word}
 use Rattle.file_text.specs.Refusals.{SyntaxCause, repeated_block}
 use Rattle.file_text.proofs.Machine.{State, step_any, repeats, step, numbered, run}
-use Rattle.file_text.proofs.ReadingWords.{some_is}
 
 abbrev pub taken : Result State SyntaxCause → Option State
 taken (Ok s) = Some s
@@ -32,10 +33,6 @@ goes_then k a b s t e = goes-append k a b s ∙ ap (option_and_then (λ (t : Sta
 
 pub goes_step : (k : Bool) (s t : State) (w : Word) (ws : List Word) → goes_one k s w ≡ Some t → goes k s (w ∷ ws) ≡ goes k t ws
 goes_step k s t w ws e = ap (option_and_then (λ (t : State). goes k t ws)) e
-
-bound : {A B : Type 0} (f : A → Option B) (o : Option A) (y : B) → option_and_then f o ≡ Some y → (x : A) × (o ≡ Some x) × (f x ≡ Some y)
-bound f None y e = absurd cc
-bound f (Some x) y e = (x, refl, e)
 
 -- a run goes over each front
 pub goes_front : (k : Bool) (a b : List Word) (s e : State) → goes k s (a ++ b) ≡ Some e → (t : State) × (goes k s a ≡ Some t) × (goes k t b ≡ Some e)
@@ -69,7 +66,7 @@ taken_ok false r t e = ap taken e
 
 ok_taken : (b : Bool) (r : Result State SyntaxCause) (t : State) → (if b && true then None else taken r) ≡ Some t → (if b then Err repeated_block else r) ≡ Ok t
 ok_taken true r t e = absurd cc
-ok_taken false (Ok s) t e = ap (λ (s : State). Ok s) (some_is s t e)
+ok_taken false (Ok s) t e = ap (λ (s : State). Ok s) (same_Some s t e)
 ok_taken false (Err c) t e = absurd cc
 
 pub step_goes : (s t : State) (w : Word) → step s w ≡ Ok t → goes_one true s w ≡ Some t
@@ -100,7 +97,7 @@ run_goes n (w ∷ ws) s t e = later (step s w) refl (after_of n s ws (Ok t) (ste
     later (Err c) is e each = absurd cc
 
 pub goes_run : (n : ℕ) (ws : List Word) (s t : State) → goes true s ws ≡ Some t → run n s ws ≡ Ok t
-goes_run n [] s t e = ap (λ (s : State). Ok s) (some_is s t e)
+goes_run n [] s t e = ap (λ (s : State). Ok s) (same_Some s t e)
 goes_run n (w ∷ ws) s t e = let h = goes_word true w ws s t e in ap (numbered n (λ t. run (suc n) t ws)) (goes_step_ok s h.0 w h.1) ∙ goes_run (suc n) ws h.0 t h.2
 
 -- a word is refused, with this number
@@ -144,7 +141,7 @@ run_stops n (w ∷ ws) s c m e = later (step s w) refl (after_of n s ws (Err (c,
 
 pub stop_run : (n : ℕ) (front : List Word) (w : Word) (rest : List Word) (s t : State) (c : SyntaxCause) → goes true s front ≡ Some t → step t w ≡ Err c → run n s (front ++ w ∷ rest) ≡ Err (c, n + length front)
 stop_run n [] w rest s t c e is =
-    ap (λ (u : State). numbered n (λ v. run (suc n) v rest) (step u w)) (some_is s t e) ∙ ap (numbered n (λ v. run (suc n) v rest)) is
+    ap (λ (u : State). numbered n (λ v. run (suc n) v rest) (step u w)) (same_Some s t e) ∙ ap (numbered n (λ v. run (suc n) v rest)) is
     ∙ (let number : n ≡ n + 0 = omega arith in ap (λ (m : ℕ). Err (c, m)) number)
 stop_run n (v ∷ front) w rest s t c e is =
     let h = goes_word true v front s t e in

@@ -3,7 +3,7 @@ use Rattle.std.proofs.Common.{◌≡◌, ℕ, suc, ◌+◌, ◌-◌, ◌<◌, �
 use Rattle.std.specs.Prelude.{codes}
 use Rattle.std.specs.Str.{bytes_eq}
 use Rattle.std.proofs.Math.Seq.{drop-append_seam, take-append_seam}
-use Rattle.std.proofs.lemmas.Bool.{eqb-true, false_from_ne_true}
+use Rattle.std.proofs.lemmas.Bool.{eqb-true, false_from_ne_true, and_right}
 use Rattle.std.proofs.lemmas.List.{drop-drop, length-drop, length-append}
 use Rattle.std.specs.List.{All}
 use Rattle.std.proofs.lemmas.List.Elements.{All-cons}
@@ -14,7 +14,7 @@ use Rattle.file_text.specs.declared.Token.{Token}
 use Rattle.file_text.specs.Bytes.{is_white, white_len, run_len, is_comment_word, comment_len}
 use Rattle.file_text.specs.Tokens.{kind_at, len_at, longest, open_after, is_comment_at, behind_white, Stands, StandsComment, Piece, token, comment, tokens_of, StandInTurn, Spells}
 use Rattle.file_text.proofs.OneReading.{begins_with_bracket}
-use Rattle.file_text.proofs.Names.{IsName, ends_id, name_ends, name_at, run_is_id, no_right}
+use Rattle.file_text.proofs.Names.{IsName, ends_id, name_ends, name_at, run_is_id}
 
 -- what a token says, wherever it stands
 pub record Lexeme : Type 0 where
@@ -228,7 +228,7 @@ other_word count name rest n e differ =
     let run : is_comment_word bs ≡ bytes_eq name (codes "COMMENT") =
     ap (λ (k : ℕ). bytes_eq (take k bs) (codes "COMMENT")) (name_ends name rest n.whole e) ∙ ap (λ (s : List ℕ). bytes_eq s (codes "COMMENT")) (take-append_seam name rest) in
     let other : bytes_eq name (codes "COMMENT") ≡ false = false_from_ne_true (bytes_eq name (codes "COMMENT")) (λ h. differ ((bytes_eq-Decides name (codes "COMMENT")).0 h)) in
-    no_right (eqb count 0) (is_comment_word (drop (white_len bs) bs)) (first ∙ run ∙ other)
+    and_right (eqb count 0) (is_comment_word (drop (white_len bs) bs)) (first ∙ run ∙ other)
 
 -- the first bracket of a block, whose word is not COMMENT
 pub reads_block : (count : ℕ) (name rest : List ℕ) (ls : List Lexeme) → IsName name → ends_id rest ≡ true → (name ≡ codes "COMMENT" → ⊥) → Reads (count + 1) rest ls

@@ -1,7 +1,7 @@
 -- Identifiers as texts of their own: what makes one, and what ends it.
 use Rattle.std.proofs.Common.{◌≡◌, ℕ, zero, suc, ◌<◌, ◌≤◌, Bool, true, false, cond, eqb, ltb, List, [], ◌∷◌, ◌++◌, length, take, Option, Some, None, ◌&&◌, ◌||◌, not, refl, sym, ap, subst, ◌∙◌, arith}
-use Rattle.std.specs.Prelude.{codes}
-use Rattle.std.proofs.lemmas.Bool.{eqb-true, false_from_ne_true}
+use Rattle.std.specs.Prelude.{codes, nat_lt}
+use Rattle.std.proofs.lemmas.Bool.{eqb-true, false_from_ne_true, not-true, and_right, and_parts, ltb-true}
 use Rattle.std.proofs.lemmas.List.{length-take-le}
 use Rattle.file_text.specs.declared.Kind.{Kind}
 use Rattle.file_text.specs.declared.Kind.TheVariants.{Id, LeftParen, RightParen, Comma, Bar, Arrow, Equal}
@@ -54,14 +54,6 @@ both_of false a e h = absurd cc
 all_tests : (i a e : Bool) → i ≡ true → a ≡ false → e ≡ false → (i && not (a || e)) ≡ true
 all_tests i a e f g h = rw (f, g, h) refl
 
-pub no_right : (a b : Bool) → b ≡ false → (a && b) ≡ false
-no_right true b e = e
-no_right false b e = refl
-
-not_true : (b : Bool) → not b ≡ true → b ≡ false
-not_true true e = absurd cc
-not_true false e = refl
-
 -- a byte that is in no identifier is not this one, which is
 other_byte : (b c : ℕ) → is_id b ≡ false → is_id c ≡ true → eqb b c ≡ false
 other_byte b c none is = false_from_ne_true (eqb b c) (λ (h : eqb b c ≡ true).
@@ -70,7 +62,7 @@ other_byte b c none is = false_from_ne_true (eqb b c) (λ (h : eqb b c ≡ true)
 
 ended_run : (rest : List ℕ) → ends_id rest ≡ true → run_len rest ≡ 0
 ended_run [] e = run_empty
-ended_run (b ∷ bs) e = run_here b bs ∙ rw (not_true (is_id b) e) refl
+ended_run (b ∷ bs) e = run_here b bs ∙ rw (not-true (is_id b) e) refl
 
 -- an identifier is no longer where something that ends it follows
 pub name_ends : (name rest : List ℕ) → run_len name ≡ length name → ends_id rest ≡ true → run_len (name ++ rest) ≡ length name
@@ -78,9 +70,9 @@ name_ends [] rest w e = ended_run rest e
 name_ends (b ∷ []) [] w e = w
 name_ends (b ∷ []) (c ∷ cs) w e =
     let before = both_of (is_id b) false false (went_on b [] 0 w).0 in
-    let other : is_id c ≡ false = not_true (is_id c) e in
-    let arrow : begins_arrow (b ∷ c ∷ cs) ≡ false = no_right (eqb b 45) (eqb c 62) (other_byte c 62 other refl) in
-    let equal : begins_equal (b ∷ c ∷ cs) ≡ false = no_right (eqb b 61) (eqb c 61) (other_byte c 61 other refl) in
+    let other : is_id c ≡ false = not-true (is_id c) e in
+    let arrow : begins_arrow (b ∷ c ∷ cs) ≡ false = and_right (eqb b 45) (eqb c 62) (other_byte c 62 other refl) in
+    let equal : begins_equal (b ∷ c ∷ cs) ≡ false = and_right (eqb b 61) (eqb c 61) (other_byte c 61 other refl) in
     let here : test (b ∷ c ∷ cs) ≡ true = rw (before.0, arrow, equal) refl in
     goes_on b (c ∷ cs) here ∙ ap (λ (n : ℕ). suc n) (ended_run (c ∷ cs) e)
 name_ends (b ∷ c ∷ name) rest w e =
@@ -93,10 +85,6 @@ firsts false true r s t u e = absurd cc
 firsts false false true s t u e = absurd cc
 firsts false false false true t u e = absurd cc
 firsts false false false false t u e = (refl, refl, refl, refl)
-
-right_true : (a b : Bool) → (a && b) ≡ true → b ≡ true
-right_true true b e = e
-right_true false b e = absurd cc
 
 abbrev kind_by : Bool → Bool → Bool → Bool → Bool → Bool → Bool → Option Kind
 kind_by p q r s a e i = cond p (Some LeftParen) (cond q (Some RightParen) (cond r (Some Comma) (cond s (Some Bar) (cond a (Some Arrow) (cond e (Some Equal) (cond i (Some Id) None))))))
@@ -128,7 +116,7 @@ run_is_id [] n e = absurd (omega (arith, run_empty, e))
 run_is_id (b ∷ bs) n e =
     let h = both_of (is_id b) (begins_arrow (b ∷ bs)) (begins_equal (b ∷ bs)) (went_on b bs n e).0 in
     let f = firsts (eqb b 40) (eqb b 41) (eqb b 44) (eqb b 124) (eqb b 34) (eqb b 92)
-    (right_true (ltb 32 b && ltb b 127) (not (eqb b 40 || eqb b 41 || eqb b 44 || eqb b 124 || eqb b 34 || eqb b 92)) h.0) in
+    (and_parts (ltb 32 b && ltb b 127) (not (eqb b 40 || eqb b 41 || eqb b 44 || eqb b 124 || eqb b 34 || eqb b 92)) h.0).1 in
     kind_id (eqb b 40) (eqb b 41) (eqb b 44) (eqb b 124) (begins_arrow (b ∷ bs)) (begins_equal (b ∷ bs)) (is_id b) f.0 f.1 f.2 f.3 h.1 h.2 h.0
 
 pub run_within : (bytes : List ℕ) → run_len bytes ≤ length bytes
@@ -184,3 +172,7 @@ variables_name = record { some = omega arith; whole = refl; short = omega arith 
 pub rules_name : IsName (codes "RULES")
 unfolding run_len
 rules_name = record { some = omega arith; whole = refl; short = omega arith }
+
+-- bytes of identifiers are ASCII
+pub id_small : (b : ℕ) → is_id b ≡ true → b < 127
+id_small b e = ltb-true b 127 (and_parts (nat_lt 32 b) (nat_lt b 127) (and_parts (nat_lt 32 b && nat_lt b 127) _ e).0).1

@@ -1,6 +1,7 @@
 -- A text has one list of tokens, or one bad place.
-use Rattle.std.proofs.Common.{◌≡◌, ℕ, ◌+◌, ◌<◌, Bool, true, false, List, [], ◌∷◌, ◌++◌, length, drop, Option, Some, None, ◌&&◌, eqb, refl, sym, ap, subst, ◌∙◌, arith}
+use Rattle.std.proofs.Common.{◌≡◌, ℕ, ◌+◌, ◌<◌, true, false, List, [], ◌∷◌, ◌++◌, length, drop, Option, Some, None, ◌&&◌, eqb, refl, sym, ap, subst, ◌∙◌, arith}
 use Rattle.std.proofs.Math.Seq.{drop-length}
+use Rattle.std.proofs.lemmas.Bool.{and_parts}
 use Rattle.file_text.specs.declared.Kind.{Kind}
 use Rattle.file_text.specs.declared.Kind.TheVariants.{Id, LeftParen}
 use Rattle.file_text.specs.declared.Token.{Token}
@@ -13,20 +14,12 @@ some x = Some x
 some_is : {A : Type 0} (x y : A) → some x ≡ some y → x ≡ y
 some_is x y e = cc
 
-left_true : (a b : Bool) → (a && b) ≡ true → a ≡ true
-left_true true b e = refl
-left_true false b e = e
-
-right_true : (a b : Bool) → (a && b) ≡ true → b ≡ true
-right_true true b e = e
-right_true false b e = absurd cc
-
 -- a comment begins with a bracket
 pub begins_with_bracket : (count : ℕ) (bytes : List ℕ) → is_comment_at count bytes ≡ true → kind_at bytes ≡ Some LeftParen
-begins_with_bracket count [] e = absurd (let h : false ≡ true = right_true (eqb count 0) false e in cc)
+begins_with_bracket count [] e = absurd (let h : false ≡ true = (and_parts (eqb count 0) false e).1 in cc)
 begins_with_bracket count (b ∷ bs) e =
     let word = is_comment_word (drop (white_len bs) bs) in
-    let h : (eqb b 40) ≡ true = left_true (eqb b 40) word (right_true (eqb count 0) ((eqb b 40) && word) e) in
+    let h : (eqb b 40) ≡ true = (and_parts (eqb b 40) word (and_parts (eqb count 0) ((eqb b 40) && word) e).1).0 in
     rw h refl
 
 abbrev made : Kind → ℕ → ℕ → Token

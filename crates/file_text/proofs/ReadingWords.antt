@@ -2,12 +2,10 @@
 use Rattle.std.proofs.Common.{◌≡◌, ℕ, List, [], ◌∷◌, ◌++◌, Option, Some, None, refl, sym, ap, subst, ◌∙◌, append_assoc}
 use Rattle.std.proofs.lemmas.List.{append-nil}
 use Rattle.std.specs.Option.{option_map}
+use Rattle.std.proofs.lemmas.Option.{same_Some}
 use Rattle.file_text.specs.Syntax.{Name, Phrase, Phrases, word, call, none, more, with_last, ConditionTree, RuleTree}
 use Rattle.file_text.specs.Grammar.{Word, id, left_paren, right_paren, comma, bar, arrow, equal, spelled, spelled_arguments, spelled_further, spelled_condition, spelled_others, spelled_guard, spelled_rule, spelled_rules}
 use Rattle.file_text.proofs.Machine.{Last, want, first, bare, done, Opens, Part, left, right, condition_left, condition_right, Reading, reading, with_condition, guard_with, ended, next_part, behind_side, behind_argument, behind, step_term, unbegun, with_ended, whole, closing}
-
-pub some_is : {A : Type 0} (x y : A) → Some x ≡ Some y → x ≡ y
-some_is x y e = cc
 
 -- terms with a comma behind each
 abbrev pub commaed : Phrases → List Word
@@ -83,30 +81,30 @@ rule_if l r at cs s t = record { left = l; right = r; guard = Some (guard_with a
 pub ended_reads : (p : Part) (t : Phrase) (r : RuleTree) → ended p t ≡ Some r → spelled_rule r ≡ part_words p ++ spelled t
 ended_reads left t r e = absurd cc
 ended_reads (right l) t r e =
-    subst (λ (q : RuleTree). spelled_rule q ≡ part_words (right l) ++ spelled t) (some_is (rule_to l t) r e)
+    subst (λ (q : RuleTree). spelled_rule q ≡ part_words (right l) ++ spelled t) (same_Some (rule_to l t) r e)
     (ap (λ (w : List Word). spelled l ++ arrow ∷ w) (append-nil (spelled t)) ∙ simp append_assoc)
 ended_reads (condition_left l r at cs) t q e = absurd cc
 ended_reads (condition_right l r at cs s) t q e =
-    subst (λ (q : RuleTree). spelled_rule q ≡ part_words (condition_right l r at cs s) ++ spelled t) (some_is (rule_if l r at cs s t) q e)
+    subst (λ (q : RuleTree). spelled_rule q ≡ part_words (condition_right l r at cs s) ++ spelled t) (same_Some (rule_if l r at cs s t) q e)
     (ap (λ (w : List Word). spelled l ++ arrow ∷ (spelled r ++ w)) (guard-last at cs record { left = s; right = t }) ∙ simp append_assoc)
 
 next_reads : (p : Part) (t : Phrase) (w : Word) (q : Part) → next_part p t w ≡ Some q → part_words q ≡ part_words p ++ (spelled t ++ w ∷ [])
-next_reads left t arrow q e = subst (λ (v : Part). part_words v ≡ spelled t ++ arrow ∷ []) (some_is (right t) q e) refl
+next_reads left t arrow q e = subst (λ (v : Part). part_words v ≡ spelled t ++ arrow ∷ []) (same_Some (right t) q e) refl
 next_reads left t _ q e = absurd cc
 next_reads (right l) t (bar at) q e =
-    subst (λ (v : Part). part_words v ≡ part_words (right l) ++ (spelled t ++ bar at ∷ [])) (some_is (condition_left l t at []) q e) (simp append_assoc)
+    subst (λ (v : Part). part_words v ≡ part_words (right l) ++ (spelled t ++ bar at ∷ [])) (same_Some (condition_left l t at []) q e) (simp append_assoc)
 next_reads (right l) t _ q e = absurd cc
 next_reads (condition_left l r at cs) t equal q e =
-    subst (λ (v : Part). part_words v ≡ part_words (condition_left l r at cs) ++ (spelled t ++ equal ∷ [])) (some_is (condition_right l r at cs t) q e) (simp append_assoc)
+    subst (λ (v : Part). part_words v ≡ part_words (condition_left l r at cs) ++ (spelled t ++ equal ∷ [])) (same_Some (condition_right l r at cs t) q e) (simp append_assoc)
 next_reads (condition_left l r at cs) t _ q e = absurd cc
 next_reads (condition_right l r at cs s) t comma q e =
-    subst (λ (v : Part). part_words v ≡ part_words (condition_right l r at cs s) ++ (spelled t ++ comma ∷ [])) (some_is (condition_left l r at (with_condition cs s t)) q e)
+    subst (λ (v : Part). part_words v ≡ part_words (condition_right l r at cs s) ++ (spelled t ++ comma ∷ [])) (same_Some (condition_left l r at (with_condition cs s t)) q e)
     (ap (λ (w : List Word). spelled l ++ arrow ∷ (spelled r ++ w)) (begun-last at cs record { left = s; right = t }) ∙ simp append_assoc)
 next_reads (condition_right l r at cs s) t _ q e = absurd cc
 
 pub map_some : {A B P : Type 0} (f : A → B) (o : Option A) (y : B) → option_map f o ≡ Some y → ((x : A) → o ≡ Some x → f x ≡ y → P) → P
 map_some f None y e k = absurd cc
-map_some f (Some x) y e k = k x refl (some_is (f x) y e)
+map_some f (Some x) y e k = k x refl (same_Some (f x) y e)
 
 sign_reads : (rs : List RuleTree) (p : Part) (t : Phrase) (w : Word) (s : Reading) → option_map (λ q. reading rs q [] want) (next_part p t w) ≡ Some s → reading_words s ≡ with_words rs p (spelled t ++ w ∷ [])
 sign_reads rs p t w s e =
@@ -131,7 +129,7 @@ side_reads rs p t equal s e = sign_reads rs p t equal s e
 
 -- the reading is the one that is made, and its words are these
 made_reads : (m s : Reading) (ws : List Word) → Some m ≡ Some s → reading_words m ≡ ws → reading_words s ≡ ws
-made_reads m s ws e h = subst (λ (v : Reading). reading_words v ≡ ws) (some_is m s e) h
+made_reads m s ws e h = subst (λ (v : Reading). reading_words v ≡ ws) (same_Some m s e) h
 
 argument_reads : (rs : List RuleTree) (p : Part) (g : Name) (ts : Phrases) (os : Opens) (t : Phrase) (w : Word) (s : Reading) → behind_argument rs p g ts os t w ≡ Some s
     → reading_words s ≡ with_words rs p ((open_words os ++ (id g ∷ left_paren ∷ commaed ts)) ++ (spelled t ++ w ∷ []))
@@ -171,7 +169,7 @@ term_reads r w s e = step_reads r.rules r.part r.opens r.last w s e ∙ regroup 
     regroup a b c d = simp append_assoc
 
 unbegun_reads : (p : Part) (rs qs : List RuleTree) → unbegun p rs ≡ Some qs → spelled_rules qs ≡ with_words rs p []
-unbegun_reads left rs qs e = subst (λ (v : List RuleTree). spelled_rules v ≡ with_words rs left []) (some_is rs qs e) (sym (append-nil (spelled_rules rs)))
+unbegun_reads left rs qs e = subst (λ (v : List RuleTree). spelled_rules v ≡ with_words rs left []) (same_Some rs qs e) (sym (append-nil (spelled_rules rs)))
 unbegun_reads (right l) rs qs e = absurd cc
 unbegun_reads (condition_left l r at cs) rs qs e = absurd cc
 unbegun_reads (condition_right l r at cs s) rs qs e = absurd cc

@@ -1,12 +1,12 @@
 -- Where the reader of files refuses a word, this word calls for the refusal, and the other way round.
 use Rattle.std.proofs.Common.{◌≡◌, ℕ, Bool, true, false, ◌&&◌, ◌||◌, if◌then◌else◌, List, [], ◌∷◌, ◌++◌, Option, Some, None, Result, Ok, Err, refl, sym, ap, subst, ◌∙◌, codes, bytes_eq}
+use Rattle.std.proofs.lemmas.Option.{same_Some}
 use Rattle.file_text.specs.declared.ConditionType.{ConditionType}
 use Rattle.file_text.specs.declared.ConditionType.TheVariants.{Oriented, Join}
 use Rattle.file_text.specs.Syntax.{Name, RuleTree}
 use Rattle.file_text.specs.Grammar.{Word, id, left_paren, right_paren, comma, bar, arrow, equal, id_at, Block, condition_type, variables, rules, title, has_block, spelled_blocks}
 use Rattle.file_text.specs.Refusals.{SyntaxCause, unknown_block, repeated_block, other_condition_type, wrong_syntax, missing_rules, Begins, is_title, IsUnknownBlock, IsRepeatedBlock, IsOtherConditionType, IsWrongSyntax, Calls}
 use Rattle.file_text.proofs.Machine.{Reading, no_rule, closing, step_term, State, outside, behind_bracket, behind_type, behind_type_word, in_variables, in_rules, step_outside, titled, step_bracket, step_type, step_type_word, step_variables, rules_or, step_any, repeats_block, repeats, step}
-use Rattle.file_text.proofs.ReadingWords.{some_is}
 use Rattle.file_text.proofs.Closing.{state_words, state_closes}
 use Rattle.file_text.proofs.Goes.{goes_one, goes, goes_then, goes_front, goes_word, goes_one_end, goes_any, step_goes}
 use Rattle.file_text.proofs.StateReads.{made}
@@ -57,7 +57,7 @@ no_title false false true x y z e h = absurd cc
 no_title false false false x y z e h = refl
 
 same_state : (front ws : List Word) (s t : State) → goes true (outside []) front ≡ Some s → front ≡ ws → goes false (outside []) ws ≡ Some t → s ≡ t
-same_state front ws s t e is h = some_is s t (sym (goes_any front (outside []) s e) ∙ ap (goes false (outside [])) is ∙ h)
+same_state front ws s t e is h = same_Some s t (sym (goes_any front (outside []) s e) ∙ ap (goes false (outside [])) is ∙ h)
 
 bracket_go : (bs : List Block) → goes false (outside []) (spelled_blocks bs ++ left_paren ∷ []) ≡ Some (behind_bracket bs)
 bracket_go bs = goes_then false (spelled_blocks bs) (left_paren ∷ []) (outside []) (outside bs) (any_go bs)
@@ -202,7 +202,7 @@ begins_go : (front : List Word) (w : Word) (s : State) → goes true (outside []
 begins_go front w s e (rest, bs, is) =
     let all = goes_front false (front ++ w ∷ []) rest (outside []) (outside bs) (ap (goes false (outside [])) is ∙ any_go bs) in
     let here = goes_front false front (w ∷ []) (outside []) all.0 all.1 in
-    let same = some_is here.0 s (sym here.1 ∙ goes_any front (outside []) s e) in
+    let same = same_Some here.0 s (sym here.1 ∙ goes_any front (outside []) s e) in
     let one = goes_word false w [] here.0 all.0 here.2 in
     (one.0, any_step (repeats s w) (step_any s w) one.0 (subst (λ (q : State). goes_one false q w ≡ Some one.0) same one.1))
 

@@ -1,11 +1,11 @@
 -- The reader of files refuses words exactly where, and for the cause for which, they are refused.
 use Rattle.std.proofs.Common.{◌≡◌, inl, inr, true, false, ℕ, zero, suc, ◌+◌, List, [], ◌∷◌, ◌++◌, length, take, slice_get, Option, Some, None, Result, Ok, Err, refl, sym, ap, subst, ◌∙◌, arith}
 use Rattle.std.proofs.Math.Seq.{take-length, take-append_seam}
+use Rattle.std.proofs.lemmas.Option.{same_Some}
 use Rattle.file_text.specs.Syntax.{RuleTree, FileTree}
 use Rattle.file_text.specs.Grammar.{Word, Block, spelled_blocks, rules_in, SpellTree}
 use Rattle.file_text.specs.Refusals.{SyntaxCause, unknown_block, repeated_block, other_condition_type, wrong_syntax, missing_rules, Calls, EndCalls, AreClear, AreRefused}
 use Rattle.file_text.proofs.Machine.{State, outside, behind_bracket, behind_type, behind_type_word, in_variables, in_rules, file_or_missing, finish, numbered, run, finished, read_file}
-use Rattle.file_text.proofs.ReadingWords.{some_is}
 use Rattle.file_text.proofs.Goes.{goes, goes_front, goes_word, goes_any, goes_step_ok, run_goes, goes_run, Stops, run_stops, stop_run}
 use Rattle.file_text.proofs.BlockRuns.{any_go}
 use Rattle.file_text.proofs.Files.{goes_words, file_complete}
@@ -34,7 +34,7 @@ clear_goes ws clear = go (run 0 (outside []) ws) refl
 -- ---- the end of the words
 
 is_outside : (ws : List Word) (s : State) (bs : List Block) → goes true (outside []) ws ≡ Some s → ws ≡ spelled_blocks bs → s ≡ outside bs
-is_outside ws s bs e is = some_is s (outside bs) (sym (goes_any ws (outside []) s e) ∙ ap (goes false (outside [])) is ∙ any_go bs)
+is_outside ws s bs e is = same_Some s (outside bs) (sym (goes_any ws (outside []) s e) ∙ ap (goes false (outside [])) is ∙ any_go bs)
 
 abbrev refuse_file : SyntaxCause → Result FileTree SyntaxCause
 refuse_file c = Err c
@@ -116,7 +116,7 @@ refused_sound ws c k e = go (run 0 (outside []) ws) refl e
 -- a list around the word with this number
 split_at : (ws : List Word) (k : ℕ) (w : Word) → slice_get ws k ≡ Some w → (rest : List Word) × (ws ≡ take k ws ++ w ∷ rest) × (length (take k ws) ≡ k)
 split_at [] k w e = absurd cc
-split_at (v ∷ ws) zero w e = let same = some_is v w e in (ws, ap (λ (u : Word). u ∷ ws) same, refl)
+split_at (v ∷ ws) zero w e = let same = same_Some v w e in (ws, ap (λ (u : Word). u ∷ ws) same, refl)
 split_at (v ∷ ws) (suc k) w e = let h = split_at ws k w e in (h.0, ap (λ (u : List Word). v ∷ u) h.1, ap suc h.2)
 
 -- what is refused is refused by the reader

@@ -44,7 +44,7 @@ data Front (bytes : List ℕ) (at : ℕ) (count : ℕ) : Type 0 where
   stops : (cause : Option TokenCause) (place : ℕ) → Last bytes cause count (behind_white bytes at) place → Front bytes at count
 
 -- only an identifier is long
-long_is_id : (k : Kind) (bytes : List ℕ) → longest < len_at k bytes → k ≡ Id
+pub long_is_id : (k : Kind) (bytes : List ℕ) → longest < len_at k bytes → k ≡ Id
 long_is_id Id bytes lt = refl
 long_is_id LeftParen bytes lt = absurd (omega arith)
 long_is_id RightParen bytes lt = absurd (omega arith)

@@ -1,6 +1,6 @@
 -- The first of a list of items that gives something.
-use Rattle.std.proofs.Common.{ℕ, ◌≡◌, ◌+◌, ◌<◌, ◌≤◌, ◌⊎◌, inl, inr, List, [], ◌∷◌, ◌++◌, refl, sym, ap, ◌∙◌, subst, arith, append_assoc}
-use Rattle.first_found.specs.Items.{GivesNothing, NoneGives, cost_of, IsFirst, IsStopped}
+use Rattle.std.proofs.Common.{ℕ, ◌≡◌, ◌+◌, ◌<◌, ◌≤◌, ◌⊎◌, inl, inr, List, [], ◌∷◌, ◌++◌, refl, sym, ap, ◌∙◌, subst, arith, append_assoc, length}
+use Rattle.first_found.specs.Items.{GivesNothing, NoneGives, cost_of, IsFirst, IsStopped, one}
 
 module _ {A : Type 0} (cost : A → ℕ) where
   pub cost_append : (xs ys : List A) → cost_of cost (xs ++ ys) ≡ cost_of cost xs + cost_of cost ys
@@ -154,3 +154,8 @@ module _ {A B : Type 0} (Gives : A → B → Type 0) where
     none_of_no_first (a ∷ rest) h =
         let head : GivesNothing Gives a = λ b g. h b (0 + cost a) (first_here [] a rest b tt g) in
         (head, none_of_no_first rest (λ b n f. h b ((cost a + 0) + n) (first_right (a ∷ []) rest b n (head, tt) f)))
+
+-- items at one each
+pub cost_of_ones : {A : Type 0} (xs : List A) → cost_of one xs ≡ length xs
+cost_of_ones [] = refl
+cost_of_ones (x ∷ xs) = let e = cost_of_ones xs in omega (arith, e)

@@ -1,6 +1,6 @@
 -- How the number of splices rises, part by part.
 use Rattle.std.proofs.Common.{◌≡◌, ℕ, ◌+◌, ◌-◌, ◌^◌, min, inl, inr, ⊎_elim, arith}
-use Rattle.rewriting.proofs.Prefixes.{le_or_lt}
+use Rattle.general_lemmas.proofs.Numbers.{le_or_lt}
 use Rattle.flatterm.specs.Work.{HasRisen}
 
 pub risen_none : (a : ℕ) → HasRisen a 0 a

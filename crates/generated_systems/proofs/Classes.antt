@@ -1,28 +1,21 @@
 -- The generated systems are in the four classes of almost orthogonal systems.
-use Rattle.std.proofs.Common.{ℕ, zero, suc, ◌≡◌, ◌+◌, ◌<◌, ◌≤◌, ◌||◌, inl, inr, Bool, true, false, nat_eq, if◌then◌else◌, [], ◌∷◌, sym, subst, arith}
+use Rattle.std.proofs.Common.{ℕ, zero, suc, ◌≡◌, ◌+◌, ◌<◌, ◌≤◌, ◌||◌, inl, inr, true, false, nat_eq, [], ◌∷◌, sym, subst, arith}
+use Rattle.std.proofs.lemmas.Bool.{or_left}
+use Rattle.general_lemmas.proofs.Numbers.{one_at_most}
 use Rattle.rewriting.specs.Terms.{Term, app, nil, cons}
 use Rattle.rewriting.specs.Variables.{occurs, occurrences, IsWithin, IsGround, IsLinear}
 use Rattle.rewriting.specs.Rules.{Condition, Rule, EachRule}
 use Rattle.rewriting.specs.Classes.{IsAt, known, IsLeftLinearRule, IsType3Rule, IsExtendedOrientedRule, IsDefined, IsConstructorTerm, IsRightStableRule}
-use Rattle.rewriting.proofs.Instances.{or_left}
+use Rattle.rewriting.proofs.Conditions.{no_second}
 use Rattle.generated_systems.specs.Generated.{z, true as yes_term, false as no_term, s_of, p_of, f_of, x, next_of, generated}
 use Rattle.generated_systems.specs.Laws.{GeneratedAreInOrthoClasses}
 use Rattle.generated_systems.proofs.Rules.{IsRuleFor, is_zero, is_successor, is_end, is_next, rules_from, numbered, no_p, no_f}
 
--- left-linear
-once : (b : Bool) → (if b then 1 else 0) + 0 ≤ 1
-once true = omega arith
-once false = omega arith
-
-once_inside : (b : Bool) → ((if b then 1 else 0) + 0) + 0 ≤ 1
-once_inside true = omega arith
-once_inside false = omega arith
-
 left_linear : (k i : ℕ) (r : Rule) → IsRuleFor k i r → IsLeftLinearRule r
 left_linear k i r (is_zero e h) = subst IsLeftLinearRule h (λ v. omega arith)
-left_linear k i r (is_successor e h) = subst IsLeftLinearRule h (λ v. once_inside (nat_eq v 0))
-left_linear k i r (is_end e h) = subst IsLeftLinearRule h (λ v. once (nat_eq v 0))
-left_linear k i r (is_next e h) = subst IsLeftLinearRule h (λ v. once (nat_eq v 0))
+left_linear k i r (is_successor e h) = subst IsLeftLinearRule h (λ v. let h = one_at_most (nat_eq v 0) in omega (arith, h))
+left_linear k i r (is_end e h) = subst IsLeftLinearRule h (λ v. let h = one_at_most (nat_eq v 0) in omega (arith, h))
+left_linear k i r (is_next e h) = subst IsLeftLinearRule h (λ v. let h = one_at_most (nat_eq v 0) in omega (arith, h))
 
 -- of type 3
 next_has : (k v : ℕ) → occurs v (next_of k) ≡ true → (nat_eq v 0 || false) ≡ true
@@ -47,12 +40,8 @@ oriented_before : (l r : Term) (c : Condition) → IsWithin c.left (cons l nil) 
 oriented_before l r c w zero d b a = subst (λ q. IsWithin q.left (cons l nil)) (the_one c d zero a) w
 oriented_before l r c w (suc i) d b a = absurd (omega (arith, b))
 
-nothing_behind : (c d : Condition) (j : ℕ) → 1 ≤ j → IsAt (c ∷ []) j d → ⊥
-nothing_behind c d zero b a = omega (arith, b)
-nothing_behind c d (suc j) b a = cc
-
 one_condition : (l r : Term) (c : Condition) → IsWithin c.left (cons l nil) → IsExtendedOrientedRule (record { left = l; right = r; conditions = c ∷ [] })
-one_condition l r c w = record { m = 1; at_most = omega arith; before = oriented_before l r c w; behind = λ j d b a. absurd (nothing_behind c d j b a) }
+one_condition l r c w = record { m = 1; at_most = omega arith; before = oriented_before l r c w; behind = λ j d b a. absurd (no_second c d j b a) }
 
 oriented : (k i : ℕ) (r : Rule) → IsRuleFor k i r → IsExtendedOrientedRule r
 oriented k i r (is_zero e h) = subst IsExtendedOrientedRule h (unconditional (p_of k z) yes_term)

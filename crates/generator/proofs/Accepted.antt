@@ -1,23 +1,22 @@
 -- A tree whose rules are small is accepted, where all of them have a meaning under the table of its symbols.
 use Rattle.std.proofs.Common.{◌≡◌, ℕ, suc, ◌+◌, ◌<◌, ◌≤◌, Bool, true, false, List, [], ◌∷◌, length, get_or, Option, Some, None, refl, sym, ap, ◌∙◌, arith, length-append, eq-eqb, ne_eqb}
 use Rattle.std.specs.Prelude.{◌&&◌, ◌==◌, not, nat_le, option_map, slice_get}
-use Rattle.std.proofs.lemmas.Bool.{le-ltb, lt-leb}
+use Rattle.std.proofs.lemmas.Bool.{le-ltb, lt-leb, and_right}
 use Rattle.std.proofs.lemmas.List.Quantifiers.{position-Some}
 use Rattle.std.proofs.lemmas.Option.{slice_get-get_or}
 use Rattle.std.specs.Str.{bytes_eq}
 use Rattle.file_text.specs.Syntax.{Phrase, Phrases, word, call, none, more, count, Node, ConditionTree, RuleTree, conditions_of, Guard}
-use Rattle.file_text.proofs.Names.{no_right}
 use Rattle.rewriting.specs.Terms.{Term, var, app, Terms, nil, cons, IsVariable}
 use Rattle.rewriting.specs.Rules.{Condition, Rule}
 use Rattle.cops_names.specs.NameTable.{number_of}
 use Rattle.cops_names.specs.NameLists.{is_among}
 use Rattle.cops_names.proofs.Lists.{Extends, extends_refl, extends_trans, extends_position, extends_get}
-use Rattle.cops_systems.specs.Meaning.{phrases_of_rule, sides, rule_variables, with_variables, with_all_variables, with_symbols, with_all_symbols, with_rule_symbols, IsSymbolOf, IsTermOf, AreTermsOf, AreConditionsOf, IsRuleOf, AreRulesOf}
-use Rattle.cops_systems.specs.Uses.{Use, Side, side_of}
-use Rattle.cops_systems.specs.Refusals.{MeaningCause, limit_cause, variable_cause, symbol_cause, known_symbol_cause, arity_in, first_or, cause_at}
-use Rattle.cops_systems.specs.Steps.{or_refusal, nodes, all_nodes, use_at, term_refusal, terms_refusal}
-use Rattle.cops_systems.specs.RuleSteps.{bar_refusal, side_refusal, conditions_refusal, rule_refusal, rules_refusal}
-use Rattle.cops_systems.proofs.Growth.{symbols_extend, all_symbols_extend, variables_extend, all_variables_extend, rule_symbols_extend}
+use Rattle.cops_read.specs.Meaning.{phrases_of_rule, sides, rule_variables, with_variables, with_all_variables, with_symbols, with_all_symbols, with_rule_symbols, IsSymbolOf, IsTermOf, AreTermsOf, AreConditionsOf, IsRuleOf, AreRulesOf}
+use Rattle.cops_read.specs.Uses.{Use, Side, side_of}
+use Rattle.cops_read.specs.Refusals.{MeaningCause, limit_cause, variable_cause, symbol_cause, known_symbol_cause, arity_in, first_or, cause_at}
+use Rattle.cops_read.specs.Steps.{or_refusal, nodes, all_nodes, use_at, term_refusal, terms_refusal}
+use Rattle.cops_read.specs.RuleSteps.{bar_refusal, side_refusal, conditions_refusal, rule_refusal, rules_refusal}
+use Rattle.cops_read.proofs.Growth.{symbols_extend, all_symbols_extend, variables_extend, all_variables_extend, rule_symbols_extend}
 
 abbrev Table : Type 0
 Table = List (List ℕ × ℕ)
@@ -80,7 +79,7 @@ module _ (block : Names) (whole : Table) (few : length whole < 1000) where
         by (Some g) h = ap (known_symbol_cause table u) (found g h) ∙ rw (eq-eqb u.spot.node.arguments u.spot.node.arguments refl) refl
 
   variable_passes : (names : Names) (u : Use) → u.spot.node.brackets ≡ false → (u.side.is_left && (u.spot.depth == 1)) ≡ false → length names < 100 → variable_cause names u ≡ None
-  variable_passes names u b l h = rw (b, l, no_right (not (is_among names u.spot.node.name.text)) (nat_le 100 (length names)) (lt-leb 100 (length names) h)) refl
+  variable_passes names u b l h = rw (b, l, and_right (not (is_among names u.spot.node.name.text)) (nat_le 100 (length names)) (lt-leb 100 (length names) h)) refl
 
   cause_of_variable : (table : Table) (names : Names) (u : Use) → limit_cause u ≡ None → is_among block u.spot.node.name.text ≡ true → variable_cause names u ≡ None → cause_at block table names u ≡ None
   cause_of_variable table names u l b v = rw (l, b) v
@@ -118,7 +117,7 @@ module _ (block : Names) (whole : Table) (few : length whole < 1000) where
           passes (cause_at block table names u) f.at _
           (cause_of_symbol table names u (in_limits side d a b node rule condition an (omega arith) (omega arith)) h.0.0
           (symbol_passes table (extends_trans _ _ _ (symbols_extend block table (call f ts)) e) u g h.0))
-          (terms_pass _ names (d + 1) 1 (b + 1) ts us e v h.1 (omega arith) (omega arith) (omega arith) (omega arith) (no_right side.is_left (d + 1 == 1) (ne_eqb (d + 1) 1 (λ q. omega arith))))
+          (terms_pass _ names (d + 1) 1 (b + 1) ts us e v h.1 (omega arith) (omega arith) (omega arith) (omega arith) (and_right side.is_left (d + 1 == 1) (ne_eqb (d + 1) 1 (λ q. omega arith))))
 
       terms_pass : (table : Table) (names : Names) (d a b : ℕ) (ps : Phrases) (ts : Terms) → Extends (with_all_symbols block table ps) whole → Extends (with_all_variables block names ps) vars
           → AreTermsOf block whole vars ps ts → 1 ≤ d → d + all_nodes ps ≤ 20 → a + all_nodes ps ≤ 21 → b + all_nodes ps ≤ 20 → (side.is_left && (d == 1)) ≡ false

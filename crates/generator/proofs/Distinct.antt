@@ -12,9 +12,9 @@ use Rattle.std.proofs.lemmas.List.Folds.{list_any-append}
 use Rattle.std.proofs.lemmas.Slice.Eq.{bytes_eq-Decides}
 use Rattle.cops_names.specs.NameTable.{number_of}
 use Rattle.cops_names.proofs.Lists.{or_len_of_none}
-use Rattle.cops_systems.proofs.Uses.{with_fresh}
+use Rattle.cops_read.proofs.Uses.{with_fresh}
 use Rattle.generated_systems.specs.Generated.{p_name, f_name, symbols_for, variables_for, generated_names, arities}
-use Rattle.cops_systems.specs.Meaning.{with_symbol}
+use Rattle.cops_read.specs.Meaning.{with_symbol}
 use Rattle.generator.proofs.Ranges.{one_number_more}
 
 none_passes : {A : Type 0} (p : A → Bool) (xs : List A) → list_any p xs ≡ false → position p xs ≡ None

@@ -10,6 +10,7 @@ use Rattle.rewriting.specs.Systems.{IsRule, AreRules, condition_count, IsSystem,
 use Rattle.term_core.specs.RuleView.{rule_view, AreCounted}
 use Rattle.term_core.specs.declared.systems.Rule as program
 use Rattle.generated_systems.specs.Generated.{arities, p_symbol, f_symbol, p_of, z, true, s_of, false, x, next_of, rules_for, generated}
+use Rattle.generated_systems.proofs.Runs.{fits_constant, fits_over_constant}
 use Rattle.generator.specs.RuleParts.{guarded, IsRuleAt, AreAdded}
 
 one_at : (n i : ℕ) → i < n → slice_get {X = ℕ} (replicate n 1) i ≡ Some 1
@@ -32,17 +33,11 @@ next_over : (n k : ℕ) → k < n → IsOver (arities n) (next_of k)
 next_over n zero h = (refl, (tt, tt))
 next_over n (suc k) h = (f_arity n k (omega arith), (tt, tt))
 
-constant_fits : (c : ℕ) → Fits (app c nil)
-constant_fits c = record { nodes = omega arith; levels = omega arith }
-
 x_fits : Fits x
 x_fits = record { nodes = omega arith; levels = omega arith }
 
 on_x_fits : (f : ℕ) → Fits (app f (cons x nil))
 on_x_fits f = record { nodes = omega arith; levels = omega arith }
-
-on_constant_fits : (f c : ℕ) → Fits (app f (cons (app c nil) nil))
-on_constant_fits f c = record { nodes = omega arith; levels = omega arith }
 
 nested_fits : (f g : ℕ) → Fits (app f (cons (app g (cons x nil)) nil))
 nested_fits f g = record { nodes = omega arith; levels = omega arith }
@@ -57,7 +52,7 @@ rule_at_z n k h = record {
   numbered = tt;
   few_variables = omega arith;
   few_conditions = omega arith;
-  fits = (on_constant_fits (p_symbol k) 1, (constant_fits 2, tt));
+  fits = (fits_over_constant (p_symbol k) 1, (fits_constant 2, tt));
 }
 
 rule_at_s : (n k : ℕ) → k < n → IsRule (arities n) (record { left = p_of k (s_of x); right = false; conditions = [] })
@@ -66,7 +61,7 @@ rule_at_s n k h = record {
   numbered = (refl, tt);
   few_variables = omega arith;
   few_conditions = omega arith;
-  fits = (nested_fits (p_symbol k) 3, (constant_fits 4, tt));
+  fits = (nested_fits (p_symbol k) 3, (fits_constant 4, tt));
 }
 
 rule_of_true : (n k : ℕ) → k < n → IsRule (arities n) (guarded k x 2)
@@ -75,7 +70,7 @@ rule_of_true n k h = record {
   numbered = (refl, tt);
   few_variables = omega arith;
   few_conditions = omega arith;
-  fits = (on_x_fits (f_symbol k), (x_fits, (on_x_fits (p_symbol k), (constant_fits 2, tt))));
+  fits = (on_x_fits (f_symbol k), (x_fits, (on_x_fits (p_symbol k), (fits_constant 2, tt))));
 }
 
 next_variables : (k : ℕ) → rule_variables (guarded k (next_of k) 4) ≡ 0 ∷ []
@@ -90,7 +85,7 @@ rule_of_false n k h =
       numbered = rw one (refl, tt);
       few_variables = rw one (omega arith);
       few_conditions = omega arith;
-      fits = (on_x_fits (f_symbol k), (next_fits k, (on_x_fits (p_symbol k), (constant_fits 4, tt))));
+      fits = (on_x_fits (f_symbol k), (next_fits k, (on_x_fits (p_symbol k), (fits_constant 4, tt))));
     }
 
 are_rules : (n a m : ℕ) → a + m ≤ n → AreRules (arities n) (flat_map rules_for (range_with_len a m))

@@ -10,11 +10,11 @@ use Rattle.rewriting.specs.Rules.{Rule}
 use Rattle.rewriting.specs.Systems.{terms_of_rule}
 use Rattle.cops_names.specs.NameTable.{number_of}
 use Rattle.cops_names.proofs.Lists.{Extends, extends_refl, extends_trans}
-use Rattle.cops_systems.specs.Meaning.{phrases_of_rule, rule_variables, with_symbol, with_symbols, with_all_symbols, with_rule_symbols, IsSymbolOf, IsTermOf, AreTermsOf, IsRuleOf, AreRulesOf}
-use Rattle.cops_systems.specs.Steps.{nodes}
-use Rattle.cops_systems.proofs.Growth.{symbol_grows}
-use Rattle.cops_systems.proofs.Sound.{terms_are}
-use Rattle.cops_systems.proofs.Uses.{with_fresh, put_last}
+use Rattle.cops_read.specs.Meaning.{phrases_of_rule, rule_variables, with_symbol, with_symbols, with_all_symbols, with_rule_symbols, IsSymbolOf, IsTermOf, AreTermsOf, IsRuleOf, AreRulesOf}
+use Rattle.cops_read.specs.Steps.{nodes}
+use Rattle.cops_read.proofs.Growth.{symbol_grows}
+use Rattle.cops_read.proofs.Sound.{terms_are}
+use Rattle.cops_read.proofs.Uses.{with_fresh, put_last}
 use Rattle.generated_systems.specs.Generated.{p_symbol, f_symbol, p_name, f_name, p_of, x, z, s_of, next_of, rules_for, symbols_for, variables_for, generated_names}
 use Rattle.generated_systems.specs.Generated as generated
 use Rattle.generator.specs.RuleParts.{guarded}

@@ -4,8 +4,8 @@ use Rattle.std.specs.Prelude.{flat_map}
 use Rattle.std.specs.List.{range_with_len}
 use Rattle.cops_names.specs.NameLists.{with_names}
 use Rattle.cops_names.proofs.Lists.{Extends, extends_refl}
-use Rattle.cops_systems.specs.File.{IsSystemOf}
-use Rattle.cops_systems.proofs.Events.{refusal_is}
+use Rattle.cops_read.specs.File.{IsSystemOf}
+use Rattle.cops_read.proofs.Events.{refusal_is}
 use Rattle.cops_write.specs.Text.{type_text, system_text}
 use Rattle.cops_write.proofs.FileText.{file_text}
 use Rattle.cops_write.proofs.ReadBack.{same_text}

@@ -1,6 +1,6 @@
 -- What is written of a generated system is read back, and is no longer than a file may be.
 use Rattle.std.specs.Prelude.{ℕ, ◌≤◌, length}
-use Rattle.cops_systems.specs.File.{IsFile}
+use Rattle.cops_read.specs.File.{IsFile}
 use Rattle.cops_write.specs.Text.{system_text}
 use Rattle.generated_systems.specs.Generated.{generated, generated_names}
 

@@ -1,12 +1,11 @@
 -- A walk through the pruned grid: where it stands, and how it goes on.
 use Rattle.std.proofs.Common.{ℕ, suc, ◌≡◌, ◌+◌, ◌⊎◌, inl, inr, List, [], ◌∷◌, ◌++◌, map, zip, length, slice_get, Some, true, false, refl, sym, ap, ap₂, ◌∙◌, subst, arith}
-use Rattle.std.proofs.lemmas.List.{length-append}
+use Rattle.std.proofs.lemmas.List.{length-append, same_from_push}
 use Rattle.std.proofs.lemmas.Option.{same_Some, slice_get_within}
 use Rattle.rewriting.specs.Lists.{IsAmong}
 use Rattle.rewriting.specs.Rules.{System}
 use Rattle.rewriting.specs.Unraveling.{Head, heads, unraveled}
 use Rattle.rewriting.proofs.Lists.{among_middle}
-use Rattle.rewriting.proofs.Members.{last_once}
 use Rattle.certificates.specs.Certificates.{LinearEntry, linear_measure}
 use Rattle.interpretations.specs.Linear.{Interpretation}
 use Rattle.interpretations.specs.Judgement.{good}
@@ -78,7 +77,7 @@ module _ (sys : System) where
       → IsAtChild extensions (IsDeadPrefix sys) (Barren (length behind)) (Walked (length es) (suc (length behind))) (node (es ++ e ∷ []) behind) n → IsAtEntry es e behind n
   of_child es e behind n child =
       let at = extension child.parent.entries child.parent.behind child.before (node (es ++ e ∷ []) behind) child.behind child.split in
-      let same = last_once es child.parent.entries e at.entry (ap (λ (p : Prefix). p.entries) at.here) in
+      let same = same_from_push es child.parent.entries e at.entry (ap (λ (p : Prefix). p.entries) at.here) in
       let further : behind ≡ at.further = ap (λ (p : Prefix). p.behind) at.here in
       record {
         at_child = child;

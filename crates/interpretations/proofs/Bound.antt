@@ -1,9 +1,9 @@
 -- A good interpretation falls at each descent, and so it bounds descents.
-use Rattle.std.proofs.Common.{◌≡◌, ℕ, zero, suc, ◌+◌, ◌*◌, ◌<◌, ◌≤◌, inl, inr, refl, sym, ap, ◌∙◌, subst, arith, List, [], ◌∷◌, length, slice_get, Option, Some, None, option_map, unwrap_or, IfSome}
+use Rattle.std.proofs.Common.{◌≡◌, ℕ, zero, suc, ◌+◌, ◌*◌, ◌<◌, ◌≤◌, inl, inr, refl, sym, ap, ◌∙◌, subst, arith, List, [], ◌∷◌, length, slice_get, Option, Some, None, option_map, unwrap_or, IfSome, ◌^◌}
 use Rattle.std.proofs.Math.Nat.{mul-le-mul_right, mul-lt-mul_of_pos_left}
 use Rattle.std.proofs.lemmas.List.{length-append}
 use Rattle.std.proofs.lemmas.Option.{slice_get_within, slice_get-get_or}
-use Rattle.rewriting.specs.Systems.{IsWellFormed}
+use Rattle.rewriting.specs.Systems.{IsWellFormed, IsSystem}
 use Rattle.rewriting.specs.Unraveling.{unraveled, heads, file_heads, auxiliary_heads, condition_heads, keeper_arities, all_keeper_arities}
 use Rattle.rewriting.specs.Descents.{IsActive, IsActiveArgument, IsActivePosition, Descends, AreDescentsBounded}
 use Rattle.rewriting.proofs.Common.{Chain, stop, link, Term, var, app, Terms, nil, cons, count, Position, argument, with_argument, argument_of, with_argument_of, subterm, replace, Substitution, apply, values_of, Signature, IsOver, Rule, System, rule_at, Condition, variables, with_variables}
@@ -41,7 +41,7 @@ length-heads sys =
     omega (arith, a, b, c, d)
 
 -- an argument of a term has a number from 1 to their count
-argument_within : (ts : Terms) (k : ℕ) (t : Term) → argument ts k ≡ Some t → (1 ≤ k) × (k ≤ count ts)
+pub argument_within : (ts : Terms) (k : ℕ) (t : Term) → argument ts k ≡ Some t → (1 ≤ k) × (k ≤ count ts)
 argument_within nil k t e = absurd (cc)
 argument_within (cons s ts) zero t e = absurd (cc)
 argument_within (cons s ts) (suc zero) t e = (omega arith, omega arith)
@@ -124,7 +124,7 @@ sum_falls es f i (cons s ts) (suc k) t u e lt le =
     omega (arith, rest)
 
 -- an argument whose number is at least 1 is at most the sum
-in_sum : (es : Interpretation) (f i : ℕ) (ts : Terms) (k : ℕ) (t : Term) → argument ts (suc k) ≡ Some t → 1 ≤ number_of es f (i + k) → constant es t ≤ constant_from es f i ts
+pub in_sum : (es : Interpretation) (f i : ℕ) (ts : Terms) (k : ℕ) (t : Term) → argument ts (suc k) ≡ Some t → 1 ≤ number_of es f (i + k) → constant es t ≤ constant_from es f i ts
 in_sum es f i nil k t e le = absurd (cc)
 in_sum es f i (cons s ts) zero t e le =
     let same : s ≡ t = cc in
@@ -196,3 +196,10 @@ bound sys es well g t over = λ k u c. chain_bounded sys es well g over c
 
 pub good_bounds : (sys : System) (es : Interpretation) → IsWellFormed sys → IsGood sys es → AreDescentsBounded sys
 good_bounds sys es well g t over = (constant es t, bound sys es well g t over)
+
+pub few_heads : (sys system : System) → system ≡ unraveled sys → IsSystem system → length (heads sys) < 2 ^ 31
+few_heads sys system same sound =
+    let few = sound.few_symbols in
+    let many = length-heads sys in
+    let arities = ap (λ (z : System). length z.arities) same in
+    omega (arith, few, many, arities)

@@ -2,11 +2,12 @@
 use Rattle.std.proofs.Common.{◌≡◌, ℕ, zero, suc, ◌^◌, ◌<◌, ◌≤◌, ◌⊎◌, inl, inr, refl, ap, subst, List, [], ◌∷◌, length, slice_get, Option, Some, None, option_map, Bool, true, false, nat_eq, eqb-true, if◌then◌else◌, arith}
 use native.Mathlib.Decide.{ℕ_discrete}
 use Rattle.std.proofs.lemmas.Bool.{cases_lt}
+use Rattle.general_lemmas.proofs.Numbers.{le_or_lt}
 use Rattle.rewriting.specs.Terms.{Fits}
 use Rattle.rewriting.specs.Unraveling.{unraveled, heads, Head, file, auxiliary}
 use Rattle.rewriting.specs.Descents.{IsActive}
 use Rattle.rewriting.proofs.Common.{Term, var, app, Terms, nil, cons, Rule, System}
-use Rattle.rewriting.proofs.Decided.{IsDecided, or_greater, at_most, as_other, both, either, asked, has_part}
+use Rattle.rewriting.proofs.Decided.{IsDecided, at_most, as_other, both, either, asked, has_part}
 use Rattle.rewriting.proofs.Equality.{fits_decided}
 use Rattle.rewriting.proofs.Search.{FirstBelow, search_below, FirstAt, search_at, decided}
 use Rattle.certificates.specs.Certificates.{LinearEntry}
@@ -24,7 +25,7 @@ sides_fit [] = inl tt
 sides_fit (r ∷ rs) = both {A = Fits r.left × Fits r.right} (λ d h. (d.0, d.1, h)) (λ h. (h.0, h.1)) (λ h. h.2) (both (λ l k. (l, k)) (λ d. d.0) (λ d. d.1) (fit r.left) (fit r.right)) (sides_fit rs)
 
 -- whether there is an entry for a symbol
-same_head : (a b : Head) → IsDecided (a ≡ b)
+pub same_head : (a b : Head) → IsDecided (a ≡ b)
 same_head (file f) (file g) = as_other (ap file) (λ e. cc) (decided (ℕ_discrete f g))
 same_head (file f) (auxiliary i k) = inr (λ e. cc)
 same_head (auxiliary i k) (file g) = inr (λ e. cc)
@@ -105,7 +106,7 @@ module _ (es : Interpretation) where
   large : (t : Term) → IsDecided (IsLarge es t)
   large t =
       either (at_most (suc (2 ^ 100)) (constant es t))
-      (go (search_below (λ x. coefficient es x t ≤ 2 ^ 100) (λ x. 2 ^ 100 < coefficient es x t) (λ x. or_greater (coefficient es x t) (2 ^ 100)) (above t)))
+      (go (search_below (λ x. coefficient es x t ≤ 2 ^ 100) (λ x. 2 ^ 100 < coefficient es x t) (λ x. le_or_lt (coefficient es x t) (2 ^ 100)) (above t)))
     where
       go : ((x : ℕ) → x < above t → coefficient es x t ≤ 2 ^ 100) ⊎ FirstBelow (λ x. coefficient es x t ≤ 2 ^ 100) (λ x. 2 ^ 100 < coefficient es x t) (above t)
           → IsDecided ((x : ℕ) × (2 ^ 100 < coefficient es x t))
@@ -149,4 +150,4 @@ module _ (es : Interpretation) where
 
       of_overflow : IsDecided (Overflows es r) → Falls es r ⊎ DoesNotFall es r
       of_overflow (inl large) = inr (overflows large)
-      of_overflow (inr small) = of_coefficients small (search_below (Kept r) (Smaller r) (λ x. or_greater (coefficient es x r.right) (coefficient es x r.left)) (above r.right))
+      of_overflow (inr small) = of_coefficients small (search_below (Kept r) (Smaller r) (λ x. le_or_lt (coefficient es x r.right) (coefficient es x r.left)) (above r.right))

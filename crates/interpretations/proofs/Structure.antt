@@ -7,8 +7,8 @@ use Rattle.rewriting.specs.Unraveling.{unraveled, unraveled_from, unraveled_rule
 use Rattle.rewriting.specs.Descents.{IsActive}
 use Rattle.rewriting.proofs.Common.{Term, var, app, Terms, nil, cons, count, Position, argument, subterm, apply, apply_all, Signature, IsOver, AreOver, Rule, System, rule_at, Condition, sides, variables, with_variables}
 use Rattle.rewriting.proofs.Unraveled.{argument_of_over}
-use Rattle.interpretations.specs.Linear.{Interpretation, number_of, constant, constant_from, coefficient, coefficient_from, HasShape, AreAllNumbersGood, IsLarge, HasLargePart}
-use Rattle.interpretations.proofs.Bound.{active_number_by}
+use Rattle.interpretations.specs.Linear.{Interpretation, number_of, constant, coefficient, coefficient_from, HasShape, AreAllNumbersGood, IsLarge, HasLargePart}
+use Rattle.interpretations.proofs.Bound.{active_number_by, argument_within, in_sum}
 
 -- every symbol is below n
 abbrev mutual
@@ -104,19 +104,6 @@ sides_of sys well zero r e = absurd (cc)
 sides_of sys well (suc i) r e =
     one_side (length sys.arities) (unraveled_rules (length sys.arities) sys.rules) (rules_sides (length sys.arities) (length sys.arities) sys.rules (λ i q at. each_plain sys.arities (terms_of_rule q) (well (suc i) q at).over)) i r e
 
--- an argument whose number is at least 1 has no greater constant and no greater coefficient
-constant_in : (es : Interpretation) (f i : ℕ) (ts : Terms) (k : ℕ) (t : Term) → argument ts (suc k) ≡ Some t → 1 ≤ number_of es f (i + k) → constant es t ≤ constant_from es f i ts
-constant_in es f i nil k t e le = absurd (cc)
-constant_in es f i (cons s ts) zero t e le =
-    let same : s ≡ t = cc in
-    let here : 1 ≤ number_of es f i = (let z : i + 0 ≡ i = omega arith in subst (λ j. 1 ≤ number_of es f j) z le) in
-    let product = mul-le-mul_right (constant es s) here in
-    subst (λ z. constant es z ≤ number_of es f i * constant es s + constant_from es f (suc i) ts) same (omega (arith, product))
-constant_in es f i (cons s ts) (suc k) t e le =
-    let there : 1 ≤ number_of es f (suc i + k) = (let z : i + suc k ≡ suc i + k = omega arith in subst (λ j. 1 ≤ number_of es f j) z le) in
-    let rest = constant_in es f (suc i) ts k t e there in
-    omega (arith, rest)
-
 coefficient_in : (es : Interpretation) (x f i : ℕ) (ts : Terms) (k : ℕ) (t : Term) → argument ts (suc k) ≡ Some t → 1 ≤ number_of es f (i + k) → coefficient es x t ≤ coefficient_from es x f i ts
 coefficient_in es x f i nil k t e le = absurd (cc)
 coefficient_in es x f i (cons s ts) zero t e le =
@@ -144,7 +131,7 @@ at_most-trans es u v t h k =
 argument_at_most : (es : Interpretation) (f : ℕ) (ts : Terms) (k : ℕ) (t : Term) → argument ts (suc k) ≡ Some t → 1 ≤ number_of es f (suc k) → IsAtMost es t (app f ts)
 argument_at_most es f ts k t e le =
     let there : 1 ≤ number_of es f (1 + k) = (let z : suc k ≡ 1 + k = omega arith in subst (λ j. 1 ≤ number_of es f j) z le) in
-    let a = constant_in es f 1 ts k t e there in
+    let a = in_sum es f 1 ts k t e there in
     record { constants = omega (arith, a); coefficients = λ x. coefficient_in es x f 1 ts k t e there }
 
 plain_argument : (n : ℕ) (ts : Terms) (k : ℕ) (t : Term) → ArePlain n ts → argument ts k ≡ Some t → IsPlain n t
@@ -159,20 +146,14 @@ variable_argument (cons s ts) zero t h e = absurd (cc)
 variable_argument (cons s ts) (suc zero) t ((x, is), h) e = let same : s ≡ t = cc in (x, sym same ∙ is)
 variable_argument (cons s ts) (suc (suc k)) t (_, h) e = variable_argument ts (suc k) t h e
 
-count_argument : (ts : Terms) (k : ℕ) (t : Term) → argument ts k ≡ Some t → (1 ≤ k) × (k ≤ count ts)
-count_argument nil k t e = absurd (cc)
-count_argument (cons s ts) zero t e = absurd (cc)
-count_argument (cons s ts) (suc zero) t e = (omega arith, omega arith)
-count_argument (cons s ts) (suc (suc k)) t e = let h = count_argument ts (suc k) t e in (omega arith, omega (arith, h.1))
-
 same_term : (es : Interpretation) (t u : Term) → Some t ≡ Some u → IsAtMost es u t
 same_term es t u e = let same : t ≡ u = cc in subst (λ z. IsAtMost es z t) same record { constants = omega arith; coefficients = λ x. omega arith }
 
 module _ (sys : System) (es : Interpretation) (shape : HasShape sys es) (numbers : AreAllNumbersGood sys es) where
   -- an active argument is at most the term
   active_at_most : (f : ℕ) (ts : Terms) (k : ℕ) (s : Term) → IsOver (unraveled sys).arities (app f ts) → IsActive sys f k → argument ts k ≡ Some s → IsAtMost es s (app f ts)
-  active_at_most f ts zero s over active e = let w = count_argument ts zero s e in absurd (omega (arith, w.0))
-  active_at_most f ts (suc k) s over active e = let w = count_argument ts (suc k) s e in argument_at_most es f ts k s e (active_number_by sys es shape numbers f k (count ts) over.0 active w.1)
+  active_at_most f ts zero s over active e = let w = argument_within ts zero s e in absurd (omega (arith, w.0))
+  active_at_most f ts (suc k) s over active e = let w = argument_within ts (suc k) s e in argument_at_most es f ts k s e (active_number_by sys es shape numbers f k (count ts) over.0 active w.1)
 
   -- no subterm of a plain term is greater
   plain_dominates : (p : Position) (t u : Term) → IsOver (unraveled sys).arities t → IsPlain (length sys.arities) t → subterm t p ≡ Some u → IsAtMost es u t

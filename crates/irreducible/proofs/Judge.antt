@@ -1,5 +1,6 @@
 -- Judging the whole from its parts.
 use Rattle.std.proofs.Common.{ℕ, suc, ◌≡◌, ◌<◌, ◌≤◌, ◌⊎◌, inl, inr, [], ◌∷◌, Some, refl, sym, ap, ◌∙◌, subst, arith}
+use Rattle.std.proofs.lemmas.Option.{same_Some}
 use Rattle.rewriting.specs.Terms.{Term, Terms, var, app, IsVariable}
 use Rattle.rewriting.specs.Positions.{Position, subterm, argument, IsBefore}
 use Rattle.rewriting.specs.Rules.{Rule, System}
@@ -8,11 +9,8 @@ use Rattle.unifier_run.specs.Run.{Outcome, clash}
 use Rattle.unifier_run.specs.Overlaps.{IsOutcomeOf}
 use Rattle.unifier_run.specs.Irreducible.{IsTrial, DoAllClash, IsFirstOutcome, DoRulesClash, IsFirstRule}
 
-same_some : (a b : Term) → Some a ≡ Some b → a ≡ b
-same_some a b e = cc
-
 pub variable_clash : (sys : System) (x : ℕ) → DoAllClash sys (var x)
-variable_clash sys x [] i u r h = absurd (h.no_variable (subst IsVariable (same_some (var x) u h.is_part) tt))
+variable_clash sys x [] i u r h = absurd (h.no_variable (subst IsVariable (same_Some (var x) u h.is_part) tt))
 variable_clash sys x (k ∷ p) i u r h = (let e = h.is_part in absurd (cc))
 
 -- the arguments before a number all clash
@@ -20,7 +18,7 @@ abbrev pub DoArgumentsClash : System → Terms → ℕ → Type 0
 DoArgumentsClash sys ts n = (k : ℕ) (s : Term) → argument ts k ≡ Some s → k ≤ n → DoAllClash sys s
 
 pub whole_clash : (sys : System) (f : ℕ) (ts : Terms) → DoRulesClash sys (app f ts) → ((k : ℕ) (s : Term) → argument ts k ≡ Some s → DoAllClash sys s) → DoAllClash sys (app f ts)
-whole_clash sys f ts root parts [] i u r h = subst (λ z. IsOutcomeOf r.left z clash) (same_some (app f ts) u h.is_part) (root i r h.is_rule)
+whole_clash sys f ts root parts [] i u r h = subst (λ z. IsOutcomeOf r.left z clash) (same_Some (app f ts) u h.is_part) (root i r h.is_rule)
 whole_clash sys f ts root parts (k ∷ p) i u r h =
     let w = within (app f ts) k p u h.is_part in
     parts k w.part w.here p i u r (record { is_part = w.inside; no_variable = h.no_variable; is_rule = h.is_rule })
@@ -40,7 +38,7 @@ first_root sys f ts o h =
     earlier : (p : Position) (i : ℕ) (u : Term) (r : Rule) → IsTrial sys (app f ts) p i u r → IsBefore p [] ⊎ ((p ≡ []) × (i < h.number)) → IsOutcomeOf r.left u clash
     earlier p i u r t (inl b) = absurd b
     earlier p i u r t (inr (e, l)) =
-        let here : app f ts ≡ u = same_some (app f ts) u (subst (λ z. subterm (app f ts) z ≡ Some u) e t.is_part) in
+        let here : app f ts ≡ u = same_Some (app f ts) u (subst (λ z. subterm (app f ts) z ≡ Some u) e t.is_part) in
         subst (λ z. IsOutcomeOf r.left z clash) here (h.before i r t.is_rule l)
 
 pub first_part : (sys : System) (f : ℕ) (ts : Terms) (n : ℕ) (s : Term) (o : Outcome) → DoRulesClash sys (app f ts) → DoArgumentsClash sys ts n → argument ts (suc n) ≡ Some s → IsFirstOutcome sys s o → IsFirstOutcome sys (app f ts) o

@@ -1,6 +1,7 @@
 -- The left sides of rules with other variables.
-use Rattle.std.proofs.Common.{ℕ, zero, suc, ◌≡◌, ◌+◌, ◌*◌, ◌^◌, ◌<◌, true, List, [], ◌∷◌, ◌++◌, map, length, take, get_or, Some, refl, sym, ap, ap₂, ◌∙◌, subst, arith, slice_get, add-one}
-use Rattle.rewriting.specs.Terms.{Term, var}
+use Rattle.std.proofs.Common.{ℕ, zero, suc, ◌≡◌, ◌+◌, ◌*◌, ◌^◌, ◌<◌, true, List, [], ◌∷◌, ◌++◌, map, length, take, get_or, Some, refl, sym, ap, ◌∙◌, subst, arith, slice_get, add-one}
+use Rattle.std.proofs.lemmas.Bool.{or_left}
+use Rattle.rewriting.specs.Terms.{Term}
 use Rattle.rewriting.specs.Substitutions.{Substitution, apply}
 use Rattle.rewriting.specs.Unifiers.{even, odd}
 use Rattle.rewriting.specs.Variables.{occurs}
@@ -8,7 +9,7 @@ use Rattle.rewriting.specs.Signatures.{Signature}
 use Rattle.rewriting.specs.Rules as math
 use Rattle.rewriting.specs.Systems.{terms_of_rule, rule_variables, IsRule, AreRules}
 use Rattle.rewriting.proofs.Variables.{variables_have_all}
-use Rattle.rewriting.proofs.Instances.{or_left, apply-agree}
+use Rattle.rewriting.proofs.Instances.{apply-agree}
 use Rattle.rewriting.proofs.Lists.{counted_below}
 use Rattle.term_core.specs.View.{view}
 use Rattle.term_core.specs.RuleView.{rule_view}
@@ -39,10 +40,6 @@ lefts_take s rs i r h e = rw add-one (lefts_take_suc s rs i r h e)
 pub map-append : (xs ys : List T.Term) → map view (xs ++ ys) ≡ map view xs ++ map view ys
 map-append [] ys = refl
 map-append (x ∷ xs) ys = ap (λ z. view x ∷ z) (map-append xs ys)
-
-pub evens : (rs : List math.Rule) → lefts_under (renaming 2 0) rs ≡ lefts_under even rs
-evens [] = refl
-evens (r ∷ rs) = ap₂ (λ x y. x ∷ y) (apply-agree (renaming 2 0) even r.left (λ x o. let e : 2 * x + 0 ≡ 2 * x = omega arith in ap var e)) (evens rs)
 
 pub odds : (t : Term) → apply (renaming 2 1) t ≡ apply odd t
 odds t = apply-agree (renaming 2 1) odd t (λ x o. refl)

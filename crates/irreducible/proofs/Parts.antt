@@ -1,5 +1,6 @@
 -- Parts of a term of the program, and the answers for it.
 use Rattle.std.proofs.Common.{ℕ, zero, suc, ◌≡◌, ◌+◌, ◌<◌, ◌≤◌, ◌⊎◌, inl, inr, List, [], ◌∷◌, length, get_or, Some, Vec, Global, Result, Ok, Err, refl, sym, ap, ◌∙◌, subst, arith, add-one}
+use Rattle.general_lemmas.proofs.Numbers.{le_or_next}
 use Rattle.rewriting.specs.Terms as math
 use Rattle.rewriting.specs.Terms.{Terms, var, app, nil, cons, size_all, depth_all, Fits}
 use Rattle.rewriting.specs.Positions.{argument}
@@ -74,17 +75,8 @@ pub judged_none : (sys : System) (ts : List Term) → Judged sys ts 0
 judged_none sys ts us e zero s h l = absurd (no_argument us s h)
 judged_none sys ts us e (suc k) s h l = absurd (omega (arith, l))
 
-split_le : (k n : ℕ) → k ≤ suc n → (k ≤ n) ⊎ (k ≡ suc n)
-split_le zero n h = inl (omega arith)
-split_le (suc k) zero h = inr (omega (arith, h))
-split_le (suc k) (suc n) h = up (split_le k n (omega (arith, h)))
-  where
-    up : (k ≤ n) ⊎ (k ≡ suc n) → (suc k ≤ suc n) ⊎ (suc k ≡ suc (suc n))
-    up (inl a) = inl (omega (arith, a))
-    up (inr e) = inr (ap suc e)
-
 pub judged_next : (sys : System) (ts : List Term) (n : ℕ) (t : Term) → t ≡ get_or ts n t → Judged sys ts n → ((s : math.Term) → view t ≡ apply odd s → DoAllClash sys s) → Judged sys ts (n + 1)
-judged_next sys ts n t at h here us e k s q l = go (split_le k n (subst (λ z. k ≤ z) (add-one n) l))
+judged_next sys ts n t at h here us e k s q l = go (le_or_next k n (subst (λ z. k ≤ z) (add-one n) l))
   where
     go : (k ≤ n) ⊎ (k ≡ suc n) → DoAllClash sys s
     go (inl a) = h us e k s q a

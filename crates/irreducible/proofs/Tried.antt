@@ -1,12 +1,12 @@
 -- The rules tried on a term: those with its root in order; all others clash at once.
-use Rattle.std.proofs.Common.{ℕ, zero, suc, ◌≡◌, ◌+◌, ◌-◌, ◌*◌, ◌<◌, ◌≤◌, ◌⊎◌, inl, inr, Bool, true, false, List, [], ◌∷◌, map, length, get_or, slice_get, Some, refl, sym, ap, ◌∙◌, subst, subst₂, arith, eq-eqb, eqb-true}
+use Rattle.std.proofs.Common.{ℕ, zero, suc, ◌≡◌, ◌+◌, ◌-◌, ◌*◌, ◌<◌, ◌≤◌, ◌⊎◌, inl, inr, Bool, true, false, List, [], map, length, get_or, Some, refl, sym, ap, ◌∙◌, subst, subst₂, arith, eq-eqb, eqb-true}
 use Rattle.std.proofs.lemmas.Bool.{false≢true, cases_lt}
 use Rattle.rewriting.specs.Terms.{Term, var, app, nil, cons, IsVariable, Fits}
 use Rattle.rewriting.specs.Substitutions.{apply, apply_all}
 use Rattle.rewriting.specs.Unifiers.{even, odd}
-use Rattle.rewriting.specs.Signatures.{Signature}
 use Rattle.rewriting.specs.Rules.{Rule, System, rule_at}
-use Rattle.rewriting.specs.Systems.{IsRule, AreRules, IsSystem}
+use Rattle.rewriting.specs.Systems.{IsSystem}
+use Rattle.rewriting.proofs.Systems.{numbered_rule}
 use Rattle.unifier_run.specs.Run.{Outcome, clash, IsOutcome}
 use Rattle.unifier_run.specs.Overlaps.{IsOutcomeOf}
 use Rattle.unifier_run.specs.Irreducible.{DoRulesClash, IsFirstRule}
@@ -25,18 +25,6 @@ other_clash f (var x) part v a b p q = absurd (v tt)
 other_clash f (app g ts) (var x) v a b p q = absurd (false≢true b)
 other_clash f (app g ts) (app h us) v a b p q =
     heads_clash g h (apply_all even ts) us (λ e. false≢true (sym a ∙ eq-eqb f g (eqb-true f h b ∙ sym e))) (fits_with_names (λ k. 2 * k) (app g ts) p) q
-
-listed_rule_of : (arities : Signature) (rs : List Rule) (i : ℕ) (r : Rule) → AreRules arities rs → slice_get rs i ≡ Some r → IsRule arities r
-listed_rule_of arities [] i r h e = absurd (cc)
-listed_rule_of arities (q ∷ rs) zero r h e = (let same : q ≡ r = cc in subst (IsRule arities) same h.0)
-listed_rule_of arities (q ∷ rs) (suc i) r h e = listed_rule_of arities rs i r h.1 e
-
-rule_of : (sys : System) (i : ℕ) (r : Rule) → IsSystem sys → rule_at sys i ≡ Some r → IsRule sys.arities r
-rule_of sys zero r h e = absurd (cc)
-rule_of sys (suc i) r h e = listed_rule_of sys.arities sys.rules i r h.rules e
-
-same_rule : (a b : Rule) → Some a ≡ Some b → a ≡ b
-same_rule a b e = cc
 
 -- the left side that a rule's number leads to
 numbered_left : (sys : System) (lefts : List T.Term) (n : ℕ) (t : T.Term) (r : Rule) → AreLefts sys (map view lefts) → t ≡ get_or lefts (n - 1) t → rule_at sys n ≡ Some r → view t ≡ apply even r.left
@@ -89,7 +77,7 @@ module _ (sys : System) (f : ℕ) (ns : List ℕ) (lefts : List T.Term) (part : 
       go : (b : Bool) → has_root f r.left ≡ b → IsOutcomeOf r.left s clash
       go true b = stands (is_listed sys f i r h b)
       go false b =
-          let q = rule_of sys i r sound h in
+          let q = numbered_rule sys i r sound h in
           subst (λ z. IsOutcome (cons (apply even r.left) nil) (cons z nil) clash) e (other_clash f r.left part q.is_over.left b root q.fits.0 fit)
 
   pub tried_all : has_root f part ≡ true → Fits part → length ns ≤ n → Tried sys ns part n → (s : Term) → part ≡ apply odd s → DoRulesClash sys s

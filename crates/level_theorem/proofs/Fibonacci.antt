@@ -1,11 +1,13 @@
 -- The Fibonacci system is almost orthogonal: it has no overlap.
 use Rattle.std.proofs.Common.{◌≡◌, ◌≢◌, ℕ, zero, suc, ◌+◌, ◌<◌, ◌≤◌, ◌⊎◌, inl, inr, Bool, true, false, ◌||◌, refl, sym, ◌∙◌, subst, [], ◌∷◌, Some, take, arith, nat_eq, eqb-true, if◌then◌else◌}
+use Rattle.general_lemmas.proofs.Numbers.{one_at_most}
 use Rattle.rewriting.specs.Systems.{IsRuleOver}
 use Rattle.rewriting.specs.Classes.{IsLeftLinearRule, IsType3Rule, IsExtendedOrientedRule, IsRightStableRule, IsDefined, IsAt, known, IsStable}
 use Rattle.rewriting.specs.Overlaps.{IsOverlap}
 use Rattle.rewriting.specs.Examples.{constant, unary, binary, fibonacci}
 use Rattle.rewriting.proofs.Instances.{or_cases}
-use Rattle.rewriting.proofs.Common.{Term, var, nil, cons, IsVariable, Position, subterm, apply, occurs, occurs_in, IsLinear, IsWithin, IsDisjoint, AreUnifiable, even, odd, Condition, Rule, rule_at, left_sides}
+use Rattle.rewriting.proofs.Common.{Term, var, nil, cons, IsVariable, Position, subterm, apply, occurs, occurs_in, IsLinear, IsWithin, IsDisjoint, AreUnifiable, even, odd, Rule, rule_at, left_sides}
+use Rattle.rewriting.proofs.Conditions.{no_second, only, no_condition}
 use Rattle.level_theorem.specs.AlmostOrthogonal.{IsAlmostOrthogonal}
 use Rattle.level_theorem.specs.Example.{add_zero, add_next, fib_zero, fibonacci_numbers}
 
@@ -21,21 +23,16 @@ each_numbered P a b c d (suc (suc (suc (suc (suc i))))) r e = absurd (cc)
 each : (P : Rule → Type 0) → P add_zero → P add_next → P fib_zero → P fibonacci → (i : ℕ) (r : Rule) → rule_at fibonacci_numbers i ≡ Some r → P r
 each P = each_numbered (λ i r. P r)
 
--- the left sides have at most two variables, each once
-once : (b : Bool) → (if b then 1 else 0) ≤ 1
-once true = omega arith
-once false = omega arith
-
 at_most_two : (x a b : ℕ) → (a ≡ b → ⊥) → (if nat_eq x a then 1 else 0) + (if nat_eq x b then 1 else 0) ≤ 1
 at_most_two x a b k = go (nat_eq x a) (nat_eq x b) refl refl
   where
     go : (p q : Bool) → nat_eq x a ≡ p → nat_eq x b ≡ q → (if p then 1 else 0) + (if q then 1 else 0) ≤ 1
     go true true e e' = absurd (k (sym (eqb-true x a e) ∙ eqb-true x b e'))
     go true false e e' = omega arith
-    go false q e e' = let h = once q in omega (arith, h)
+    go false q e e' = let h = one_at_most q in omega (arith, h)
 
 linear_add_zero : IsLinear add_zero.left
-linear_add_zero x = let h = once (nat_eq x 0) in omega (arith, h)
+linear_add_zero x = let h = one_at_most (nat_eq x 0) in omega (arith, h)
 
 linear_add_next : IsLinear add_next.left
 linear_add_next x = let h = at_most_two x 0 1 (λ e. cc) in omega (arith, h)
@@ -44,22 +41,10 @@ linear_fib_zero : IsLinear fib_zero.left
 linear_fib_zero x = omega arith
 
 linear_fibonacci : IsLinear fibonacci.left
-linear_fibonacci x = let h = once (nat_eq x 0) in omega (arith, h)
+linear_fibonacci x = let h = one_at_most (nat_eq x 0) in omega (arith, h)
 
 linear_pair : IsLinear (binary 2 (var 2) (var 1))
 linear_pair x = let h = at_most_two x 2 1 (λ e. cc) in omega (arith, h)
-
--- the one condition of a rule
-no_condition : (i : ℕ) (c : Condition) → IsAt [] i c → ⊥
-no_condition i c e = cc
-
-no_second : (c d : Condition) (j : ℕ) → 1 ≤ j → IsAt (c ∷ []) j d → ⊥
-no_second c d zero le at = omega (arith, le)
-no_second c d (suc j) le at = absurd (cc)
-
-only : (c d : Condition) (P : ℕ → Condition → Type 0) → P 0 c → (i : ℕ) → IsAt (c ∷ []) i d → P i d
-only c d P h zero at = let same : c ≡ d = cc in subst (P 0) same h
-only c d P h (suc i) at = absurd (cc)
 
 plain_oriented : (r : Rule) → r.conditions ≡ [] → IsExtendedOrientedRule r
 plain_oriented r e =

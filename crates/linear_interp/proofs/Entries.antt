@@ -3,10 +3,11 @@ use Rattle.std.proofs.Common.{◌≡◌, ℕ, suc, ◌+◌, ◌<◌, ◌≤◌, 
 use Rattle.std.proofs.lemmas.List.{length-map}
 use Rattle.std.proofs.lemmas.Option.{slice_get-map, slice_get_read, unwrap_or-slice_get}
 use Rattle.rewriting.specs.Terms as math
-use Rattle.rewriting.specs.Terms.{app, count}
+use Rattle.rewriting.specs.Terms.{app}
 use Rattle.term_core.specs.View.{view, views}
 use Rattle.term_core.specs.declared.terms.Term.{Term, Fun}
 use Rattle.term_core.proofs.Views.{view-Fun}
+use Rattle.term_core.proofs.Over.{count-views}
 use Rattle.cert_model.specs.CertificateView.{linear_entry_view}
 use Rattle.cert_model.specs.declared.model.LinearEntry.{LinearEntry}
 use Rattle.interpretations.specs.Linear.{Interpretation, numbers_of, number_of}
@@ -15,10 +16,6 @@ use Rattle.linear_interp.specs.Parts.{IsReady, AreReady}
 pub numbers_at : (entries : List LinearEntry) (f : ℕ) (e : LinearEntry) → f < length entries → e ≡ get_or entries f e → numbers_of (map linear_entry_view entries) f ≡ e.coeffs.items
 numbers_at entries f e lt is =
     ap (λ o. unwrap_or (option_map (λ e. e.coefficients) o) []) (slice_get-map linear_entry_view entries f ∙ ap (option_map linear_entry_view) (slice_get_read entries (length entries) f e refl lt is))
-
-count-views : (ts : List Term) → count (views ts) ≡ length ts
-count-views [] = refl
-count-views (t ∷ ts) = ap suc (count-views ts)
 
 pub number-index : (es : Interpretation) (f k : ℕ) (numbers : List ℕ) → numbers_of es f ≡ numbers → number_of es f k ≡ get_or numbers k 0
 number-index es f k numbers e = ap (λ xs. unwrap_or (slice_get xs k) 0) e ∙ unwrap_or-slice_get numbers k 0

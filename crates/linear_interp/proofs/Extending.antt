@@ -4,11 +4,11 @@ use Rattle.std.proofs.Math.Seq.{get_or-append_seam}
 use Rattle.std.proofs.lemmas.Bool.{cases_lt}
 use Rattle.std.proofs.lemmas.List.{length_push}
 use Rattle.std.proofs.lemmas.Option.{slice_get_within, slice_get-get_or}
+use Rattle.general_lemmas.proofs.Places.{slice_get-append_left}
 use Rattle.rewriting.specs.Rules.{System}
 use Rattle.rewriting.specs.Unraveling.{heads, unraveled}
 use Rattle.certificates.specs.Certificates.{LinearEntry}
 use Rattle.interpretations.specs.Linear.{Interpretation, IsEntry, AreNumbersGood}
-use Rattle.measure_grid.proofs.Dead.{get_left}
 use Rattle.linear_interp.specs.Prefix.{IsPrefix}
 
 pub prefix_start : (sys : System) → IsPrefix sys []
@@ -24,11 +24,11 @@ module _ (sys : System) (es : Interpretation) (e : LinearEntry) (p : IsPrefix sy
   last k lt ge = let long = length_push es e in omega (arith, lt, ge, long)
 
   entry_at : (k : ℕ) → k < length (es ++ e ∷ []) → (k < length es) ⊎ (length es ≤ k) → IsEntry sys (es ++ e ∷ []) k
-  entry_at k lt (inl less) = let h = p.entries k less in record { entry = h.entry; is_entry = get_left es (e ∷ []) k less ∙ h.is_entry; head = h.head; numbers = h.numbers }
+  entry_at k lt (inl less) = let h = p.entries k less in record { entry = h.entry; is_entry = slice_get-append_left es (e ∷ []) k less ∙ h.is_entry; head = h.head; numbers = h.numbers }
   entry_at k lt (inr ge) = subst (IsEntry sys (es ++ e ∷ [])) (last k lt ge) (record { entry = e; is_entry = next_there; head = head; numbers = numbers })
 
   numbers_at : (k : ℕ) (d : LinearEntry) → slice_get (es ++ e ∷ []) k ≡ Some d → k < length (es ++ e ∷ []) → (k < length es) ⊎ (length es ≤ k) → AreNumbersGood sys k d.coefficients
-  numbers_at k d at lt (inl less) = p.numbers k d (sym (get_left es (e ∷ []) k less) ∙ at)
+  numbers_at k d at lt (inl less) = p.numbers k d (sym (slice_get-append_left es (e ∷ []) k less) ∙ at)
   numbers_at k d at lt (inr ge) =
       let there : slice_get (es ++ e ∷ []) k ≡ Some e = subst (λ i. slice_get (es ++ e ∷ []) i ≡ Some e) (last k lt ge) next_there in
       let same : e ≡ d = (let both : Some e ≡ Some d = sym there ∙ at in cc) in

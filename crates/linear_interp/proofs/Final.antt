@@ -1,6 +1,6 @@
 -- From what the checks answer to the judgement.
 use Rattle.std.proofs.Common.{◌≡◌, ℕ, zero, suc, ◌+◌, ◌^◌, ◌<◌, ◌≤◌, ◌⊎◌, inl, inr, true, refl, sym, ap, ◌∙◌, subst, List, [], ◌∷◌, map, length, slice_get, Some, None, Result, Ok, Err, arith, eq-eqb}
-use Rattle.std.proofs.lemmas.Bool.{cases_lt, or_left}
+use Rattle.std.proofs.lemmas.Bool.{cases_lt, or_left, or_right}
 use Rattle.std.proofs.lemmas.Option.{slice_get_within}
 use Rattle.rewriting.specs.Unraveling as unraveling
 use Rattle.rewriting.specs.Unraveling.{unraveled, heads}
@@ -10,14 +10,13 @@ use Rattle.rewriting.specs.Terms.{Term, var, app, Terms, nil, cons}
 use Rattle.rewriting.specs.Systems.{IsRule, AreRules, IsSystem, IsWellFormed, CountsFrom, rule_variables, terms_of_rule}
 use Rattle.rewriting.specs.Signatures.{Signature, IsOver, AreOver}
 use Rattle.rewriting.specs.Variables.{occurs, occurs_in}
-use Rattle.rewriting.specs.Lists.{IsAmong}
 use Rattle.rewriting.proofs.Variables.{variables_have_all}
-use Rattle.rewriting.proofs.Instances.{or_right}
 use Rattle.rewriting.proofs.Unraveled.{unraveled_well_formed}
+use Rattle.rewriting.proofs.Lists.{counted_below}
 use Rattle.interpretations.specs.Size.{DoesUnravelingFit}
 use Rattle.interpretations.specs.Linear.{Interpretation, IsEntry, HasShape, AreNumbersGood, AreAllNumbersGood, Falls, Overflows}
 use Rattle.interpretations.specs.Judged.{IsFirstMisshapen, IsFirstBad, FailsAt, IsFirstSmaller, IsConstantKept, IsInterpretationJudged}
-use Rattle.interpretations.proofs.Bound.{counted_numbers, small_number, length-heads}
+use Rattle.interpretations.proofs.Bound.{counted_numbers, small_number}
 use Rattle.interpretations.proofs.Structure.{sides_of, large_side}
 use Rattle.term_core.specs.RuleView.{rule_view, AreCounted}
 use Rattle.term_core.specs.declared.systems.Rule.{Rule}
@@ -77,12 +76,6 @@ module _ (sys : math.System) (es : Interpretation) where
   pub few_entries : HasShape sys es → length (heads sys) < 2 ^ 31 → (k : ℕ) → BadAnswers (length sys.arities) es (Some k) → k < 2 ^ 31
   few_entries s few k (e, at, before, here) = let w = slice_get_within es k e at in let m = s.as_many in omega (arith, w, m, few)
 
--- variables that are 0, 1, .. are below their number
-below_count : (n : ℕ) (xs : List ℕ) (x : ℕ) → CountsFrom n xs → IsAmong x xs → x < n + length xs
-below_count n [] x h a = absurd a
-below_count n (y ∷ ys) x h (inl e) = let same = h.0 in omega (arith, same, e)
-below_count n (y ∷ ys) x h (inr a) = let rest = below_count (suc n) ys x h.1 a in omega (arith, rest)
-
 module _ (sys : math.System) (es : Interpretation) (s : HasShape sys es) (numbers : AreAllNumbersGood sys es) where
   mutual
     ready : (n : ℕ) (t : Term) → IsOver (unraveled sys).arities t → ((x : ℕ) → occurs x t ≡ true → suc x < n) → IsReady es n t
@@ -100,7 +93,7 @@ module _ (sys : math.System) (es : Interpretation) (s : HasShape sys es) (number
   side_ready well i r n at counts same =
       let side = sides_of sys well i r at in
       let over = (unraveled_well_formed sys well i r at).over in
-      let low : (x : ℕ) → occurs_in x (terms_of_rule r) ≡ true → suc x < n + 1 = (λ x o. let h = below_count 0 (rule_variables r) x counts (variables_have_all x [] (terms_of_rule r) o) in omega (arith, h, same)) in (
+      let low : (x : ℕ) → occurs_in x (terms_of_rule r) ≡ true → suc x < n + 1 = (λ x o. let h = counted_below 0 (rule_variables r) x counts (variables_have_all x [] (terms_of_rule r) o) in omega (arith, h, same)) in (
         record {
           ready = ready (n + 1) r.left over.0 (λ x o. low x (or_left _ _ o));
           shows = large_side sys es s numbers r.left over.0 side.0;
@@ -160,10 +153,3 @@ module _ (sys : math.System) (es : Interpretation) where
       → ShowsAnswers (IsInterpretationJudged sys es) result
   judged system rs same are fit s numbers result h =
       judged_here fit s numbers result (subst (λ q. RulesAnswers es q result) (are ∙ ap (λ z. z.rules) same) h)
-
-pub few_heads : (sys system : math.System) → system ≡ unraveled sys → IsSystem system → length (heads sys) < 2 ^ 31
-few_heads sys system same sound =
-    let few = sound.few_symbols in
-    let many = length-heads sys in
-    let arities = ap (λ z. length z.arities) same in
-    omega (arith, few, many, arities)

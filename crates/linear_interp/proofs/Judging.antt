@@ -1,8 +1,9 @@
 -- From sums to the judgement of a rule, and from rules to all rules.
-use Rattle.std.proofs.Common.{◌≡◌, ℕ, zero, suc, ◌+◌, ◌-◌, ◌*◌, ◌^◌, ◌<◌, ◌≤◌, ◌⊎◌, inl, inr, Bool, true, false, refl, sym, ap, ◌∙◌, subst, List, [], ◌∷◌, map, length, get_or, slice_get, option_map, Option, Some, None, Result, Ok, Err, Vec, Global, arith, nat_eq, if◌then◌else◌, eqb-true}
+use Rattle.std.proofs.Common.{◌≡◌, ℕ, zero, suc, ◌+◌, ◌-◌, ◌*◌, ◌^◌, ◌<◌, ◌≤◌, ◌⊎◌, inl, inr, Bool, true, false, refl, sym, ap, subst, List, [], ◌∷◌, map, length, get_or, slice_get, Option, Some, None, Result, Ok, Err, Vec, Global, arith, nat_eq, if◌then◌else◌, eqb-true}
 use Rattle.std.proofs.lemmas.List.{length-map}
 use Rattle.std.proofs.lemmas.Bool.{cases_lt}
-use Rattle.std.proofs.lemmas.Option.{slice_get-map, slice_get_read, slice_get_within}
+use Rattle.std.proofs.lemmas.Option.{slice_get_within}
+use Rattle.general_lemmas.proofs.Places.{slice_get-map_read}
 use Rattle.rewriting.specs.Terms.{Term, var, app, Terms, nil, cons}
 use Rattle.rewriting.specs.Rules as math
 use Rattle.interpretations.specs.Linear.{Interpretation, number_of, coefficient, coefficient_from, Falls, Overflows, IsLarge, HasLargePart}
@@ -109,9 +110,6 @@ HoldsBefore P rs i = (j : ℕ) (r : math.Rule) → j < i → slice_get (map rule
 abbrev pub DoFallBefore : Interpretation → List Rule → ℕ → Type 0
 DoFallBefore es = HoldsBefore (Falls es)
 
-pub at_place : (rs : List Rule) (i : ℕ) (r : Rule) → i < length rs → r ≡ get_or rs i r → slice_get (map rule_view rs) i ≡ Some (rule_view r)
-at_place rs i r h is = slice_get-map rule_view rs i ∙ ap (option_map rule_view) (slice_get_read rs (length rs) i r refl h is)
-
 module _ (P : math.Rule → Type 0) (rs : List Rule) (i : ℕ) where
   pub one_more : (r : Rule) → HoldsBefore P rs i → i < length rs → r ≡ get_or rs i r → P (rule_view r) → HoldsBefore P rs (i + 1)
   one_more r before lt is holds j q less at = by_case (cases_lt j i)
@@ -120,7 +118,7 @@ module _ (P : math.Rule → Type 0) (rs : List Rule) (i : ℕ) where
       by_case (inl h) = before j q h at
       by_case (inr h) =
           let same : i ≡ j = omega (arith, h, less) in
-          let there : slice_get (map rule_view rs) j ≡ Some (rule_view r) = subst (λ k. slice_get (map rule_view rs) k ≡ Some (rule_view r)) same (at_place rs i r lt is) in
+          let there : slice_get (map rule_view rs) j ≡ Some (rule_view r) = subst (λ k. slice_get (map rule_view rs) k ≡ Some (rule_view r)) same (slice_get-map_read rule_view rs i r lt is) in
           let rule : rule_view r ≡ q = cc in
           subst P rule holds
 
@@ -128,11 +126,11 @@ module _ (P : math.Rule → Type 0) (rs : List Rule) (i : ℕ) where
   all_hold before le j r at = let within = slice_get_within (map rule_view rs) j r at in let many = length-map rs rule_view in before j r (omega (arith, within, many, le)) at
 
 pub failed : (es : Interpretation) (rs : List Rule) (i : ℕ) (r : Rule) (error : MeasureError) → DoFallBefore es rs i → i < length rs → r ≡ get_or rs i r → RuleAnswers es (rule_view r) (i + 1) (Err error) → RulesAnswers es (map rule_view rs) (Err error)
-failed es rs i r (Reason (reason.Overflow n)) before lt is h = record { place = i; is_number = (let a = h.0 in omega (arith, a)); rule = rule_view r; is_rule = at_place rs i r lt is; before = before; here = h.1 }
+failed es rs i r (Reason (reason.Overflow n)) before lt is h = record { place = i; is_number = (let a = h.0 in omega (arith, a)); rule = rule_view r; is_rule = slice_get-map_read rule_view rs i r lt is; before = before; here = h.1 }
 failed es rs i r (Reason (reason.Variable n x)) before lt is h =
-    record { place = i; is_number = (let a = h.0 in omega (arith, a)); rule = rule_view r; is_rule = at_place rs i r lt is; before = before; here = h.1 }
+    record { place = i; is_number = (let a = h.0 in omega (arith, a)); rule = rule_view r; is_rule = slice_get-map_read rule_view rs i r lt is; before = before; here = h.1 }
 failed es rs i r (Reason (reason.Constant n)) before lt is h =
-    record { place = i; is_number = (let a = h.0 in omega (arith, a)); rule = rule_view r; is_rule = at_place rs i r lt is; before = before; here = h.1 }
+    record { place = i; is_number = (let a = h.0 in omega (arith, a)); rule = rule_view r; is_rule = slice_get-map_read rule_view rs i r lt is; before = before; here = h.1 }
 failed es rs i r (Reason (reason.Shape n)) before lt is h = absurd h
 failed es rs i r (Reason (reason.Coefficient n)) before lt is h = absurd h
 failed es rs i r (Reason (reason.Order n)) before lt is h = absurd h

@@ -1,6 +1,6 @@
 -- The first place that a test finds.
-use Rattle.std.proofs.Common.{◌≡◌, ℕ, zero, suc, ◌+◌, ◌<◌, ◌≤◌, ◌⊎◌, inl, inr, max, refl, sym, ap, ap₂, ◌∙◌, subst, List, length, slice_get, option_map, Option, Some, None, Bool, true, false, not, ◌&&◌, nat_eq, eqb-true, eq-eqb, if◌then◌else◌, IsTrue, IsNone, ◌↔◌, arith}
-use Rattle.std.proofs.lemmas.Bool.{cases_lt}
+use Rattle.std.proofs.Common.{◌≡◌, ℕ, zero, suc, ◌+◌, ◌<◌, ◌≤◌, ◌⊎◌, inl, inr, max, refl, sym, ap, ap₂, ◌∙◌, subst, List, length, slice_get, option_map, Option, Some, None, Bool, true, false, not, nat_eq, eqb-true, eq-eqb, if◌then◌else◌, IsTrue, IsNone, ◌↔◌, arith}
+use Rattle.std.proofs.lemmas.Bool.{cases_lt, and_from, and_parts, not-false}
 use Rattle.std.specs.List.{range_with_len}
 use Rattle.std.proofs.iter.Yields.{nat_range_steps}
 use Rattle.std.specs.Iterator.Runs.{Run}
@@ -39,35 +39,20 @@ found_from h (suc n) i = go (h i) refl (found_from h n (i + 1))
 pub searched : (n : ℕ) (h : ℕ → Bool) (o : Option (ℕ × ℕ)) (p : Run nat_range_steps) → p.from ≡ record { start = 0; end = n } → (o ≡ find_at h 0 p.items) × (IsNone o → IsTrue p.whole) → o ≡ find_at h 0 (range_with_len 0 n)
 searched n h o p at b = find_at-of-run (YieldsList-from_range {s = record { start = 0; end = n }} 0 n n refl (omega arith)) p at h o b.0 b.1
 
--- the test is that of the entry
-and_both : (a b : Bool) → (a && b) ≡ true → (a ≡ true) × (b ≡ true)
-and_both true true e = (refl, refl)
-and_both true false e = absurd (cc)
-and_both false b e = absurd (cc)
-
-and_of : (a b : Bool) → a ≡ true → b ≡ true → (a && b) ≡ true
-and_of true true e f = refl
-and_of true false e f = absurd (cc)
-and_of false b e f = absurd (cc)
-
 same_head : (a b : Head) → is_same_head a b ≡ true → a ≡ b
 same_head (file f) (file g) e = ap file (eqb-true f g e)
 same_head (file f) (auxiliary i k) e = absurd (cc)
 same_head (auxiliary i k) (file g) e = absurd (cc)
-same_head (auxiliary i k) (auxiliary j l) e = (let both = and_both (nat_eq i j) (nat_eq k l) e in ap₂ auxiliary (eqb-true i j both.0) (eqb-true k l both.1))
+same_head (auxiliary i k) (auxiliary j l) e = (let both = and_parts (nat_eq i j) (nat_eq k l) e in ap₂ auxiliary (eqb-true i j both.0) (eqb-true k l both.1))
 
 head_same : (a : Head) → is_same_head a a ≡ true
 head_same (file f) = eq-eqb f f refl
-head_same (auxiliary i k) = and_of (nat_eq i i) (nat_eq k k) (eq-eqb i i refl) (eq-eqb k k refl)
+head_same (auxiliary i k) = and_from (nat_eq i i) (nat_eq k k) (eq-eqb i i refl) (eq-eqb k k refl)
 
 told : (b t : Bool) → (b ≡ true → t ≡ true) → (t ≡ true → b ≡ true) → b ≡ t
 told true t f g = sym (f refl)
 told false true f g = g refl
 told false false f g = refl
-
-not_false : (t : Bool) → not t ≡ false → t ≡ true
-not_false true e = refl
-not_false false e = absurd (cc)
 
 not_true : (t : Bool) → not t ≡ true → t ≡ true → ⊥
 not_true true e f = cc
@@ -79,7 +64,7 @@ module _ (hs : List Head) (ar : List ℕ) (es : List LinearEntry) (k : ℕ) wher
   shaped_of (Some e) None on a b c t = absurd (cc)
   shaped_of (Some e) (Some h) None a b c t = absurd (cc)
   shaped_of (Some e) (Some h) (Some n) a b c t =
-      let both = and_both (is_same_head h e.head) (nat_eq (suc n) (length e.coefficients)) t in
+      let both = and_parts (is_same_head h e.head) (nat_eq (suc n) (length e.coefficients)) t in
       (e, a, b ∙ ap Some (same_head h e.head both.0), ap (option_map suc) c ∙ ap Some (eqb-true (suc n) (length e.coefficients) both.1))
 
   entry_of : (oe : Option LinearEntry) (oh : Option Head) (on : Option ℕ) → slice_get es k ≡ oe → slice_get hs k ≡ oh → slice_get ar k ≡ on → IsEntryAt hs ar es k → is_shaped_as oe oh on ≡ true
@@ -90,7 +75,7 @@ module _ (hs : List Head) (ar : List ℕ) (es : List LinearEntry) (k : ℕ) wher
       let same : d ≡ e = cc in
       let symbol : e.head ≡ h = cc in
       let count : suc n ≡ length e.coefficients = (let some : option_map suc (slice_get ar k) ≡ Some (suc n) = ap (option_map suc) c in cc) in
-      and_of (is_same_head h d.head) (nat_eq (suc n) (length d.coefficients)) (subst (λ z. is_same_head h z ≡ true) (sym symbol ∙ ap (λ z. z.head) (sym same)) (head_same h))
+      and_from (is_same_head h d.head) (nat_eq (suc n) (length d.coefficients)) (subst (λ z. is_same_head h z ≡ true) (sym symbol ∙ ap (λ z. z.head) (sym same)) (head_same h))
       (eq-eqb (suc n) (length d.coefficients) (count ∙ ap (λ z. length z.coefficients) (sym same)))
 
   shaped_entry : is_shaped_as (slice_get es k) (slice_get hs k) (slice_get ar k) ≡ true → IsEntryAt hs ar es k
@@ -101,7 +86,7 @@ module _ (hs : List Head) (ar : List ℕ) (es : List LinearEntry) (k : ℕ) wher
       ap not (told b (is_shaped_as (slice_get es k) (slice_get hs k) (slice_get ar k)) (λ e. entry_of (slice_get es k) (slice_get hs k) (slice_get ar k) refl refl refl (h.0 e)) (λ t. h.1 (shaped_entry t)))
 
   not_wrong : is_wrong_at hs ar es k ≡ false → IsEntryAt hs ar es k
-  not_wrong e = shaped_entry (not_false (is_shaped_as (slice_get es k) (slice_get hs k) (slice_get ar k)) e)
+  not_wrong e = shaped_entry (not-false (is_shaped_as (slice_get es k) (slice_get hs k) (slice_get ar k)) e)
 
   wrong : is_wrong_at hs ar es k ≡ true → IsEntryAt hs ar es k → ⊥
   wrong e h = not_true (is_shaped_as (slice_get es k) (slice_get hs k) (slice_get ar k)) e (entry_of (slice_get es k) (slice_get hs k) (slice_get ar k) refl refl refl h)

@@ -3,6 +3,7 @@ use Rattle.std.proofs.Common.{◌≡◌, ℕ, zero, suc, ◌+◌, ◌-◌, ◌<�
 use Rattle.std.proofs.lemmas.Bool.{cases_lt}
 use Rattle.std.proofs.lemmas.List.{length-map, get_or-map}
 use Rattle.std.proofs.lemmas.Option.{slice_get_within}
+use Rattle.general_lemmas.proofs.Places.{slice_get-map_read}
 use Rattle.rewriting.specs.Rules as math
 use Rattle.rewriting.specs.Rules.{System, rule_at}
 use Rattle.rewriting.specs.Systems.{IsSystem, IsWellFormed}
@@ -20,7 +21,6 @@ use Rattle.linear_interp.specs.Needed.{needed_at, numbers_needing, listed}
 use Rattle.linear_interp.specs.JudgeView.{IsHeld}
 use Rattle.linear_interp.specs.declared.prefix.PrefixJudge.TheInside.{Inside}
 use Rattle.linear_interp.proofs.Needed.{IsOf, number_of_rule, HoldsOfAll, of_rules}
-use Rattle.linear_interp.proofs.Judging.{at_place}
 use Rattle.linear_interp.proofs.Completed.{rule_ready}
 use Rattle.linear_interp.proofs.Prefixes.{dead_at, not_dead_yet}
 
@@ -68,7 +68,7 @@ rule_of sys n rs number are h =
     let same = ap length are in
     let place : number - 1 ≡ h.place = omega (arith, number_is) in
     let high : number - 1 < length rs = omega (arith, place, within, many, same) in
-    let found : (r : Rule) → r ≡ get_or rs (number - 1) r → slice_get (unraveled sys).rules (number - 1) ≡ Some (rule_view r) = (λ r is. subst (λ z. slice_get z (number - 1) ≡ Some (rule_view r)) are (at_place rs (number - 1) r high is)) in
+    let found : (r : Rule) → r ≡ get_or rs (number - 1) r → slice_get (unraveled sys).rules (number - 1) ≡ Some (rule_view r) = (λ r is. subst (λ z. slice_get z (number - 1) ≡ Some (rule_view r)) are (slice_get-map_read rule_view rs (number - 1) r high is)) in
     record {
       low = omega (arith, number_is);
       high = high;

@@ -1,6 +1,7 @@
 -- Comparison with variables and constants, and what is known of a constant.
 use Rattle.std.proofs.Common.{◌≡◌, inl, inr, ℕ, suc, ◌&&◌, ◌||◌, ◌⊎◌, Bool, true, false, nat_eq, nat_lt, List, [], ◌∷◌, length, Option, Some, None, Vec, Global, refl, sym, ap, ap₂, ◌∙◌, subst, if◌then◌else◌, arith}
 use Rattle.std.proofs.lemmas.Bool.{and_parts, and_from, and_right, cond-true, cond-false, eqb-true, eq-eqb, ne_eqb, ltb-true, lt-ltb, or_cases, or_left, or_right, false_from_ne_true, false≢true}
+use Rattle.std.proofs.Math.Bool.{or-false, or_assoc}
 use Rattle.rewriting.specs.Terms.{Term, var, app, Terms, nil, cons, count}
 use Rattle.rewriting.specs.Tests.{is_same, are_same}
 use Rattle.rewriting.specs.Variables.{occurs, occurs_in}
@@ -12,19 +13,11 @@ use Rattle.path_orders.specs.Comparing.{Compared, compared, exceeds, exceeds_fro
 use Rattle.lpo.specs.Leaves.{meets, do_meet, covers, IsKnown}
 use Rattle.lpo.specs.Places.{before_by, place_in}
 
-or_assoc : (a b c : Bool) → (a || (b || c)) ≡ ((a || b) || c)
-or_assoc true b c = refl
-or_assoc false b c = refl
-
 or_swap : (a b c : Bool) → (a || (b || c)) ≡ (b || (a || c))
 or_swap true true c = refl
 or_swap true false c = refl
 or_swap false true c = refl
 or_swap false false c = refl
-
-or_false : (a : Bool) → (a || false) ≡ a
-or_false true = refl
-or_false false = refl
 
 eq_turned : (x y : ℕ) → nat_eq y x ≡ nat_eq x y
 eq_turned x y = go (nat_eq x y) refl
@@ -68,7 +61,7 @@ module _ (before : ℕ → ℕ → Bool) where
       met_any_is : (ss : Terms) → reaches (compared before ss) (app g nil) ≡ do_meet before g ss
       met_any_is nil = refl
       met_any_is (cons s ss) =
-          or_assoc (is_same s (app g nil)) (is_greater before s (app g nil)) (reaches (compared before ss) (app g nil)) ∙ ap₂ (λ p q. p || q) (met_is s) (met_any_is ss)
+          sym (or_assoc (is_same s (app g nil)) (is_greater before s (app g nil)) (reaches (compared before ss) (app g nil))) ∙ ap₂ (λ p q. p || q) (met_is s) (met_any_is ss)
 
     -- neither the symbol at the root is before g, nor is the term the constant
     pub met_below : (s : code.Term) (h : ℕ) (v : Vec code.Term Global) (args rest : List code.Term) (b : Bool) → s ≡ code.Fun h v → args ≡ v.items → rest ≡ v.items → false ≡ before h g
@@ -85,12 +78,12 @@ module _ (before : ℕ → ℕ → Bool) where
   module _ (x : ℕ) where
     mutual
       occurs_is : (s : Term) → (is_same s (var x) || is_greater before s (var x)) ≡ occurs x s
-      occurs_is (var y) = or_false (nat_eq y x) ∙ eq_turned x y
+      occurs_is (var y) = or-false (nat_eq y x) ∙ eq_turned x y
       occurs_is (app h ss) = occurs_in_is ss
 
       occurs_in_is : (ss : Terms) → reaches (compared before ss) (var x) ≡ occurs_in x ss
       occurs_in_is nil = refl
-      occurs_in_is (cons s ss) = or_assoc (is_same s (var x)) (is_greater before s (var x)) (reaches (compared before ss) (var x)) ∙ ap₂ (λ p q. p || q) (occurs_is s) (occurs_in_is ss)
+      occurs_in_is (cons s ss) = sym (or_assoc (is_same s (var x)) (is_greater before s (var x)) (reaches (compared before ss) (var x))) ∙ ap₂ (λ p q. p || q) (occurs_is s) (occurs_in_is ss)
 
   module _ (f : ℕ) (args : List code.Term) (t : code.Term) (b : Bool) where
     pub from_variable : (x : ℕ) → t ≡ code.Var x → b ≡ occurs_in x (views args) → b ≡ exceeds before f (compared before (views args)) (view t)

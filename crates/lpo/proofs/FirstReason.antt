@@ -2,6 +2,7 @@
 use Rattle.std.proofs.Common.{◌≡◌, ℕ, zero, suc, ◌+◌, ◌<◌, ◌≤◌, true, refl, sym, ap, ◌∙◌, subst, List, [], ◌∷◌, ◌++◌, map, length, take, get_or, slice_get, Option, Some, None, Result, Ok, Err, arith}
 use Rattle.std.proofs.lemmas.List.{length-append, length-map, length-take}
 use Rattle.std.proofs.lemmas.Option.{slice_get_within}
+use Rattle.general_lemmas.proofs.Places.{slice_get-append_left, slice_get-append_right}
 use Rattle.rewriting.specs.Rules as math
 use Rattle.rewriting.specs.Systems.{condition_count, DoSidesFit}
 use Rattle.rewriting.specs.Unraveling.{unraveled, unraveled_rule, unraveled_rules}
@@ -23,16 +24,6 @@ use Rattle.lpo.specs.Reasons.{ShapeAnswers, ReasonAnswers, RulesReasonAnswers, F
 use Rattle.lpo.specs.Rules.{UnorderedAnswers, is_ordered_by}
 use Rattle.lpo.proofs.Judging.{whole, first_unordered, all_ordered}
 
--- places of two lists
-front_place : {X : Type 0} (xs ys : List X) (i : ℕ) → i < length xs → slice_get (xs ++ ys) i ≡ slice_get xs i
-front_place [] ys i h = absurd (omega (arith, h))
-front_place (x ∷ xs) ys zero h = refl
-front_place (x ∷ xs) ys (suc i) h = front_place xs ys i (omega (arith, h))
-
-behind_place : {X : Type 0} (xs ys : List X) (i : ℕ) → slice_get (xs ++ ys) (length xs + i) ≡ slice_get ys i
-behind_place [] ys i = let same : 0 + i ≡ i = omega arith in ap (slice_get ys) same
-behind_place (x ∷ xs) ys i = let same : suc (length xs) + i ≡ suc (length xs + i) = omega arith in ap (slice_get (x ∷ (xs ++ ys))) same ∙ behind_place xs ys i
-
 -- what holds of each rule of the one list, and of the first ones of the other
 both_hold : (P : math.Rule → Type 0) (xs ys : List math.Rule) (i : ℕ) → ((j : ℕ) (q : math.Rule) → slice_get xs j ≡ Some q → P q) → ((j : ℕ) (q : math.Rule) → j < i → slice_get ys j ≡ Some q → P q)
     → (j : ℕ) (q : math.Rule) → j < length xs + i → slice_get (xs ++ ys) j ≡ Some q → P q
@@ -49,7 +40,7 @@ module _ (shape : Option MeasureReason) (places : List ℕ) (front more : List m
       go (Some s) e = e
       go None (i, e, (r, at, fails, all)) =
           let within = slice_get_within front i r at in
-          (i, e, (r, front_place front more i within ∙ at, fails, λ j q less there. all j q less (sym (front_place front more j (omega (arith, less, within))) ∙ there)))
+          (i, e, (r, slice_get-append_left front more i within ∙ at, fails, λ j q less there. all j q less (sym (slice_get-append_left front more j (omega (arith, less, within))) ∙ there)))
 
   pub reason_found : (i n : ℕ) → n ≡ length front + i + 1 → ReasonAnswers shape places front None → UnorderedAnswers places more (Some i) → ReasonAnswers shape places (front ++ more) (Some (Order n))
   reason_found i n number h (r, at, fails, all) = go shape h
@@ -58,7 +49,7 @@ module _ (shape : Option MeasureReason) (places : List ℕ) (front more : List m
       go (Some s) e = absurd (cc)
       go None ordered =
           let same : n ≡ suc (length front + i) = omega (arith, number) in
-          (length front + i, ap Order same, (r, behind_place front more i ∙ at, fails, both_hold (λ q. is_ordered_by places q ≡ true) front more i ordered all))
+          (length front + i, ap Order same, (r, slice_get-append_right front more i ∙ at, fails, both_hold (λ q. is_ordered_by places q ≡ true) front more i ordered all))
 
   pub reason_none : ReasonAnswers shape places front None → UnorderedAnswers places more None → ReasonAnswers shape places (front ++ more) None
   reason_none h all = go shape h

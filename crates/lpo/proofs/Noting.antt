@@ -39,12 +39,6 @@ length_set (x ∷ lists) zero v = refl
 length_set (x ∷ lists) (suc g) v = ap suc (length_set lists g v)
 
 module _ (number : ℕ) where
-  pub noted_nowhere : (Has : ℕ → Type 0) (lists : List (Vec ℕ Global)) → ((f : ℕ) → f < length lists → Has f → ⊥) → IsNoted number Has lists lists
-  noted_nowhere Has lists none = record { as_many = refl; kept = λ f n i. i; only = λ f n i. inl i; noted = λ f lt h. absurd (none f lt h) }
-
-  pub noted_before : (lists : List (Vec ℕ Global)) (s : ℕ) → IsAmong number (listed lists s) → IsNoted number (λ f. f ≡ s) lists lists
-  noted_before lists s i = record { as_many = refl; kept = λ f n j. j; only = λ f n j. inl j; noted = λ f lt e. subst (λ k. IsAmong number (listed lists k)) (sym e) i }
-
   pub noted_last : (lists : List (Vec ℕ Global)) (s : ℕ) (b v : Vec ℕ Global) → s < length lists → v.items ≡ (get_or lists s b).items ++ number ∷ [] → IsNoted number (λ f. f ≡ s) lists (set lists s v)
   noted_last lists s b v lt e =
       record {

@@ -50,5 +50,5 @@ values_have P inherits b c p s m q before x t e = go (least_needs b c p s m x t 
     go (inl h) = before x t h
     go (inr o) = solved_has P inherits c x t e p s m.solves q o
 
-nothing_bound : (x : ℕ) (t : Term) → get (empty {R = nat_cmp}) x ≡ Some t → ⊥
+pub nothing_bound : (x : ℕ) (t : Term) → get (empty {R = nat_cmp}) x ≡ Some t → ⊥
 nothing_bound x t e = (let bad : None ≡ Some t = sym (get-empty nat_cmp x) ∙ e in cc)

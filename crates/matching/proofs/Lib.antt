@@ -1,5 +1,4 @@
 pub mod SideBySide
-pub mod Sizes
 pub mod Progress
 pub mod Parts
 pub mod Unmatched

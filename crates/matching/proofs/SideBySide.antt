@@ -1,13 +1,12 @@
 -- A subject is an instance exactly where the parts at the pattern's variables agree.
 use Rattle.std.proofs.Common.{◌≡◌, ℕ, Bool, true, false, Option, None, Some, unwrap_or, refl, sym, ap, ap₂, ◌∙◌, subst, eqb-true, eq-eqb, ◌||◌, ◌↔◌, List, [], ◌∷◌, length, get_or, drop, take, ◌-◌, Vec, Global, subst₂, ◌≤◌, ◌<◌, arith}
-use Rattle.std.proofs.lemmas.Bool.{or_left, false≢true, true≢false}
+use Rattle.std.proofs.lemmas.Bool.{or_left, false≢true, or_right, or_parts}
 use Rattle.rewriting.specs.Substitutions.{Matches}
 use Rattle.term_core.specs.declared.terms.Term as program
 use Rattle.term_core.specs.declared.terms.Term.{Fun}
 use Rattle.term_core.specs.View.{view, views}
 use Rattle.term_core.proofs.Views.{view-Fun, rest_of}
 use Rattle.rewriting.proofs.Common.{Term, Terms, var, app, nil, cons, apply, apply_all, Substitution, occurs, occurs_in}
-use Rattle.rewriting.proofs.Instances.{or_right}
 use Rattle.matching.specs.Values.{value_at, value_among, Agrees, AgreeAll}
 
 abbrev with_values : (ℕ → Option Term) → Substitution
@@ -25,14 +24,6 @@ mutual
   all_agreed value (cons p ps) nil h = absurd h
   all_agreed value (cons p ps) (cons s ss) (h, k) = ap₂ cons (agreed value p s h) (all_agreed value ps ss k)
 
-neither_left : (a b : Bool) → (a || b) ≡ false → a ≡ false
-neither_left true b e = e
-neither_left false b e = refl
-
-neither_right : (a b : Bool) → (a || b) ≡ false → b ≡ false
-neither_right true b e = absurd (true≢false e)
-neither_right false b e = e
-
 -- a variable that does not occur has no value
 mutual
   absent : (x : ℕ) (p s : Term) → occurs x p ≡ false → value_at x p s ≡ None
@@ -44,7 +35,7 @@ mutual
   absent_among x nil ss h = refl
   absent_among x (cons p ps) nil h = refl
   absent_among x (cons p ps) (cons s ss) h =
-      rw (absent x p s (neither_left (occurs x p) (occurs_in x ps) h)) (absent_among x ps ss (neither_right (occurs x p) (occurs_in x ps) h))
+      rw (absent x p s (or_parts (occurs x p) (occurs_in x ps) h).0) (absent_among x ps ss (or_parts (occurs x p) (occurs_in x ps) h).1)
 
 split : (s : Substitution) (x : ℕ) (p : Term) (ps : Terms) (b : Bool) → occurs x p ≡ b → occurs_in x (cons p ps) ≡ true
     → (occurs x p ≡ true → value_at x p (apply s p) ≡ Some (s x)) → (occurs_in x ps ≡ true → value_among x ps (apply_all s ps) ≡ Some (s x))

@@ -9,7 +9,7 @@ use term_core::{Term, equal};
 
 // The subject's part at the first occurrence of a variable in the pattern.
 #[cycle(value)]
-#[tactic(auto, using(crate::proofs::Sizes::size_pos))]
+#[tactic(auto, using(rewriting::proofs::Lengths::size_positive))]
 fn value_of<'a>(x: u32, pattern: &Term, subject: &'a Term) -> Option<&'a Term>
     ensures { option_map (λ t. view t.now) result ≡ value_at x (view pattern.now) (view subject.now) }
 {
@@ -21,7 +21,7 @@ fn value_of<'a>(x: u32, pattern: &Term, subject: &'a Term) -> Option<&'a Term>
 }
 
 #[cycle(value)]
-#[tactic(auto, using(crate::proofs::Sizes::size_pos))]
+#[tactic(auto, using(rewriting::proofs::Lengths::size_positive))]
 fn value_in<'a>(x: u32, patterns: &[Term], subjects: &'a [Term]) -> Option<&'a Term>
     ensures { option_map (λ t. view t.now) result ≡ value_among x (views patterns.now) (views subjects.now) }
 {
@@ -39,7 +39,7 @@ fn value_in<'a>(x: u32, patterns: &[Term], subjects: &'a [Term]) -> Option<&'a T
 
 // Whether each variable of the pattern stands for the part that it has in the whole.
 #[cycle(agrees)]
-#[tactic(auto, using(crate::proofs::Sizes::size_pos))]
+#[tactic(auto, using(rewriting::proofs::Lengths::size_positive))]
 fn agrees(whole: &Term, onto: &Term, pattern: &Term, subject: &Term) -> bool
     ensures { IsTrue result ↔ Agrees (λ x. value_at x (view whole.now) (view onto.now)) (view pattern.now) (view subject.now) }
 {
@@ -59,7 +59,7 @@ fn agrees(whole: &Term, onto: &Term, pattern: &Term, subject: &Term) -> bool
 }
 
 #[cycle(agrees)]
-#[tactic(auto, using(crate::proofs::Sizes::size_pos))]
+#[tactic(auto, using(rewriting::proofs::Lengths::size_positive))]
 fn agree_all(whole: &Term, onto: &Term, patterns: &[Term], subjects: &[Term]) -> bool
     ensures { IsTrue result ↔ AgreeAll (λ x. value_at x (view whole.now) (view onto.now)) (views patterns.now) (views subjects.now) }
 {
@@ -77,7 +77,7 @@ fn agree_all(whole: &Term, onto: &Term, patterns: &[Term], subjects: &[Term]) ->
 
 // Whether the symbols of the pattern stand in the subject, whatever stands at its variables.
 #[cycle(shape)]
-#[tactic(auto, using(crate::proofs::Sizes::size_pos))]
+#[tactic(auto, using(rewriting::proofs::Lengths::size_positive))]
 pub(crate) fn has_shape(pattern: &Term, subject: &Term) -> bool
     ensures { IsTrue result ↔ HasShape (view pattern.now) (view subject.now) }
 {
@@ -94,7 +94,7 @@ pub(crate) fn has_shape(pattern: &Term, subject: &Term) -> bool
 }
 
 #[cycle(shape)]
-#[tactic(auto, using(crate::proofs::Sizes::size_pos))]
+#[tactic(auto, using(rewriting::proofs::Lengths::size_positive))]
 fn have_shape(patterns: &[Term], subjects: &[Term]) -> bool
     ensures { IsTrue result ↔ HaveShape (views patterns.now) (views subjects.now) }
 {

@@ -5,6 +5,7 @@ use Rattle.std.proofs.lemmas.List.{map-append}
 use Rattle.std.proofs.lemmas.List.Concat.{flat_map-append}
 use Rattle.rewriting.specs.Lists.{IsAmong, AreDistinct}
 use Rattle.rewriting.proofs.Lists.{among_either, among_middle, among_of_map}
+use Rattle.rewriting.proofs.Members.{distinct_append}
 use Rattle.measure_grid.specs.Grid.{choices}
 
 -- one member of each list
@@ -163,14 +164,6 @@ advances_at (suc k) (w ∷ xs) [] ls x y us vs l ms from same at_x at_y at_l nex
 advances_at (suc k) (w ∷ xs) (z ∷ ys) [] x y us vs l ms from same at_x at_y at_l next lasts firsts = absurd from
 advances_at (suc k) (w ∷ xs) (z ∷ ys) (m ∷ ls) x y us vs l ms (a, from) same at_x at_y at_l next lasts firsts =
     let rest : take k ys ≡ take k xs = cc in inl (a, cc, advances_at k xs ys ls x y us vs l ms from rest at_x at_y at_l next lasts firsts)
-
-distinct_append : {X : Type 0} (xs ys : List X) → AreDistinct xs → AreDistinct ys → ((x : X) → IsAmong x xs → IsAmong x ys → ⊥) → AreDistinct (xs ++ ys)
-distinct_append [] ys d e apart = e
-distinct_append {X} (x ∷ xs) ys (fresh, d) e apart = ((λ a. go (among_either x xs ys a)), distinct_append xs ys d e (λ y a b. apart y (inr a) b))
-  where
-    go : IsAmong x xs ⊎ IsAmong x ys → ⊥
-    go (inl a) = fresh a
-    go (inr b) = apart x (inl refl) b
 
 module _ {X Y : Type 0} (f : X → Y) (once : (x y : X) → f x ≡ f y → x ≡ y) where
   pub distinct_map : (xs : List X) → AreDistinct xs → AreDistinct (map f xs)

@@ -1,6 +1,7 @@
 -- What is said of terms whose symbols have entries stays, whatever entries follow.
-use Rattle.std.proofs.Common.{ℕ, zero, suc, ◌≡◌, ◌+◌, ◌*◌, ◌^◌, ◌<◌, inl, inr, List, [], ◌∷◌, ◌++◌, length, slice_get, option_map, unwrap_or, Option, Some, refl, sym, ap, ap₂, subst, arith}
+use Rattle.std.proofs.Common.{ℕ, zero, suc, ◌≡◌, ◌+◌, ◌*◌, ◌^◌, ◌<◌, inl, inr, [], ◌∷◌, ◌++◌, length, slice_get, option_map, unwrap_or, Option, Some, refl, sym, ap, ap₂, subst, arith}
 use Rattle.std.proofs.lemmas.List.{length-append}
+use Rattle.general_lemmas.proofs.Places.{slice_get-append_left}
 use Rattle.rewriting.specs.Terms.{Term, var, app, Terms, nil, cons}
 use Rattle.rewriting.specs.Positions.{Position, argument, argument_of, subterm}
 use Rattle.rewriting.specs.Rules.{Rule, System}
@@ -9,14 +10,9 @@ use Rattle.certificates.specs.Certificates.{LinearEntry}
 use Rattle.interpretations.specs.Linear.{Interpretation, numbers_of, number_of, constant, constant_from, coefficient, coefficient_from, IsLarge, HasLargePart, Overflows, Falls, IsGood}
 use Rattle.measure_grid.specs.Dead.{HasEntries, HaveEntries, IsDead}
 
-pub get_left : {A : Type 0} (xs ys : List A) (i : ℕ) → i < length xs → slice_get (xs ++ ys) i ≡ slice_get xs i
-get_left [] ys i l = absurd (omega (arith, l))
-get_left (x ∷ xs) ys zero l = refl
-get_left (x ∷ xs) ys (suc i) l = get_left xs ys i (omega (arith, l))
-
 module _ (es more : Interpretation) where
   pub numbers_kept : (f : ℕ) → f < length es → numbers_of (es ++ more) f ≡ numbers_of es f
-  numbers_kept f l = ap (λ (o : Option LinearEntry). unwrap_or (option_map (λ e. e.coefficients) o) []) (get_left es more f l)
+  numbers_kept f l = ap (λ (o : Option LinearEntry). unwrap_or (option_map (λ e. e.coefficients) o) []) (slice_get-append_left es more f l)
 
   pub number_kept : (f k : ℕ) → f < length es → number_of (es ++ more) f k ≡ number_of es f k
   number_kept f k l = ap (λ ns. unwrap_or (slice_get ns k) 0) (numbers_kept f l)

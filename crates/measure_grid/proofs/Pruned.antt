@@ -6,8 +6,8 @@ use Rattle.certificates.specs.Certificates.{LinearEntry, MeasureCertificate}
 use Rattle.interpretations.specs.Linear.{Interpretation}
 use Rattle.first_found.specs.Items.{GivesNothing, NoneGives, cost_of, IsFirst, one}
 use Rattle.search_trees.specs.Trees.{leaves}
-use Rattle.first_found.proofs.Items.{none_append}
-use Rattle.search_trees.proofs.Lists.{cost_of_ones, none_mapped, first_mapped}
+use Rattle.first_found.proofs.Items.{none_append, cost_of_ones}
+use Rattle.search_trees.proofs.Lists.{none_mapped, first_mapped}
 use Rattle.search_trees.proofs.Trees.{barren_or_first, barren_once, below_once, stops_in_barren, stops_before_first, there_below, barren_within, nothing_below, place_below}
 use Rattle.measure_grid.specs.Grid.{columns, grid, GivesMeasure}
 use Rattle.measure_grid.specs.Dead.{IsDead}

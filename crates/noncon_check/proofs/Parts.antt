@@ -1,5 +1,6 @@
 -- Entries for redexes, rule by rule at a part, and part by part in a term.
 use Rattle.std.proofs.Common.{ℕ, ◌≡◌, ◌<◌, ◌≤◌, ◌+◌, refl, sym, subst, List, [], ◌∷◌, ◌++◌, flat_map, length, get_or, drop, Option, Result, Ok, Err}
+use Rattle.std.proofs.lemmas.List.{drop_all}
 use Rattle.rewriting.specs.Terms as math
 use Rattle.rewriting.specs.Lists.{IsAmong}
 use Rattle.rewriting.specs.Rules.{System}
@@ -13,7 +14,6 @@ use Rattle.valid_certificates.specs.Peaks.{RedexPlace}
 use Rattle.redex_conditions.specs.Judged.{IsJudgedOn, IsJudgedAt}
 use Rattle.redex_conditions.specs.Redexes.{places, part_redexes}
 use Rattle.noncon_check.specs.Walks.{Judgement, Pass, PlacesAnswer}
-use Rattle.redex_conditions.proofs.Completing.{drop_end}
 use Rattle.noncon_check.proofs.Walks.{rest_answers, first_answers, answers_to}
 use Rattle.redex_conditions.proofs.Parts.{places_split, AreAhead, ahead_first, matches_in}
 
@@ -31,7 +31,7 @@ module _ (J : Judgement) (es : List Redex) (sys : System) (w : ℕ) (q : Part) (
   rule_fails at e h = subst (λ rs. PlacesAnswer J es at rs (Err e)) (sym split) (first_answers J es at (those (n ∷ [])) (those (drop (i + 1) ns)) e h)
 
 pub rules_end : (J : Judgement) (es : List Redex) (sys : System) (w : ℕ) (q : Part) (ns : List ℕ) (i at : ℕ) → length ns ≤ i → PlacesAnswer J es at (places sys w q (drop i ns)) (Ok at)
-rules_end J es sys w q ns i at high = subst (λ ms. PlacesAnswer J es at (places sys w q ms) (Ok at)) (sym (drop_end ns i high)) refl
+rules_end J es sys w q ns i at high = subst (λ ms. PlacesAnswer J es at (places sys w q ms) (Ok at)) (sym (drop_all i ns high)) refl
 
 module _ (sys : System) (w own : ℕ) (es : List Redex) (t : math.Term) where
   abbrev J : Judgement
@@ -58,6 +58,3 @@ module _ (sys : System) (w own : ℕ) (es : List Redex) (t : math.Term) where
     part_fails at e h =
         subst (λ ps. PlacesAnswer J es at (flat_map (part_redexes sys w) ps) (Err e)) (sym split)
         (first_answers J es at (part_redexes sys w q) (flat_map (part_redexes sys w) rest) e (part_judged q first at (Err e) h))
-
-  pub parts_end : (qs : List Part) (at : ℕ) → qs ≡ [] → PlacesAnswer J es at (flat_map (part_redexes sys w) qs) (Ok at)
-  parts_end qs at e = subst (λ ps. PlacesAnswer J es at (flat_map (part_redexes sys w) ps) (Ok at)) (sym e) refl

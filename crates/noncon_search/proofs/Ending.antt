@@ -25,7 +25,7 @@ use Rattle.search_answers.specs.Answers.{SearchesExactly, IfFound, IfNothing}
 use Rattle.search_spaces.specs.PeakItems.{peak_item_cost, peak_items_of, peak_items}
 use Rattle.search_spaces.specs.Peak.{ArePeakItems, IsPeakCost, peak_space}
 use Rattle.search_spaces.proofs.Peak.{peak_searched, peak_ends_found, peak_ends_none, peak_ends_spent}
-use Rattle.noncon_search.specs.Given.{IsOverlapList}
+use Rattle.search_answers.specs.Given.{IsOverlapList}
 use Rattle.noncon_search.specs.Answers.{WalkAnswers, StartsAnswer}
 use Rattle.noncon_search.proofs.Walking.{begins, goes_on, ends, last_part}
 use Rattle.noncon_search.proofs.Listed.{rule_starts, source_starts}

@@ -1,4 +1,3 @@
-pub mod Given
 pub mod Laying
 pub mod Ends
 pub mod Answers

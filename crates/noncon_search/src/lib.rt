@@ -1,13 +1,13 @@
 //! The search for a certificate that a system is not confluent: two terms that one term reaches, and that are shown to be apart.
 #![tactic(auto)]
 
-ghost use Rattle.std.specs.Prelude.{ℕ, IfOk};
+ghost use Rattle.std.specs.Prelude.{ℕ};
 ghost use Rattle.certificates.specs.Certificates as math;
 ghost use Rattle.valid_certificates.specs.Certificates.{IsValid};
 ghost use Rattle.cc_count.specs.Counts.{Spends};
 ghost use Rattle.search_answers.specs.Answers.{SearchesExactly, IfFound, IfNothing};
 ghost use Rattle.search_spaces.specs.Peak.{peak_space, IsPeakCost};
-ghost use Rattle.noncon_search.specs.Given.{IsOverlapList, HasOverlaps};
+ghost use Rattle.search_answers.specs.Given.{IsOverlapList};
 ghost use Rattle.noncon_search.specs.Answers.{StartsAnswer};
 
 mod candidates;
@@ -23,8 +23,11 @@ mod trying;
 use crate::starts::{try_overlaps, try_rules};
 use cc_count::Budget;
 use cops_names::Names;
-use critical_pairs::{Overlap, OverlapError, overlaps};
+use critical_pairs::Overlap;
+pub use ends::{End, ends_of};
+pub use pairs::try_pairs;
 use rule_index::IndexedSystem;
+use search_answers::overlaps_or_none;
 use std::alloc::Global;
 use term_core::{NoMemory, System};
 pub use validity::Search;
@@ -68,18 +71,6 @@ pub fn search_peak_over(
     try_starts(alloc, sys, names, overlaps, budget)
 }
 
-// The overlaps, or none where they are refused.
-fn overlaps_or_none(alloc: Global, sys: &System) -> Result<Option<Vec<Overlap>>, NoMemory>
-    ensures { IfOk result (HasOverlaps sys.now) }
-{
-    match overlaps(alloc, sys) {
-        Ok(found) => Ok(Some(found)),
-        Err(OverlapError::PairTooLarge { .. }) => Ok(None),
-        Err(OverlapError::TooManyPairs) => Ok(None),
-        Err(OverlapError::NoMemory) => Err(NoMemory),
-    }
-}
-
 /// Searches for a peak whose ends are apart. From each start, the left sides of the rules and then the sources of the
 /// overlaps, the terms that it reaches in 5 steps with condition depth 2 are listed, a unit each; then each two of them are
 /// tried in order, a unit each: evidence for all redexes of both, the first that is valid for each, or else their rigid caps.
@@ -96,8 +87,6 @@ pub fn search_peak(
     ensures kept { (n : ℕ) × Spends budget.old n budget.new }
 {
     let indexed = IndexedSystem::new(alloc, sys)?;
-    match overlaps_or_none(alloc, sys)? {
-        Some(found) => search_peak_over(alloc, &indexed, names, Some(&found), budget),
-        None => search_peak_over(alloc, &indexed, names, None, budget),
-    }
+    let found = overlaps_or_none(alloc, sys)?;
+    search_peak_over(alloc, &indexed, names, found.as_deref(), budget)
 }

@@ -8,10 +8,11 @@ use Rattle.std.proofs.lemmas.List.{get_or_past, get_or-set_same, get_or-set_othe
 use Rattle.std.proofs.lemmas.List.Elements.{filter-append}
 use Rattle.std.proofs.lemmas.Nat.Bits.{bit_at-zero, bit_at-lt, bit_at_or, bit_at_set_same, bit_at_set_other, same_from_bits_below}
 use Rattle.rewriting.specs.Lists.{IsAmong}
+use Rattle.rewriting.proofs.Members.{none_among}
 use Rattle.number_sets.specs.Sets.{below, is_set, members, members_below, IsLacking}
 use Rattle.number_sets.specs.Words.{AreHad, IsFirstLacking, AreJoined}
 use Rattle.number_sets.specs.declared.words.NumberSet.{NumberSet}
-use Rattle.number_sets.proofs.Members.{in_filter, filter_in, none_in, in_below, members_ascending, same_numbers}
+use Rattle.number_sets.proofs.Members.{in_filter, filter_in, in_below, members_ascending, same_numbers}
 
 -- the bit of a number in its word
 pub bit_of : (words : List ℕ) (q p : ℕ) → q / 64 ≡ p → is_set words q ≡ true → bit_at (get_or words p 0) (q % 64) ≡ 1
@@ -71,7 +72,7 @@ word_skipped words p none = let long : 64 * (p + 1) ≡ 64 * p + 64 = omega arit
 
 -- words that are all zero, and one that is not
 all_zero : (words : List ℕ) → ((k : ℕ) → k < length words → get_or words k 0 ≡ 0) → members_below words (64 * length words) ≡ []
-all_zero words h = none_in (members_below words (64 * length words)) (λ q i. let s = (in_words words q).0 i in let low = set_within words q s in not_in_zero words q (h (q / 64) (omega arith)) s)
+all_zero words h = none_among (members_below words (64 * length words)) (λ q i. let s = (in_words words q).0 i in let low = set_within words q s in not_in_zero words q (h (q / 64) (omega arith)) s)
 
 some_word : (words : List ℕ) (p : ℕ) → get_or words p 0 < 2 ^ 64 → get_or words p 0 ≢ 0 → members_below words (64 * length words) ≡ [] → ⊥
 some_word words p fits some none = some (same_from_bits_below 64 (get_or words p 0) 0 fits (omega arith) (λ i l. off i l ∙ sym (bit_at-zero i)))

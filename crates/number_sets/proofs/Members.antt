@@ -1,19 +1,15 @@
 -- Elements of lists, and lists of numbers in order.
 use Rattle.std.proofs.Common.{◌≡◌, ◌↔◌, ◌⊎◌, inl, inr, ⊎_elim, ℕ, zero, suc, ◌+◌, ◌*◌, ◌<◌, ◌≤◌, Bool, true, false, cond, List, [], ◌∷◌, length, get_or, refl, ap, sym, subst, ◌∙◌, length-append, arith}
-use Rattle.std.specs.List.{filter, AllPairs, Contains}
+use Rattle.std.specs.List.{filter, AllPairs}
 use Rattle.std.specs.List.Sorted.{IsStrictlyIncreasing}
 use Rattle.std.proofs.lemmas.Bool.{cases_lt}
 use Rattle.std.proofs.lemmas.List.{get_or_append_left, get_or_push}
 use Rattle.std.proofs.lemmas.List.Kept.{AllPairs-from_increasing, IsStrictlyIncreasing-filter}
 use Rattle.rewriting.specs.Lists.{IsAmong}
 use Rattle.rewriting.proofs.Lists.{among_left, among_right, among_either}
+use Rattle.rewriting.proofs.Members.{contained_among}
 use Rattle.number_sets.specs.Sets.{below, is_set, members}
 use Rattle.number_sets.specs.declared.words.NumberSet.{NumberSet}
-
-pub in_contains : {X : Type 0} (x : X) (xs : List X) → IsAmong x xs → Contains xs x
-in_contains x [] h = absurd h
-in_contains x (y ∷ ys) (inl e) = (0, omega arith, sym e)
-in_contains x (y ∷ ys) (inr h) = let c = in_contains x ys h in let low = c.1 in (suc c.0, omega arith, c.2)
 
 filtered : {X : Type 0} (p : X → Bool) (x y : X) (ys fs : List X) → (IsAmong x fs → IsAmong x ys × (p x ≡ true)) → (b : Bool) → p y ≡ b → IsAmong x (cond b (y ∷ fs) fs) → IsAmong x (y ∷ ys) × (p x ≡ true)
 filtered p x y ys fs rest true e (inl f) = (inl f, ap p f ∙ e)
@@ -33,10 +29,6 @@ filter_in p x [] h t = absurd h
 filter_in p x (y ∷ ys) (inl e) t = subst (λ b. IsAmong x (cond b (y ∷ filter p ys) (filter p ys))) (sym (ap p (sym e) ∙ t)) (inl e)
 filter_in p x (y ∷ ys) (inr h) t = kept (p y) x y (filter p ys) (filter_in p x ys h t)
 
-pub none_in : {X : Type 0} (xs : List X) → ((x : X) → IsAmong x xs → ⊥) → xs ≡ []
-none_in [] h = refl
-none_in (x ∷ xs) h = absurd (h x (inl refl))
-
 -- the numbers below n
 pub in_below : (n k : ℕ) → k < n → IsAmong k (below n)
 in_below zero k h = absurd (omega arith)
@@ -47,7 +39,7 @@ pub of_below : (n k : ℕ) → IsAmong k (below n) → k < n
 of_below zero k h = absurd h
 of_below (suc n) k h = ⊎_elim (λ i. let low = of_below n k i in omega arith) (λ i. ⊎_elim (λ (e : k ≡ n). omega arith) (λ f. absurd f) i) (among_either k (below n) (n ∷ []) h)
 
-length-below : (n : ℕ) → length (below n) ≡ n
+pub length-below : (n : ℕ) → length (below n) ≡ n
 length-below zero = refl
 length-below (suc n) = omega (arith, length-append (below n) (n ∷ []), length-below n)
 
@@ -76,7 +68,7 @@ members_ascending s = filtered_ascending (is_set s.words.items) (64 * length s.w
 -- lists in order with the same numbers
 above_first : (x : ℕ) (xs : List ℕ) → AllPairs ◌<◌ (x ∷ xs) → (q : ℕ) → IsAmong q xs → x < q
 above_first x xs a q h =
-    let c = in_contains q xs h in
+    let c = contained_among q xs h in
     let low : suc c.0 < length (x ∷ xs) = let l = c.1 in omega arith in
     subst (λ (z : ℕ). x < z) c.2 (a 0 (suc c.0) q (omega arith) low)
 

@@ -1,9 +1,8 @@
 -- Derivations that are made of origins, step by step.
 use Rattle.std.proofs.Common.{◌≡◌, ℕ, List, [], ◌∷◌, ◌++◌, map, Vec, Global, refl, sym, ap, ap₂, ◌∙◌, rules}
 use Rattle.std.proofs.lemmas.List.{map_push}
-use Rattle.std.specs.declared.rc.Rc.{Rc}
 use Rattle.certificates.specs.Derivations as math
-use Rattle.certificates.specs.Derivations.{no_steps, first_step, by_rule, by_hypothesis, derivation_of, derivations_of}
+use Rattle.certificates.specs.Derivations.{first_step, by_rule, by_hypothesis, derivation_of, derivations_of}
 use Rattle.reach_lists.specs.Solutions.{then_step}
 use Rattle.cert_model.specs.DerivationView.{derivation_view, step_view}
 use Rattle.cert_model.specs.declared.derivations.Step.{Step}
@@ -13,7 +12,7 @@ use Rattle.cert_model.specs.declared.derivations.Derivation as whole
 use Rattle.origins.specs.OriginView.{origin_view, way_view}
 use Rattle.origins.specs.declared.Way.{Way}
 use Rattle.origins.specs.declared.Way as way
-use Rattle.origins.specs.declared.Origin.{Origin, roll-Origin, out-Origin}
+use Rattle.origins.specs.declared.Origin.{Origin}
 use Rattle.origins.specs.declared.Origin as origin
 
 -- what a way tells
@@ -23,15 +22,6 @@ rule_way from i p conds = search (rules, way.the_lemmas)
 
 pub hypothesis_way : (from : Origin) (k : ℕ) (p : Vec ℕ Global) → way_view (way.Hyp from k p) ≡ then_step (origin_view from) (by_hypothesis k p.items)
 hypothesis_way from k p = search (rules, way.the_lemmas)
-
-pub start_way : way_view way.Start ≡ no_steps
-start_way = search (rules, way.the_lemmas)
-
-pub of_way : (w : Rc Way Global) → origin_view (roll-Origin record { way = w }) ≡ way_view w.value
-of_way w = search (rules, origin.the_lemmas)
-
-pub way_of : (o : Origin) → origin_view o ≡ way_view (out-Origin o).way.value
-way_of o = search (rules, origin.the_lemmas)
 
 -- one step more
 then_last : (ss : List math.Step) (s : math.Step) → derivation_of (ss ++ s ∷ []) ≡ then_step (derivation_of ss) s

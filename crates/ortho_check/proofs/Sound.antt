@@ -4,10 +4,10 @@ use Rattle.std.proofs.Math.Seq.{take-append_seam, drop-append_seam}
 use Rattle.rewriting.specs.Systems.{IsWellFormed}
 use Rattle.rewriting.specs.Classes.{IsAt}
 use Rattle.rewriting.specs.Overlaps.{IsCriticalPair, condition_under, conditions_under}
-use Rattle.rewriting.proofs.Common.{Term, Position, Substitution, apply, compose, values_of, even, odd, Condition, Rule, System, Steps, Reaches}
-use Rattle.rewriting.proofs.Closures.{Star-mono}
+use Rattle.rewriting.proofs.Common.{Term, Position, Substitution, apply, compose, values_of, even, odd, Condition, Rule, System}
 use Rattle.rewriting.proofs.Instances.{apply-apply}
 use Rattle.rewriting.proofs.Conditions.{length-conditions_under}
+use Rattle.rewriting.proofs.Levels.{reaches_of_steps}
 use Rattle.unifier_run.specs.Run.{value, clash}
 use Rattle.unifier_run.specs.Overlaps.{Overlap}
 use Rattle.caps.specs.Caps.{any}
@@ -25,12 +25,9 @@ use Rattle.valid_certificates.specs.Confluence.{IsValidOrtho}
 use Rattle.judged_evidence.proofs.Judged.{judged_infeasible}
 use Rattle.valid_certificates.proofs.Settled.{settled}
 
-reached : (sys : System) (n : ℕ) (a b : Term) → Steps sys n a b → Reaches sys a b
-reached sys n = Star-mono (λ x y h. (n, h))
-
 -- terms whose caps clash never meet, whatever the levels
 never_meet : (sys : System) (u v : Term) → IsPairOutcome sys any u v clash → NeverMeet sys u v
-never_meet sys u v clashes m n c d z over_c over_d p q = caps_apart sys u v (values_of c) (values_of d) z clashes (reached sys m _ _ p) (reached sys n _ _ q)
+never_meet sys u v clashes m n c d z over_c over_d p q = caps_apart sys u v (values_of c) (values_of d) z clashes (reaches_of_steps sys m _ _ p) (reaches_of_steps sys n _ _ q)
 
 -- a condition among instances is the instance of one
 instance_at : (s : Substitution) (cs : List Condition) (k : ℕ) (c : Condition) → IsAt (conditions_under s cs) k c → (a : Condition) × IsAt cs k a × (c ≡ condition_under s a)

@@ -9,6 +9,7 @@ ghost use Rattle.valid_certificates.specs.Certificates.{IsValid};
 ghost use Rattle.valid_certificates.specs.Confluence.{IsInOrthoClasses};
 ghost use Rattle.cc_count.specs.Counts.{Spends};
 ghost use Rattle.search_answers.specs.Answers.{SearchesExactly, IfFound, IfNothing};
+ghost use Rattle.search_answers.specs.Given.{IsOverlapList};
 ghost use Rattle.search_spaces.specs.Ortho.{ortho_space, IsOrthoPaid};
 
 mod entries;
@@ -16,15 +17,17 @@ mod items;
 mod trying;
 
 use crate::entries::entries_for;
+pub use crate::trying::try_overlap;
 use cc_count::Budget;
 use cert_limits::has_text;
 use cert_model::Certificate;
 use cops_names::Names;
-use critical_pairs::{Overlap, OverlapError, overlaps};
+use critical_pairs::Overlap;
 use ctrs_classes::{is_extended_oriented, is_left_linear, is_right_stable, is_type3};
 use irreducible::LeftSides;
 use pair_search::Entries;
 use rule_index::IndexedSystem;
+use search_answers::overlaps_or_none;
 use std::alloc::Global;
 use term_core::{NoMemory, System};
 pub use validity::Search;
@@ -65,23 +68,26 @@ fn search_open(
     }
 }
 
-/// The same as `search_ortho`, over left sides and a list of the overlaps that were made before.
+/// The same as `search_ortho`, over left sides and a list of the overlaps that were made before; none where the overlaps are refused.
 pub fn search_ortho_over(
     alloc: Global,
     sys: &LeftSides<'_>,
     names: &Names,
-    overlaps: &[Overlap],
+    overlaps: Option<&[Overlap]>,
     budget: &mut Budget,
 ) -> Result<Search, NoMemory>
-    requires overlaps { AreOverlaps sys.now (map overlap_view overlaps.now) }
+    requires overlaps { IsOverlapList sys.now overlaps }
     ensures searched { SearchesExactly (ortho_space names.now sys.now) budget.old budget.new result }
     ensures nothing { IfNothing result ((c : math.Certificate) → (ortho_space names.now sys.now).Holds c → IsValid sys.now c → ⊥) }
     ensures valid { IfFound result (IsValid sys.now) }
     ensures paid { IfNothing result ((n : ℕ) × Spends budget.old n budget.new × IsOrthoPaid names.now sys.now n) }
     ensures kept { (n : ℕ) × Spends budget.old n budget.new }
 {
+    let Some(found) = overlaps else {
+        return Ok(Search::Nothing);
+    };
     if is_in_classes(sys.system()) {
-        search_open(alloc, sys, names, overlaps, budget)
+        search_open(alloc, sys, names, found, budget)
     } else {
         Ok(Search::Nothing)
     }
@@ -105,10 +111,6 @@ pub fn search_ortho(
 {
     let indexed = IndexedSystem::new(alloc, sys)?;
     let lefts = LeftSides::new(alloc, indexed)?;
-    match overlaps(alloc, sys) {
-        Ok(found) => search_ortho_over(alloc, &lefts, names, &found, budget),
-        Err(OverlapError::PairTooLarge { .. }) => Ok(Search::Nothing),
-        Err(OverlapError::TooManyPairs) => Ok(Search::Nothing),
-        Err(OverlapError::NoMemory) => Err(NoMemory),
-    }
+    let found = overlaps_or_none(alloc, sys)?;
+    search_ortho_over(alloc, &lefts, names, found.as_deref(), budget)
 }

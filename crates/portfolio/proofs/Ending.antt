@@ -1,7 +1,6 @@
 -- How the searches of the three spaces of a system end, from the ends of each.
-use Rattle.std.proofs.Common.{ℕ, ◌≡◌, ◌+◌, inl, List, Result, Ok, Err, subst, arith}
+use Rattle.std.proofs.Common.{ℕ, ◌≡◌, ◌+◌, inl, Result, Ok, Err, subst, arith}
 use Rattle.rewriting.specs.Rules.{System}
-use Rattle.unifier_run.specs.Overlaps.{Overlap, AreOverlaps}
 use Rattle.certificates.specs.Certificates.{Certificate}
 use Rattle.term_core.specs.declared.terms.NoMemory.{NoMemory}
 use Rattle.cert_model.specs.CertificateView.{certificate_view}
@@ -15,17 +14,13 @@ use Rattle.first_found.proofs.Spaces.{ends_so, first_found, first_spent, second_
 use Rattle.search_answers.specs.Answers.{SearchesExactly, ending_of, IfFound}
 use Rattle.search_spaces.specs.Ortho.{ortho_space}
 use Rattle.search_spaces.specs.Peak.{peak_space}
-use Rattle.search_spaces.specs.Whole.{whole_space}
-use Rattle.search_spaces.proofs.Ortho as ortho
+use Rattle.search_spaces.specs.OrthoThenPeak.{ortho_then_peak_space}
 use Rattle.search_spaces.proofs.Ortho.{cost_once, ortho_finds_once}
 use Rattle.quasi_space.specs.AllSpaces.{pruned_spaces}
 use Rattle.quasi_space.specs.Measures.{pruned_measures}
 use Rattle.quasi_space.specs.Quasi.{quasi_space_by}
 use Rattle.quasi_space.proofs.Endings.{last_ends}
-use Rattle.quasi_space.proofs.Measures.{pruned_tried}
-use Rattle.quasi_space.proofs.Quasi as quasi
-use Rattle.quasi_search.specs.Answers.{Searches}
-use Rattle.cc_count.proofs.Spending.{spends_none, spends_both}
+use Rattle.cc_count.proofs.Spending.{spends_both}
 use Rattle.portfolio.specs.declared.Outcome.{Outcome}
 use Rattle.portfolio.specs.declared.Outcome.TheVariants.{Found, Spent}
 use Rattle.portfolio.specs.Answers.{outcome_ending, SearchesBoth, SearchesAll, IfProved}
@@ -33,14 +28,6 @@ use Rattle.portfolio.specs.Answers.{outcome_ending, SearchesBoth, SearchesAll, I
 module _ (names : NameTable) (sys : System) where
   abbrev Last : Space Certificate
   Last = quasi_space_by (pruned_measures sys) names sys
-
-  -- where the overlaps have no list, there is nothing to search
-  module _ (none : (os : List Overlap) → AreOverlaps sys os → ⊥) (b : Counts) where
-    pub ortho_unlisted : SearchesExactly (ortho_space names sys) b b (Ok search.Nothing)
-    ortho_unlisted = (0, spends_none b, ortho.ends_closed names sys (λ os h. none os h.overlaps) b.left)
-
-    pub quasi_unlisted : Searches Last b b (Ok search.Nothing)
-    quasi_unlisted = (0, spends_none b, quasi.ends_closed names sys (pruned_measures sys) (pruned_tried sys) (λ os h. none os h.overlaps) b.left)
 
   -- where the first space has a certificate, that is found, for exactly its price
   abbrev pub IsOrthoFirst : Counts → Counts → Result Search NoMemory → Type 0
@@ -51,11 +38,11 @@ module _ (names : NameTable) (sys : System) where
     ortho_found c (n, s, f) d m g =
         let same = ortho_finds_once names sys (certificate_view c) d n m f g in (same.1, subst (λ k. Spends before k here) same.0 s)
 
-    pub both_spent : SearchesExactly (ortho_space names sys) before here (Ok search.Spent) → SearchesBoth (whole_space names sys) before here (Ok search.Spent)
+    pub both_spent : SearchesExactly (ortho_space names sys) before here (Ok search.Spent) → SearchesBoth (ortho_then_peak_space names sys) before here (Ok search.Spent)
     both_spent (n, s, e) = (n, s, first_spent (ortho_space names sys) (peak_space names sys) before.left n e)
 
     module _ (after : Counts) (none : SearchesExactly (ortho_space names sys) before here (Ok search.Nothing)) where
-      peak_goes_on : (o : Search) → SearchesExactly (peak_space names sys) here after (Ok o) → SearchesBoth (whole_space names sys) before after (Ok o)
+      peak_goes_on : (o : Search) → SearchesExactly (peak_space names sys) here after (Ok o) → SearchesBoth (ortho_then_peak_space names sys) before after (Ok o)
       peak_goes_on o (m, t, e) =
           let n = none.0 in
           let s = none.1 in
@@ -65,7 +52,7 @@ module _ (names : NameTable) (sys : System) where
             second_ends (ortho_space names sys) (peak_space names sys) (cost_once names sys) before.left n none.2 (omega (arith, left)) here.left m (ending_of o) (omega (arith, left)) (ends_so (peak_space names sys) here.left m (ending_of o) e),
           )
 
-      pub both_behind : (r : Result Search NoMemory) → SearchesExactly (peak_space names sys) here after r → SearchesBoth (whole_space names sys) before after r
+      pub both_behind : (r : Result Search NoMemory) → SearchesExactly (peak_space names sys) here after r → SearchesBoth (ortho_then_peak_space names sys) before after r
       both_behind (Ok o) h = peak_goes_on o h
       both_behind (Err e) h = tt
 
@@ -74,13 +61,13 @@ module _ (names : NameTable) (sys : System) where
       ortho_none r c n f = absurd (none.2.0 c n f)
 
     -- what the first two find or spend, all do
-    pub all_found : (c : model.Certificate) → SearchesBoth (whole_space names sys) before here (Ok (search.Found c)) → SearchesAll (pruned_spaces names sys) before here (Ok (Found c))
-    all_found c (n, s, e) = (n, s, first_found (whole_space names sys) Last before.left n (certificate_view c) e)
+    pub all_found : (c : model.Certificate) → SearchesBoth (ortho_then_peak_space names sys) before here (Ok (search.Found c)) → SearchesAll (pruned_spaces names sys) before here (Ok (Found c))
+    all_found c (n, s, e) = (n, s, first_found (ortho_then_peak_space names sys) Last before.left n (certificate_view c) e)
 
-    pub all_spent : SearchesBoth (whole_space names sys) before here (Ok search.Spent) → SearchesAll (pruned_spaces names sys) before here (Ok Spent)
-    all_spent (n, s, e) = (n, s, first_spent (whole_space names sys) Last before.left n e)
+    pub all_spent : SearchesBoth (ortho_then_peak_space names sys) before here (Ok search.Spent) → SearchesAll (pruned_spaces names sys) before here (Ok Spent)
+    all_spent (n, s, e) = (n, s, first_spent (ortho_then_peak_space names sys) Last before.left n e)
 
-    module _ (once : CostsOnce (whole_space names sys)) (after : Counts) (none : SearchesBoth (whole_space names sys) before here (Ok search.Nothing)) where
+    module _ (once : CostsOnce (ortho_then_peak_space names sys)) (after : Counts) (none : SearchesBoth (ortho_then_peak_space names sys) before here (Ok search.Nothing)) where
       last_goes_on : (o : Outcome) → SearchesAll Last here after (Ok o) → SearchesAll (pruned_spaces names sys) before after (Ok o)
       last_goes_on o (m, t, e) =
           let n = none.0 in
@@ -88,7 +75,7 @@ module _ (names : NameTable) (sys : System) where
           let left = s.left in (
             n + m,
             spends_both before here after n m s t,
-            last_ends (whole_space names sys) Last once before.left n none.2 (omega (arith, left)) here.left m (outcome_ending o) (omega (arith, left)) e,
+            last_ends (ortho_then_peak_space names sys) Last once before.left n none.2 (omega (arith, left)) here.left m (outcome_ending o) (omega (arith, left)) e,
           )
 
       pub all_behind : (r : Result Outcome NoMemory) → SearchesAll Last here after r → SearchesAll (pruned_spaces names sys) before after r

@@ -1,3 +1,4 @@
 pub mod Ending
 pub mod WithSteps
 pub mod Proving
+pub mod StepOrigins

@@ -3,17 +3,18 @@
 ghost use Rattle.std.specs.Prelude.{ℕ, ◌≡◌, map};
 ghost use Rattle.cert_model.specs.CertificateView.{simp_view, certificate_view};
 ghost use Rattle.cc_count.specs.Counts.{Spends};
+ghost use Rattle.simplifications.specs.Simplifying.{AllSimplify};
 ghost use Rattle.search_spaces.specs.Ortho.{ortho_space};
 ghost use Rattle.search_spaces.specs.Peak.{peak_space};
 ghost use Rattle.quasi_space.specs.Measures.{pruned_measures};
 ghost use Rattle.quasi_space.specs.Quasi.{quasi_space_by};
 ghost use Rattle.proof_spaces.specs.Proofs.{with_steps, two_with_steps, three_with_steps};
-ghost use Rattle.noncon_search.specs.Given.{IsOverlapList};
+ghost use Rattle.search_answers.specs.Given.{HasOverlaps, IsOverlapList};
 ghost use Rattle.portfolio.specs.Answers.{SearchesAll};
 ghost use Rattle.portfolio.specs.StepAnswers.{HasSteps, steps_before, WritesBehind, AnswersBehind, SearchesBehind, SearchesSimplified};
 
 use crate::Outcome;
-use crate::own::{overlaps_or_none, search_ortho_if, search_quasi_if};
+use crate::untouched::overlaps_behind;
 use cc_count::Budget;
 use cert_limits::has_text;
 use cert_model::{Certificate, Simp};
@@ -21,6 +22,8 @@ use cops_names::Names;
 use critical_pairs::Overlap;
 use irreducible::LeftSides;
 use noncon_search::search_peak_over;
+use ortho_search::search_ortho_over;
+use quasi_search::search_quasi_over;
 use rule_index::IndexedSystem;
 use std::alloc::Global;
 use step_search::{SimpSearch, find_steps};
@@ -102,7 +105,7 @@ fn search_ortho_behind(
     ensures searched { SearchesBehind (map simp_view steps.items) (with_steps names.now (map simp_view steps.items) (ortho_space names.now last.now)) budget.old budget.new result }
     ensures kept { (n : ℕ) × Spends budget.old n budget.new }
 {
-    let answer = search_ortho_if(alloc, last, names, overlaps, budget)?;
+    let answer = search_ortho_over(alloc, last, names, overlaps, budget)?;
     with_the_steps(alloc, names, steps, answer)
 }
 
@@ -136,7 +139,7 @@ fn search_quasi_behind(
     ensures searched { SearchesAll (with_steps names.now (map simp_view steps.items) (quasi_space_by (pruned_measures last.now) names.now last.now)) budget.old budget.new result }
     ensures kept { (n : ℕ) × Spends budget.old n budget.new }
 {
-    let answer = search_quasi_if(alloc, last, names, overlaps, budget)?;
+    let answer = search_quasi_over(alloc, last, names, overlaps, budget)?;
     match with_the_steps(alloc, names, steps, answer)? {
         Behind::Found(cert) => Ok(Outcome::Found(cert)),
         Behind::Nothing(_) => Ok(Outcome::Exhausted),
@@ -190,32 +193,37 @@ fn search_three_behind(
     }
 }
 
-// All three, over the same left sides and one list of overlaps.
+// All three, over the same left sides and one list of overlaps, which has what is known from the system before the steps.
 fn search_last_system(
     alloc: Global,
+    sys: &System,
+    known: Option<Vec<Overlap>>,
     last: &System,
     names: &Names,
     steps: Vec<Simp>,
     budget: &mut Budget,
 ) -> Result<Outcome, NoMemory>
+    requires known { HasOverlaps sys.now known }
+    requires steps { AllSimplify sys.now (map simp_view steps.items) last.now }
     ensures searched { SearchesAll (three_with_steps pruned_measures names.now (map simp_view steps.items) last.now) budget.old budget.new result }
     ensures kept { (n : ℕ) × Spends budget.old n budget.new }
 {
     let indexed = IndexedSystem::new(alloc, last)?;
     let lefts = LeftSides::new(alloc, indexed)?;
-    match overlaps_or_none(alloc, last)? {
-        Some(found) => search_three_behind(alloc, &lefts, names, Some(&found), steps, budget),
-        None => search_three_behind(alloc, &lefts, names, None, steps, budget),
-    }
+    let found = overlaps_behind(alloc, sys, known, &steps, last)?;
+    search_three_behind(alloc, &lefts, names, found.as_deref(), steps, budget)
 }
 
-/// Finds the standard steps of the system, and searches what they leave; where there are none, there is nothing more to search.
+/// Finds the standard steps of the system, whose overlaps are known, and searches what they leave; where there are none, there is
+/// nothing more to search.
 pub fn search_simplified(
     alloc: Global,
     sys: &System,
     names: &Names,
+    known: Option<Vec<Overlap>>,
     budget: &mut Budget,
 ) -> Result<Outcome, NoMemory>
+    requires known { HasOverlaps sys.now known }
     ensures searched { SearchesSimplified names.now sys.now budget.old budget.new result }
     ensures kept { (n : ℕ) × Spends budget.old n budget.new }
 {
@@ -224,7 +232,7 @@ pub fn search_simplified(
             if steps.is_empty() {
                 return Ok(Outcome::Exhausted);
             }
-            search_last_system(alloc, &last, names, steps, budget)
+            search_last_system(alloc, sys, known, &last, names, steps, budget)
         }
         Ok(SimpSearch::Spent) => Ok(Outcome::Spent),
         Err(e) => Err(e),

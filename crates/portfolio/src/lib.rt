@@ -12,6 +12,7 @@ ghost use Rattle.portfolio.specs.Answers.{Proves, IfProved, IfExhausted};
 
 mod behind;
 mod own;
+mod untouched;
 
 use crate::behind::search_simplified;
 use crate::own::search_whole;
@@ -19,6 +20,7 @@ use cc_count::Budget;
 use cert_model::Certificate;
 use cops_names::Names;
 use proof_spaces::proof_spaces_are_searchable;
+use search_answers::overlaps_or_none;
 use std::alloc::Global;
 use term_core::{NoMemory, System};
 
@@ -53,9 +55,10 @@ pub fn prove(
     ensures kept { (n : ℕ) × Spends budget.old n budget.new }
 {
     proof_spaces_are_searchable();
-    match search_whole(alloc, sys, names, budget) {
+    let found = overlaps_or_none(alloc, sys)?;
+    match search_whole(alloc, sys, names, found.as_deref(), budget) {
         Ok(Outcome::Found(cert)) => Ok(Outcome::Found(cert)),
-        Ok(Outcome::Exhausted) => search_simplified(alloc, sys, names, budget),
+        Ok(Outcome::Exhausted) => search_simplified(alloc, sys, names, found, budget),
         Ok(Outcome::Spent) => Ok(Outcome::Spent),
         Err(e) => Err(e),
     }

@@ -1,21 +1,21 @@
 //! The three spaces of a system, searched one behind the other.
-ghost use Rattle.std.specs.Prelude.{ℕ, ◌≡◌, IfOk};
+ghost use Rattle.std.specs.Prelude.{ℕ, ◌≡◌};
 ghost use Rattle.certificates.specs.Certificates as math;
 ghost use Rattle.cc_count.specs.Counts.{Spends};
 ghost use Rattle.search_answers.specs.Answers.{SearchesExactly, IfFound};
 ghost use Rattle.search_spaces.specs.Ortho.{ortho_space};
-ghost use Rattle.search_spaces.specs.Whole.{whole_space};
+ghost use Rattle.search_spaces.specs.OrthoThenPeak.{ortho_then_peak_space};
 ghost use Rattle.quasi_space.specs.AllSpaces.{pruned_spaces};
 ghost use Rattle.quasi_space.specs.Measures.{pruned_measures};
 ghost use Rattle.quasi_space.specs.Quasi.{quasi_space_by};
 ghost use Rattle.quasi_search.specs.Answers.{Searches};
-ghost use Rattle.noncon_search.specs.Given.{IsOverlapList, HasOverlaps};
+ghost use Rattle.search_answers.specs.Given.{IsOverlapList};
 ghost use Rattle.portfolio.specs.Answers.{SearchesBoth, SearchesAll, IfProved};
 
 use crate::Outcome;
 use cc_count::Budget;
 use cops_names::Names;
-use critical_pairs::{Overlap, OverlapError, overlaps};
+use critical_pairs::Overlap;
 use irreducible::LeftSides;
 use noncon_search::search_peak_over;
 use ortho_search::search_ortho_over;
@@ -26,54 +26,6 @@ use std::alloc::Global;
 use term_core::{NoMemory, System};
 use validity::Search;
 
-/// The overlaps of a system, or none where they are refused.
-pub fn overlaps_or_none(alloc: Global, sys: &System) -> Result<Option<Vec<Overlap>>, NoMemory>
-    ensures { IfOk result (HasOverlaps sys.now) }
-{
-    match overlaps(alloc, sys) {
-        Ok(found) => Ok(Some(found)),
-        Err(OverlapError::PairTooLarge { .. }) => Ok(None),
-        Err(OverlapError::TooManyPairs) => Ok(None),
-        Err(OverlapError::NoMemory) => Err(NoMemory),
-    }
-}
-
-/// The search for a certificate of an almost orthogonal system; where the overlaps have no list, there is nothing to search.
-pub fn search_ortho_if(
-    alloc: Global,
-    sys: &LeftSides<'_>,
-    names: &Names,
-    overlaps: Option<&[Overlap]>,
-    budget: &mut Budget,
-) -> Result<Search, NoMemory>
-    requires overlaps { IsOverlapList sys.now overlaps }
-    ensures searched { SearchesExactly (ortho_space names.now sys.now) budget.old budget.new result }
-    ensures kept { (n : ℕ) × Spends budget.old n budget.new }
-{
-    match overlaps {
-        Some(found) => search_ortho_over(alloc, sys, names, found, budget),
-        None => Ok(Search::Nothing),
-    }
-}
-
-/// The same for a certificate with a measure.
-pub fn search_quasi_if(
-    alloc: Global,
-    sys: &LeftSides<'_>,
-    names: &Names,
-    overlaps: Option<&[Overlap]>,
-    budget: &mut Budget,
-) -> Result<Search, NoMemory>
-    requires overlaps { IsOverlapList sys.now overlaps }
-    ensures searched { Searches (quasi_space_by (pruned_measures sys.now) names.now sys.now) budget.old budget.new result }
-    ensures kept { (n : ℕ) × Spends budget.old n budget.new }
-{
-    match overlaps {
-        Some(found) => search_quasi_over(alloc, sys, names, found, budget),
-        None => Ok(Search::Nothing),
-    }
-}
-
 // The first two searches, one behind the other.
 fn search_both(
     alloc: Global,
@@ -83,11 +35,11 @@ fn search_both(
     budget: &mut Budget,
 ) -> Result<Search, NoMemory>
     requires overlaps { IsOverlapList sys.now overlaps }
-    ensures searched { SearchesBoth (whole_space names.now sys.now) budget.old budget.new result }
+    ensures searched { SearchesBoth (ortho_then_peak_space names.now sys.now) budget.old budget.new result }
     ensures ortho_first { (c : math.Certificate) (n : ℕ) → (ortho_space names.now sys.now).Finds c n → IfFound result (λ found. (found ≡ c) × Spends budget.old n budget.new) }
     ensures kept { (n : ℕ) × Spends budget.old n budget.new }
 {
-    match search_ortho_if(alloc, sys, names, overlaps, budget) {
+    match search_ortho_over(alloc, sys, names, overlaps, budget) {
         Ok(Search::Found(cert)) => Ok(Search::Found(cert)),
         Ok(Search::Nothing) => search_peak_over(alloc, sys.indexed(), names, overlaps, budget),
         Ok(Search::Spent) => Ok(Search::Spent),
@@ -107,7 +59,7 @@ fn search_last(
     ensures searched { SearchesAll (quasi_space_by (pruned_measures sys.now) names.now sys.now) budget.old budget.new result }
     ensures kept { (n : ℕ) × Spends budget.old n budget.new }
 {
-    match search_quasi_if(alloc, sys, names, overlaps, budget) {
+    match search_quasi_over(alloc, sys, names, overlaps, budget) {
         Ok(Search::Found(cert)) => Ok(Outcome::Found(cert)),
         Ok(Search::Nothing) => Ok(Outcome::Exhausted),
         Ok(Search::Spent) => Ok(Outcome::Spent),
@@ -137,21 +89,20 @@ fn search_all(
     }
 }
 
-/// All searches, over the same left sides and one list of overlaps.
+/// All searches, over the same left sides and the list of overlaps.
 pub fn search_whole(
     alloc: Global,
     sys: &System,
     names: &Names,
+    overlaps: Option<&[Overlap]>,
     budget: &mut Budget,
 ) -> Result<Outcome, NoMemory>
+    requires overlaps { IsOverlapList sys.now overlaps }
     ensures searched { SearchesAll (pruned_spaces names.now sys.now) budget.old budget.new result }
     ensures ortho_first { (c : math.Certificate) (n : ℕ) → (ortho_space names.now sys.now).Finds c n → IfProved result (λ found. (found ≡ c) × Spends budget.old n budget.new) }
     ensures kept { (n : ℕ) × Spends budget.old n budget.new }
 {
     let indexed = IndexedSystem::new(alloc, sys)?;
     let lefts = LeftSides::new(alloc, indexed)?;
-    match overlaps_or_none(alloc, sys)? {
-        Some(found) => search_all(alloc, &lefts, names, Some(&found), budget),
-        None => search_all(alloc, &lefts, names, None, budget),
-    }
+    search_all(alloc, &lefts, names, overlaps, budget)
 }

@@ -3,6 +3,7 @@ use Rattle.std.proofs.Common.{◌≡◌, ◌⊎◌, inl, inr, ℕ, zero, suc, �
 use Rattle.std.proofs.lemmas.Bool.{both_ways, cases_Bool, cases_lt}
 use Rattle.std.proofs.lemmas.List.{length-append}
 use Rattle.std.proofs.lemmas.Option.{slice_get_within}
+use Rattle.general_lemmas.proofs.Places.{slice_get_shorter, slice_get_seam}
 use Rattle.rewriting.specs.Lists.{IsAmong}
 use Rattle.rewriting.specs.Rules as math
 use Rattle.rewriting.specs.Rules.{rule_at, EachRule}
@@ -21,7 +22,6 @@ use Rattle.lpo.specs.Rules.{is_dead_at, is_ordered_by}
 use Rattle.lpo.specs.Listed.{HasSymbol, HaveSymbol, OccursAt, ListedAnswers}
 use Rattle.lpo.proofs.Placing.{one_number}
 use Rattle.lpo.proofs.Judging.{dead_test, ordered_so, ordered_seen}
-use Rattle.precedence_search.proofs.Turning.{get_less, get_last}
 
 module _ (sys : math.System) (order : Precedence) (h : Head) (f : ℕ) (is : slice_get (heads sys) f ≡ Some h) where
   -- a symbol that is not the last stands before it
@@ -29,12 +29,12 @@ module _ (sys : math.System) (order : Precedence) (h : Head) (f : ℕ) (is : sli
   stands_less g k (x, at, there) other = go (cases_lt k (length order))
     where
       go : (k < length order) ⊎ (length order ≤ k) → StandsAt sys order g k
-      go (inl lt) = (x, at, get_less order (h ∷ []) k x lt there)
+      go (inl lt) = (x, at, slice_get_shorter order (h ∷ []) k x lt there)
       go (inr le) =
           let sum = length-append order (h ∷ []) in
           let within = slice_get_within (order ++ h ∷ []) k x there in
           let last : k ≡ length order = omega (arith, sum, within, le) in
-          let here : slice_get (order ++ h ∷ []) k ≡ Some h = ap (slice_get (order ++ h ∷ [])) last ∙ get_last order h in
+          let here : slice_get (order ++ h ∷ []) k ≡ Some h = ap (slice_get (order ++ h ∷ [])) last ∙ slice_get_seam order h [] in
           absurd (other (one_number (heads sys) (heads_distinct sys) f g h is (let one : x ≡ h = cc in at ∙ ap Some one)))
 
   mutual

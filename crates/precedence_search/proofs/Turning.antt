@@ -3,24 +3,15 @@ use Rattle.std.proofs.Common.{◌≡◌, ◌⊎◌, inl, inr, ℕ, zero, suc, �
 use Rattle.std.proofs.lemmas.Bool.{cases_lt, cases_eq}
 use Rattle.std.proofs.lemmas.List.{length-set, length-append, map-append}
 use Rattle.std.proofs.lemmas.Option.{slice_get_within}
+use Rattle.general_lemmas.proofs.Places.{slice_get_longer, slice_get_shorter, slice_get_seam}
 use Rattle.rewriting.specs.Lists.{AreDistinct}
 use Rattle.rewriting.specs.Unraveling.{Head}
 use Rattle.path_orders.specs.Precedences.{Precedence}
-use Rattle.path_orders.proofs.Dead.{get_more}
 use Rattle.lpo.specs.Places.{StandsIn, IsNewIn, placed, ArePlaces}
 use Rattle.term_core.specs.HeadView.{head_view}
 use Rattle.term_core.specs.declared.systems.Head as code
 use Rattle.lpo.proofs.Placing.{map_get, one_number, place_more, placed_within}
 use Rattle.precedence_search.specs.Walks.{IsLonger}
-
-pub get_less : {A : Type 0} (xs ys : List A) (i : ℕ) (x : A) → i < length xs → slice_get (xs ++ ys) i ≡ Some x → slice_get xs i ≡ Some x
-get_less [] ys i x lt e = absurd (omega (arith, lt))
-get_less (z ∷ xs) ys zero x lt e = e
-get_less (z ∷ xs) ys (suc i) x lt e = get_less xs ys i x (omega (arith, lt)) e
-
-pub get_last : {A : Type 0} (xs : List A) (x : A) → slice_get (xs ++ x ∷ []) (length xs) ≡ Some x
-get_last [] x = refl
-get_last (y ∷ xs) x = get_last xs x
 
 placed_less : (ps : List ℕ) (f n : ℕ) → get_or ps f 0 ≡ suc n → suc (placed (slice_set ps f 0)) ≡ placed ps
 placed_less [] f n e = absurd (omega (arith, e))
@@ -47,10 +38,10 @@ module _ (hs : List Head) (order : Precedence) (h : Head) where
   long = let sum = length-append order (h ∷ []) in omega (arith, sum)
 
   longer : (f j : ℕ) → StandsIn hs order f j → StandsIn hs (order ++ h ∷ []) f j
-  longer f j s = (s.0, s.1, get_more order (h ∷ []) j s.0 s.2)
+  longer f j s = (s.0, s.1, slice_get_longer order (h ∷ []) j s.0 s.2)
 
   shorter : (f j : ℕ) → j < length order → StandsIn hs (order ++ h ∷ []) f j → StandsIn hs order f j
-  shorter f j lt s = (s.0, s.1, get_less order (h ∷ []) j s.0 lt s.2)
+  shorter f j lt s = (s.0, s.1, slice_get_shorter order (h ∷ []) j s.0 lt s.2)
 
   new_longer : (j : ℕ) → j < length order → IsNewIn hs order j → IsNewIn hs (order ++ h ∷ []) j
   new_longer j lt n = record { symbol = n.symbol; stands = longer n.symbol j n.stands; is_new = λ i less s. n.is_new i less (shorter n.symbol i (omega (arith, less, lt)) s) }
@@ -68,7 +59,7 @@ module _ (hs : List Head) (order : Precedence) (h : Head) where
           complete = λ g j lt s. a.complete g j lt (shorter g j lt s);
           new = λ j lt. new_longer j lt (a.new j lt);
         } in
-        subst (λ z. ArePlaces hs (order ++ h ∷ []) z (slice_set ps f (suc (length order)))) (sym long) (place_more hs (order ++ h ∷ []) (length order) ps b distinct f h is (get_last order h) free)
+        subst (λ z. ArePlaces hs (order ++ h ∷ []) z (slice_set ps f (suc (length order)))) (sym long) (place_more hs (order ++ h ∷ []) (length order) ps b distinct f h is (slice_get_seam order h []) free)
 
     pub take_place : ArePlaces hs (order ++ h ∷ []) (length (order ++ h ∷ [])) ps → ArePlaces hs order (length order) (slice_set ps f 0)
     take_place a =
@@ -81,7 +72,7 @@ module _ (hs : List Head) (order : Precedence) (h : Head) where
         }
       where
         here : get_or ps f 0 ≡ suc (length order)
-        here = a.complete f (length order) (let sum = long in omega (arith, sum)) (h, is, get_last order h)
+        here = a.complete f (length order) (let sum = long in omega (arith, sum)) (h, is, slice_get_seam order h [])
 
         inside : f < length ps
         inside = let many = a.as_many in let within = slice_get_within hs f h is in omega (arith, many, within)
@@ -95,7 +86,7 @@ module _ (hs : List Head) (order : Precedence) (h : Head) where
                 let less = s.0 in
                 let sum = long in
                 let last : j ≡ length order = omega (arith, le, less, sum) in
-                let at : slice_get (order ++ h ∷ []) j ≡ Some h = ap (slice_get (order ++ h ∷ [])) last ∙ get_last order h in
+                let at : slice_get (order ++ h ∷ []) j ≡ Some h = ap (slice_get (order ++ h ∷ [])) last ∙ slice_get_seam order h [] in
                 absurd (n (one_number hs distinct g f h (s.1.1 ∙ (sym s.1.2 ∙ at)) is))
 
             go : (g ≡ f) ⊎ (g ≡ f → ⊥) → (j < length order) × StandsIn hs order g j
@@ -115,7 +106,7 @@ module _ (hs : List Head) (order : Precedence) (h : Head) where
   last_known ps a none =
       let n = a.new (length order) (let sum = long in omega (arith, sum)) in
       let s = n.stands in
-      none n.symbol (s.1 ∙ (sym s.2 ∙ get_last order h))
+      none n.symbol (s.1 ∙ (sym s.2 ∙ slice_get_seam order h []))
 
 -- the same for the code's lists
 pub last_put : (heads items new : List code.Head) (f : ℕ) (d : code.Head) → f < length heads → new ≡ items ++ get_or heads f d ∷ []

@@ -1,13 +1,13 @@
 -- A walk through the pruned list of precedences: where it stands, and how it goes on.
 use Rattle.std.proofs.Common.{ℕ, zero, suc, ◌≡◌, ◌+◌, ◌<◌, ◌≤◌, ◌⊎◌, inl, inr, List, [], ◌∷◌, ◌++◌, map, length, slice_get, Some, None, refl, sym, ap, ap₂, ◌∙◌, subst, arith}
 use Rattle.std.proofs.lemmas.Bool.{cases_lt}
-use Rattle.std.proofs.lemmas.List.{length-append}
+use Rattle.std.proofs.lemmas.List.{length-append, same_from_push}
 use Rattle.std.proofs.lemmas.Option.{slice_get_within}
 use Rattle.rewriting.specs.Lists.{IsAmong, AreDistinct, IsSorted}
 use Rattle.rewriting.specs.Rules.{System}
 use Rattle.rewriting.specs.Unraveling.{Head, heads}
 use Rattle.rewriting.proofs.Lists.{among_left, among_right, among_either, among_middle, before_one, sorted_right, sorted_across}
-use Rattle.rewriting.proofs.Members.{place_among, among_place, last_once}
+use Rattle.rewriting.proofs.Members.{place_among, among_place}
 use Rattle.certificates.specs.Certificates.{precedence_measure}
 use Rattle.interpretations.specs.Judgement.{good}
 use Rattle.search_trees.specs.Trees.{IsBarrenBelow, IsFirstBelow, StopsBelow}
@@ -168,7 +168,7 @@ module _ (sys : System) where
   of_child order h left n child =
       let at = mapped_at (with_next child.parent.entries) (picks child.parent.left) child.before (node (order ++ h ∷ []) left) child.behind child.split in
       let pick = picked_at child.parent.left at.left at.item at.right at.split in
-      let same = last_once order child.parent.entries h at.item.0 (ap (λ (p : Prefix). p.entries) at.is) in
+      let same = same_from_push order child.parent.entries h at.item.0 (ap (λ (p : Prefix). p.entries) at.is) in
       let further : left ≡ at.item.1 = ap (λ (p : Prefix). p.left) at.is in
       record {
         at_child = child;

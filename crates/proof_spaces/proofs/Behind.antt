@@ -8,7 +8,7 @@ use Rattle.first_found.proofs.Spaces.{ends_so, first_found, first_spent, second_
 use Rattle.search_spaces.specs.Texts.{HasText}
 use Rattle.search_spaces.specs.Ortho.{ortho_space}
 use Rattle.search_spaces.specs.Peak.{peak_space}
-use Rattle.search_spaces.proofs.Whole.{ortho_searchable, peak_searchable, whole_searchable}
+use Rattle.search_spaces.proofs.OrthoThenPeak.{ortho_searchable, peak_searchable, whole_searchable}
 use Rattle.quasi_space.specs.Endings.{MayEndLast}
 use Rattle.quasi_space.specs.Measures.{pruned_measures}
 use Rattle.quasi_space.specs.Quasi.{quasi_space_by}

@@ -8,7 +8,7 @@ use Rattle.first_found.proofs.Spaces.{barren_both}
 use Rattle.search_spaces.specs.Texts.{HasText}
 use Rattle.search_spaces.specs.Ortho.{ortho_space}
 use Rattle.search_spaces.specs.Peak.{peak_space}
-use Rattle.search_spaces.proofs.Whole.{ortho_searchable, peak_searchable}
+use Rattle.search_spaces.proofs.OrthoThenPeak.{ortho_searchable, peak_searchable}
 use Rattle.quasi_space.specs.Measures.{MeasureTrials, each_measure, pruned_measures}
 use Rattle.quasi_space.specs.Quasi.{quasi_space_by}
 use Rattle.quasi_space.specs.AllSpaces.{all_spaces_by}

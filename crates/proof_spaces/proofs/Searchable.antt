@@ -9,8 +9,8 @@ use Rattle.search_spaces.specs.Texts.{HasText}
 use Rattle.search_spaces.specs.Laws.{IsSearchable}
 use Rattle.search_spaces.specs.Ortho.{ortho_space}
 use Rattle.search_spaces.specs.Peak.{peak_space}
-use Rattle.search_spaces.specs.Whole.{whole_space}
-use Rattle.search_spaces.proofs.Whole.{ortho_searchable, peak_searchable, whole_searchable, both_searchable}
+use Rattle.search_spaces.specs.OrthoThenPeak.{ortho_then_peak_space}
+use Rattle.search_spaces.proofs.OrthoThenPeak.{ortho_searchable, peak_searchable, whole_searchable, both_searchable}
 use Rattle.quasi_space.specs.Measures.{MeasureTrials, each_measure, pruned_measures}
 use Rattle.quasi_space.specs.Quasi.{quasi_space_by}
 use Rattle.quasi_space.specs.AllSpaces.{all_spaces_by}
@@ -35,7 +35,7 @@ one_standard sys =
 module _ (by : System → MeasureTrials) (trials : (sys : System) → AreTrials sys (by sys)) (names : NameTable) where
   pub own_searchable : (sys : System) → IsSearchable sys (all_spaces_by (by sys) names sys)
   own_searchable sys =
-      both_searchable sys (whole_space names sys) (quasi_space_by (by sys) names sys) (whole_searchable names sys) (quasi_searchable names sys (by sys) (trials sys))
+      both_searchable sys (ortho_then_peak_space names sys) (quasi_space_by (by sys) names sys) (whole_searchable names sys) (quasi_searchable names sys (by sys) (trials sys))
 
   module _ (sys : System) where
     with_searchable : (steps : List Simplification) (last : System) → AllSimplify sys steps last → (S : Space Certificate) → IsSearchable last S → IsSearchable sys (with_steps names steps S)

@@ -1,19 +1,14 @@
 -- The critical pair under the unifier of a run is over the symbols.
-use Rattle.std.proofs.Common.{◌≡◌, ℕ, List, [], ◌∷◌, ◌++◌, Some, sym, subst}
+use Rattle.std.proofs.Common.{ℕ, List, [], ◌∷◌, ◌++◌, sym, subst}
 use Rattle.rewriting.specs.Systems.{Each, IsWellFormed}
 use Rattle.rewriting.specs.Overlaps.{IsPlace, CriticalPair, IsCriticalPair, conditions_under}
-use Rattle.rewriting.proofs.Common.{Term, cons, Position, subterm, Substitution, apply, compose, Signature, IsOver, AreValuesOver, Condition, Rule, System, sides, even, odd}
+use Rattle.rewriting.proofs.Common.{Term, cons, Position, Substitution, apply, compose, Signature, IsOver, AreValuesOver, Condition, Rule, System, sides, even, odd}
 use Rattle.rewriting.proofs.Over.{IsOver-apply}
-use Rattle.rewriting.proofs.Positions.{within}
-use Rattle.rewriting.proofs.Unraveled.{argument_of_over, replace_over}
+use Rattle.rewriting.proofs.Unraveled.{replace_over, subterm_over}
 use Rattle.certificates.specs.Soundness.{AreConditionsOver}
 use Rattle.unifier_run.specs.Run.{Binding, value, unifier}
 use Rattle.unifier_run.specs.Overlaps.{IsOutcomeOf}
 use Rattle.quasi_check.proofs.SoundRuns.{unifier_over}
-
-part_over : (ar : Signature) (t : Term) (p : Position) (u : Term) → subterm t p ≡ Some u → IsOver ar t → IsOver ar u
-part_over ar t [] u e h = (let same : t ≡ u = cc in subst (IsOver ar) same h)
-part_over ar t (k ∷ p) u e h = (let w = within t k p u e in part_over ar w.part p u w.inside (argument_of_over ar t k w.part w.here h))
 
 conditions_under_over : (ar : Signature) (s : Substitution) (cs : List Condition) → AreValuesOver ar s → Each (IsOver ar) (sides cs) → AreConditionsOver ar (conditions_under s cs)
 conditions_under_over ar s [] values h = tt
@@ -44,7 +39,7 @@ module _ (sys : System) (good : IsWellFormed sys) (i : ℕ) (p : Position) (j : 
   odd_over t h = IsOver-apply sys.arities odd t (λ x. tt) h
 
   values : AreValuesOver sys.arities (value by)
-  values = unifier_over sys.arities _ _ by run (even_over inner.left inner_over.0, tt) (odd_over part (part_over sys.arities outer.left p part place.is_part outer_over.0), tt)
+  values = unifier_over sys.arities _ _ by run (even_over inner.left inner_over.0, tt) (odd_over part (subterm_over sys.arities outer.left p part place.is_part outer_over.0), tt)
 
   under : (t : Term) → IsOver sys.arities t → IsOver sys.arities (apply (value by) t)
   under t h = IsOver-apply sys.arities (value by) t values h

@@ -2,8 +2,9 @@
 use Rattle.std.proofs.Common.{Bool, true, false, nat_eq, if◌then◌else◌, ℕ, List, [], sym, subst}
 use Rattle.rewriting.proofs.Common.{Term, var, app, Terms, nil, cons, Signature, IsOver, AreOver, AreValuesOver}
 use Rattle.rewriting.proofs.Over.{IsOver-apply}
-use Rattle.unifier_run.specs.Run.{Binding, value, only, extended, Binds, HaveArguments, ends, goes_on, unifier, Takes, equal_sides, binding, arguments, append, Runs, no_equation, last_equation, next_equation}
+use Rattle.unifier_run.specs.Run.{Binding, value, only, extended, Binds, HaveArguments, goes_on, unifier, Takes, equal_sides, binding, arguments, append, Runs, no_equation, last_equation, next_equation}
 use Rattle.unifier_run.proofs.Values.{value-extended}
+use Rattle.unifier_run.proofs.General.{ends_clash_or_large}
 
 either_over : (ar : Signature) (k : Bool) (t u : Term) → IsOver ar t → IsOver ar u → IsOver ar (if k then t else u)
 either_over ar true t u h o = h
@@ -40,12 +41,9 @@ takes_over ar b c l r xs ys (binding f n x v h o d e k) values left right =
     record { values = subst (λ z. AreValuesOver ar (value z)) (sym e) (extended_over ar b x v values (bound_over ar l r x v h left right)); left = tt; right = tt }
 takes_over ar b c l r xs ys (arguments f n us vs h) values left right = arguments_over ar b l r xs ys h values left right
 
-no_end : (b : List Binding) (l r : Term) (m : List Binding) → Takes b l r (ends (unifier m)) → ⊥
-no_end b l r m h = elim h [ ]
-
 runs_over : (ar : Signature) {b : List Binding} {ts us : Terms} {m : List Binding} → Runs b ts us (unifier m) → AreValuesOver ar (value b) → AreOver ar ts → AreOver ar us → AreValuesOver ar (value m)
 runs_over ar no_equation values left right = values
-runs_over ar (last_equation k) values left right = absurd (no_end _ _ _ _ k)
+runs_over ar (last_equation k) values left right = absurd (ends_clash_or_large _ _ _ _ k)
 runs_over ar (next_equation {b = b} {c = c} {t = t} {u = u} {ts = ts} {us = us} {xs = xs} {ys = ys} k r) values left right =
     let turn = takes_over ar b c _ _ xs ys k values (IsOver-apply ar (value b) t values left.0) (IsOver-apply ar (value b) u values right.0) in
     runs_over ar r turn.values (append_over ar xs ts turn.left left.1) (append_over ar ys us turn.right right.1)

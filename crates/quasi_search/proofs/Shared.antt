@@ -18,7 +18,7 @@ use Rattle.valid_certificates.specs.PairEvidence.{IsPairJudged}
 use Rattle.cc_count.specs.Counts.{Counts}
 use Rattle.reach_lists.specs.Solutions.{Reached}
 use Rattle.reach_lists.specs.Lists.{is_listed}
-use Rattle.reach_lists.proofs.Each.{flat_map-append}
+use Rattle.std.proofs.lemmas.List.Concat.{flat_map-append}
 use Rattle.reach.specs.EntryView.{entry_view}
 use Rattle.reach.specs.declared.listed.Entry as listed
 use Rattle.cc_count.proofs.Spending.{spends_none, spends_same}

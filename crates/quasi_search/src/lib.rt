@@ -9,6 +9,7 @@ ghost use Rattle.valid_certificates.specs.Certificates.{IsValid};
 ghost use Rattle.quasi_check.specs.Parts.{AreRulesGood};
 ghost use Rattle.cc_count.specs.Counts.{Spends};
 ghost use Rattle.search_answers.specs.Answers.{IfFound, IfNothing};
+ghost use Rattle.search_answers.specs.Given.{IsOverlapList};
 ghost use Rattle.quasi_space.specs.Measures.{pruned_measures};
 ghost use Rattle.quasi_space.specs.Quasi.{quasi_space, quasi_space_by};
 ghost use Rattle.quasi_search.specs.Answers.{Searches};
@@ -23,16 +24,18 @@ mod trying;
 
 use crate::entries::entries_for;
 use crate::measures::{MeasureSearch, search_measures};
+pub use crate::trying::try_overlap;
 use cc_count::Budget;
 use cert_limits::has_text;
 use cert_model::Certificate;
 use cops_names::Names;
-use critical_pairs::{Overlap, OverlapError, overlaps};
+use critical_pairs::Overlap;
 use ctrs_classes::is_deterministic;
 use irreducible::LeftSides;
 use pair_search::Entries;
 use quasi_check::are_right_sides_irreducible;
 use rule_index::IndexedSystem;
+use search_answers::overlaps_or_none;
 use std::alloc::Global;
 use term_core::{NoMemory, System};
 pub use validity::Search;
@@ -81,23 +84,26 @@ fn search_open(
     }
 }
 
-/// The same as `search_quasi`, over left sides and a list of the overlaps that were made before.
+/// The same as `search_quasi`, over left sides and a list of the overlaps that were made before; none where the overlaps are refused.
 pub fn search_quasi_over(
     alloc: Global,
     sys: &LeftSides<'_>,
     names: &Names,
-    overlaps: &[Overlap],
+    overlaps: Option<&[Overlap]>,
     budget: &mut Budget,
 ) -> Result<Search, NoMemory>
-    requires overlaps { AreOverlaps sys.now (map overlap_view overlaps.now) }
+    requires overlaps { IsOverlapList sys.now overlaps }
     ensures searched { Searches (quasi_space names.now sys.now) budget.old budget.new result }
     ensures pruned { Searches (quasi_space_by (pruned_measures sys.now) names.now sys.now) budget.old budget.new result }
     ensures nothing { IfNothing result ((c : math.Certificate) → (quasi_space names.now sys.now).Holds c → IsValid sys.now c → ⊥) }
     ensures valid { IfFound result (IsValid sys.now) }
     ensures kept { (n : ℕ) × Spends budget.old n budget.new }
 {
+    let Some(found) = overlaps else {
+        return Ok(Search::Nothing);
+    };
     if are_rules_good(alloc, sys)? {
-        search_open(alloc, sys, names, overlaps, budget)
+        search_open(alloc, sys, names, found, budget)
     } else {
         Ok(Search::Nothing)
     }
@@ -127,10 +133,6 @@ pub fn search_quasi(
 {
     let indexed = IndexedSystem::new(alloc, sys)?;
     let lefts = LeftSides::new(alloc, indexed)?;
-    match overlaps(alloc, sys) {
-        Ok(found) => search_quasi_over(alloc, &lefts, names, &found, budget),
-        Err(OverlapError::PairTooLarge { .. }) => Ok(Search::Nothing),
-        Err(OverlapError::TooManyPairs) => Ok(Search::Nothing),
-        Err(OverlapError::NoMemory) => Err(NoMemory),
-    }
+    let found = overlaps_or_none(alloc, sys)?;
+    search_quasi_over(alloc, &lefts, names, found.as_deref(), budget)
 }

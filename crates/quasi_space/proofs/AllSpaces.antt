@@ -3,9 +3,9 @@ use Rattle.std.proofs.Common.{ℕ, ◌+◌, ◌≤◌, inl, inr, refl, arith}
 use Rattle.rewriting.specs.Rules.{System}
 use Rattle.certificates.specs.Certificates.{Certificate}
 use Rattle.cops_names.specs.NameTable.{NameTable}
-use Rattle.search_spaces.specs.Whole.{whole_space}
+use Rattle.search_spaces.specs.OrthoThenPeak.{ortho_then_peak_space}
 use Rattle.search_spaces.specs.Laws.{IsSearchable}
-use Rattle.search_spaces.proofs.Whole.{whole_searchable, both_searchable}
+use Rattle.search_spaces.proofs.OrthoThenPeak.{whole_searchable, both_searchable}
 use Rattle.measure_lists.proofs.Pruned.{firsts_are, whole_there}
 use Rattle.quasi_space.specs.Measures.{MeasureTrials, each_measure, pruned_measures}
 use Rattle.quasi_space.specs.Quasi.{all_items_cost, IsQuasiFound, IsQuasiCost, quasi_space, quasi_space_by}
@@ -24,7 +24,7 @@ pruned_searchable names sys = quasi_searchable names sys (pruned_measures sys) (
 
 all_by : (names : NameTable) (sys : System) (by : MeasureTrials) → AreTrials sys by → IsSearchable sys (all_spaces_by by names sys)
 all_by names sys by trials =
-    both_searchable sys (whole_space names sys) (quasi_space_by by names sys) (whole_searchable names sys) (quasi_searchable names sys by trials)
+    both_searchable sys (ortho_then_peak_space names sys) (quasi_space_by by names sys) (whole_searchable names sys) (quasi_searchable names sys by trials)
 
 pub all_searchable : AllSpacesAreSearchable
 all_searchable names sys = all_by names sys (each_measure sys) (each_tried sys)
@@ -79,4 +79,4 @@ pruned_search names sys = cheaper_search (quasi_space_by (pruned_measures sys) n
 pub all_pruned_search : AllPrunedSearchesAreSearches
 all_pruned_search names sys =
     cheaper_search (pruned_spaces names sys) (all_spaces names sys)
-    (cheaper_behind (whole_space names sys) (quasi_space_by (pruned_measures sys) names sys) (quasi_space names sys) (quasi_cheaper names sys))
+    (cheaper_behind (ortho_then_peak_space names sys) (quasi_space_by (pruned_measures sys) names sys) (quasi_space names sys) (quasi_cheaper names sys))

@@ -1,6 +1,5 @@
 -- Listed terms of both sides of an overlap join them where they are one term.
-use Rattle.std.proofs.Common.{◌≡◌, inl, inr, List, [], ◌∷◌, None, sym, ◌∙◌, subst}
-use Rattle.rewriting.specs.Lists.{IsAmong}
+use Rattle.std.proofs.Common.{◌≡◌, inl, inr, [], None, sym, ◌∙◌, subst}
 use Rattle.rewriting.specs.Rules.{System}
 use Rattle.unifier_run.specs.Overlaps.{Overlap}
 use Rattle.certificates.specs.Evidence.{joined_pair}
@@ -9,15 +8,10 @@ use Rattle.certificates.proofs.Unique.{derives_unique}
 use Rattle.valid_certificates.specs.Kinds.{quasi}
 use Rattle.valid_certificates.specs.PairEvidence.{IsPairJudged}
 use Rattle.reach_lists.specs.Solutions.{Reached}
-use Rattle.reach_lists.specs.Laws.{EachOf}
 use Rattle.reach_lists.proofs.Laws.{listed_derived}
+use Rattle.reach_lists.proofs.Each.{each_one}
 use Rattle.search_spaces.specs.Listings.{listing}
 use Rattle.quasi_space.specs.Laws.{AreListedAt, JoinsAreSharedTerms}
-
-pub each_one : {A : Type 0} (P : A → Type 0) (xs : List A) (x : A) → EachOf P xs → IsAmong x xs → P x
-each_one P [] x h k = absurd k
-each_one P (y ∷ ys) x (h, hs) (inl e) = subst P (sym e) h
-each_one P (y ∷ ys) x (h, hs) (inr k) = each_one P ys x hs k
 
 module _ (sys : System) (o : Overlap) (x y : Reached) (listed : AreListedAt sys o x y) where
   left_derived : Derives sys o.pair.conditions o.pair.left x.by x.term

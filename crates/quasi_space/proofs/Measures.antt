@@ -5,8 +5,7 @@ use Rattle.certificates.specs.Certificates.{MeasureCertificate}
 use Rattle.interpretations.specs.Judgement.{good}
 use Rattle.valid_certificates.specs.Certificates.{IsMeasureJudged}
 use Rattle.first_found.specs.Items.{IsFirst, one}
-use Rattle.first_found.proofs.Items.{first_once, first_within, not_both}
-use Rattle.search_trees.proofs.Lists.{cost_of_ones}
+use Rattle.first_found.proofs.Items.{first_once, first_within, not_both, cost_of_ones}
 use Rattle.measure_lists.specs.Measures.{Trial, try_interpretation, try_precedence, trials, GivesMeasure}
 use Rattle.measure_lists.specs.Pruned.{IsPrunedFirst, IsPrunedWhole}
 use Rattle.measure_lists.proofs.Pruned.{firsts_are, barren_is, pruned_once, first_or_barren, whole_once, whole_there}

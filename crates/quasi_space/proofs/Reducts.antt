@@ -12,9 +12,9 @@ use Rattle.valid_certificates.specs.Kinds.{quasi}
 use Rattle.valid_certificates.specs.PairEvidence.{IsPairJudged, DerivesTwo}
 use Rattle.reach_lists.specs.Solutions.{Reached}
 use Rattle.reach_lists.proofs.Laws.{listed_derived}
+use Rattle.reach_lists.proofs.Each.{each_one}
 use Rattle.search_spaces.specs.Listings.{listing}
 use Rattle.quasi_space.specs.Laws.{IsReductAt, ClashingReductsAreUnfeasible}
-use Rattle.quasi_space.proofs.Joins.{each_one}
 
 -- the terms are absolutely irreducible, and their run ends in a clash
 abbrev DoClash : System → Term → Term → Type 0

@@ -3,12 +3,12 @@ use Rattle.rewriting.specs.Rules.{System}
 use Rattle.certificates.specs.Certificates.{Certificate}
 use Rattle.cops_names.specs.NameTable.{NameTable}
 use Rattle.first_found.specs.Spaces.{Space, followed_by}
-use Rattle.search_spaces.specs.Whole.{whole_space}
+use Rattle.search_spaces.specs.OrthoThenPeak.{ortho_then_peak_space}
 use Rattle.quasi_space.specs.Measures.{MeasureTrials, each_measure, pruned_measures}
 use Rattle.quasi_space.specs.Quasi.{quasi_space_by}
 
 abbrev pub all_spaces_by : MeasureTrials → NameTable → System → Space Certificate
-all_spaces_by by names sys = followed_by (whole_space names sys) (quasi_space_by by names sys)
+all_spaces_by by names sys = followed_by (ortho_then_peak_space names sys) (quasi_space_by by names sys)
 
 -- each measure of the grid is tried
 abbrev pub all_spaces : NameTable → System → Space Certificate

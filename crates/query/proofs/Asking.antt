@@ -3,8 +3,8 @@ use Rattle.std.proofs.Common.{ℕ, ◌≡◌, List, Result, Ok, Err, IsErr, IsEr
 use Rattle.std.proofs.lemmas.Bool.{false≢true}
 use Rattle.file_text.specs.Tokens.{bad_byte, long_id, open_comment}
 use Rattle.rewriting.specs.Rules.{Condition, System}
-use Rattle.cops_systems.specs.declared.errors.Count.{Count}
-use Rattle.cops_systems.specs.declared.errors.Count.TheVariants.{Rules, Conditions, Arity, Nodes, Variables, Symbols}
+use Rattle.cops_read.specs.declared.errors.Count.{Count}
+use Rattle.cops_read.specs.declared.errors.Count.TheVariants.{Rules, Conditions, Arity, Nodes, Variables, Symbols}
 use Rattle.query_text.specs.Meaning.{too_many_conditions, too_deep, too_many_nodes, variable_with_arguments, unknown_name, too_many_variables, arity_differs}
 use Rattle.query_text.specs.Query.{IsQuery, join_system, no_tokens, wrong_syntax, no_meaning}
 use Rattle.query_text.proofs.Queries.{one_query, never_both}

@@ -72,11 +72,6 @@ module _ (sys : System) (cs : List Condition) (before after : Counts) (h : HasAn
   enough (Ok Spent) (n, s, (all, dearer)) = let more = dearer h.price ((prices_are sys cs h.price).1 h.is_price) in let within = h.within in absurd (omega (arith, more, within))
   enough (Err e) s = tt
 
--- units are paid, whatever the answer
-pub always_paid : (sys : System) (cs : List Condition) (before after : Counts) (r : Result Reply NoMemory) → SearchAnswers sys cs before after r → (n : ℕ) × Spends before n after
-always_paid sys cs before after (Ok r) (n, s, m) = (n, s)
-always_paid sys cs before after (Err e) h = h
-
 -- how many variables conditions have, whose terms fit
 few_variables : (cs : List Condition) (xs : List ℕ) → DoConditionsFit cs → length (with_variables_of xs (sides cs)) ≤ length xs + 20000 * length cs
 few_variables [] xs h = omega arith

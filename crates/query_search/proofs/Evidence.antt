@@ -1,5 +1,5 @@
 -- Evidence that is tried.
-use Rattle.std.proofs.Common.{ℕ, suc, ◌≡◌, ◌+◌, ◌-◌, ◌<◌, ◌≤◌, List, [], ◌∷◌, ◌++◌, map, None, Some, ap, subst, arith}
+use Rattle.std.proofs.Common.{ℕ, suc, ◌≡◌, ◌+◌, ◌-◌, ◌<◌, List, [], ◌∷◌, ◌++◌, map, None, Some, ap, subst, arith}
 use Rattle.std.specs.List.{range_with_len}
 use Rattle.rewriting.specs.Rules.{Condition, System}
 use Rattle.certificates.specs.Evidence.{InfeasibilityEvidence}
@@ -7,9 +7,9 @@ use Rattle.certificates.specs.Reasons.{EvidenceReason}
 use Rattle.judged_evidence.specs.Evidence.{IsInfeasibilityJudged}
 use Rattle.judged_evidence.proofs.Judged.{evidence_once}
 use Rattle.first_found.specs.Items.{GivesNothing}
-use Rattle.search_spaces.specs.Refuting.{Refuting, try_growth, Tries, growths}
+use Rattle.search_spaces.specs.Refuting.{Refuting, try_growth, Tries}
 use Rattle.search_spaces.proofs.Entries.{tries_once}
-use Rattle.query_space.specs.Items.{QueryItem, try_refuting, Refutes, GivesAnswer}
+use Rattle.query_space.specs.Items.{QueryItem, try_refuting, Refutes}
 
 module _ (sys : System) (cs : List Condition) where
   -- an item gives nothing where its evidence is refused
@@ -17,18 +17,9 @@ module _ (sys : System) (cs : List Condition) where
   refused_gives item e why tried h b (other, judged) =
       let same = evidence_once sys cs e None (Some why) (subst (λ z. IsInfeasibilityJudged sys cs z None) (tries_once sys cs item b e other tried) judged) h in cc
 
-  pub no_answer : (item : Refuting) → GivesNothing (Refutes sys cs) item → GivesNothing (GivesAnswer sys cs) (try_refuting item)
-  no_answer item h a (e, g, is) = h e g
-
   -- the growths behind the first k of n
   abbrev pub growths_left : ℕ → ℕ → List QueryItem
   growths_left k n = map try_refuting (map try_growth (range_with_len (k + 1) (n - k)))
 
-  pub growths_all : (n : ℕ) → growths_left 0 n ≡ map try_refuting (growths n)
-  growths_all n = let whole : n - 0 ≡ n = omega arith in ap (λ m. map try_refuting (map try_growth (range_with_len 1 m))) whole
-
   pub growths_next : (k n : ℕ) → k < n → growths_left k n ≡ (try_refuting (try_growth (k + 1)) ∷ []) ++ growths_left (k + 1) n
   growths_next k n less = let one_less : n - k ≡ suc (n - (k + 1)) = omega (arith, less) in ap (λ m. map try_refuting (map try_growth (range_with_len (k + 1) m))) one_less
-
-  pub growths_none : (k n : ℕ) → n ≤ k → growths_left k n ≡ []
-  growths_none k n most = let past : n - k ≡ 0 = omega (arith, most) in ap (λ m. map try_refuting (map try_growth (range_with_len (k + 1) m))) past

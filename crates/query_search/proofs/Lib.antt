@@ -1,4 +1,3 @@
-pub mod Sizes
 pub mod Walking
 pub mod Evidence
 pub mod Turning

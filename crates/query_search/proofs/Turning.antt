@@ -1,8 +1,9 @@
 -- Choices that turn: the next ones, and the last.
 use Rattle.std.proofs.Common.{◌≡◌, ℕ, zero, suc, ◌+◌, ◌-◌, ◌<◌, ◌≤◌, true, false, List, [], ◌∷◌, ◌++◌, length, get_or, set, take, drop, map, flat_map, refl, sym, ap, ap₂, ◌∙◌, subst, arith, add-one}
-use Rattle.std.proofs.Math.Seq.{drop-cons}
-use Rattle.std.proofs.lemmas.List.{length-set, drop-set, drop_all, take-set, take-take}
+use Rattle.std.proofs.Math.Seq.{drop-cons, split_at}
+use Rattle.std.proofs.lemmas.List.{length-set, drop-set, drop_all, take-set, take-take, get_or_default, length-take-le, length-drop}
 use Rattle.std.specs.FinMap.{empty, insert}
+use Rattle.general_lemmas.proofs.Lists.{flat_map_same}
 use Rattle.rewriting.specs.Terms.{Term, var, app, nil}
 use Rattle.rewriting.specs.Substitutions.{Bindings}
 use Rattle.rewriting.specs.Rules.{Condition, System}
@@ -87,28 +88,6 @@ none_turned last old place h =
     let none = drop_all place old h in
     record { as_many = refl; before = refl; lasts = subst (AreAtLeast last) (sym none) tt; zeros = subst AreZeros (sym none) tt }
 
-all_of : {A : Type 0} (xs : List A) (k : ℕ) (d : A) → k < length xs → xs ≡ take k xs ++ get_or xs k d ∷ drop (suc k) xs
-all_of [] k d h = absurd (omega (arith, h))
-all_of (x ∷ xs) zero d h = refl
-all_of (x ∷ xs) (suc k) d h = ap (λ l. x ∷ l) (all_of xs k d (omega (arith, h)))
-
-length_front : {A : Type 0} (xs : List A) (k : ℕ) → k ≤ length xs → length (take k xs) ≡ k
-length_front [] zero h = refl
-length_front [] (suc k) h = absurd (omega (arith, h))
-length_front (x ∷ xs) zero h = refl
-length_front (x ∷ xs) (suc k) h = ap suc (length_front xs k (omega (arith, h)))
-
-length_back : {A : Type 0} (xs : List A) (k : ℕ) → length (drop k xs) ≡ length xs - k
-length_back [] zero = refl
-length_back [] (suc k) = omega arith
-length_back (x ∷ xs) zero = omega arith
-length_back (x ∷ xs) (suc k) = let h = length_back xs k in omega (arith, h)
-
-at_default : (xs : List ℕ) (k n : ℕ) → k < length xs → get_or xs k n ≡ get_or xs k 0
-at_default [] k n h = absurd (omega (arith, h))
-at_default (x ∷ xs) zero n h = refl
-at_default (x ∷ xs) (suc k) n h = at_default xs k n (omega (arith, h))
-
 -- at one place less
 module _ (last : ℕ) (old new : List ℕ) (place k n : ℕ) (is : place ≡ suc k) (within : place ≤ length old) (turned : IsTurned last old new place) (here : n ≡ get_or new k n) where
   old_split : drop k old ≡ get_or old k 0 ∷ drop (suc k) old
@@ -117,7 +96,7 @@ module _ (last : ℕ) (old new : List ℕ) (place k n : ℕ) (is : place ≡ suc
   old_here : get_or old k 0 ≡ n
   old_here =
       got old new k place turned.before (omega (arith, is)) (omega (arith, within)) (let many = turned.as_many in omega (arith, within, many))
-      ∙ sym (here ∙ at_default new k n (let many = turned.as_many in omega (arith, is, within, many)))
+      ∙ sym (here ∙ get_or_default new k n 0 (let many = turned.as_many in omega (arith, is, within, many)))
     where
       first : (xs : List ℕ) (k m : ℕ) → k < m → get_or (take m xs) k 0 ≡ get_or xs k 0
       first [] k zero h = refl
@@ -154,15 +133,15 @@ module _ (last : ℕ) (old new : List ℕ) (place k n : ℕ) (is : place ≡ suc
   turned_up ts xs many as_many less =
       let long : k < length xs = omega (arith, is, within, as_many) in
       let x = get_or xs k 0 in
-      let shown : xs ≡ take k xs ++ x ∷ drop (suc k) xs = all_of xs k 0 long in
-      let old_shown : old ≡ take k old ++ n ∷ drop (suc k) old = all_of old k 0 (omega (arith, is, within)) ∙ ap (λ m. take k old ++ m ∷ drop (suc k) old) old_here in
+      let shown : xs ≡ take k xs ++ x ∷ drop (suc k) xs = split_at xs k 0 long in
+      let old_shown : old ≡ take k old ++ n ∷ drop (suc k) old = split_at old k 0 (omega (arith, is, within)) ∙ ap (λ m. take k old ++ m ∷ drop (suc k) old) old_here in
       let new_long : k < length (set new k (n + 1)) = (let a = length-set new k (n + 1) in let b = turned.as_many in omega (arith, a, b, is, within)) in
       let new_shown : set new k (n + 1) ≡ take k old ++ suc n ∷ drop (suc k) new =
       front_back (set new k (n + 1)) k ∙ ap₂ (λ l m. l ++ m) (before_here (n + 1)) (new_split (n + 1)) ∙ ap (λ m. take k old ++ m ∷ drop (suc k) new) (add-one n) in
       let whole = from_next ts empty (take k xs) (drop (suc k) xs) x (take k old) (drop (suc k) old) (drop (suc k) new) n
-      (length_front old k (omega (arith, is, within)) ∙ sym (length_front xs k (omega (arith, long))))
-      (length_back old (suc k) ∙ ap (λ m. m - suc k) (sym as_many) ∙ sym (length_back xs (suc k)))
-      (length_back new (suc k) ∙ ap (λ m. m - suc k) (turned.as_many ∙ sym as_many) ∙ sym (length_back xs (suc k)))
+      (length-take-le k old (omega (arith, is, within)) ∙ sym (length-take-le k xs (omega (arith, long))))
+      (length-drop (suc k) old ∙ ap (λ m. m - suc k) (sym as_many) ∙ sym (length-drop (suc k) xs))
+      (length-drop (suc k) new ∙ ap (λ m. m - suc k) (turned.as_many ∙ sym as_many) ∙ sym (length-drop (suc k) xs))
       (subst (λ m. AreAtLeast m (drop (suc k) old)) (sym many) lasts_behind) zeros_behind (omega (arith, less, many)) in
       ap₂ (chosen_from ts empty) shown old_shown ∙ whole
       ∙ ap₂ (λ l m. l ∷ m) (ap₂ (chosen ts empty) (sym shown) (sym old_shown)) (ap₂ (chosen_from ts empty) (sym shown) (sym new_shown))
@@ -196,19 +175,7 @@ same_chosen fs gs xs ys ns e f = ap₂ (λ z w. chosen (constants_of z) empty w 
 
 -- ---- the values
 
-pub chosen_next : (ts : List Term) (b : Bindings) (xs ns : List ℕ) (i x n : ℕ) → i < length xs → i < length ns → x ≡ get_or xs i 0 → n ≡ get_or ns i 0
-    → chosen ts b (drop i xs) (drop i ns) ≡ chosen ts (insert b x (choice ts x n)) (drop (i + 1) xs) (drop (i + 1) ns)
-chosen_next ts b xs ns i x n h k e f =
-    ap₂ (chosen ts b) (drop-cons xs i 0 h ∙ ap₂ (λ y m. y ∷ drop m xs) (sym e) (sym (add-one i))) (drop-cons ns i 0 k ∙ ap₂ (λ y m. y ∷ drop m ns) (sym f) (sym (add-one i)))
-
-pub chosen_all : (ts : List Term) (b : Bindings) (xs ns : List ℕ) (i : ℕ) → length xs ≤ i → chosen ts b (drop i xs) (drop i ns) ≡ b
-chosen_all ts b xs ns i h = ap (λ l. chosen ts b l (drop i ns)) (drop_all i xs h)
-
 -- ---- all assignments
-
-flat_map_same : {A B : Type 0} (f g : A → List B) → ((a : A) → f a ≡ g a) → (xs : List A) → flat_map f xs ≡ flat_map g xs
-flat_map_same f g same [] = refl
-flat_map_same f g same (x ∷ xs) = ap₂ (λ l m. l ++ m) (same x) (flat_map_same f g same xs)
 
 pub all_assigned : (sys : System) (b : Bindings) (xs : List ℕ) → all_chosen (constants sys) b xs ≡ assignments_from sys b xs
 all_assigned sys b [] = refl

@@ -2,11 +2,11 @@
 use Rattle.std.proofs.Common.{◌≡◌, ℕ, suc, ◌+◌, Bool, true, false, if◌then◌else◌, List, [], ◌∷◌, ◌++◌, length, Option, Some, None, refl, sym, ap, ap₂, subst, ◌∙◌, arith, append_assoc, append-nil}
 use Rattle.file_text.specs.Syntax.{Phrase, Phrases, word, call, none, more, count, ConditionTree}
 use Rattle.cops_names.specs.NameLists.{is_among, with_name}
-use Rattle.cops_systems.specs.Meaning.{with_variables, with_all_variables, sides}
-use Rattle.cops_systems.specs.Uses.{Spot, spots, spots_of_all, Side, side_of, Use, Event, use_of, bar_at, uses_from, term_events, condition_events}
-use Rattle.cops_systems.specs.Refusals.{variables_used}
-use Rattle.cops_systems.specs.Steps.{nodes}
-use Rattle.cops_systems.proofs.Events.{uses_after, spots_length}
+use Rattle.cops_read.specs.Meaning.{with_variables, with_all_variables, sides}
+use Rattle.cops_read.specs.Uses.{Spot, spots, spots_of_all, Side, side_of, Use, Event, use_of, bar_at, uses_from, term_events, condition_events}
+use Rattle.cops_read.specs.Refusals.{variables_used}
+use Rattle.cops_read.specs.Steps.{nodes}
+use Rattle.cops_read.proofs.Events.{uses_after, spots_length}
 use Rattle.query_text.specs.Grammar.{QueryTree, conditions_of}
 use Rattle.query_text.specs.Meaning.{QueryCause, first_or, cause_at, first_refusal, variables_of, refusal_of}
 use Rattle.query_text.proofs.Facts.{clear, used_both}

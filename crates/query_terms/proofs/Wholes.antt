@@ -1,24 +1,18 @@
 -- From the parts of a query's tree to the query.
-use Rattle.std.proofs.Common.{◌≡◌, ℕ, List, [], map, refl, sym, ap, subst, ◌∙◌}
+use Rattle.std.proofs.Common.{◌≡◌, ℕ, List, [], map, sym, ap, subst, ◌∙◌}
 use Rattle.file_text.specs.Syntax.{Name}
 use Rattle.rewriting.specs.Rules as rules
-use Rattle.rewriting.specs.Rules.{System}
-use Rattle.cops_trees.specs.View.{names_view}
-use Rattle.cops_trees.specs.declared.tree.Name as program
+use Rattle.cops_syntax.specs.View.{names_view}
+use Rattle.cops_syntax.specs.declared.tree.Name as program
 use Rattle.cops_names.specs.NameLists.{with_names}
 use Rattle.query_text.specs.Grammar.{QueryTree, conditions_of}
-use Rattle.query_text.specs.Texts.{IsQueryText}
 use Rattle.query_text.specs.Meaning.{variables_of, refusal_of, IsMeantBy}
-use Rattle.query_text.specs.Query.{HasOwnSymbols}
 use Rattle.query_trees.specs.declared.tree.QueryText.{QueryText}
-use Rattle.query_trees.specs.declared.reader.QueryTreeError.{QueryTreeError}
 use Rattle.query_trees.specs.declared.reader.QueryTreeError.TheVariants as text
-use Rattle.query_trees.specs.Answers.{IsTreeOf, IsCauseOf}
+use Rattle.query_trees.specs.Answers.{IsTreeOf}
 use Rattle.query_terms.specs.Steps.{Tells}
 use Rattle.query_terms.specs.Conditions.{conditions_refusal, AreConditionsRead}
-use Rattle.query_terms.specs.Queries.{text_error, meaning_error, IsRefused}
 use Rattle.query_terms.specs.declared.errors.MeaningError.{MeaningError}
-use Rattle.query_terms.specs.declared.errors.MeaningError.TheVariants.{TooManyConditions, TooDeep, TooManyNodes, VariableWithArguments, UnknownName, TooManyVariables, ArityDiffers, NoMemory}
 use Rattle.query_terms.proofs.Events.{refusal_is}
 
 pub block_is : (tree : QueryTree) (q : QueryText) (none block : List (List ℕ)) (items : List program.Name) → IsTreeOf q tree → none ≡ [] → block ≡ with_names none (map (λ n. n.text) (names_view items))
@@ -40,22 +34,3 @@ module _ (table : List (List ℕ × ℕ)) (tree : QueryTree) (block names : List
       let b = subst (λ (ns : List (List ℕ)). AreConditionsRead (variables_of tree) table ns (conditions_of tree) later ds) none a in
       let c = subst (λ (l : List (List ℕ)). AreConditionsRead (variables_of tree) table [] (conditions_of tree) l ds) (sym e) b in
       record { accepted = refusal_is table tree ∙ c.accepted; variables = c.variables; conditions = c.mean }
-
--- ---- the whole
-
-pub text_refused : (sys : System) (symbols : List (List ℕ × ℕ)) (bytes : List ℕ) (e : QueryTreeError) → HasOwnSymbols sys → IsCauseOf bytes e → IsRefused sys symbols bytes (text_error e)
-text_refused sys symbols bytes (text.BadByte at) o h = (o, h)
-text_refused sys symbols bytes (text.IdTooLong at) o h = (o, h)
-text_refused sys symbols bytes (text.CommentNotClosed at) o h = (o, h)
-text_refused sys symbols bytes (text.Syntax at) o h = (o, h)
-text_refused sys symbols bytes text.NoMemory o h = tt
-
-pub meaning_refused : (sys : System) (symbols : List (List ℕ × ℕ)) (bytes : List ℕ) (tree : QueryTree) (e : MeaningError) → HasOwnSymbols sys → IsQueryText bytes tree → Tells e (refusal_of symbols tree) → IsRefused sys symbols bytes (meaning_error e)
-meaning_refused sys symbols bytes tree (TooManyConditions at) o s t = ((o, record { tree = tree; spelled = s; refused = t }), refl)
-meaning_refused sys symbols bytes tree (TooDeep at) o s t = (o, record { tree = tree; spelled = s; refused = t })
-meaning_refused sys symbols bytes tree (TooManyNodes at) o s t = ((o, record { tree = tree; spelled = s; refused = t }), refl)
-meaning_refused sys symbols bytes tree (VariableWithArguments at) o s t = (o, record { tree = tree; spelled = s; refused = t })
-meaning_refused sys symbols bytes tree (UnknownName at) o s t = (o, record { tree = tree; spelled = s; refused = t })
-meaning_refused sys symbols bytes tree (TooManyVariables at) o s t = ((o, record { tree = tree; spelled = s; refused = t }), refl)
-meaning_refused sys symbols bytes tree (ArityDiffers at) o s t = (o, record { tree = tree; spelled = s; refused = t })
-meaning_refused sys symbols bytes tree NoMemory o s t = tt

@@ -4,9 +4,9 @@ use Rattle.file_text.specs.Tokens.{bad_byte, long_id, open_comment}
 use Rattle.rewriting.specs.Rules.{System}
 use Rattle.term_core.specs.RuleView.{condition_view}
 use Rattle.cops_names.specs.NamesView.{texts_of}
-use Rattle.cops_systems.specs.Counts.{most_of}
-use Rattle.cops_systems.specs.declared.errors.Count.{Count}
-use Rattle.cops_systems.specs.declared.errors.Count.TheVariants.{Rules, Conditions, Arity, Nodes, Variables, Symbols}
+use Rattle.cops_read.specs.Counts.{most_of}
+use Rattle.cops_read.specs.declared.errors.Count.{Count}
+use Rattle.cops_read.specs.declared.errors.Count.TheVariants.{Rules, Conditions, Arity, Nodes, Variables, Symbols}
 use Rattle.query_text.specs.Meaning.{too_many_conditions, too_deep, too_many_nodes, variable_with_arguments, unknown_name, too_many_variables, arity_differs}
 use Rattle.query_text.specs.Query.{IsQuery, IsNoQuery, join_system, no_tokens, wrong_syntax, no_meaning}
 use Rattle.query_trees.specs.declared.reader.QueryTreeError.{QueryTreeError}

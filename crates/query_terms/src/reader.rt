@@ -5,7 +5,7 @@ ghost use Rattle.query_terms.specs.Queries.{QueryAnswers, text_error, meaning_er
 use crate::errors::MeaningError;
 use crate::meanings::read_meaning;
 use cops_names::Names;
-use cops_systems::Count;
+use cops_read::Count;
 use query_trees::{QueryTreeError, read_query_tree};
 use std::alloc::Global;
 use term_core::{Cond, System};

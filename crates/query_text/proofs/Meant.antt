@@ -14,12 +14,12 @@ use Rattle.certificates.specs.Sizes.{DoConditionsFit}
 use Rattle.cops_names.specs.NameLists.{is_among, with_name}
 use Rattle.cops_names.proofs.Lists.{Extends, extends_refl, extends_trans, extends_position}
 use Rattle.cops_names.proofs.Sets.{place_with}
-use Rattle.cops_systems.specs.Limits.{IsSmall}
-use Rattle.cops_systems.specs.Meaning.{sides, with_variables, with_all_variables, IsTermOf, AreTermsOf, AreConditionsOf}
-use Rattle.cops_systems.specs.Uses.{spots, spots_of_all, Side, side_of, Event, uses_from, term_events, condition_events}
-use Rattle.cops_systems.proofs.Growth.{variables_extend, all_variables_extend}
-use Rattle.cops_systems.proofs.Sound.{counts, fits_of, term_over, upto, length_upto, numbers_in_all, sides_are}
-use Rattle.cops_systems.proofs.Unique.{one_conditions}
+use Rattle.cops_read.specs.Limits.{IsSmall}
+use Rattle.cops_read.specs.Meaning.{sides, with_variables, with_all_variables, IsTermOf, AreTermsOf, AreConditionsOf}
+use Rattle.cops_read.specs.Uses.{spots, spots_of_all, Side, side_of, Event, uses_from, term_events, condition_events}
+use Rattle.cops_read.proofs.Growth.{variables_extend, all_variables_extend}
+use Rattle.cops_read.proofs.Sound.{counts, fits_of, term_over, upto, length_upto, numbers_in_all, sides_are}
+use Rattle.cops_read.proofs.Unique.{one_conditions}
 use Rattle.query_text.specs.Grammar.{QueryTree, conditions_of}
 use Rattle.query_text.specs.Meaning.{variables_of, query_events, refusal_of, IsMeantBy}
 use Rattle.query_text.specs.Laws.{IsWithinLimits}

@@ -12,8 +12,8 @@ use Rattle.file_text.specs.Grammar.{Word, left_paren, right_paren, id_at, rules,
 use Rattle.file_text.proofs.Fronts.{kind_fits}
 use Rattle.file_text.proofs.TreeWords.{OfWord, OfWords, OfConditions, of_file}
 use Rattle.file_text.proofs.Within.{NameWithin, PlaceWithin}
-use Rattle.cops_systems.specs.Uses.{Event, place}
-use Rattle.cops_systems.proofs.Places.{EventsWithin, conditions_within}
+use Rattle.cops_read.specs.Uses.{Event, place}
+use Rattle.cops_read.proofs.Places.{EventsWithin, conditions_within}
 use Rattle.query_text.specs.Grammar.{QueryTree, QueryParts, conditions_of, spelled_block, spelled_conditions, spelled_query}
 use Rattle.query_text.specs.Texts.{IsQueryText, IsNoQueryText}
 use Rattle.query_text.specs.Meaning.{QueryCause, variables_of, query_events, event_cause, first_or, first_refusal}

@@ -1,12 +1,12 @@
 -- A text is one query or has one refusal, and never both.
 use Rattle.std.proofs.Common.{◌≡◌, ◌⊎◌, inl, inr, ℕ, ◌<◌, ◌≤◌, List, length, Option, Some, None, refl, sym, ap, subst, ◌∙◌, arith}
+use Rattle.general_lemmas.proofs.Numbers.{le_or_lt}
 use Rattle.file_text.specs.declared.Token.{Token}
 use Rattle.file_text.specs.Tokens.{Spells, TokenCause, HasNoTokens}
 use Rattle.file_text.proofs.OneReading.{one_bad_place, never_both as never_tokens_and_refusal}
 use Rattle.file_text.proofs.SomeReading.{tokens_or_refusal}
 use Rattle.file_text.proofs.Within.{no_tokens_within}
 use Rattle.rewriting.specs.Rules.{Condition, System}
-use Rattle.rewriting.proofs.Decided.{or_greater}
 use Rattle.query_text.specs.Grammar.{QueryTree}
 use Rattle.query_text.specs.Texts.{IsQueryText, IsNoQueryText}
 use Rattle.query_text.specs.Meaning.{QueryCause, refusal_of, IsMeantBy}
@@ -52,7 +52,7 @@ is_join sys symbols bytes wrong_syntax at less h = never_own sys less h.0
 is_join sys symbols bytes (no_meaning c) at less h = never_own sys less h.0
 
 pub one_refusal : OneRefusal
-one_refusal sys symbols bytes cause other at place h g = go (or_greater (length sys.arities) sys.own)
+one_refusal sys symbols bytes cause other at place h g = go (le_or_lt (length sys.arities) sys.own)
   where
     go : (length sys.arities ≤ sys.own) ⊎ (sys.own < length sys.arities) → (cause ≡ other) × (at ≡ place)
     go (inl own) = behind_own sys symbols bytes cause other at place own h g
@@ -93,7 +93,7 @@ module _ (sys : System) (symbols : List (List ℕ × ℕ)) (bytes : List ℕ) wh
   either (inr less) = inr (join_system, 0, (less, refl))
 
 pub some_query : QueryOrRefusal
-some_query sys symbols bytes = either sys symbols bytes (or_greater (length sys.arities) sys.own)
+some_query sys symbols bytes = either sys symbols bytes (le_or_lt (length sys.arities) sys.own)
 
 pub refusals_within : RefusalsAreWithin
 refusals_within sys symbols bytes join_system at h = let e = h.1 in omega (arith, e)

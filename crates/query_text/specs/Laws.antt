@@ -7,7 +7,7 @@ use Rattle.rewriting.specs.Variables.{variables_of}
 use Rattle.rewriting.specs.Systems.{CountsFrom, Each}
 use Rattle.certificates.specs.Soundness.{AreConditionsOver}
 use Rattle.certificates.specs.Sizes.{DoConditionsFit}
-use Rattle.cops_systems.specs.Limits.{IsSmall}
+use Rattle.cops_read.specs.Limits.{IsSmall}
 use Rattle.query_text.specs.Grammar.{QueryTree}
 use Rattle.query_text.specs.Texts.{IsQueryText, IsNoQueryText}
 use Rattle.query_text.specs.Query.{IsQuery, Refusal, IsNoQuery}

@@ -15,7 +15,7 @@ use Rattle.reach.specs.Ready.{HasConditions, IsIdle}
 use Rattle.reach.proofs.Following.{idle_terms}
 use Rattle.reach.proofs.Searching.{no_prices}
 
-none_of_each : {A B : Type 0} (f : A → List B) (xs : List A) → EachOf (λ x. f x ≡ []) xs → flat_map f xs ≡ []
+pub none_of_each : {A B : Type 0} (f : A → List B) (xs : List A) → EachOf (λ x. f x ≡ []) xs → flat_map f xs ≡ []
 none_of_each f [] h = refl
 none_of_each f (x ∷ xs) (e, h) = ap₂ (λ a b. a ++ b) e (none_of_each f xs h)
 

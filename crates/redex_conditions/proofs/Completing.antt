@@ -1,15 +1,15 @@
 -- Values for the variables without one, and the instances of conditions.
-use Rattle.std.proofs.Common.{ℕ, zero, suc, ◌≡◌, ◌⊎◌, inl, inr, ◌+◌, ◌<◌, ◌≤◌, Bool, true, false, cond, Option, None, Some, unwrap_or, option_map, List, [], ◌∷◌, map, length, drop, get_or, nat_cmp, refl, sym, ap, ap₂, ◌∙◌, subst, arith, Result, Ok, Err, OnOk}
+use Rattle.std.proofs.Common.{ℕ, ◌≡◌, ◌⊎◌, inl, inr, ◌+◌, ◌<◌, ◌≤◌, Bool, true, false, cond, Option, None, Some, unwrap_or, option_map, List, [], ◌∷◌, map, length, drop, get_or, nat_cmp, refl, sym, ap, ap₂, ◌∙◌, subst, arith, Result, Ok, Err, OnOk}
 use Rattle.std.specs.Ordering.{eq_by_cmp}
-use Rattle.std.proofs.lemmas.Bool.{cases_lt}
-use Rattle.std.proofs.lemmas.List.{drop_more, length-map}
+use Rattle.std.proofs.lemmas.Bool.{cases_lt, or_right, or_left}
+use Rattle.std.proofs.lemmas.List.{length-map, drop_all}
 use Rattle.std.specs.Cmp.{nat_cmp_total}
 use Rattle.std.specs.FinMap.{get, insert, get-insert}
-use Rattle.rewriting.specs.Systems.{Each, terms_of_rule, rule_variables}
-use Rattle.rewriting.specs.Terms.{Fits}
+use Rattle.general_lemmas.proofs.Places.{drop_read}
+use Rattle.rewriting.specs.Systems.{terms_of_rule, rule_variables}
 use Rattle.rewriting.specs.Overlaps.{conditions_under}
 use Rattle.rewriting.proofs.Common.{Term, var, Substitution, Bindings, values_of, occurs, occurs_in, Condition, System, sides, Signature}
-use Rattle.rewriting.proofs.Instances.{apply-agree, or_left, or_right}
+use Rattle.rewriting.proofs.Instances.{apply-agree}
 use Rattle.rewriting.proofs.Variables.{variables_have_all}
 use Rattle.rewriting.proofs.Lists.{counted_below}
 use Rattle.rewriting.proofs.Conditions.{length-conditions_under}
@@ -19,6 +19,7 @@ use Rattle.term_core.specs.SystemView.{IsSound}
 use Rattle.term_core.specs.declared.systems.Cond as program_cond
 use Rattle.term_core.specs.declared.systems.Rule as program
 use Rattle.certificates.specs.Evidence.{InfeasibilityEvidence}
+use Rattle.certificates.proofs.Sizes.{conditions_fit}
 use Rattle.cert_model.specs.ReasonView.{evidence_reason_view}
 use Rattle.rewriting.proofs.Finite.{key_is, same_key}
 use Rattle.refuter.specs.Answers.{RefutesAnswers}
@@ -69,16 +70,6 @@ pub new_others : {T E : Type 0} (r : Result T E) (b c : Bindings) (k : ℕ) (u :
 new_others (Err e) b c k u is = is
 new_others (Ok y) b c k u is = others_kept b c k u is
 
--- one more of a list
-pub drop_first : {A : Type 0} (xs : List A) (i : ℕ) (x : A) → i < length xs → x ≡ get_or xs i x → drop i xs ≡ x ∷ drop (i + 1) xs
-drop_first xs i x l e = drop_more xs i x l ∙ ap (λ z. z ∷ drop (i + 1) xs) (sym e)
-
-pub drop_end : {A : Type 0} (xs : List A) (i : ℕ) → length xs ≤ i → drop i xs ≡ []
-drop_end [] zero l = refl
-drop_end [] (suc i) l = refl
-drop_end (x ∷ xs) zero l = absurd (omega (arith, l))
-drop_end (x ∷ xs) (suc i) l = drop_end xs i (omega (arith, l))
-
 -- conditions under substitutions that agree on their variables
 pub conditions_agree : (s t : Substitution) (cs : List Condition) → ((x : ℕ) → occurs_in x (sides cs) ≡ true → s x ≡ t x) → conditions_under s cs ≡ conditions_under t cs
 conditions_agree s t [] h = refl
@@ -86,10 +77,6 @@ conditions_agree s t (c ∷ cs) h =
     ap₂ (λ (d : Condition) (ds : List Condition). d ∷ ds)
     (ap₂ (λ (l r : Term). record { left = l; right = r }) (apply-agree s t c.left (λ x o. h x (or_left _ _ o))) (apply-agree s t c.right (λ x o. h x (or_right (occurs x c.left) _ (or_left _ _ o)))))
     (conditions_agree s t cs (λ x o. h x (or_right (occurs x c.left) _ (or_right (occurs x c.right) _ o))))
-
-conditions_fit : (cs : List Condition) → Each Fits (sides cs) → DoConditionsFit cs
-conditions_fit [] h = tt
-conditions_fit (c ∷ cs) (l, (r, h)) = (l, r, conditions_fit cs h)
 
 module _ (arities : Signature) (r : program.Rule) (sound : IsSound arities r) where
   pub rule_fits : DoConditionsFit (map condition_view r.conds.items)
@@ -120,7 +107,7 @@ module _ (s : Substitution) (conds : List program_cond.Cond) (i : ℕ) (c : prog
   rest k = conditions_under s (map condition_view (drop k conds))
 
   split : map condition_view (drop i conds) ≡ condition_view c ∷ map condition_view (drop (i + 1) conds)
-  split = ap (map condition_view) (drop_first conds i c low here)
+  split = ap (map condition_view) (drop_read conds i c low here)
 
 -- what is answered for conditions that fit
 pub judged_fitting : (sys : System) (ds : List program_cond.Cond) (cs : List Condition) (e : InfeasibilityEvidence) (a : Result (Unit {0}) Refusal) → map condition_view ds ≡ cs → DoConditionsFit cs
@@ -128,3 +115,7 @@ pub judged_fitting : (sys : System) (ds : List program_cond.Cond) (cs : List Con
 judged_fitting sys ds cs e (Ok u) is fit h = inl (fit, subst (λ z. IsInfeasibilityJudged sys z e None) is h)
 judged_fitting sys ds cs e (Err (Reason reason)) is fit h = inl (fit, subst (λ z. IsInfeasibilityJudged sys z e (Some (evidence_reason_view reason))) is h)
 judged_fitting sys ds cs e (Err NoMemory) is fit h = tt
+
+-- nothing is left behind the end
+pub drop_end : {A : Type 0} (xs : List A) (i : ℕ) → length xs ≤ i → drop i xs ≡ []
+drop_end xs i h = drop_all i xs h

@@ -2,18 +2,19 @@
 use Rattle.std.proofs.Common.{ℕ, suc, ◌≡◌, ◌⊎◌, inl, inr, ◌+◌, ◌-◌, ◌*◌, ◌<◌, true, List, [], ◌∷◌, map, length, Option, None, Some, option_map, cond, Bool, false, nat_cmp, refl, sym, ap, ap₂, ◌∙◌, subst, arith, eqb-true, eq-eqb, nat_eq, if◌then◌else◌, zero, get_or}
 use Rattle.std.specs.Ordering.{eq_by_cmp}
 use Rattle.std.specs.Cmp.{nat_cmp_total}
-use Rattle.std.specs.FinMap.{get, empty, entries, find, from_entries, get-entries, get-from_entries, get-empty}
+use Rattle.std.specs.FinMap.{get, empty, entries, find, from_entries, get-entries, get-from_entries}
+use Rattle.std.proofs.lemmas.Bool.{or_right, or_left}
 use Rattle.rewriting.specs.Matching.{Solves, SolvesAll, IsLeastMatch}
 use Rattle.rewriting.specs.Overlaps.{conditions_under}
 use Rattle.rewriting.proofs.Common.{Term, Terms, var, app, nil, cons, Position, argument, subterm, Substitution, Bindings, apply, apply_all, compose, occurs, occurs_in, Condition, Rule, System}
-use Rattle.rewriting.proofs.Instances.{apply-apply, apply-agree, or_left, or_right, or_cases}
+use Rattle.rewriting.proofs.Instances.{apply-apply, apply-agree, or_cases}
 use Rattle.rewriting.proofs.Positions.{within}
 use Rattle.rewriting.proofs.Places.{subterm-apply}
 use Rattle.certificates.specs.Evidence.{InfeasibilityEvidence}
 use Rattle.certificates.specs.Judging.{RuleMatches}
 use Rattle.certificates.specs.Reasons.{EvidenceReason}
 use Rattle.rewriting.proofs.LeastMatches.{least_needs}
-use Rattle.matching.proofs.Least.{values_have, Inherits}
+use Rattle.matching.proofs.Least.{values_have, Inherits, nothing_bound}
 use Rattle.renumbering.specs.Spread.{spread, spreading}
 use Rattle.rewriting.specs.Lists.{AreDistinct}
 use Rattle.rewriting.proofs.Lists.{distinct_at}
@@ -24,9 +25,6 @@ use Rattle.valid_certificates.specs.Peaks.{RedexPlace, MatchesAt, value_or_own, 
 use Rattle.redex_conditions.specs.Judged.{value_or_new, match_or_new, IsJudgedAt}
 use Rattle.redex_conditions.specs.Redexes.{AreRedexesOf}
 use Rattle.redex_conditions.proofs.Renaming.{conditions_renamed, are_judged_to}
-
-nothing_bound : (x : ℕ) (t : Term) → get (empty {R = nat_cmp}) x ≡ Some t → ⊥
-nothing_bound x t e = (let bad : None ≡ Some t = sym (get-empty nat_cmp x) ∙ e in cc)
 
 -- a finite map with the instance of each value
 module _ (s : Substitution) where

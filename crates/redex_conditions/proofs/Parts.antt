@@ -3,6 +3,7 @@ use Rattle.std.proofs.Common.{ℕ, ◌≡◌, ◌<◌, ◌+◌, inl, inr, refl, 
 use Rattle.std.specs.Borrow.{Bor}
 use Rattle.std.specs.FinMap.{empty}
 use Rattle.std.proofs.lemmas.List.{map-append, get_or_default}
+use Rattle.general_lemmas.proofs.Places.{drop_read}
 use Rattle.rewriting.specs.Terms as math
 use Rattle.rewriting.specs.Lists.{IsAmong}
 use Rattle.rewriting.specs.Positions.{Position, subterm}
@@ -18,7 +19,6 @@ use Rattle.term_core.specs.View.{view}
 use Rattle.term_core.specs.declared.terms.Term.{Term}
 use Rattle.valid_certificates.specs.Peaks.{RedexPlace}
 use Rattle.redex_conditions.specs.Redexes.{place, places, hits, is_hit, part_redexes}
-use Rattle.redex_conditions.proofs.Completing.{drop_first}
 
 -- hits among more numbers
 hits_more : (sys : System) (t : math.Term) (n : ℕ) (ns : List ℕ) → hits sys t (n ∷ ns) ≡ hits sys t (n ∷ []) ++ hits sys t ns
@@ -35,7 +35,7 @@ module _ (sys : System) (w : ℕ) (q : Part) (ns : List ℕ) (i n : ℕ) (low : 
 
   pub places_split : places sys w q (drop i ns) ≡ places sys w q (n ∷ []) ++ places sys w q (drop (i + 1) ns)
   places_split =
-      ap (places sys w q) (drop_first ns i n low here_own) ∙ ap (map (place w q.position)) (hits_more sys q.term n (drop (i + 1) ns))
+      ap (places sys w q) (drop_read ns i n low here_own) ∙ ap (map (place w q.position)) (hits_more sys q.term n (drop (i + 1) ns))
       ∙ map-append (place w q.position) (hits sys q.term (n ∷ [])) (hits sys q.term (drop (i + 1) ns))
 
 -- the next part, at the position that is told of it

@@ -11,7 +11,7 @@ total (x ∷ xs) = x + total xs
 abbrev pub filling : List ℕ → ℕ → ℕ
 filling row m = if nat_lt m (length row) then get_or row m 0 else suc (total row + m)
 
-below_total : (row : List ℕ) (m : ℕ) → get_or row m 0 ≤ total row
+pub below_total : (row : List ℕ) (m : ℕ) → get_or row m 0 ≤ total row
 below_total [] m = omega arith
 below_total (x ∷ row) zero = omega arith
 below_total (x ∷ row) (suc m) = let k = below_total row m in omega (arith, k)

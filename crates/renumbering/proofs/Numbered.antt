@@ -1,12 +1,14 @@
 -- Terms with numbers for their variables, argument by argument.
-use Rattle.std.proofs.Common.{◌≡◌, ℕ, zero, suc, ◌+◌, ◌<◌, ◌≤◌, ◌⊎◌, inl, inr, true, false, eqb-true, List, [], ◌∷◌, ◌++◌, length, get_or, slice_get, take, drop, Some, Vec, Global, refl, sym, ap, ap₂, ◌∙◌, subst, add-one, arith}
+use Rattle.std.proofs.Common.{◌≡◌, ℕ, zero, suc, ◌+◌, ◌<◌, ◌≤◌, ◌⊎◌, inl, inr, true, false, eqb-true, List, [], ◌∷◌, ◌++◌, length, get_or, slice_get, take, drop, Some, Vec, Global, refl, sym, ap, ap₂, ◌∙◌, subst, arith}
 use Rattle.std.proofs.lemmas.Option.{slice_get_within, get_or_from_slice_get}
 use Rattle.rewriting.specs.Terms as math
 use Rattle.rewriting.specs.Terms.{var, app, Terms, nil, cons}
 use Rattle.rewriting.specs.Variables.{occurs, occurs_in, with_variables, with_variables_of}
 use Rattle.rewriting.specs.Substitutions.{Substitution, apply, apply_all}
-use Rattle.rewriting.proofs.Instances.{or_cases, or_right, apply_all-agree}
-use Rattle.std.proofs.lemmas.Bool.{or_left}
+use Rattle.rewriting.proofs.Instances.{or_cases, apply_all-agree}
+use Rattle.std.proofs.lemmas.Bool.{or_left, or_right}
+use Rattle.std.proofs.lemmas.List.{take_all}
+use Rattle.general_lemmas.proofs.Places.{take_read}
 use Rattle.rewriting.specs.Lists.{IsFront}
 use Rattle.renumbering.specs.Rows.{naming, IsNumbered}
 use Rattle.rewriting.proofs.Lists.{front_at, front_length}
@@ -49,19 +51,11 @@ numbered_push xs ts us t u all one = record { names = names_push (naming xs) ts 
     go m (inl q) = all.below m q
     go m (inr q) = one.below m q
 
-arguments_more : (ts : List Term) (i : ℕ) (t : Term) → i < length ts → t ≡ get_or ts i t → take (i + 1) ts ≡ take i ts ++ t ∷ []
-arguments_more ts i t h e = rw add-one (go ts i h e)
-  where
-    go : (us : List Term) (k : ℕ) → k < length us → t ≡ get_or us k t → take (suc k) us ≡ take k us ++ t ∷ []
-    go [] k h e = absurd (omega arith)
-    go (u ∷ us) zero h e = ap (λ (q : Term). q ∷ []) (sym e)
-    go (u ∷ us) (suc k) h e = ap (λ (qs : List Term). u ∷ qs) (go us k (omega arith) e)
-
 -- one more argument has got its numbers
 pub numbered_more : (xs ys : List ℕ) (args us vs : List Term) (i : ℕ) (t u : Term) → i < length args → t ≡ get_or args i t → IsFront xs ys → AreNumbered xs (views (take i args)) (views us)
     → IsNumbered ys (view t) (view u) → vs ≡ us ++ u ∷ [] → AreNumbered ys (views (take (i + 1) args)) (views vs)
 numbered_more xs ys args us vs i t u h e f all one new =
-    subst (λ (ts : List Term). AreNumbered ys (views ts) (views vs)) (sym (arguments_more args i t h e))
+    subst (λ (ts : List Term). AreNumbered ys (views ts) (views vs)) (sym (take_read args i t h e))
     (subst (λ (ws : List Term). AreNumbered ys (views (take i args ++ t ∷ [])) (views ws)) (sym new) (numbered_push ys (take i args) us t u (numbered_grows xs ys _ _ f all) one))
 
 -- the row has met one more argument
@@ -69,12 +63,6 @@ pub row_more : (xs ys end : List ℕ) (args : List Term) (i : ℕ) (t : Term) �
     → with_variables_of xs (views (drop i args)) ≡ end → with_variables_of ys (views (drop (i + 1) args)) ≡ end
 row_more xs ys end args i t h e new old =
     ap (λ (ws : List ℕ). with_variables_of ws (views (drop (i + 1) args))) new ∙ sym (ap (with_variables_of xs) (views-drop args i t h e)) ∙ old
-
-take_all : (ts : List Term) (i : ℕ) → length ts ≤ i → take i ts ≡ ts
-take_all [] zero h = refl
-take_all [] (suc i) h = refl
-take_all (t ∷ ts) zero h = absurd (omega arith)
-take_all (t ∷ ts) (suc i) h = ap (λ q. t ∷ q) (take_all ts i (omega arith))
 
 drop_all : (ts : List Term) (i : ℕ) → length ts ≤ i → drop i ts ≡ []
 drop_all [] zero h = refl
@@ -96,7 +84,7 @@ module _ (t : Term) (f i : ℕ) (v : Vec Term Global) (args : List Term) (is : t
   -- a symbol over arguments with their numbers
   pub numbered_symbol : (xs : List ℕ) (w : Vec Term Global) → AreNumbered xs (views (take i args)) (views w.items) → IsNumbered xs (view t) (view (Fun f w))
   numbered_symbol xs w all = record {
-    names = shown ∙ ap (app f) (ap views (sym (take_all args i h)) ∙ all.names) ∙ sym (ap (apply (naming xs)) (view-Fun f w));
+    names = shown ∙ ap (app f) (ap views (sym (take_all i args h)) ∙ all.names) ∙ sym (ap (apply (naming xs)) (view-Fun f w));
     below = λ m o. all.below m (subst (λ (u : math.Term). occurs m u ≡ true) (view-Fun f w) o);
   }
 

@@ -1,6 +1,6 @@
 -- Decided facts, and whether a term has a part of some kind.
 use Rattle.std.proofs.Common.{◌≡◌, ℕ, zero, suc, ◌<◌, ◌≤◌, ◌⊎◌, inl, inr, refl, subst, [], ◌∷◌, Some, Bool, true, false, arith}
-use Rattle.std.proofs.lemmas.Bool.{cases_lt}
+use Rattle.general_lemmas.proofs.Numbers.{le_or_lt}
 use Rattle.rewriting.proofs.Common.{Term, var, app, Terms, nil, cons, Position, argument, argument_of, subterm}
 use Rattle.rewriting.proofs.Positions.{within}
 
@@ -8,15 +8,8 @@ use Rattle.rewriting.proofs.Positions.{within}
 abbrev pub IsDecided : Type 0 → Type 0
 IsDecided P = P ⊎ (P → ⊥)
 
-pub or_greater : (a b : ℕ) → (a ≤ b) ⊎ (b < a)
-or_greater a b = go (cases_lt b a)
-  where
-    go : (b < a) ⊎ (a ≤ b) → (a ≤ b) ⊎ (b < a)
-    go (inl lt) = inr lt
-    go (inr le) = inl le
-
 pub at_most : (a b : ℕ) → IsDecided (a ≤ b)
-at_most a b = go (or_greater a b)
+at_most a b = go (le_or_lt a b)
   where
     go : (a ≤ b) ⊎ (b < a) → IsDecided (a ≤ b)
     go (inl le) = inl le

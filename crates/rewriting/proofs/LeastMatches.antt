@@ -1,6 +1,6 @@
 -- Least matches: whether there is one is decided, and its values are those that were there and those of the pattern's variables.
 use Rattle.std.proofs.Common.{◌≡◌, ℕ, ◌⊎◌, inl, inr, Bool, true, false, ◌||◌, cond, Option, Some, None, is_some, nat_cmp, refl, sym, ap, ◌∙◌, ◌↔◌, eq-eqb, Equal}
-use Rattle.std.proofs.lemmas.Bool.{or_left}
+use Rattle.std.proofs.lemmas.Bool.{or_left, or_right}
 use Rattle.std.specs.Ordering.{eq_by_cmp}
 use Rattle.std.specs.Cmp.{nat_cmp_total, nat_cmp_is, Equal-is}
 use Rattle.std.specs.FinMap.{get, insert, get-insert, retain_keys, get-retain_keys, nat_cmp-IsAntisymmetric}
@@ -10,7 +10,7 @@ use Rattle.rewriting.specs.Substitutions.{Bindings}
 use Rattle.rewriting.specs.Variables.{occurs, occurs_in}
 use Rattle.rewriting.specs.Matching.{Extends, Solves, SolvesAll, IsLeastMatch, HasNoMatch}
 use Rattle.rewriting.proofs.Equality.{same}
-use Rattle.rewriting.proofs.Instances.{or_cases, or_right}
+use Rattle.rewriting.proofs.Instances.{or_cases}
 
 mutual
   pub Solves-extends : (b c : Bindings) (p s : Term) → Extends b c → Solves b p s → Solves c p s

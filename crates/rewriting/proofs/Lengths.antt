@@ -1,8 +1,12 @@
--- How many variables a term has.
+-- How many nodes and variables a term has.
 use Rattle.std.proofs.Common.{ℕ, ◌≡◌, ◌+◌, ◌≤◌, Bool, true, false, nat_eq, if◌then◌else◌, List, [], ◌∷◌, ◌++◌, length, arith, length-append}
 use Rattle.std.specs.List.{list_any}
 use Rattle.rewriting.specs.Terms.{Term, Terms, var, app, nil, cons, size, size_all}
 use Rattle.rewriting.specs.Variables.{with_new, with_variables, with_variables_of}
+
+pub size_positive : (t : Term) → 1 ≤ size t
+size_positive (var x) = omega arith
+size_positive (app f ts) = omega arith
 
 -- a row grows by no more variables than a term has nodes
 new_length : (xs : List ℕ) (y : ℕ) → length (with_new xs y) ≤ length xs + 1

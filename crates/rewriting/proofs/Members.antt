@@ -1,5 +1,5 @@
 -- Members of lists: on the lists for each member, at their places, at one place, at the end.
-use Rattle.std.proofs.Common.{◌≡◌, ◌⊎◌, inl, inr, ℕ, zero, suc, ◌<◌, List, [], ◌∷◌, ◌++◌, flat_map, length, Some, slice_get, refl, sym, ap, ◌∙◌, subst, arith}
+use Rattle.std.proofs.Common.{◌≡◌, ◌⊎◌, inl, inr, ℕ, zero, suc, ◌<◌, List, [], ◌∷◌, ◌++◌, flat_map, length, Some, slice_get, refl, sym, ap, ◌∙◌, subst, arith, Contains}
 use Rattle.rewriting.specs.Lists.{IsAmong, AreDistinct}
 use Rattle.rewriting.proofs.Lists.{among_left, among_right, among_either}
 
@@ -48,11 +48,18 @@ distinct_append {X = X} (x ∷ xs) ys (new, d) e apart = ((λ i. go (among_eithe
     go (inl i) = new i
     go (inr j) = apart x (inl refl) j
 
--- lists that end with one more are the same in both parts
-pub last_once : {X : Type 0} (xs ys : List X) (x y : X) → xs ++ x ∷ [] ≡ ys ++ y ∷ [] → (xs ≡ ys) × (x ≡ y)
-last_once [] [] x y e = (refl, cc)
-last_once [] (z ∷ []) x y e = absurd (cc)
-last_once [] (z ∷ w ∷ ys) x y e = absurd (cc)
-last_once (z ∷ []) [] x y e = absurd (cc)
-last_once (z ∷ w ∷ xs) [] x y e = absurd (cc)
-last_once (z ∷ xs) (w ∷ ys) x y e = let same = last_once xs ys x y (cc) in let a = same.0 in (cc, same.1)
+-- std's word for members
+pub contained_among : {X : Type 0} (x : X) (xs : List X) → IsAmong x xs → Contains xs x
+contained_among x [] h = absurd h
+contained_among x (y ∷ ys) (inl e) = (0, omega arith, sym e)
+contained_among x (y ∷ ys) (inr h) = let c = contained_among x ys h in let low = c.1 in (suc c.0, omega arith, c.2)
+
+pub among_contained : {X : Type 0} (x : X) (xs : List X) → Contains xs x → IsAmong x xs
+among_contained x [] (k, h, e) = absurd (omega arith)
+among_contained x (y ∷ ys) (zero, h, e) = inl (sym e)
+among_contained x (y ∷ ys) (suc k, h, e) = inr (among_contained x ys (k, omega arith, e))
+
+-- a list without members
+pub none_among : {X : Type 0} (xs : List X) → ((x : X) → IsAmong x xs → ⊥) → xs ≡ []
+none_among [] h = refl
+none_among (x ∷ xs) h = absurd (h x (inl refl))

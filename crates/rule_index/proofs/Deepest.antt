@@ -5,16 +5,13 @@ use Rattle.std.proofs.lemmas.Bool.{false≢true}
 use Rattle.std.proofs.lemmas.List.{take_more, take_more_set, map-append, length-map}
 use Rattle.std.proofs.Math.Seq.{take-length}
 use Rattle.rewriting.specs.Terms as math
-use Rattle.rewriting.specs.Terms.{var, app, size, size_all}
+use Rattle.rewriting.specs.Terms.{size, size_all}
+use Rattle.rewriting.proofs.Lengths.{size_positive}
 use Rattle.term_core.specs.View.{view, views}
 use Rattle.term_core.specs.declared.terms.Term.{Term}
 use Rattle.rule_index.specs.Parts.{Part}
 use Rattle.rule_index.specs.Levels.{parts_in, parts_among, later_parts, levels_of, AreLevels}
 use Rattle.rule_index.proofs.Levels.{deepest, level_more, level_less, as_many}
-
-size_positive : (t : math.Term) → 1 ≤ size t
-size_positive (var x) = omega arith
-size_positive (app f ts) = omega arith
 
 pub some_levels : (n : ℕ) (b : Bool) → b ≡ (n == 0) → b ≡ false → 1 ≤ n
 some_levels zero b e h = absurd (cc)

@@ -1,6 +1,7 @@
 -- Lists put end to end: what is among them, and when they are in order.
-use Rattle.std.proofs.Common.{◌≡◌, ◌⊎◌, inl, inr, List, [], ◌∷◌, ◌++◌, map, flat_map, refl, ap, ◌∙◌, subst}
-use Rattle.std.proofs.lemmas.List.Concat.{flat_map-append}
+use Rattle.std.proofs.Common.{◌≡◌, ◌⊎◌, inl, inr, List, [], ◌∷◌, map, flat_map, refl, subst}
+use Rattle.std.proofs.lemmas.List.Folds.{flat_map-map}
+use Rattle.general_lemmas.proofs.Lists.{flat_map_of_parts}
 use Rattle.rewriting.specs.Lists.{IsAmong, IsSorted}
 use Rattle.rewriting.proofs.Lists.{among_left, among_right, among_either, sorted_append, before_one}
 
@@ -31,9 +32,7 @@ module _ {X Y : Type 0} (f : X → List Y) where
 
 -- twice
 pub flat_twice : {X Y Z : Type 0} (f : X → List Y) (g : Y → List Z) (xs : List X) → flat_map g (flat_map f xs) ≡ flat_map (λ x. flat_map g (f x)) xs
-flat_twice f g [] = refl
-flat_twice f g (x ∷ xs) = flat_map-append g (f x) (flat_map f xs) ∙ ap (λ z. flat_map g (f x) ++ z) (flat_twice f g xs)
+flat_twice f g xs = flat_map_of_parts g f xs
 
 pub flat_of_map : {X Y Z : Type 0} (f : X → Y) (g : Y → List Z) (xs : List X) → flat_map g (map f xs) ≡ flat_map (λ x. g (f x)) xs
-flat_of_map f g [] = refl
-flat_of_map f g (x ∷ xs) = ap (λ z. g (f x) ++ z) (flat_of_map f g xs)
+flat_of_map f g xs = flat_map-map g f xs

@@ -4,15 +4,17 @@
 //! prints how the run ended and what was written.
 #![tactic(auto)]
 
-mod case;
 #[cfg(test)]
 mod faults;
 
-use case::{Case, case_of, text_of};
+use case_texts::{Case, case_of, text_of};
 use cc_io::{MemoryFile, MemoryShelf, MemorySink};
 use concon_run::{Status, run};
 use std::alloc::{AllocError, Global};
 use std::{env, fs, io};
+
+// The words of a case that gives none.
+const USUAL_WORDS: &str = "check x.trs c.crt";
 
 fn files_of(alloc: Global, file: &str, certificate: &str) -> Result<Vec<MemoryFile>, AllocError> {
     let mut files = Vec::new(alloc);
@@ -89,9 +91,10 @@ fn print_case(rt: &HostRuntime, case: Case, certificate: &str) -> io::Result<()>
     let certificate = text_of(alloc, certificate)?;
     let mut shelf = shelf_of(alloc, &file, &certificate, Vec::new(alloc))?;
     println!(rt; "= {}", case.title)?;
-    let found = print_answer(rt, case.words, &mut shelf)?;
+    let words = case.words.unwrap_or(USUAL_WORDS);
+    let found = print_answer(rt, words, &mut shelf)?;
     match found {
-        Some(found) if case.words.trim().starts_with("prove ") => {
+        Some(found) if words.trim().starts_with("prove ") => {
             let mut shelf = shelf_of(alloc, &file, &found, Vec::new(alloc))?;
             println!(rt; "checked:")?;
             print_answer(rt, "check x.trs c.crt", &mut shelf)?;

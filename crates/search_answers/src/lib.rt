@@ -1,2 +1,42 @@
-//! What searches answer, as endings of the spaces that they search: definitions and lemmas alone.
+//! What searches answer, as endings of the spaces that they search, and the list of overlaps that they are lent.
 #![tactic(auto)]
+
+ghost use Rattle.std.specs.Prelude.{IfOk, map};
+ghost use Rattle.critical_pairs.specs.Kept.{AreKnown};
+ghost use Rattle.critical_pairs.specs.View.{overlap_view};
+ghost use Rattle.search_answers.specs.Given.{HasOverlaps};
+
+use critical_pairs::{Overlap, OverlapError, overlaps, overlaps_with};
+use std::alloc::Global;
+use term_core::{NoMemory, System};
+
+/// The overlaps of a system, or none where they are refused.
+pub fn overlaps_or_none(alloc: Global, sys: &System) -> Result<Option<Vec<Overlap>>, NoMemory>
+    ensures { IfOk result (HasOverlaps sys.now) }
+{
+    match overlaps(alloc, sys) {
+        Ok(found) => Ok(Some(found)),
+        Err(OverlapError::PairTooLarge { .. }) => Ok(None),
+        Err(OverlapError::TooManyPairs) => Ok(None),
+        Err(OverlapError::NoMemory) => Err(NoMemory),
+    }
+}
+
+/// The same of a system that has rules of an earlier one, whose overlaps are known.
+pub fn overlaps_or_none_with(
+    alloc: Global,
+    sys: &System,
+    earlier: &System,
+    origins: &[Option<u32>],
+    known: Vec<Overlap>,
+) -> Result<Option<Vec<Overlap>>, NoMemory>
+    requires { AreKnown earlier.now sys.now origins.now (map overlap_view known.items) }
+    ensures { IfOk result (HasOverlaps sys.now) }
+{
+    match overlaps_with(alloc, sys, earlier, origins, known) {
+        Ok(found) => Ok(Some(found)),
+        Err(OverlapError::PairTooLarge { .. }) => Ok(None),
+        Err(OverlapError::TooManyPairs) => Ok(None),
+        Err(OverlapError::NoMemory) => Err(NoMemory),
+    }
+}

@@ -14,7 +14,7 @@ use Rattle.unifier_run.specs.Overlaps.{Overlap, IsOverlapOf}
 use Rattle.certificates.specs.Evidence.{conflicting_pair}
 use Rattle.valid_certificates.proofs.OneOverlaps.{overlaps_once}
 use Rattle.first_found.specs.Items.{cost_of}
-use Rattle.search_trees.proofs.Lists.{cost_of_ones}
+use Rattle.first_found.proofs.Items.{cost_of_ones}
 use Rattle.search_spaces.specs.Refuting.{try_growth, growths}
 use Rattle.search_spaces.specs.PairItems.{try_evidence, try_refuting, conflicts_with, conflicts, ortho_items_of, ortho_items}
 use Rattle.search_spaces.specs.Entries.{overlap_cost}

@@ -1,15 +1,14 @@
 -- From a term one automaton grows at most, and none where too many transitions are asked for.
-use Rattle.std.proofs.Common.{ℕ, zero, suc, ◌≡◌, ◌<◌, ◌≤◌, ◌⊎◌, inl, inr, List, [], ◌∷◌, length, Option, None, Some, refl, sym, ◌∙◌, subst, arith}
-use Rattle.std.specs.Prelude.{Contains}
+use Rattle.std.proofs.Common.{ℕ, suc, ◌≡◌, ◌<◌, ◌≤◌, ◌⊎◌, inl, inr, List, [], ◌∷◌, length, Option, None, Some, refl, sym, ◌∙◌, subst, arith}
 use Rattle.rewriting.specs.Lists.{IsAmong, IsBeforeAll, IsSorted}
 use Rattle.rewriting.specs.Positions.{IsBefore}
 use Rattle.rewriting.specs.Rules.{System}
 use Rattle.rewriting.specs.Terms.{Term}
 use Rattle.rewriting.proofs.Before.{before_not_same, before_not_both}
 use Rattle.rewriting.proofs.Lists.{before_one, sorted_once}
+use Rattle.rewriting.proofs.Members.{among_contained, contained_among}
 use Rattle.certificates.specs.Evidence.{Transition, Automaton}
 use Rattle.automata.specs.Growth.{IsHeadBefore, IsTransitionBefore, AreLeast, AreTransitionsMany}
-use Rattle.automata.proofs.Asked.{contains_head, contains_tail}
 use Rattle.search_spaces.specs.Grown.{GrowsTo}
 
 -- of two transitions at most one is before the other
@@ -35,16 +34,6 @@ transitions_once c d (inl h) (inl k) = heads_once c.symbol d.symbol h k
 transitions_once c d (inl h) (inr (e, k)) = head_not_same c.symbol d.symbol h (sym e)
 transitions_once c d (inr (e, h)) (inl k) = head_not_same d.symbol c.symbol k (sym e)
 transitions_once c d (inr (e, h)) (inr (f, k)) = tails_once c d h k
-
-among_contained : {X : Type 0} (x : X) (xs : List X) → Contains xs x → IsAmong x xs
-among_contained x [] (k, h, e) = absurd (omega (arith, h))
-among_contained x (y ∷ ys) (zero, h, e) = inl (sym e)
-among_contained x (y ∷ ys) (suc k, h, e) = inr (among_contained x ys (k, omega (arith, h), e))
-
-contained_among : {X : Type 0} (x : X) (xs : List X) → IsAmong x xs → Contains xs x
-contained_among x [] h = absurd h
-contained_among x (y ∷ ys) (inl e) = subst (Contains (y ∷ ys)) (sym e) (contains_head y ys)
-contained_among x (y ∷ ys) (inr h) = contains_tail y ys x (contained_among x ys h)
 
 module _ (sys : System) (s : Term) where
   -- what is asked for is in each set that has grown

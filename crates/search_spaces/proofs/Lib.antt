@@ -4,4 +4,4 @@ pub mod GrownOnce
 pub mod Ortho
 pub mod Peak
 pub mod PeakOnce
-pub mod Whole
+pub mod OrthoThenPeak

@@ -16,7 +16,7 @@ use Rattle.search_spaces.specs.PeakItems.{PeakItem, peak_item_cost, peak_items, 
 use Rattle.search_spaces.specs.Peak.{AreStarts, ArePeakItems, IsPeakHeld, IsPeakFound, IsPeakCost, peak_space}
 use Rattle.search_spaces.proofs.PeakOnce.{peak_once}
 
-none_member : {A B : Type 0} (Gives : A → B → Type 0) (items : List A) (a : A) → NoneGives Gives items → IsAmong a items → GivesNothing Gives a
+pub none_member : {A B : Type 0} (Gives : A → B → Type 0) (items : List A) (a : A) → NoneGives Gives items → IsAmong a items → GivesNothing Gives a
 none_member Gives [] a h k = absurd k
 none_member Gives (x ∷ items) a (h, hs) (inl e) = subst (GivesNothing Gives) (sym e) h
 none_member Gives (x ∷ items) a (h, hs) (inr k) = none_member Gives items a hs k

@@ -8,7 +8,7 @@ use Rattle.valid_certificates.specs.Certificates.{IsValid}
 use Rattle.first_found.specs.Spaces.{Space, CostsOnce, HasCost, FindsOnce, HasPrice, IsSearched}
 use Rattle.search_spaces.specs.Ortho.{ortho_space}
 use Rattle.search_spaces.specs.Peak.{peak_space}
-use Rattle.search_spaces.specs.Whole.{whole_space}
+use Rattle.search_spaces.specs.OrthoThenPeak.{ortho_then_peak_space}
 
 -- what the space finds is in it and valid, and where it finds nothing, nothing in it is valid; it finds one certificate at most, at one price, which is no more than its cost; that is one number, and it cannot be that it has none
 pub record IsSearchable (sys : System) (S : Space Certificate) : Type 0 where
@@ -26,7 +26,7 @@ abbrev pub PeakSpacesAreSearchable : Type 0
 PeakSpacesAreSearchable = (names : NameTable) (sys : System) → IsSearchable sys (peak_space names sys)
 
 abbrev pub WholeSpacesAreSearchable : Type 0
-WholeSpacesAreSearchable = (names : NameTable) (sys : System) → IsSearchable sys (whole_space names sys)
+WholeSpacesAreSearchable = (names : NameTable) (sys : System) → IsSearchable sys (ortho_then_peak_space names sys)
 
 -- where no rule has more than 20 conditions, the first space costs at most 442 units for each overlap
 abbrev pub OrthoSpacesCostFewUnits : Type 0

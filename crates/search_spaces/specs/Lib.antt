@@ -8,4 +8,4 @@ pub mod Peak
 pub mod PeakItems
 pub mod Refuting
 pub mod Texts
-pub mod Whole
+pub mod OrthoThenPeak

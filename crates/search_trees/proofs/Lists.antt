@@ -1,11 +1,7 @@
 -- Lists of items that cost one each, and lists of items that are made of others.
-use Rattle.std.proofs.Common.{ℕ, ◌≡◌, ◌+◌, ◌⊎◌, inl, inr, List, [], ◌∷◌, ◌++◌, map, length, refl, sym, subst, arith}
-use Rattle.first_found.specs.Items.{GivesNothing, NoneGives, cost_of, IsFirst, one}
+use Rattle.std.proofs.Common.{ℕ, ◌≡◌, ◌+◌, ◌⊎◌, inl, inr, List, [], ◌∷◌, ◌++◌, map, sym, subst}
+use Rattle.first_found.specs.Items.{GivesNothing, NoneGives, IsFirst, one}
 use Rattle.first_found.proofs.Items.{first_here, first_right, first_cases}
-
-pub cost_of_ones : {A : Type 0} (xs : List A) → cost_of one xs ≡ length xs
-cost_of_ones [] = refl
-cost_of_ones (x ∷ xs) = let e = cost_of_ones xs in omega (arith, e)
 
 -- items that are made of others by f, and give the same
 module _ {A B P : Type 0} (f : A → P) (From : P → B → Type 0) (To : A → B → Type 0) where

@@ -3,14 +3,12 @@ use Rattle.std.proofs.Common.{ℕ, sym, subst}
 use Rattle.rewriting.specs.Confluence.{IsConfluent, AreApart}
 use Rattle.rewriting.specs.Relations.{Commute}
 use Rattle.rewriting.proofs.Common.{Term, done, more, IsOver, System, Steps, Reaches}
-use Rattle.rewriting.proofs.Closures.{Star-mono, Star-one, Star-trans}
+use Rattle.rewriting.proofs.Closures.{Star-one, Star-trans}
+use Rattle.rewriting.proofs.Levels.{reaches_of_steps}
 use Rattle.simplifications.specs.Laws.{AreSameByLevels, SystemsOfOneLevelsAreAlike}
 
 pub same_back : (sys other : System) → AreSameByLevels sys other → AreSameByLevels other sys
 same_back sys other h = record { arities = sym h.arities; own = sym h.own; levels = λ n u v. ((h.levels n u v).1, (h.levels n u v).0) }
-
-reaches_of_steps : (sys : System) (n : ℕ) (u v : Term) → Steps sys n u v → Reaches sys u v
-reaches_of_steps sys n u v p = Star-mono (λ a b h. (n, h)) u v p
 
 pub reaches_to : (sys other : System) → AreSameByLevels sys other → {u v : Term} → Reaches sys u v → Reaches other u v
 reaches_to sys other h done = done

@@ -1,5 +1,6 @@
 -- A rule with a condition inlined contracts what the rule contracts, up to steps that the condition asked for.
-use Rattle.std.proofs.Common.{◌≡◌, ℕ, suc, Bool, true, false, ◌||◌, refl, sym, ap, ◌∙◌, subst, subst₂, List, [], ◌∷◌, ◌++◌, map, take, drop, slice_get, Some, nat_eq, eqb-true, eq-eqb, if◌then◌else◌}
+use Rattle.std.proofs.Common.{◌≡◌, ℕ, suc, Bool, true, false, refl, sym, ap, ◌∙◌, subst, subst₂, List, [], ◌∷◌, ◌++◌, map, take, drop, slice_get, Some, nat_eq, eqb-true, eq-eqb, if◌then◌else◌}
+use Rattle.std.proofs.lemmas.Bool.{or_parts}
 use Rattle.rewriting.proofs.Common.{Relation, Term, Terms, var, Substitution, apply, compose, occurs, occurs_in, Signature, IsOver, Condition, Rule, right_sides, sides, Meets}
 use Rattle.rewriting.proofs.Instances.{apply-apply, apply-agree}
 use Rattle.rewriting.proofs.Levels.{Meets-agree}
@@ -32,14 +33,6 @@ other_variable_in x y us none there = go (nat_eq y x) refl
     go false e = e
     go true e = (let same : y ≡ x = eqb-true y x e in let bad : true ≡ false = sym there ∙ ap (λ z. occurs_in z us) same ∙ none in cc)
 
-or_right_no : (a b : Bool) → (a || b) ≡ false → b ≡ false
-or_right_no false b e = e
-or_right_no true b e = absurd (cc)
-
-or_left_no : (a b : Bool) → (a || b) ≡ false → a ≡ false
-or_left_no false b e = refl
-or_left_no true b e = e
-
 module _ (ar : Signature) (S : Relation Term) (r : Rule) (k : ℕ) (c : Condition) (x : ℕ) (is : slice_get r.conditions k ≡ Some c) (names : Names r k c x) where
   abbrev front : List Condition
   front = take k r.conditions
@@ -70,8 +63,8 @@ module _ (ar : Signature) (S : Relation Term) (r : Rule) (k : ℕ) (c : Conditio
     meets_later s [] none h = tt
     meets_later s (d ∷ cs) none (h, hs) = (
       subst₂ S (apply-apply (replacing x c.left) s d.left)
-          (sym (apply-agree (named s) s d.right (λ y o. named_other s y (other_variable x y d.right (or_left_no _ _ none) o)))) h,
-      meets_later s cs (or_right_no (occurs x d.right) _ none) hs,
+          (sym (apply-agree (named s) s d.right (λ y o. named_other s y (other_variable x y d.right (or_parts _ _ none).0 o)))) h,
+      meets_later s cs (or_parts (occurs x d.right) _ none).1 hs,
     )
 
     own_met : (s : Substitution) → S (apply (named s) c.left) (apply (named s) c.right)

@@ -1,10 +1,11 @@
 -- Each list of steps leads to one system, or fails at one step for one reason.
 use Rattle.std.proofs.Common.{◌≡◌, ℕ, zero, suc, ◌⊎◌, inl, inr, Bool, true, false, refl, sym, ap, ◌∙◌, subst, List, [], ◌∷◌, take, drop, slice_get, Option, Some, None}
+use Rattle.std.proofs.lemmas.Bool.{both_ways}
 use Rattle.rewriting.specs.Rules.{Condition, Rule, System, rule_at, right_sides, sides}
 use Rattle.rewriting.specs.Systems.{Each, terms_of_rule}
-use Rattle.rewriting.specs.Terms.{Term, Terms, nil, cons, var, app, Fits}
+use Rattle.rewriting.specs.Terms.{Term, var, app, Fits}
 use Rattle.rewriting.specs.Variables.{occurs, occurs_in}
-use Rattle.rewriting.proofs.Equality.{fits_decided}
+use Rattle.rewriting.proofs.Equality.{all_fit}
 use Rattle.rewriting.proofs.Once.{same_some, some_or_none}
 use Rattle.certificates.specs.Evidence.{InfeasibilityEvidence}
 use Rattle.certificates.specs.Judging.{hypothesis_at}
@@ -115,9 +116,6 @@ or_true : (b : Bool) → (b ≡ false) ⊎ (b ≡ true)
 or_true true = inr refl
 or_true false = inl refl
 
-false_or_true : (b : Bool) → b ≡ false → b ≡ true → ⊥
-false_or_true b e f = cc
-
 module _ (r : Rule) (k : ℕ) (c : Condition) where
   abbrev NamesOrNot : Type 0
   NamesOrNot = ((x : ℕ) × Names r k c x) ⊎ ((x : ℕ) → Names r k c x → ⊥)
@@ -128,20 +126,20 @@ module _ (r : Rule) (k : ℕ) (c : Condition) where
   fourth : (x : ℕ) → c.right ≡ var x → occurs x r.left ≡ false → occurs x c.left ≡ false → occurs_in x (sides (take k r.conditions)) ≡ false
       → (occurs_in x (right_sides (drop (suc k) r.conditions)) ≡ false) ⊎ (occurs_in x (right_sides (drop (suc k) r.conditions)) ≡ true) → NamesOrNot
   fourth x e a b d (inl f) = inl (x, record { variable = e; not_in_left = a; not_in_own = b; not_before = d; not_asked_behind = f })
-  fourth x e a b d (inr f) = other_name x e (λ h. false_or_true _ h.not_asked_behind f)
+  fourth x e a b d (inr f) = other_name x e (λ h. both_ways _ h.not_asked_behind f)
 
   third : (x : ℕ) → c.right ≡ var x → occurs x r.left ≡ false → occurs x c.left ≡ false
       → (occurs_in x (sides (take k r.conditions)) ≡ false) ⊎ (occurs_in x (sides (take k r.conditions)) ≡ true) → NamesOrNot
   third x e a b (inl f) = fourth x e a b f (or_true _)
-  third x e a b (inr f) = other_name x e (λ h. false_or_true _ h.not_before f)
+  third x e a b (inr f) = other_name x e (λ h. both_ways _ h.not_before f)
 
   second : (x : ℕ) → c.right ≡ var x → occurs x r.left ≡ false → (occurs x c.left ≡ false) ⊎ (occurs x c.left ≡ true) → NamesOrNot
   second x e a (inl f) = third x e a f (or_true _)
-  second x e a (inr f) = other_name x e (λ h. false_or_true _ h.not_in_own f)
+  second x e a (inr f) = other_name x e (λ h. both_ways _ h.not_in_own f)
 
   first : (x : ℕ) → c.right ≡ var x → (occurs x r.left ≡ false) ⊎ (occurs x r.left ≡ true) → NamesOrNot
   first x e (inl f) = second x e f (or_true _)
-  first x e (inr f) = other_name x e (λ h. false_or_true _ h.not_in_left f)
+  first x e (inr f) = other_name x e (λ h. both_ways _ h.not_in_left f)
 
   names_or_not : NamesOrNot
   names_or_not = go (or_variable c.right)
@@ -149,15 +147,6 @@ module _ (r : Rule) (k : ℕ) (c : Condition) where
       go : ((x : ℕ) × (c.right ≡ var x)) ⊎ ((x : ℕ) → c.right ≡ var x → ⊥) → NamesOrNot
       go (inl (x, e)) = first x e (or_true _)
       go (inr none) = inr (λ x h. none x h.variable)
-
-all_fit : (ts : Terms) → Dec (Each Fits ts)
-all_fit nil = yes tt
-all_fit (cons t ts) = go (fits_decided t) (all_fit ts)
-  where
-    go : Dec (Fits t) → Dec (Each Fits ts) → Dec (Each Fits (cons t ts))
-    go (yes a) (yes b) = yes (a, b)
-    go (no n) b = no (λ h. n h.0)
-    go (yes a) (no n) = no (λ h. n h.1)
 
 module _ (sys : System) where
   abbrev Answer : Simplification → Type 0

@@ -2,21 +2,19 @@
 use Rattle.std.proofs.Common.{◌≡◌, ℕ, zero, suc, ◌+◌, ◌*◌, ◌^◌, ◌≤◌, ◌<◌, Bool, true, false, sym, subst, List, [], ◌∷◌, ◌++◌, length, map, take, drop, slice_get, Some, nat_eq, if◌then◌else◌, arith}
 use Rattle.rewriting.specs.Systems.{Each, terms_of_rule, rule_variables, CountsFrom, IsRuleOver, IsRule, AreRules, condition_count, IsSystem}
 use Rattle.rewriting.specs.Terms.{Fits, size_all, count}
-use Rattle.rewriting.proofs.Common.{Term, var, app, IsVariable, Substitution, apply, Signature, IsOver, Condition, Rule, System, sides, variables_of}
+use Rattle.rewriting.proofs.Common.{Term, var, app, apply, Signature, IsOver, Condition, Rule, System, sides, variables_of}
 use Rattle.rewriting.proofs.Lengths.{variables_length}
 use Rattle.rewriting.proofs.Over.{IsOver-apply}
 use Rattle.rewriting.proofs.Systems.{is_rule_at}
+use Rattle.rewriting.proofs.Conditions.{length-conditions_under}
+use Rattle.rewriting.proofs.Unraveled.{no_variable_under}
 use Rattle.certificates.specs.Certificates.{Simplification, dropped, inlined}
 use Rattle.simplifications.specs.Inlining.{replacing, left_under, inlined_rule, numbering_of, numbered}
 use Rattle.simplifications.specs.Simplifying.{with_in_place, Simplifies}
 use Rattle.simplifications.specs.Laws.{parts, SimplificationsMakeSystems, SimplificationsShrink}
 use Rattle.simplifications.proofs.Anew.{numbered_counts, fits_renamed}
-use Rattle.simplifications.proofs.Parts.{each_append, each_front, each_behind, each_left_under, each_rule_under, terms_under, all_small, count_sides, length_replaced, length_without, length_under, count_replaced, rules_replaced}
+use Rattle.simplifications.proofs.Parts.{each_append, each_front, each_behind, each_left_under, each_rule_under, terms_under, all_small, count_sides, length_replaced, length_without, count_replaced, rules_replaced}
 use Rattle.simplifications.proofs.Rules.{split_at}
-
-no_variable_under : (s : Substitution) (t : Term) → (IsVariable t → ⊥) → IsVariable (apply s t) → ⊥
-no_variable_under s (var x) k h = k tt
-no_variable_under s (app f ts) k h = h
 
 module _ (ar : Signature) (r : Rule) (h : IsRuleOver ar r) (k : ℕ) (c : Condition) (x : ℕ) (at : slice_get r.conditions k ≡ Some c) where
   split_over : Each (IsOver ar) (sides (take k r.conditions ++ c ∷ drop (suc k) r.conditions))
@@ -68,7 +66,7 @@ numbered_over ar p over =
 pub numbered_rule : (ar : Signature) (p : Rule) → IsRuleOver ar p → length p.conditions ≤ 100 → Each Fits (terms_of_rule p) → IsRule ar (numbered p)
 numbered_rule ar p over few fits =
     let fits_now : Each Fits (terms_of_rule (numbered p)) = each_rule_under Fits (numbering_of p) (λ t f. fits_renamed _ t f) p fits in
-    let few_now : length (numbered p).conditions ≤ 100 = (let e = length_under (numbering_of p) p.conditions in omega (arith, e, few)) in
+    let few_now : length (numbered p).conditions ≤ 100 = (let e = length-conditions_under (numbering_of p) p.conditions in omega (arith, e, few)) in
     record {
       is_over = numbered_over ar p over;
       numbered = subst (λ ts. CountsFrom 0 (variables_of ts)) (sym (terms_under (numbering_of p) p)) (numbered_counts (terms_of_rule p));
@@ -79,7 +77,7 @@ numbered_rule ar p over few fits =
 
 pub fewer_conditions : (r : Rule) (k : ℕ) (c : Condition) (x : ℕ) → slice_get r.conditions k ≡ Some c → length (numbered (inlined_rule r k c.left x)).conditions + 1 ≡ length r.conditions
 fewer_conditions r k c x at =
-    let e = length_under (numbering_of (inlined_rule r k c.left x)) (inlined_rule r k c.left x).conditions in
+    let e = length-conditions_under (numbering_of (inlined_rule r k c.left x)) (inlined_rule r k c.left x).conditions in
     let f = length_without (left_under (replacing x c.left)) r.conditions k c at in
     omega (arith, e, f)
 
@@ -105,7 +103,7 @@ step_makes sys next (inlined (suc n) (suc k)) h g =
     let old = is_rule_at sys.arities sys.rules n g.rule h.rules g.is_rule in
     let p = inlined_rule g.rule k g.condition.left g.name in
     let fewer = fewer_conditions g.rule k g.condition g.name g.is_condition in
-    let same = length_under (numbering_of p) p.conditions in
+    let same = length-conditions_under (numbering_of p) p.conditions in
     let few = old.few_conditions in
     let new = numbered_rule sys.arities p (inlined_over sys.arities g.rule old.is_over k g.condition g.name g.is_condition) (omega (arith, fewer, same, few)) g.fits in
     subst IsSystem (sym g.result) (system_with sys n g.rule (numbered p ∷ []) h g.is_rule (new, tt) (omega arith) (omega (arith, fewer)))

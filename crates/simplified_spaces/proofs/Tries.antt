@@ -2,17 +2,16 @@
 use Rattle.std.proofs.Common.{ℕ, suc, ◌≡◌, List, [], ◌∷◌, map, length, refl, sym, ap, ◌∙◌, subst, arith}
 use Rattle.std.specs.List.{range_with_len}
 use Rattle.std.proofs.lemmas.List.FromFn.{length-range_with_len}
+use Rattle.std.proofs.lemmas.List.{length-map}
 use Rattle.rewriting.specs.Rules.{Condition, Rule, System, rule_at}
 use Rattle.rewriting.proofs.Once.{same_some}
 use Rattle.first_found.specs.Items.{cost_of, one}
-use Rattle.first_found.proofs.Items.{cost_append, first_within}
-use Rattle.search_trees.proofs.Lists.{cost_of_ones}
+use Rattle.first_found.proofs.Items.{cost_append, first_within, cost_of_ones}
 use Rattle.search_spaces.specs.Refuting.{Tries, try_growth, refutings}
 use Rattle.search_spaces.proofs.Entries.{tries_once}
 use Rattle.certificates.specs.Certificates.{Simplification, dropped}
 use Rattle.simplifications.specs.Simplifying.{Simplifies}
 use Rattle.simplifications.proofs.OneAnswer.{step_once}
-use Rattle.simplifications.proofs.Parts.{length_map}
 use Rattle.simplified_spaces.specs.Tries.{Try, try_drop, try_inline, Offers, GivesStep, tries_of, tries_from, tries, count_of, try_count}
 use Rattle.simplified_spaces.specs.Laws.{TriesAreCounted, StepsAreWithinTries}
 
@@ -25,9 +24,9 @@ counted_rule i (c ∷ cs) =
     let all = cost_append one drops inlines in
     let a = cost_of_ones drops in
     let b = cost_of_ones inlines in
-    let d : length drops ≡ suc (length (map try_growth (range_with_len 1 n))) = length_map (try_drop i) (refutings n) in
-    let e : length (map try_growth (range_with_len 1 n)) ≡ length (range_with_len 1 n) = length_map try_growth (range_with_len 1 n) in
-    let f : length inlines ≡ length (range_with_len 1 n) = length_map (try_inline i) (range_with_len 1 n) in
+    let d : length drops ≡ suc (length (map try_growth (range_with_len 1 n))) = length-map (refutings n) (try_drop i) in
+    let e : length (map try_growth (range_with_len 1 n)) ≡ length (range_with_len 1 n) = length-map (range_with_len 1 n) try_growth in
+    let f : length inlines ≡ length (range_with_len 1 n) = length-map (range_with_len 1 n) (try_inline i) in
     let g = length-range_with_len 1 n in
     omega (arith, all, a, b, d, e, f, g)
 

@@ -1,18 +1,13 @@
 -- Walks that make the standard steps one after the other.
-use Rattle.std.proofs.Common.{ℕ, ◌≡◌, ◌+◌, ◌<◌, ◌≤◌, List, [], ◌∷◌, ◌++◌, length, refl, sym, ap, subst, arith}
+use Rattle.std.proofs.Common.{ℕ, ◌≡◌, ◌+◌, ◌<◌, ◌≤◌, List, [], ◌∷◌, ◌++◌, refl, sym, ap, subst, arith}
 use Rattle.rewriting.specs.Rules.{System}
 use Rattle.first_found.specs.Items.{NoneGives, IsFirst, IsStopped, one}
 use Rattle.first_found.proofs.Items.{not_both, first_once, stopped_within}
 use Rattle.certificates.specs.Certificates.{Simplification}
-use Rattle.simplifications.specs.Laws.{parts}
-use Rattle.simplifications.proofs.Systems.{shrink}
 use Rattle.simplified_spaces.specs.Tries.{GivesStep, tries, all_tries}
 use Rattle.simplified_spaces.specs.Standard.{AreStandard}
 use Rattle.simplified_spaces.specs.Walks.{LeadsOn}
 use Rattle.simplified_spaces.proofs.Tries.{gives_once, counted, steps_within}
-
-pub nothing_made : (sys : System) → LeadsOn sys [] sys 0 0
-nothing_made sys = (refl, refl, refl)
 
 -- one step more
 pub one_more : (sys here next : System) (ss : List Simplification) (s : Simplification) (w n paid : ℕ) → LeadsOn sys ss here w n → IsFirst one (GivesStep here) (tries here) (s, next) paid
@@ -27,11 +22,6 @@ pub paid_within : (sys here : System) (ss : List Simplification) (w n : ℕ) →
 paid_within sys here [] w n (e, f, g) = omega (arith, f, g)
 paid_within sys here (s ∷ ss) w n (mid, p, v, m, f, h, a, b) =
     let one_step = steps_within sys mid s p f in let rest = paid_within mid here ss v m h in omega (arith, one_step, rest, a, b)
-
--- rules and conditions fall with each step
-pub walked_down : (sys here : System) (ss : List Simplification) (w n : ℕ) → LeadsOn sys ss here w n → length ss + parts here ≤ parts sys
-walked_down sys here [] w n (e, f, g) = let same : parts here ≡ parts sys = ap parts e in omega (arith, same)
-walked_down sys here (s ∷ ss) w n (mid, p, v, m, f, h, a, b) = let falls = shrink sys mid s f.gives.1 in let rest = walked_down mid here ss v m h in omega (arith, falls, rest)
 
 -- where nothing is left to make, the steps are the standard ones
 pub standard_at_end : (sys here : System) (ss : List Simplification) (w n : ℕ) → LeadsOn sys ss here w n → NoneGives (GivesStep here) (tries here) → AreStandard sys ss here (w + all_tries here)

@@ -1,6 +1,6 @@
 -- Rules with one of them left out, or another in its place.
-use Rattle.std.proofs.Common.{◌≡◌, ℕ, zero, suc, ◌<◌, refl, sym, ap, ◌∙◌, subst, List, [], ◌∷◌, ◌++◌, length, map, take, drop, arith}
-use Rattle.std.proofs.lemmas.List.{take-map, drop-map, map-append}
+use Rattle.std.proofs.Common.{◌≡◌, ℕ, suc, ◌<◌, sym, ap, ◌∙◌, subst, List, [], ◌∷◌, ◌++◌, length, map, take, drop, arith}
+use Rattle.std.proofs.lemmas.List.{take-map, drop-map, map-append, length-map, set_split}
 use Rattle.std.specs.List.{remove}
 use Rattle.std.proofs.Math.ListN.{set}
 use Rattle.rewriting.specs.Rules as math
@@ -8,13 +8,7 @@ use Rattle.rewriting.specs.Systems.{rule_variables}
 use Rattle.term_core.specs.RuleView.{rule_view, AreCounted}
 use Rattle.term_core.specs.declared.systems.Rule.{Rule}
 use Rattle.simplifications.specs.Simplifying.{with_in_place}
-use Rattle.simplifications.proofs.Parts.{length_map}
 use Rattle.simplify.proofs.Slices.{counted_append, counts_front, counts_rest}
-
-set_split : {X : Type 0} (xs : List X) (n : ℕ) (x : X) → n < length xs → set xs n x ≡ take n xs ++ (x ∷ drop (suc n) xs)
-set_split [] n x h = absurd (omega (arith, h))
-set_split (y ∷ xs) zero x h = refl
-set_split (y ∷ xs) (suc n) x h = ap (λ z. y ∷ z) (set_split xs n x (omega (arith, h)))
 
 module _ (rs : List Rule) (n : ℕ) where
   removed_view : map rule_view (remove rs n) ≡ take n (map rule_view rs) ++ drop (suc n) (map rule_view rs)
@@ -49,4 +43,4 @@ module _ (sys : math.System) (ar : List ℕ) (rs : List Rule) (own n : ℕ) (a :
   put new r h e = parts_are (rule_view r ∷ []) (map rule_view new) (ap (map rule_view) e ∙ put_view rs n r h)
 
   pub within : n < length sys.rules → n < length rs
-  within h = let l = length_map rule_view rs in let m = ap length are in omega (arith, h, l, m)
+  within h = let l = length-map rs rule_view in let m = ap length are in omega (arith, h, l, m)

@@ -3,6 +3,8 @@ use Rattle.std.proofs.Common.{◌≡◌, ℕ, suc, ◌+◌, ◌-◌, ◌<◌, �
 use Rattle.std.specs.Ordering.{eq_by_cmp}
 use Rattle.std.specs.Cmp.{nat_cmp_total}
 use Rattle.std.specs.FinMap.{get, insert, empty, get-insert, get-empty}
+use Rattle.std.proofs.lemmas.List.{length-map}
+use Rattle.general_lemmas.proofs.Places.{slice_get-map_read}
 use Rattle.rewriting.specs.Rules as math
 use Rattle.rewriting.specs.Rules.{sides}
 use Rattle.rewriting.specs.Substitutions.{Bindings, apply, values_of}
@@ -21,12 +23,12 @@ use Rattle.term_core.specs.declared.systems.Rule.{Rule}
 use Rattle.term_core.specs.declared.terms.TermError.{TermError}
 use Rattle.term_core.specs.declared.terms.TermError.TheVariants.{NoPosition, TooLarge, NoMemory}
 use Rattle.simplifications.specs.Inlining.{replacing, left_under, inlined_rule, numbered}
-use Rattle.simplifications.proofs.Parts.{each_append, each_front, each_behind, length_map, length_without}
+use Rattle.simplifications.proofs.Parts.{each_append, each_front, each_behind, length_without}
 use Rattle.simplifications.proofs.Rules.{split_at}
 use Rattle.simplifications.proofs.Systems.{few_variables_of}
 use Rattle.simplify.specs.Rules.{rule_of}
 use Rattle.simplify.specs.Inlining.{CondsAnswers, InlinedAnswers}
-use Rattle.simplify.proofs.Slices.{view_at, front_view, rest_view}
+use Rattle.simplify.proofs.Slices.{front_view, rest_view}
 
 abbrev pub unbound : Bindings
 unbound = empty
@@ -50,7 +52,7 @@ module _ (r : Rule) (k x : ℕ) (c : Cond) (inside : k < length r.conds.items) (
   cs = map condition_view r.conds.items
 
   here : slice_get cs k ≡ Some (condition_view c)
-  here = view_at condition_view r.conds.items k c inside at
+  here = slice_get-map_read condition_view r.conds.items k c inside at
 
   same_value : (t : terms.Term) → apply (values_of b) t ≡ apply (replacing x (view c.left)) t
   same_value t = apply-agree (values_of b) (replacing x (view c.left)) t (λ y o. ap (λ z. values_of z y) bound ∙ one_binding x (view c.left) y)
@@ -124,7 +126,7 @@ module _ (r : Rule) (k x : ℕ) (c : Cond) (inside : k < length r.conds.items) (
     pub made_few : length (rule_variables (rule_of (view r.left) (view right) (front ++ map condition_view two))) < 2 ^ 31
     made_few =
         let shorter = length_without (left_under (replacing x (view c.left))) cs k (condition_view c) here in
-        let same = length_map condition_view r.conds.items in
+        let same = length-map r.conds.items condition_view in
         subst (λ z. length (rule_variables z) < 2 ^ 31) (sym made_is) (few_variables_of made (omega (arith, shorter, same, few)) made_fits)
 
     pub made_answer : (q : Rule) → rule_view q ≡ numbered (rule_of (view r.left) (view right) (front ++ map condition_view two)) → q.vars ≡ length (rule_variables (rule_view q))

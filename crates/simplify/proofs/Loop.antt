@@ -1,8 +1,8 @@
 -- Steps made one after the other.
 use Rattle.std.proofs.Common.{◌≡◌, ℕ, zero, suc, ◌+◌, ◌<◌, ◌≤◌, inl, inr, refl, sym, ap, ◌∙◌, subst, List, [], ◌∷◌, map, drop, length, get_or, arith, add-one}
+use Rattle.std.proofs.lemmas.List.{length-map}
 use Rattle.rewriting.specs.Rules.{System}
 use Rattle.simplifications.specs.Laws.{parts}
-use Rattle.simplifications.proofs.Parts.{length_map}
 use Rattle.simplifications.proofs.Systems.{shrink}
 use Rattle.certificates.specs.Certificates.{Simplification}
 use Rattle.certificates.specs.Reasons.{SimplificationReason}
@@ -14,14 +14,6 @@ pub record Onward (sys : System) (ss : List Simplification) (i : ℕ) (here : Sy
   pub bad : (n : ℕ) (why : SimplificationReason) → FailsFrom (i + 1) here (drop i ss) n why → FailsFrom 1 sys ss n why
   -- each step leaves fewer rules and conditions
   pub falls : i + parts here ≤ parts sys
-
-pub at_start : (sys here : System) (ss : List Simplification) → here ≡ sys → Onward sys ss 0 here
-at_start sys here ss e =
-    record {
-      good = λ last h. subst (λ z. AllSimplify z ss last) e h;
-      bad = λ n why h. subst (λ z. FailsFrom 1 z ss n why) e h;
-      falls = let same : parts here ≡ parts sys = ap parts e in omega (arith, same);
-    }
 
 next_is : (ss : List Simplification) (i : ℕ) (d : Simplification) → i < length ss → drop i ss ≡ get_or ss i d ∷ drop (i + 1) ss
 next_is ss i d h = rw add-one (go ss i h)
@@ -57,10 +49,10 @@ at_end sys here ss i h o = o.good here (subst (λ z. AllSimplify here z here) (s
 
 -- the views of a list
 pub more_length : {X Y : Type 0} (f : X → Y) (xs : List X) (i : ℕ) → i < length xs → i < length (map f xs)
-more_length f xs i h = let e = length_map f xs in omega (arith, h, e)
+more_length f xs i h = let e = length-map xs f in omega (arith, h, e)
 
 pub less_length : {X Y : Type 0} (f : X → Y) (xs : List X) (i : ℕ) → length xs ≤ i → length (map f xs) ≤ i
-less_length f xs i h = let e = length_map f xs in omega (arith, h, e)
+less_length f xs i h = let e = length-map xs f in omega (arith, h, e)
 
 pub step_at : {X Y : Type 0} (f : X → Y) (xs : List X) (i : ℕ) (x : X) → i < length xs → x ≡ get_or xs i x → f x ≡ get_or (map f xs) i (f x)
 step_at {X} f xs i x h e = go xs i h e

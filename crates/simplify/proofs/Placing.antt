@@ -1,5 +1,6 @@
 -- Variables by their places in a row that grows.
 use Rattle.std.proofs.Common.{◌≡◌, ℕ, zero, suc, ◌<◌, ◌⊎◌, inl, inr, Bool, true, false, refl, sym, ap, ap₂, ◌∙◌, subst, List, [], ◌∷◌, ◌++◌, length, get_or, nat_eq, eqb-true, eq-eqb, append-nil, append_assoc, arith}
+use Rattle.std.proofs.lemmas.List.{length-map}
 use Rattle.rewriting.specs.Lists.{IsAmong, AreDistinct, IsFront}
 use Rattle.rewriting.specs.Overlaps.{conditions_under}
 use Rattle.rewriting.specs.Systems.{terms_of_rule, rule_variables}
@@ -11,7 +12,7 @@ use Rattle.rewriting.proofs.Variables.{variables_have, variables_have_all}
 use Rattle.renumbering.specs.Rows.{naming}
 use Rattle.simplifications.specs.Inlining.{numbering_of, rule_under, numbered}
 use Rattle.simplifications.proofs.Anew.{list_renamed, places_differ}
-use Rattle.simplifications.proofs.Parts.{terms_under, length_map}
+use Rattle.simplifications.proofs.Parts.{terms_under}
 use Rattle.simplify.specs.Rules.{rule_of}
 use Rattle.simplify.specs.Numbering.{places, IsPlaced, ArePlaced, Progress, AddsNumbered}
 
@@ -131,7 +132,7 @@ counted_same p =
     let xs = rule_variables p in
     ap (λ ts. length (variables_of ts)) (terms_under (numbering_of p) p)
     ∙ ap length (list_renamed xs (index_in xs) (places_differ xs) (terms_of_rule p) (λ z o. variables_have_all z [] (terms_of_rule p) o))
-    ∙ length_map (index_in xs) xs
+    ∙ length-map xs (index_in xs)
 
 pub row_counted : (l r l' r' : Term) (cs ds : List Condition) (row : List ℕ) → Progress l r l' r' cs ds row → length row ≡ length (rule_variables (numbered (rule_of l r cs)))
 row_counted l r l' r' cs ds row p = ap length p.row_is ∙ sym (counted_same (rule_of l r cs))

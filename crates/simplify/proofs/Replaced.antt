@@ -1,6 +1,8 @@
 -- What is known of a rule of a system, and steps that speak of it.
 use Rattle.std.proofs.Common.{◌≡◌, ℕ, zero, suc, ◌+◌, ◌<◌, ◌≤◌, ◌⊎◌, inl, inr, refl, sym, ap, ◌∙◌, subst, List, [], ◌∷◌, length, map, get_or, slice_get, Some, None, arith, add-one}
 use Rattle.std.proofs.lemmas.Option.{slice_get_past}
+use Rattle.std.proofs.lemmas.List.{length-map}
+use Rattle.general_lemmas.proofs.Places.{slice_get-map_read}
 use Rattle.rewriting.specs.Rules as math
 use Rattle.rewriting.specs.Rules.{rule_at, sides}
 use Rattle.rewriting.specs.Systems.{Each, terms_of_rule, rule_variables, IsRule, IsSystem}
@@ -19,22 +21,20 @@ use Rattle.certificates.specs.Reasons.{missing_rule, missing_condition, not_inli
 use Rattle.simplifications.specs.Inlining.{Names, inlined_rule, numbered}
 use Rattle.simplifications.specs.Simplifying.{with_in_place, Simplifies, IsRefused, no_rule_to_drop, evidence_fails, no_rule_to_change, no_condition, names_nothing, result_large}
 use Rattle.simplifications.proofs.Systems.{step_makes}
-use Rattle.simplifications.proofs.Parts.{length_map}
 use Rattle.simplify.specs.Changes.{IsChangeOf}
-use Rattle.simplify.proofs.Slices.{view_at}
 
 module _ (sys : math.System) (sound : IsSystem sys) (rs : List Rule) (are : map rule_view rs ≡ sys.rules) where
   pub rule_here : (i : ℕ) (r : Rule) → i < length rs → r ≡ get_or rs i r → slice_get sys.rules i ≡ Some (rule_view r)
-  rule_here i r h e = subst (λ z. slice_get z i ≡ Some (rule_view r)) are (view_at rule_view rs i r h e)
+  rule_here i r h e = subst (λ z. slice_get z i ≡ Some (rule_view r)) are (slice_get-map_read rule_view rs i r h e)
 
   count : length rs ≡ length sys.rules
-  count = sym (length_map rule_view rs) ∙ ap length are
+  count = sym (length-map rs rule_view) ∙ ap length are
 
   sound_here : (i : ℕ) (r : Rule) → i < length rs → r ≡ get_or rs i r → IsRule sys.arities (rule_view r)
   sound_here i r h e = is_rule_at sys.arities sys.rules i (rule_view r) sound.rules (rule_here i r h e)
 
   pub few_here : (i : ℕ) (r : Rule) → i < length rs → r ≡ get_or rs i r → length r.conds.items ≤ 100
-  few_here i r h e = let few = (sound_here i r h e).few_conditions in let same = length_map condition_view r.conds.items in omega (arith, few, same)
+  few_here i r h e = let few = (sound_here i r h e).few_conditions in let same = length-map r.conds.items condition_view in omega (arith, few, same)
 
   pub fit_here : (i : ℕ) (r : Rule) → i < length rs → r ≡ get_or rs i r → Each Fits (terms_of_rule (rule_view r))
   fit_here i r h e = (sound_here i r h e).fits
@@ -85,7 +85,7 @@ module _ (sys : math.System) (sound : IsSystem sys) (rs : List Rule) (are : map 
     none_there : (cond : ℕ) → (cond ≡ 0) ⊎ (length r.conds.items < cond) → hypothesis_at (map condition_view r.conds.items) cond ≡ None
     none_there zero k = refl
     none_there (suc n) (inl k) = absurd (omega (arith, k))
-    none_there (suc n) (inr k) = slice_get_past (map condition_view r.conds.items) n (let f = length_map condition_view r.conds.items in omega (arith, k, f))
+    none_there (suc n) (inr k) = slice_get_past (map condition_view r.conds.items) n (let f = length-map r.conds.items condition_view in omega (arith, k, f))
 
     pub no_such_condition : (cond : ℕ) → (cond ≡ 0) ⊎ (length r.conds.items < cond) → IsRefused sys (inlined number cond) missing_condition
     no_such_condition cond k = no_condition number cond (rule_view r) at_number (none_there cond k)
@@ -97,7 +97,7 @@ module _ (sys : math.System) (sound : IsSystem sys) (rs : List Rule) (are : map 
       there (x ∷ xs) (suc n) l = there xs n (omega (arith, l))
 
       condition_there : (c : math.Condition) × (slice_get (rule_view r).conditions k ≡ Some c)
-      condition_there = there (rule_view r).conditions k (let f = length_map condition_view r.conds.items in omega (arith, inside, f))
+      condition_there = there (rule_view r).conditions k (let f = length-map r.conds.items condition_view in omega (arith, inside, f))
 
       places : suc k ≡ cond
       places = sym (same ∙ add-one k)

@@ -1,7 +1,6 @@
 -- Conditions and rules of slices.
-use Rattle.std.proofs.Common.{◌≡◌, ℕ, zero, suc, ◌+◌, ◌-◌, ◌<◌, ◌≤◌, refl, sym, ap, ◌∙◌, List, [], ◌∷◌, ◌++◌, length, map, take, drop, get_or, slice_get, option_map, ap₂, Some, arith, add-one}
-use Rattle.std.proofs.lemmas.List.{take-map, drop-map, map-append, take_rest}
-use Rattle.std.proofs.lemmas.Option.{slice_get-get_or, slice_get-map}
+use Rattle.std.proofs.Common.{◌≡◌, ℕ, zero, suc, ◌+◌, ◌-◌, ◌≤◌, refl, sym, ap, ◌∙◌, List, [], ◌∷◌, ◌++◌, length, map, take, drop, ap₂, add-one}
+use Rattle.std.proofs.lemmas.List.{take-map, drop-map, map-append, take_rest, take_all}
 use Rattle.rewriting.specs.Rules as math
 use Rattle.rewriting.specs.Systems.{rule_variables}
 use Rattle.term_core.specs.RuleView.{condition_view, rule_view, AreCounted}
@@ -9,32 +8,11 @@ use Rattle.term_core.specs.declared.systems.Cond.{Cond}
 use Rattle.term_core.specs.declared.systems.Rule.{Rule}
 use Rattle.simplify.specs.Rules.{counts}
 
-taken_more : {X : Type 0} (xs : List X) (i : ℕ) (x : X) → i < length xs → x ≡ get_or xs i x → take (i + 1) xs ≡ take i xs ++ x ∷ []
-taken_more {X} xs i x h e = rw add-one (go xs i h e)
-  where
-    go : (us : List X) (k : ℕ) → k < length us → x ≡ get_or us k x → take (suc k) us ≡ take k us ++ x ∷ []
-    go [] k h e = absurd (omega arith)
-    go (u ∷ us) zero h e = ap (λ (q : X). q ∷ []) (sym e)
-    go (u ∷ us) (suc k) h e = ap (λ (qs : List X). u ∷ qs) (go us k (omega arith) e)
-
-taken_all : {X : Type 0} (xs : List X) (i : ℕ) → length xs ≤ i → take i xs ≡ xs
-taken_all [] zero h = refl
-taken_all [] (suc i) h = refl
-taken_all (t ∷ ts) zero h = absurd (omega arith)
-taken_all (t ∷ ts) (suc i) h = ap (λ q. t ∷ q) (taken_all ts i (omega arith))
-
-pub conditions_more : (conds : List Cond) (i : ℕ) (c : Cond) → i < length conds → c ≡ get_or conds i c → map condition_view (take (i + 1) conds) ≡ map condition_view (take i conds) ++ condition_view c ∷ []
-conditions_more conds i c h e = ap (map condition_view) (taken_more conds i c h e) ∙ map-append condition_view (take i conds) (c ∷ [])
-
 pub conditions_all : (conds : List Cond) (i : ℕ) → length conds ≤ i → map condition_view (take i conds) ≡ map condition_view conds
-conditions_all conds i h = ap (map condition_view) (taken_all conds i h)
+conditions_all conds i h = ap (map condition_view) (take_all i conds h)
 
 pub conditions_push : (old new : List Cond) (c : Cond) → new ≡ old ++ c ∷ [] → map condition_view new ≡ map condition_view old ++ condition_view c ∷ []
 conditions_push old new c e = ap (map condition_view) e ∙ map-append condition_view old (c ∷ [])
-
--- what stands at an index
-pub view_at : {X Y : Type 0} (f : X → Y) (xs : List X) (i : ℕ) (x : X) → i < length xs → x ≡ get_or xs i x → slice_get (map f xs) i ≡ Some (f x)
-view_at f xs i x h e = slice_get-map f xs i ∙ ap (option_map f) (slice_get-get_or xs i x h) ∙ ap (λ z. Some (f z)) (sym e)
 
 -- the front and the rest of a slice
 pub front_view : {X Y : Type 0} (f : X → Y) (xs : List X) (i : ℕ) → map f (take i xs) ≡ take i (map f xs)

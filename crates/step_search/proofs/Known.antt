@@ -1,12 +1,14 @@
 -- What is known of a rule of a system, and what one try of it gives.
 use Rattle.std.proofs.Common.{ℕ, zero, suc, ◌≡◌, ◌+◌, ◌*◌, ◌<◌, ◌≤◌, false, map, take, length, slice_get, vec_len, List, [], ◌∷◌, Option, None, Some, Result, Ok, Err, sym, ap, ◌∙◌, subst, arith}
 use Rattle.std.specs.Bool.{◌==◌}
+use Rattle.std.proofs.lemmas.List.{take_all, length-map}
 use Rattle.rewriting.specs.Rules as math
 use Rattle.rewriting.specs.Rules.{rule_at, sides}
 use Rattle.rewriting.specs.Systems.{Each, IsRule, IsSystem}
 use Rattle.rewriting.specs.Terms.{Fits}
 use Rattle.rewriting.proofs.Once.{same_some}
 use Rattle.rewriting.proofs.Systems.{is_rule_at}
+use Rattle.rewriting.proofs.Members.{at_place}
 use Rattle.certificates.specs.Certificates.{dropped, inlined}
 use Rattle.certificates.specs.Evidence.{Automaton, InfeasibilityEvidence, by_automaton}
 use Rattle.certificates.specs.Judging.{hypothesis_at}
@@ -22,11 +24,10 @@ use Rattle.term_core.specs.RuleView.{condition_view, rule_view}
 use Rattle.term_core.specs.declared.systems.Rule.{Rule}
 use Rattle.term_core.specs.declared.terms.NoMemory.{NoMemory}
 use Rattle.simplifications.specs.Simplifying.{Simplifies}
-use Rattle.simplifications.proofs.Parts.{length_map}
 use Rattle.simplified_spaces.specs.Tries.{Try, try_drop, try_inline, tries_of, GivesStep}
 use Rattle.simplify.specs.Changes.{after}
 use Rattle.step_search.specs.Answers.{GoodAnswers, TryAnswers}
-use Rattle.step_search.proofs.Places.{many_tries, some_at, taken_all}
+use Rattle.step_search.proofs.Places.{many_tries}
 use Rattle.step_search.specs.declared.tries.Made.{Made}
 
 sound_at : (sys : math.System) (number : ℕ) (r : math.Rule) → IsSystem sys → rule_at sys number ≡ Some r → IsRule sys.arities r
@@ -42,7 +43,7 @@ conds_fit sys number r sound is = conditions_fit (map condition_view r.conds.ite
 
 pub few_conds : (sys : math.System) (number : ℕ) (r : Rule) → IsSystem sys → rule_at sys number ≡ Some (rule_view r) → length r.conds.items ≤ 100
 few_conds sys number r sound is =
-    let few = (sound_at sys number (rule_view r) sound is).few_conditions in let same = length_map condition_view r.conds.items in omega (arith, few, same)
+    let few = (sound_at sys number (rule_view r) sound is).few_conditions in let same = length-map r.conds.items condition_view in omega (arith, few, same)
 
 module _ (sys : math.System) (i : ℕ) (item : Refuting) (r : math.Rule) (is : rule_at sys i ≡ Some r) where
   pub drop_tried : (e : InfeasibilityEvidence) → Tries sys r.conditions item e → (answer : Result (Option Made) NoMemory) → GoodAnswers sys (dropped i e) answer
@@ -88,12 +89,12 @@ module _ (r : Rule) (number len : ℕ) (long : len ≡ vec_len r.conds) (some : 
   pub as_many : length its_tries ≡ 2 * len + 1
   as_many =
       let items : vec_len r.conds ≡ length r.conds.items = r.conds.ok.0 in
-      let same : length (map condition_view r.conds.items) ≡ length r.conds.items = length_map condition_view r.conds.items in
+      let same : length (map condition_view r.conds.items) ≡ length r.conds.items = length-map r.conds.items condition_view in
       let all = many_tries number (map condition_view r.conds.items) (λ z. nonzero (vec_len r.conds) some (omega (arith, z, items, same))) in
       omega (arith, all, items, same, long)
 
   pub its_try : (k : ℕ) → k < 2 * len + 1 → (t : Try) × (slice_get its_tries k ≡ Some t)
-  its_try k h = some_at its_tries k (let all = as_many in omega (arith, all, h))
+  its_try k h = at_place its_tries k (let all = as_many in omega (arith, all, h))
 
   pub all_taken : (k : ℕ) → 2 * len + 1 ≤ k → take k its_tries ≡ its_tries
-  all_taken k h = taken_all its_tries k (let all = as_many in omega (arith, all, h))
+  all_taken k h = take_all k its_tries (let all = as_many in omega (arith, all, h))

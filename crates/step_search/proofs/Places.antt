@@ -2,9 +2,11 @@
 use Rattle.std.proofs.Common.{◌≡◌, ℕ, zero, suc, ◌+◌, ◌-◌, ◌*◌, ◌<◌, ◌≤◌, refl, sym, ap, ◌∙◌, subst, List, [], ◌∷◌, ◌++◌, length, map, take, drop, slice_get, Some, None, arith, add-one, append_assoc, append-nil}
 use Rattle.std.specs.List.{range_with_len}
 use Rattle.std.proofs.lemmas.List.FromFn.{length-range_with_len}
+use Rattle.std.proofs.lemmas.Option.{same_Some}
+use Rattle.std.proofs.lemmas.List.{length-map}
+use Rattle.general_lemmas.proofs.Places.{slice_get-append_left, slice_get-append_right}
 use Rattle.rewriting.specs.Rules as math
 use Rattle.search_spaces.specs.Refuting.{Refuting, try_caps, try_growth}
-use Rattle.simplifications.proofs.Parts.{length_map}
 use Rattle.simplifications.proofs.Rules.{split_at}
 use Rattle.simplified_spaces.specs.Tries.{Try, try_drop, try_inline, tries_of, tries_from}
 
@@ -13,15 +15,6 @@ at_number : (f : ℕ → Try) (a n q : ℕ) → q < n → slice_get (map f (rang
 at_number f a zero q h = absurd (omega (arith, h))
 at_number f a (suc n) zero h = ap (λ k. Some (f k)) (let e : a ≡ a + 0 = omega arith in e)
 at_number f a (suc n) (suc q) h = at_number f (a + 1) n q (omega (arith, h)) ∙ ap (λ k. Some (f k)) (let e : a + 1 + q ≡ a + suc q = omega arith in e)
-
-in_front : {X : Type 0} (xs ys : List X) (q : ℕ) → q < length xs → slice_get (xs ++ ys) q ≡ slice_get xs q
-in_front [] ys q h = absurd (omega (arith, h))
-in_front (x ∷ xs) ys zero h = refl
-in_front (x ∷ xs) ys (suc q) h = in_front xs ys q (omega (arith, h))
-
-behind_it : {X : Type 0} (xs ys : List X) (q : ℕ) → slice_get (xs ++ ys) (length xs + q) ≡ slice_get ys q
-behind_it [] ys q = ap (slice_get ys) (let e : 0 + q ≡ q = omega arith in e)
-behind_it (x ∷ xs) ys q = ap (slice_get (x ∷ (xs ++ ys))) (let e : suc (length xs) + q ≡ suc (length xs + q) = omega arith in e) ∙ behind_it xs ys q
 
 -- the tries of a rule with n conditions, n at least 1
 module _ (i n : ℕ) where
@@ -32,10 +25,10 @@ module _ (i n : ℕ) where
   inlines = map (try_inline i) (range_with_len 1 n)
 
   many_drops : length drops ≡ n
-  many_drops = length_map (try_drop i) (map try_growth (range_with_len 1 n)) ∙ length_map try_growth (range_with_len 1 n) ∙ length-range_with_len 1 n
+  many_drops = length-map (map try_growth (range_with_len 1 n)) (try_drop i) ∙ length-map (range_with_len 1 n) try_growth ∙ length-range_with_len 1 n
 
   many_inlines : length inlines ≡ n
-  many_inlines = length_map (try_inline i) (range_with_len 1 n) ∙ length-range_with_len 1 n
+  many_inlines = length-map (range_with_len 1 n) (try_inline i) ∙ length-range_with_len 1 n
 
   twice : (f : ℕ → Refuting) (xs : List ℕ) → map (try_drop i) (map f xs) ≡ map (λ k. try_drop i (f k)) xs
   twice f [] = refl
@@ -44,25 +37,22 @@ module _ (i n : ℕ) where
   growth_there : (q : ℕ) → q < n → slice_get (drops ++ inlines) q ≡ Some (try_drop i (try_growth (suc q)))
   growth_there q h =
       let l = many_drops in
-      in_front drops inlines q (omega (arith, l, h)) ∙ ap (λ z. slice_get z q) (twice try_growth (range_with_len 1 n)) ∙ at_number (λ k. try_drop i (try_growth k)) 1 n q h
+      slice_get-append_left drops inlines q (omega (arith, l, h)) ∙ ap (λ z. slice_get z q) (twice try_growth (range_with_len 1 n)) ∙ at_number (λ k. try_drop i (try_growth k)) 1 n q h
       ∙ ap (λ k. Some (try_drop i (try_growth k))) (let e : 1 + q ≡ suc q = omega arith in e)
 
   inline_there : (q : ℕ) → q < n → slice_get (drops ++ inlines) (n + q) ≡ Some (try_inline i (suc q))
   inline_there q h =
-      subst (λ k. slice_get (drops ++ inlines) (k + q) ≡ slice_get inlines q) many_drops (behind_it drops inlines q) ∙ at_number (try_inline i) 1 n q h
+      subst (λ k. slice_get (drops ++ inlines) (k + q) ≡ slice_get inlines q) many_drops (slice_get-append_right drops inlines q) ∙ at_number (try_inline i) 1 n q h
       ∙ ap (λ k. Some (try_inline i k)) (let e : 1 + q ≡ suc q = omega arith in e)
-
-same_some : {X : Type 0} (o : X) (x : X) → Some x ≡ Some o → o ≡ x
-same_some o x e = cc
 
 pub caps_at : (i : ℕ) (cs : List math.Condition) (t : Try) → slice_get (tries_of i cs) 0 ≡ Some t → t ≡ try_drop i try_caps
 caps_at i [] t e = absurd (cc)
-caps_at i (c ∷ cs) t e = same_some t (try_drop i try_caps) e
+caps_at i (c ∷ cs) t e = sym (same_Some (try_drop i try_caps) t e)
 
 pub growth_at : (i : ℕ) (cs : List math.Condition) (p : ℕ) (t : Try) → (p ≡ 0 → ⊥) → p ≤ length cs → slice_get (tries_of i cs) p ≡ Some t → t ≡ try_drop i (try_growth p)
 growth_at i [] p t some h e = absurd (cc)
 growth_at i (c ∷ cs) zero t some h e = absurd (some refl)
-growth_at i (c ∷ cs) (suc q) t some h e = same_some t (try_drop i (try_growth (suc q))) (sym (growth_there i (length (c ∷ cs)) q (omega (arith, h))) ∙ e)
+growth_at i (c ∷ cs) (suc q) t some h e = sym (same_Some (try_drop i (try_growth (suc q))) t (sym (growth_there i (length (c ∷ cs)) q (omega (arith, h))) ∙ e))
 
 pub many_tries : (i : ℕ) (cs : List math.Condition) → (length cs ≡ 0 → ⊥) → length (tries_of i cs) ≡ 2 * length cs + 1
 many_tries i [] some = absurd (some refl)
@@ -96,13 +86,7 @@ inline_at i (c ∷ cs) (suc q) t h e = go (within (tries_of i (c ∷ cs)) (suc q
         let far : suc (q - n) ≡ suc q - n = omega (arith, h) in
         let place : n + (q - n) ≡ q = omega (arith, h) in
         let there = inline_there i n (q - n) (omega (arith, less, all, h)) in
-        same_some t (try_inline i (suc (q - n))) (sym there ∙ subst (λ k. slice_get (drops i n ++ inlines i n) k ≡ Some t) (sym place) e) ∙ ap (try_inline i) far
-
--- an item of a list, and those before and behind it
-pub some_at : {X : Type 0} (xs : List X) (k : ℕ) → k < length xs → (x : X) × (slice_get xs k ≡ Some x)
-some_at [] k h = absurd (omega (arith, h))
-some_at (x ∷ xs) zero h = (x, refl)
-some_at (x ∷ xs) (suc k) h = some_at xs k (omega (arith, h))
+        sym (same_Some (try_inline i (suc (q - n))) t (sym there ∙ subst (λ k. slice_get (drops i n ++ inlines i n) k ≡ Some t) (sym place) e)) ∙ ap (try_inline i) far
 
 pub taken_more : {X : Type 0} (xs : List X) (k : ℕ) (x : X) → slice_get xs k ≡ Some x → take (k + 1) xs ≡ take k xs ++ x ∷ []
 taken_more {X} xs k x e = rw add-one (go xs k e)
@@ -111,12 +95,6 @@ taken_more {X} xs k x e = rw add-one (go xs k e)
     go [] j g = absurd (cc)
     go (y ∷ ys) zero g = let same : y ≡ x = cc in ap (λ z. z ∷ []) same
     go (y ∷ ys) (suc j) g = ap (λ zs. y ∷ zs) (go ys j g)
-
-pub taken_all : {X : Type 0} (xs : List X) (k : ℕ) → length xs ≤ k → take k xs ≡ xs
-taken_all [] zero h = refl
-taken_all [] (suc k) h = refl
-taken_all (x ∷ xs) zero h = absurd (omega (arith, h))
-taken_all (x ∷ xs) (suc k) h = ap (λ z. x ∷ z) (taken_all xs k (omega (arith, h)))
 
 -- the tries of the rules before one, its own, and those behind
 pub tries_append : (k : ℕ) (rs qs : List math.Rule) → tries_from k (rs ++ qs) ≡ tries_from k rs ++ tries_from (k + length rs) qs

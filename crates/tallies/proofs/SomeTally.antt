@@ -4,11 +4,8 @@ use Rattle.rewriting.specs.Rules.{System}
 use Rattle.rewriting.specs.Classes.{IsDeterministic}
 use Rattle.unifier_run.specs.Overlaps.{Overlap, AreOverlaps}
 use Rattle.interpretations.specs.Judgement.{good}
-use Rattle.interpretations.proofs.OneJudgement.{judgement_once}
-use Rattle.certificates.specs.Certificates.{PairEntry, MeasureCertificate, linear_measure, precedence_measure, ortho_certificate, quasi_certificate}
+use Rattle.certificates.specs.Certificates.{PairEntry, ortho_certificate, quasi_certificate}
 use Rattle.certificates.specs.Reasons.{Rejection}
-use Rattle.path_orders.proofs.OneJudgement.{judgement_once as precedence_once}
-use Rattle.rewriting.proofs.Once.{IsOnce}
 use Rattle.interpretations.specs.Judgement.{Judgement}
 use Rattle.valid_certificates.specs.Kinds.{Kind, ortho, quasi}
 use Rattle.valid_certificates.specs.Entries.{DoSettle, DoNotSettle, pair_is_large, pairs_are_many, entry_fails}
@@ -16,6 +13,7 @@ use Rattle.valid_certificates.specs.Confluence.{IsInOrthoClasses, IsValidOrtho, 
 use Rattle.valid_certificates.specs.Certificates.{IsMeasureJudged}
 use Rattle.valid_certificates.proofs.EntriesTotal.{HasAnswer}
 use Rattle.valid_certificates.proofs.Total.{every_certificate}
+use Rattle.valid_certificates.proofs.OneCertificate.{measure_judged_once}
 use Rattle.tallies.specs.Tally.{Tally, passed, failed, IsTally, whatever_they_are, one_by_one}
 use Rattle.tallies.specs.Laws.{OrthoEntriesHaveOneTally, QuasiEntriesHaveOneTally}
 use Rattle.tallies.proofs.Judged.{settled_passes, FailsOrPasses, not_settled_fails}
@@ -83,16 +81,12 @@ module _ (Is : Judgement → Type 0) (sys : System) where
     quasi_tally (inr (r, unraveling_is_large i a b h)) = quasi_before _ (λ fs. unraveling_is_large i a b h)
     quasi_tally (inr (r, quasi_pairs_fail x a b g h)) = not_settled_tally quasi sys BeforeEntries (IsQuasiRejected Is sys) quasi_rejected es x (a, b, g) h
 
-measure_once : (sys : System) (m : MeasureCertificate) → IsOnce Judgement (IsMeasureJudged sys m)
-measure_once sys (linear_measure es) = judgement_once sys es
-measure_once sys (precedence_measure order) = precedence_once sys order
-
 pub ortho_one_tally : OrthoEntriesHaveOneTally
 ortho_one_tally sys = record { one = ortho_tally_once sys; some = λ es. ortho_tally sys es (every_certificate sys (ortho_certificate es)) }
 
 pub quasi_one_tally : QuasiEntriesHaveOneTally
 quasi_one_tally sys m =
     record {
-      one = quasi_tally_once sys (IsMeasureJudged sys m) (measure_once sys m);
+      one = quasi_tally_once sys (IsMeasureJudged sys m) (measure_judged_once sys m);
       some = λ es. quasi_tally (IsMeasureJudged sys m) sys es (every_certificate sys (quasi_certificate m es));
     }

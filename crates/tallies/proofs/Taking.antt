@@ -25,10 +25,6 @@ same_rest (o ∷ os) ps (q ∷ qs) rs e l =
     same_rest os ps qs rs behind long
 
 module _ (kind : Kind) (sys : System) where
-  -- no entry has been taken
-  pub nothing_taken : (n : ℕ) (os : List Overlap) → AreTallied kind sys n os [] (passed n)
-  nothing_taken n os = refl
-
   -- the first reason stays
   pub failure_stays : (n : ℕ) (os : List Overlap) (es fs : List PairEntry) (r : Rejection) → AreTallied kind sys n os es (failed r) → AreTallied kind sys n os (es ++ fs) (failed r)
   failure_stays n os [] fs r h = cc
@@ -139,11 +135,6 @@ module _ (kind : Kind) (sys : System) where
 
 -- the entries of a certificate of a kind
 module _ (kind : Kind) (sys : System) (Before : Type 0) (IsRejected : List PairEntry → Rejection → Type 0) where
-  -- the first reason stays
-  pub tally_failure_stays : (es fs : List PairEntry) (r : Rejection) → IsTally kind sys Before IsRejected es (failed r) → IsTally kind sys Before IsRejected (es ++ fs) (failed r)
-  tally_failure_stays es fs r (whatever_they_are x all) = whatever_they_are x all
-  tally_failure_stays es fs r (one_by_one os t before are h) = one_by_one os _ before are (failure_stays kind sys 0 os es fs r h)
-
   -- one more entry is taken, after which a tally that has failed is the same
   pub tally_takes : (es : List PairEntry) (e : PairEntry) (t u : Tally) → ((r : Rejection) → t ≡ failed r → u ≡ failed r)
       → ((os : List Overlap) → AreOverlaps sys os → AreTallied kind sys 0 os es t → AreTallied kind sys 0 os (es ++ e ∷ []) u) → IsTally kind sys Before IsRejected es t

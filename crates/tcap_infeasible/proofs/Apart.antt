@@ -7,6 +7,7 @@ use Rattle.rewriting.specs.Unifiers.{even, odd}
 use Rattle.rewriting.specs.Rules.{Condition, System, left_sides, right_sides}
 use Rattle.rewriting.proofs.Instances.{apply_all-apply_all, apply_all-agree}
 use Rattle.rewriting.specs.Lists.{AreDistinct}
+use Rattle.rewriting.proofs.Over.{count-apply}
 use Rattle.renumbering.specs.Rows.{naming}
 use Rattle.unifier_run.specs.Run.{Outcome, IsOutcome}
 use Rattle.unifier_run.proofs.Renamed.{renamed_outcome, stays, names, runs_with_names}
@@ -79,11 +80,6 @@ judged_run sys cs lefts ts us o are shown h run =
           (rights_apart (right_sides cs) us h) (runs_with_names (apart h.row) (apart_one h.row h.distinct) run);
     }
 
--- both lists are as long as the conditions
-count_apply : (s : Substitution) (ts : Terms) → count (apply_all s ts) ≡ count ts
-count_apply s nil = refl
-count_apply s (cons t ts) = ap suc (count_apply s ts)
-
 count_views : (ts : List T.Term) → count (views ts) ≡ length ts
 count_views [] = refl
 count_views (t ∷ ts) = ap suc (count_views ts)
@@ -103,4 +99,4 @@ count_caps sys s n (cons t ts) cs (d, ds, e, is, are) = subst (λ z. count (all_
 pub same_length : (sys : System) (cs : List Condition) (lefts : Caps) (ts us : List T.Term) → AreCapsOf sys any (left_sides cs) lefts → views ts ≡ all_filled var (2 ^ 31) lefts → HaveRow (right_sides cs) (views us)
     → length ts ≡ length us
 same_length sys cs lefts ts us are shown h =
-    sym (count_views ts) ∙ (ap count shown ∙ (count_caps sys var (2 ^ 31) (left_sides cs) lefts are ∙ (count_lefts cs ∙ (sym (count_rights cs) ∙ (ap count h.names ∙ (count_apply (naming h.row) (views us) ∙ count_views us))))))
+    sym (count_views ts) ∙ (ap count shown ∙ (count_caps sys var (2 ^ 31) (left_sides cs) lefts are ∙ (count_lefts cs ∙ (sym (count_rights cs) ∙ (ap count h.names ∙ (count-apply (naming h.row) (views us) ∙ count_views us))))))

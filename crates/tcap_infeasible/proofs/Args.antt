@@ -1,5 +1,6 @@
 -- The caps of a symbol's arguments, one after the other.
 use Rattle.std.proofs.Common.{ℕ, zero, suc, ◌≡◌, ◌+◌, ◌^◌, ◌<◌, ◌≤◌, inl, inr, true, List, [], ◌∷◌, ◌++◌, length, take, get_or, Vec, Global, Result, Ok, Err, refl, sym, ap, ap₂, ◌∙◌, subst, arith, add-one, eq-eqb}
+use Rattle.std.proofs.lemmas.List.{take_all}
 use Rattle.rewriting.specs.Terms as math
 use Rattle.rewriting.specs.Terms.{Terms, app, nil, cons, size, size_all, depth, depth_all, Fits}
 use Rattle.rewriting.specs.Substitutions.{Substitution}
@@ -11,7 +12,6 @@ use Rattle.term_core.specs.View.{view, views}
 use Rattle.term_core.specs.declared.terms.Term.{Term, Var, Fun}
 use Rattle.term_core.specs.declared.terms.NoMemory.{NoMemory}
 use Rattle.term_core.proofs.Views.{view-Fun, view-Var}
-use Rattle.term_core.proofs.Instances.{take_all}
 use Rattle.unification.proofs.Terms.{occurs_inside, size_inside}
 use Rattle.tcap_infeasible.specs.declared.Cap.{Cap}
 use Rattle.tcap_infeasible.specs.declared.Cap.TheVariants.{Capped, TooLarge}
@@ -159,7 +159,7 @@ args_held sys leaf t f v items k us start next is same h capped fit low constant
     shape = ap view is ∙ (view-Fun f v ∙ ap (λ z. app f (views z)) (sym same))
 
     are : AreCapsOf sys (leaf_of leaf) (views items) capped.shapes
-    are = subst (λ z. AreCapsOf sys (leaf_of leaf) (views z) capped.shapes) (take_all items k h) capped.are
+    are = subst (λ z. AreCapsOf sys (leaf_of leaf) (views z) capped.shapes) (take_all k items h) capped.are
 
     small : AreSmall leaf (views items) capped.shapes start
     small = caps_small sys leaf (views items) capped.shapes start are
@@ -178,7 +178,7 @@ whole_cap sys leaf t f v items k us start next more r is same h capped fit low c
     shape = ap view is ∙ (view-Fun f v ∙ ap (λ z. app f (views z)) (sym same))
 
     are : AreCapsOf sys (leaf_of leaf) (views items) capped.shapes
-    are = subst (λ z. AreCapsOf sys (leaf_of leaf) (views z) capped.shapes) (take_all items k h) capped.are
+    are = subst (λ z. AreCapsOf sys (leaf_of leaf) (views z) capped.shapes) (take_all k items h) capped.are
 
     go : (r : Result Cap NoMemory) → TopAnswers sys (standing leaf) (node f capped.shapes) start more r → FrozenAnswers sys leaf (app f (views items)) start more r
     go (Ok (Capped u)) (d, top, shown, counted) = (d, (capped.shapes, are, top), shown, counted)

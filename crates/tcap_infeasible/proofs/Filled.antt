@@ -2,6 +2,7 @@
 use Rattle.std.proofs.Common.{ℕ, ◌≡◌, ◌+◌, ◌^◌, ◌<◌, ◌≤◌, ◌⊎◌, inl, inr, Bool, true, false, nat_eq, if◌then◌else◌, Ok, refl, sym, ap, ◌∙◌, subst, subst₂, arith, eqb-true}
 use Rattle.std.proofs.Math.Dec.{leb}
 use Rattle.std.proofs.lemmas.Bool.Decides.{leb_tells}
+use Rattle.general_lemmas.proofs.Numbers.{one_at_most}
 use Rattle.rewriting.specs.Terms.{Term, var, nil, cons, Fits}
 use Rattle.rewriting.specs.Variables.{occurs, occurrences, occurrences_in, IsLinear}
 use Rattle.rewriting.proofs.Variables.{IsLinearInParts, linear_in_parts, occurs-counted}
@@ -27,10 +28,6 @@ other_hole x n h = go (nat_eq x n) refl h
     go true e (inr l) = absurd (let same = eqb-true x n e in omega (arith, same, l))
     go false e k = refl
 
-one_hole : (b : Bool) → (if b then 1 else 0) ≤ 1
-one_hole true = omega arith
-one_hole false = omega arith
-
 mutual
   outside : (base x n : ℕ) (c : Cap) → (x < n) ⊎ (n + holes c ≤ x) → occurrences x (filled (constants base) n c) ≡ 0
   outside base x n hole h = other_hole x n h
@@ -44,7 +41,7 @@ mutual
 
 mutual
   once : (base x n : ℕ) (c : Cap) → occurrences x (filled (constants base) n c) ≤ 1
-  once base x n hole = one_hole (nat_eq x n)
+  once base x n hole = one_at_most (nat_eq x n)
   once base x n (kept y) = omega arith
   once base x n (node f cs) = all_once base x n cs
 

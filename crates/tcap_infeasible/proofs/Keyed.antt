@@ -1,5 +1,5 @@
 -- Where places of rows stand for variables and for symbols past those of a system, what they stand for.
-use Rattle.std.proofs.Common.{ℕ, zero, suc, ◌≡◌, ◌+◌, ◌-◌, ◌<◌, ◌≤◌, inl, inr, Bool, true, false, nat_lt, if◌then◌else◌, List, [], ◌∷◌, length, get_or, max, Some, refl, sym, ap, ap₂, ◌∙◌, subst, arith, slice_get, eqb-true, ◌++◌}
+use Rattle.std.proofs.Common.{ℕ, zero, suc, ◌≡◌, ◌+◌, ◌-◌, ◌<◌, ◌≤◌, inl, inr, Bool, true, false, nat_lt, if◌then◌else◌, List, [], ◌∷◌, length, max, Some, refl, sym, ap, ap₂, ◌∙◌, subst, arith, slice_get, eqb-true, ◌++◌}
 use Rattle.std.proofs.lemmas.Bool.{ltb-true, lt-ltb}
 use Rattle.std.proofs.lemmas.Option.{slice_get_within, get_or_from_slice_get}
 use Rattle.rewriting.specs.Terms.{Term, Terms, var, app, nil, cons, size, size_all, depth, depth_all, Fits}
@@ -10,7 +10,7 @@ use Rattle.unifier_run.proofs.Renamed.{renamed, all_renamed}
 use Rattle.tcap_infeasible.specs.Keys.{IsKey, IsKeyed, AreKeyed}
 use Rattle.tcap_infeasible.proofs.Numbers.{not_lt}
 use Rattle.term_core.specs.SystemView.{HasSymbolsBelow, HaveSymbolsBelow}
-use Rattle.renumbering.proofs.Filling.{total, filling, filling_within, filling_one}
+use Rattle.renumbering.proofs.Filling.{total, filling, filling_within, filling_one, below_total}
 
 -- what a symbol past the first n stands for, by its place in a row
 abbrev pub shifted : ℕ → List ℕ → ℕ → ℕ
@@ -43,11 +43,6 @@ shifted_one n row distinct x y e = go (nat_lt x n) refl (nat_lt y n) refl
 -- past the system's symbols and what a row stands for
 abbrev pub end_of : ℕ → List ℕ → ℕ
 end_of n foreign = n + suc (total foreign)
-
-below_total : (row : List ℕ) (m : ℕ) → get_or row m 0 ≤ total row
-below_total [] m = omega arith
-below_total (x ∷ row) zero = omega arith
-below_total (x ∷ row) (suc m) = let k = below_total row m in omega (arith, k)
 
 shifted_low : (n : ℕ) (foreign : List ℕ) (f : ℕ) → f < n + length foreign → shifted n foreign f < end_of n foreign
 shifted_low n foreign f h = go (nat_lt f n) refl

@@ -1,12 +1,12 @@
 -- Runs for linear terms that fit and share no variable: each variable is bound once and never looked up, so that no term of
 -- the run is larger than these, and the run clashes exactly where two symbols do.
 use Rattle.std.proofs.Common.{ℕ, ◌≡◌, ◌≢◌, inl, inr, ◌||◌, Bool, true, false, nat_eq, if◌then◌else◌, List, [], ◌∷◌, ◌++◌, Ok, refl, sym, ap, ap₂, ◌∙◌, subst, arith, eqb-true, eq-eqb}
-use Rattle.std.proofs.lemmas.Bool.{false≢true}
+use Rattle.std.proofs.lemmas.Bool.{false≢true, or_right, or_left, or_parts, false_from_ne_true}
 use Rattle.rewriting.specs.Terms.{Term, Terms, var, app, nil, cons, count, Fits}
 use Rattle.rewriting.specs.Systems.{Each}
 use Rattle.rewriting.specs.Substitutions.{apply}
 use Rattle.rewriting.specs.Variables.{occurs, occurs_in}
-use Rattle.rewriting.proofs.Instances.{apply-agree, or_left, or_right}
+use Rattle.rewriting.proofs.Instances.{apply-agree}
 use Rattle.rewriting.proofs.Variables.{IsLinearInParts, AreLinear}
 use Rattle.unifier_run.specs.Run.{Binding, value, extended, DoAllFit, Outcome, unifier, clash, append, Runs, no_equation, IsOutcome}
 use Rattle.unifier_run.proofs.Values.{apply_nothing}
@@ -45,14 +45,6 @@ fit_one (e ∷ b) x v f g = (f.0, fit_one b x v f.1 g)
 new_one : (b : List Binding) (x : ℕ) (v : Term) (y : ℕ) → IsNew b y → nat_eq y x ≡ false → occurs y v ≡ false → IsNew (with_one b x v) y
 new_one [] x v y h n o = (n, o, tt)
 new_one (e ∷ b) x v y h n o = (h.0, h.1, new_one b x v y h.2 n o)
-
-not_true : (b : Bool) → (b ≡ true → ⊥) → b ≡ false
-not_true true n = absurd (n refl)
-not_true false n = refl
-
-neither : (a b : Bool) → (a || b) ≡ false → (a ≡ false) × (b ≡ false)
-neither true b h = absurd (cc)
-neither false b h = (refl, h)
 
 -- two terms that are still to be met, and two lists of them: all their variables are new, and none occurs twice
 record Meet (b : List Binding) (t u : Term) : Type 0 where
@@ -115,8 +107,8 @@ rest b c t u ts us m d =
       left = m.left.1;
       right = m.right.1;
       apart = λ x o p. m.apart x (or_right _ _ o) (or_right _ _ p);
-      left_new = λ x o. d.new x (m.left_new x (or_right _ _ o)) (ap (λ a. a || false) (not_true _ (λ h. m.left.2 x h o))) (ap (λ a. a || false) (not_true _ (λ h. m.apart x (or_right _ _ o) (or_left _ _ h))));
-      right_new = λ x o. d.new x (m.right_new x (or_right _ _ o)) (ap (λ a. a || false) (not_true _ (λ h. m.apart x (or_left _ _ h) (or_right _ _ o)))) (ap (λ a. a || false) (not_true _ (λ h. m.right.2 x h o)));
+      left_new = λ x o. d.new x (m.left_new x (or_right _ _ o)) (ap (λ a. a || false) (false_from_ne_true _ (λ h. m.left.2 x h o))) (ap (λ a. a || false) (false_from_ne_true _ (λ h. m.apart x (or_right _ _ o) (or_left _ _ h))));
+      right_new = λ x o. d.new x (m.right_new x (or_right _ _ o)) (ap (λ a. a || false) (false_from_ne_true _ (λ h. m.apart x (or_left _ _ h) (or_right _ _ o)))) (ap (λ a. a || false) (false_from_ne_true _ (λ h. m.right.2 x h o)));
       left_fit = m.left_fit.1;
       right_fit = m.right_fit.1;
     }
@@ -130,7 +122,7 @@ of_solved b x v t u s others =
     record {
       runs = s.runs;
       good = s.good;
-      new = λ y h o p. (let k = others y (neither _ _ o).0 (neither _ _ p).0 in new_one b x v y h k.0 k.1);
+      new = λ y h o p. (let k = others y (or_parts _ _ o).0 (or_parts _ _ p).0 in new_one b x v y h k.0 k.1);
     }
 
 met_left : (b : List Binding) (x : ℕ) (u : Term) → Meet b (var x) u → Met b (with_one b x u) (cons (var x) nil) (cons u nil)
@@ -150,7 +142,7 @@ met_left b x u m =
     same = stays b u m.right_new
 
     absent : occurs x u ≡ false
-    absent = not_true _ (λ h. m.apart x (itself x) h)
+    absent = false_from_ne_true _ (λ h. m.apart x (itself x) h)
 
 met_right : (b : List Binding) (f : ℕ) (ts : Terms) (x : ℕ) → Meet b (app f ts) (var x) → Met b (with_one b x (app f ts)) (cons (app f ts) nil) (cons (var x) nil)
 met_right b f ts x m =
@@ -169,7 +161,7 @@ met_right b f ts x m =
     same = stays b (app f ts) m.left_new
 
     absent : occurs x (app f ts) ≡ false
-    absent = not_true _ (λ h. m.apart x h (itself x))
+    absent = false_from_ne_true _ (λ h. m.apart x h (itself x))
 
 -- the cases of two symbols
 data Roots (f g : ℕ) (ts us : Terms) : Type 0 where
@@ -193,7 +185,7 @@ opened b c f g ts us m e k d =
     record {
       runs = λ vs ws o r. subst (λ z. Runs b (cons (app f ts) vs) (cons (app z us) ws) o) e (open_equation b f ts us vs ws o m.good.settled (subst (λ z. Fits (apply (value b) (app f ts)) × Fits (apply (value b) (app z us))) (sym e) (both_fit b (app f ts) (app g us) m)) k (d.runs vs ws o r));
       good = d.good;
-      new = λ x h o p. d.new x h (neither _ _ o).0 (neither _ _ p).0;
+      new = λ x h o p. d.new x h (or_parts _ _ o).0 (or_parts _ _ p).0;
     }
 
 -- without a clash all is solved
@@ -213,14 +205,14 @@ mutual
   all_solved b nil (cons u us) m k n = absurd (omega (arith, k))
   all_solved b (cons t ts) nil m k n = absurd (omega (arith, k))
   all_solved b (cons t ts) (cons u us) m k n =
-      (let none = neither (do_clash 0 t u) (do_any_clash 0 ts us) n in
+      (let none = or_parts (do_clash 0 t u) (do_any_clash 0 ts us) n in
       let d = solved b t u (first b t u ts us m) none.0 in
       let e = all_solved d.0 ts us (rest b d.0 t u ts us m d.1) (omega (arith, k)) none.1 in (
         e.0,
         record {
           runs = λ vs ws o r. d.1.runs (append ts vs) (append us ws) o (e.1.runs vs ws o r);
           good = e.1.good;
-          new = λ x h o p. (let q = neither _ _ o in let r = neither _ _ p in e.1.new x (d.1.new x h (ap (λ a. a || false) q.0) (ap (λ a. a || false) r.0)) q.1 r.1);
+          new = λ x h o p. (let q = or_parts _ _ o in let r = or_parts _ _ p in e.1.new x (d.1.new x h (ap (λ a. a || false) q.0) (ap (λ a. a || false) r.0)) q.1 r.1);
         },
       ))
 

@@ -6,6 +6,7 @@ use Rattle.rewriting.specs.Unifiers.{even, odd}
 use Rattle.rewriting.specs.Rules.{Rule, System, rule_at}
 use Rattle.rewriting.specs.Systems.{IsSystem}
 use Rattle.rewriting.specs.Lists.{AreDistinct}
+use Rattle.rewriting.proofs.Systems.{is_rule_at}
 use Rattle.unifier_run.specs.Run.{Outcome, unifier, clash, too_large}
 use Rattle.unifier_run.specs.Overlaps.{IsOutcomeOf}
 use Rattle.unifier_run.specs.Irreducible.{IsFirstRule, DoRulesClash}
@@ -15,7 +16,6 @@ use Rattle.tcap_infeasible.specs.declared.capping.Leaf.TheVariants.{Kept}
 use Rattle.term_core.specs.SystemView.{HasSymbolsBelow, HaveSymbolsBelow}
 use Rattle.tcap_infeasible.proofs.Rebased.{HasLike, HasFirstLike, alike_same, clash_like, first_unifier, first_large, forth_like, symbols_stay, names_after, lowered, lifted}
 use Rattle.tcap_infeasible.proofs.Bases.{caps_past}
-use Rattle.tcap_infeasible.proofs.Tried.{rule_of}
 use Rattle.renumbering.proofs.Filling.{filling}
 use Rattle.tcap_infeasible.proofs.Keyed.{end_of, spaced, spaced_below, spaced_low, spaced_past, spaced_one}
 
@@ -90,7 +90,7 @@ module _ (sys : System) (foreign row : List ℕ) (sound : IsSystem sys) (foreign
   outcome_named : (r : Rule) (i : ℕ) (c : Cap) (o : Outcome) → past_symbols c ≤ place_base → rule_at sys i ≡ Some r → IsOutcomeOf r.left (frozen sys c) o → HasLike r.left (frozen sys (name c)) o
   outcome_named r zero c o low at run = absurd (cc)
   outcome_named r (suc i) c o low at run =
-      let over = (rule_of sys.arities sys.rules i r sound.rules at).is_over.over.0 in
+      let over = (is_rule_at sys.arities sys.rules i r sound.rules at).is_over.over.0 in
       lowered sys r.left over (name c) far_base (name_past c low) o
       (forth_like (λ x. x) symbols (λ x y e. e) symbols_one (apply even r.left) (apply odd (frozen_from place_base c)) (apply even r.left) (apply odd (frozen_from far_base (name c)))
       (symbols_stay symbols sys.arities (spaced_below (length sys.arities) foreign row) r.left over) (names_after symbols (λ k. 2 * k + 1) (frozen_from place_base c) ∙ ap (apply odd) (held_named 0 c)) o

@@ -7,6 +7,7 @@ use Rattle.rewriting.specs.Unifiers.{even, odd}
 use Rattle.rewriting.specs.Rules.{System}
 use Rattle.rewriting.specs.Systems.{IsSystem, IsWellFormed}
 use Rattle.rewriting.specs.Lists.{AreDistinct, IsFront}
+use Rattle.rewriting.proofs.Systems.{is_rule_at}
 use Rattle.unifier_run.specs.Run.{Binding, Outcome, unifier, clash, too_large, IsOutcome}
 use Rattle.unifier_run.proofs.Renamed.{renamed, all_renamed, renamed_outcome, stays, names, runs_with_names}
 use Rattle.caps.specs.Caps.{Cap, Caps, hole, kept, any, node, no_caps, caps, holes, holes_in, filled, all_filled, past, constants, frozen_from, IsCapOf, IsCapLarge}
@@ -22,7 +23,6 @@ use Rattle.tcap_infeasible.specs.Compared.{PairAnswers, KeepsInstancesApart, Giv
 use Rattle.tcap_infeasible.proofs.Numbers.{not_lt}
 use Rattle.tcap_infeasible.proofs.Rebased.{AreAlike, alike_renamed, EndLike, forth, back_like, raised, raised_one, raised_frozen}
 use Rattle.tcap_infeasible.proofs.Bases.{symbols_below, cap_past, holes_alone}
-use Rattle.tcap_infeasible.proofs.Tried.{rule_of}
 use Rattle.renumbering.proofs.Filling.{filling}
 use Rattle.tcap_infeasible.proofs.Keyed.{end_of, spaced, spaced_past, keyed_renamed, keyed_below, keyed_symbols, keyed_grows}
 use Rattle.tcap_infeasible.proofs.Named.{named, all_named, named_holes, symbols_one, name_past, cap_named, large_named}
@@ -247,7 +247,7 @@ places_base sys n base places foreign row t u count is sound within few_foreign 
 
 pub well_formed : (sys : System) → IsSystem sys → IsWellFormed sys
 well_formed sys sound zero r e = absurd (cc)
-well_formed sys sound (suc i) r e = (rule_of sys.arities sys.rules i r sound.rules e).is_over
+well_formed sys sound (suc i) r e = (is_rule_at sys.arities sys.rules i r sound.rules e).is_over
 
 -- terms that have got places in the same rows, the first of them before the second
 pub places_answer : (sys : System) (n base : ℕ) (foreign more_foreign row more : List ℕ) (u v x y : Term) (r : Result ComparedCaps NoMemory) → n ≡ length sys.arities → base ≡ length sys.arities + length more_foreign → IsSystem sys → AreDistinct more_foreign → AreDistinct more

@@ -1,5 +1,6 @@
 -- Places of a row for the arguments of a symbol, one after the other.
 use Rattle.std.proofs.Common.{ℕ, suc, ◌≡◌, ◌+◌, ◌^◌, ◌<◌, ◌≤◌, List, [], ◌∷◌, ◌++◌, length, take, get_or, Vec, Global, refl, sym, ap, ◌∙◌, subst, subst₂, arith, add-one}
+use Rattle.std.proofs.lemmas.List.{take_all}
 use Rattle.rewriting.specs.Terms as math
 use Rattle.rewriting.specs.Terms.{Terms, app, nil, cons, size, size_all}
 use Rattle.rewriting.specs.Variables.{with_new}
@@ -9,7 +10,6 @@ use Rattle.rewriting.proofs.Lists.{front_trans}
 use Rattle.term_core.specs.View.{view, views}
 use Rattle.term_core.specs.declared.terms.Term.{Term, Var, Fun}
 use Rattle.term_core.proofs.Views.{view-Fun, view-Var}
-use Rattle.term_core.proofs.Instances.{take_all}
 use Rattle.tcap_infeasible.specs.Keys.{IsKey, IsKeyed, AreKeyed}
 use Rattle.tcap_infeasible.proofs.Args.{views_with, take_suc, size_take}
 use Rattle.rewriting.proofs.Lengths.{variables_length}
@@ -83,7 +83,7 @@ module _ (t : Term) (f : ℕ) (v : Vec Term Global) (items : List Term) (k : ℕ
     pub whole_grown : (us : List Term) → length items ≤ k → HavePlaces n start_foreign foreign start row items k us → (length foreign ≤ length old_foreign + size (view t)) × (length row ≤ length start + size (view t))
     whole_grown us h places =
         let whole : size (view t) ≡ suc (size_all (views items)) = ap size shape in
-        let all : size_all (views (take k items)) ≡ size_all (views items) = ap (λ z. size_all (views z)) (take_all items k h) in
+        let all : size_all (views (take k items)) ≡ size_all (views items) = ap (λ z. size_all (views z)) (take_all k items h) in
         let symbols = places.foreign_grown in
         let variables = places.grown in
         (omega (arith, whole, all, symbols, one), omega (arith, whole, all, variables))
@@ -91,4 +91,4 @@ module _ (t : Term) (f : ℕ) (v : Vec Term Global) (items : List Term) (k : ℕ
     pub whole_keyed : (w : Vec Term Global) (g : ℕ) → length items ≤ k → HavePlaces n start_foreign foreign start row items k w.items → IsKey n start_foreign f g → IsKeyed n foreign row (view t) (view (Fun g w))
     whole_keyed w g h places key =
         subst₂ (IsKeyed n foreign row) (sym shape) (sym (view-Fun g w))
-        (g, views w.items, refl, key_grows n start_foreign foreign f g places.foreign_front key, subst (λ z. AreKeyed n foreign row (views z) (views w.items)) (take_all items k h) places.are)
+        (g, views w.items, refl, key_grows n start_foreign foreign f g places.foreign_front key, subst (λ z. AreKeyed n foreign row (views z) (views w.items)) (take_all k items h) places.are)

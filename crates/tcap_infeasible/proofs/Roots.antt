@@ -8,6 +8,7 @@ use Rattle.rewriting.proofs.Instances.{or_cases}
 use Rattle.rewriting.specs.Rules as math
 use Rattle.rewriting.specs.Rules.{System, rule_at}
 use Rattle.rewriting.specs.Systems.{IsSystem}
+use Rattle.rewriting.proofs.Systems.{is_rule_at}
 use Rattle.unifier_run.specs.Run.{Outcome, clash, IsOutcome}
 use Rattle.caps.specs.Caps.{Cap, frozen}
 use Rattle.term_core.specs.View.{view}
@@ -16,7 +17,7 @@ use Rattle.term_core.specs.declared.systems.Rule.{Rule}
 use Rattle.tcap_infeasible.specs.Frozen.{IsHeld}
 use Rattle.tcap_infeasible.proofs.Rebased.{HasLike, HasFirstLike, clash_like}
 use Rattle.tcap_infeasible.proofs.Filled.{held_from}
-use Rattle.tcap_infeasible.proofs.Tried.{rule_of, left_small, outcome_of, AreBefore, one_more, Tried, Next, tried_next}
+use Rattle.tcap_infeasible.proofs.Tried.{left_small, outcome_of, AreBefore, one_more, Tried, Next, tried_next}
 
 within : (rs : List math.Rule) (i : ℕ) (r : math.Rule) → slice_get rs i ≡ Some r → i < length rs
 within [] i r e = absurd (cc)
@@ -57,7 +58,7 @@ module _ (sys : System) (f : ℕ) (t : Term) (numbers : List ℕ) (k : ℕ) (sou
   outcome_at : (rules : List Rule) (d : Rule) (o : Outcome) → map rule_view rules ≡ sys.rules → (next : Next sys f t (get_or numbers k 0) (drop (suc k) numbers))
       → IsOutcome (cons (view (get_or rules (get_or numbers k 0 - 1) d).left) nil) (cons t nil) o → (n : ℕ) (c : Cap) → IsHeld sys f t n c → HasLike next.rule.left (frozen sys c) o
   outcome_at rules d o same next run n c held =
-      outcome_of sys next.rule f t n c o (rule_of sys.arities sys.rules next.passed next.rule sound.rules next.is_rule) held
+      outcome_of sys next.rule f t n c o (is_rule_at sys.arities sys.rules next.passed next.rule sound.rules next.is_rule) held
       (subst (λ z. IsOutcome (cons z.left nil) (cons t nil) o) (sym (at_place rules d same next)) run)
 
   pub first_at : (rules : List Rule) (d : Rule) (o : Outcome) → map rule_view rules ≡ sys.rules → Tried sys f t numbers k → k < length numbers
@@ -92,7 +93,7 @@ module _ (sys : System) (f : ℕ) (t : Term) (numbers : List ℕ) (k : ℕ) (sou
 
   pub left_fits : (rules : List Rule) (d : Rule) → map rule_view rules ≡ sys.rules → Tried sys f t numbers k → k < length numbers → Fits (view (get_or rules (get_or numbers k 0 - 1) d).left)
   left_fits rules d same tried h =
-      let next = following tried h in subst (λ z. Fits z.left) (at_place rules d same next) (rule_of sys.arities sys.rules next.passed next.rule sound.rules next.is_rule).fits.0
+      let next = following tried h in subst (λ z. Fits z.left) (at_place rules d same next) (is_rule_at sys.arities sys.rules next.passed next.rule sound.rules next.is_rule).fits.0
 
   pub left_linear : (rules : List Rule) (d : Rule) (b : Bool) → map rule_view rules ≡ sys.rules → Tried sys f t numbers k → k < length numbers
       → ((r : math.Rule) → rule_at sys (get_or numbers k 0) ≡ Some r → (IsTrue b ↔ IsLinear r.left)) → IsTrue b → IsLinear (view (get_or rules (get_or numbers k 0 - 1) d).left)
@@ -104,5 +105,5 @@ module _ (sys : System) (f : ℕ) (t : Term) (numbers : List ℕ) (k : ℕ) (sou
       → IsDisjoint (view (get_or rules (get_or numbers k 0 - 1) d).left) (cons t nil)
   left_apart rules d same tried h n c held x o p =
       let next = following tried h in
-      let small = left_small sys.arities next.rule (rule_of sys.arities sys.rules next.passed next.rule sound.rules next.is_rule) x (subst (λ z. occurs x z.left ≡ true) (sym (at_place rules d same next)) o) in
+      let small = left_small sys.arities next.rule (is_rule_at sys.arities sys.rules next.passed next.rule sound.rules next.is_rule) x (subst (λ z. occurs x z.left ≡ true) (sym (at_place rules d same next)) o) in
       or_cases (occurs x t) false p (λ q. (let large = held_from sys f t n c held x q in omega (arith, small, large))) (λ q. absurd (cc))

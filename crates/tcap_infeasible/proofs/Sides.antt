@@ -1,6 +1,6 @@
 -- The sides of conditions as lists of terms of the program.
 use Rattle.std.proofs.Common.{ℕ, zero, suc, ◌≡◌, ◌+◌, ◌*◌, ◌^◌, ◌<◌, ◌≤◌, List, [], ◌∷◌, ◌++◌, map, length, take, get_or, refl, sym, ap, ◌∙◌, subst, arith}
-use Rattle.std.proofs.lemmas.List.{length-map}
+use Rattle.std.proofs.lemmas.List.{length-map, take_all}
 use Rattle.rewriting.specs.Terms.{cons, size, size_all, Fits}
 use Rattle.rewriting.specs.Variables.{with_variables}
 use Rattle.rewriting.specs.Rules.{System, left_sides, right_sides}
@@ -14,7 +14,6 @@ use Rattle.term_core.specs.View.{view, views}
 use Rattle.term_core.specs.RuleView.{condition_view}
 use Rattle.term_core.specs.declared.systems.Cond.{Cond}
 use Rattle.term_core.specs.declared.terms.Term.{Term}
-use Rattle.term_core.proofs.Instances.{take_all}
 use Rattle.tcap_infeasible.specs.declared.capping.Leaf.TheVariants.{Hole}
 use Rattle.tcap_infeasible.specs.Comparing.{HaveRow}
 use Rattle.tcap_infeasible.proofs.Args.{AreCapped, capped_room, large_at}
@@ -80,7 +79,7 @@ left_large sys cs k c h e large = subst (AreCapsLarge sys any) (views_lefts cs) 
 pub lefts_are : (sys : System) (cs : List Cond) (k : ℕ) (us : List Term) (next : ℕ) → length cs ≤ k → (capped : AreCapped sys Hole (lefts cs) k us (2 ^ 31) next) → AreCapsOf sys any (left_sides (map condition_view cs)) capped.shapes
 lefts_are sys cs k us next h capped =
     let e : length (lefts cs) ≡ length cs = simp length-map in
-    subst (λ z. AreCapsOf sys any z capped.shapes) (ap views (take_all (lefts cs) k (omega (arith, e, h))) ∙ views_lefts cs) capped.are
+    subst (λ z. AreCapsOf sys any z capped.shapes) (ap views (take_all k (lefts cs) (omega (arith, e, h))) ∙ views_lefts cs) capped.are
 
 -- the right sides that have got their numbers
 pub record Numbered (cs : List Cond) (k : ℕ) (row : List ℕ) (us : List Term) : Type 0 where
@@ -100,5 +99,5 @@ one_numbered cs k row more us vs c u h e fit before grown front distinct one pus
 pub all_numbered : (cs : List Cond) (k : ℕ) (row : List ℕ) (us : List Term) → length cs ≤ 200 → k ≤ length cs → length cs ≤ k → Numbered cs k row us → HaveRow (right_sides (map condition_view cs)) (views us)
 all_numbered cs k row us few within h n =
     let e : length (rights cs) ≡ length cs = simp length-map in
-    let whole : views (take k (rights cs)) ≡ right_sides (map condition_view cs) = ap views (take_all (rights cs) k (omega (arith, e, h))) ∙ views_rights cs in
+    let whole : views (take k (rights cs)) ≡ right_sides (map condition_view cs) = ap views (take_all k (rights cs) (omega (arith, e, h))) ∙ views_rights cs in
     record { row = row; distinct = n.distinct; few = (let l = n.few in omega (arith, l, few, within)); names = sym whole ∙ n.are.names; below = n.are.below }

@@ -1,11 +1,13 @@
 -- The arguments of a frozen cap, thawed one after the other.
-use Rattle.std.proofs.Common.{ℕ, zero, suc, ◌≡◌, ◌+◌, ◌^◌, ◌<◌, ◌≤◌, ◌⊎◌, inl, inr, true, List, [], ◌∷◌, ◌++◌, length, drop, get_or, Vec, Global, Result, Ok, Err, refl, sym, ap, ap₂, ◌∙◌, subst, subst₂, arith}
+use Rattle.std.proofs.Common.{ℕ, ◌≡◌, ◌+◌, ◌^◌, ◌<◌, ◌≤◌, ◌⊎◌, inl, inr, true, List, [], ◌∷◌, ◌++◌, length, drop, get_or, Vec, Global, Result, Ok, Err, refl, sym, ap, ap₂, ◌∙◌, subst, subst₂, arith}
+use Rattle.std.proofs.lemmas.Bool.{cases_lt}
 use Rattle.rewriting.specs.Terms as math
 use Rattle.rewriting.specs.Terms.{Terms, var, app, nil, cons, size}
 use Rattle.rewriting.specs.Variables.{occurs}
 use Rattle.rewriting.specs.Rules.{System}
 use Rattle.rewriting.specs.Systems.{IsSystem}
 use Rattle.unifier_run.specs.Run.{append}
+use Rattle.unifier_run.proofs.Lists.{append-nil}
 use Rattle.rewriting.specs.Substitutions.{apply}
 use Rattle.caps.specs.Laws.{IsReductOf}
 use Rattle.caps.specs.Caps.{Cap as MathCap, any, kept, filled, constants, IsCapOf, IsCapLarge}
@@ -15,13 +17,14 @@ use Rattle.term_core.specs.View.{view, views}
 use Rattle.term_core.specs.declared.terms.Term.{Term, Fun}
 use Rattle.term_core.specs.declared.terms.NoMemory.{NoMemory}
 use Rattle.term_core.proofs.Views.{view-Fun}
-use Rattle.unification.proofs.Terms.{views-drop, views-drop_all}
+use Rattle.unification.proofs.Terms.{views-drop_all}
 use Rattle.tcap_infeasible.specs.declared.Cap.{Cap}
 use Rattle.tcap_infeasible.specs.declared.Cap.TheVariants.{Capped, TooLarge}
 use Rattle.tcap_infeasible.specs.declared.capping.Leaf.TheVariants.{Hole, Kept}
 use Rattle.tcap_infeasible.specs.Answers.{CapAnswers}
 use Rattle.tcap_infeasible.specs.Frozen.{FrozenAnswers}
 use Rattle.term_core.specs.SystemView.{HasSymbolsBelow}
+use Rattle.term_core.proofs.Over.{views-drop}
 use Rattle.tcap_infeasible.specs.Keys.{HavePlacesFor}
 use Rattle.tcap_infeasible.specs.Reducts.{KeepsReducts, KeepsOwnReducts}
 use Rattle.tcap_infeasible.specs.Thawing.{LiesOn, LieOn, thawed, all_thawed}
@@ -42,27 +45,13 @@ append_assoc : (xs : Terms) (y : math.Term) (ys : Terms) → append (append xs (
 append_assoc nil y ys = refl
 append_assoc (cons x xs) y ys = ap (cons x) (append_assoc xs y ys)
 
-append_nil : (xs : Terms) → append xs nil ≡ xs
-append_nil nil = refl
-append_nil (cons x xs) = ap (cons x) (append_nil xs)
-
 no_term_lies : (fresh : ℕ) (t : math.Term) (ts us : Terms) → us ≡ nil → LieOn fresh (cons t ts) us → ⊥
 no_term_lies fresh t ts nil e h = h
 no_term_lies fresh t ts (cons u us) e h = cc
 
-compare : (a b : ℕ) → (a < b) ⊎ (b ≤ a)
-compare zero zero = inr (omega arith)
-compare zero (suc b) = inl (omega arith)
-compare (suc a) zero = inr (omega arith)
-compare (suc a) (suc b) = up (compare a b)
-  where
-    up : (a < b) ⊎ (b ≤ a) → (suc a < suc b) ⊎ (suc b ≤ suc a)
-    up (inl h) = inl (omega (arith, h))
-    up (inr h) = inr (omega (arith, h))
-
 module _ (fresh : ℕ) (ts us : List Term) (k : ℕ) (out : List Term) where
   pub place_below : (t : Term) → k < length ts → t ≡ get_or ts k t → AreThawed fresh ts us k out → k < length us
-  place_below t h e all = go (compare k (length us))
+  place_below t h e all = go (cases_lt k (length us))
     where
       go : (k < length us) ⊎ (length us ≤ k) → k < length us
       go (inl l) = l
@@ -88,7 +77,7 @@ module _ (fresh : ℕ) (ts us : List Term) (k : ℕ) (out : List Term) where
 pub whole_thawed : (fresh : ℕ) (t u : Term) (f g : ℕ) (v w : Vec Term Global) (k : ℕ) (out : Vec Term Global) → t ≡ Fun f v → u ≡ Fun g w → length v.items ≤ k → AreThawed fresh v.items w.items k out.items → view (Fun f out) ≡ thawed fresh (view t) (view u)
 whole_thawed fresh t u f g v w k out is at h all =
     let left : append (views out.items) nil ≡ all_thawed fresh (views v.items) (views w.items) = sym (ap (λ z. append (views out.items) (all_thawed fresh z (views (drop k w.items)))) (views-drop_all v.items k h)) ∙ all.value in
-    view-Fun f out ∙ (ap (app f) (sym (append_nil (views out.items)) ∙ left) ∙ sym (ap₂ (thawed fresh) (ap view is ∙ view-Fun f v) (ap view at ∙ view-Fun g w)))
+    view-Fun f out ∙ (ap (app f) (sym (append-nil (views out.items)) ∙ left) ∙ sym (ap₂ (thawed fresh) (ap view is ∙ view-Fun f v) (ap view at ∙ view-Fun g w)))
 
 -- the whole cap, thawed
 start : 2 ^ 31 ≡ 2 ^ 31 + 0

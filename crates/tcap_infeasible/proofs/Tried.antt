@@ -1,16 +1,18 @@
 -- The rules tried on a term: those of its root symbol in order; all others clash at once.
 use Rattle.std.proofs.Common.{ℕ, zero, suc, ◌≡◌, ◌+◌, ◌-◌, ◌*◌, ◌^◌, ◌<◌, ◌≤◌, ◌⊎◌, inl, inr, Bool, true, false, nat_lt, if◌then◌else◌, List, [], ◌∷◌, length, drop, Some, refl, sym, ap, ap₂, ◌∙◌, subst, subst₂, arith, slice_get, eq-eqb, eqb-true}
-use Rattle.std.proofs.lemmas.Bool.{false≢true, ltb-true, lt-ltb}
+use Rattle.std.proofs.lemmas.Bool.{false≢true, ltb-true, lt-ltb, or_left}
+use Rattle.general_lemmas.proofs.Numbers.{le_or_next}
 use Rattle.rewriting.specs.Terms.{Term, Terms, var, app, nil, cons, IsVariable, Fits}
 use Rattle.rewriting.specs.Substitutions.{apply, apply_all}
 use Rattle.rewriting.specs.Unifiers.{even, odd}
 use Rattle.rewriting.specs.Variables.{occurs}
 use Rattle.rewriting.specs.Signatures.{Signature}
 use Rattle.rewriting.specs.Rules.{Rule, System, rule_at}
-use Rattle.rewriting.specs.Systems.{terms_of_rule, rule_variables, IsRule, AreRules, IsSystem}
+use Rattle.rewriting.specs.Systems.{terms_of_rule, rule_variables, IsRule, IsSystem}
 use Rattle.rewriting.proofs.Variables.{variables_have_all}
-use Rattle.rewriting.proofs.Instances.{or_left, apply-agree}
+use Rattle.rewriting.proofs.Instances.{apply-agree}
 use Rattle.rewriting.proofs.Lists.{counted_below}
+use Rattle.rewriting.proofs.Systems.{is_rule_at}
 use Rattle.unifier_run.specs.Run.{value, Outcome, clash, Takes, roots_differ, ends, last_equation, IsOutcome}
 use Rattle.unifier_run.specs.Overlaps.{IsOutcomeOf}
 use Rattle.unifier_run.specs.Irreducible.{DoRulesClash}
@@ -43,12 +45,6 @@ split_one n x y e = go (nat_lt x n) refl (nat_lt y n) refl
     go true p false q = (let s : 2 * x ≡ 2 * (y - n) + 1 = rw (p, q) at e in absurd (omega (arith, s)))
     go false p true q = (let s : 2 * (x - n) + 1 ≡ 2 * y = rw (p, q) at e in absurd (omega (arith, s)))
     go false p false q = (let s : 2 * (x - n) + 1 ≡ 2 * (y - n) + 1 = rw (p, q) at e in let l = not_lt x n p in let m = not_lt y n q in omega (arith, s, l, m))
-
--- a rule of a system, its left side with other variables
-pub rule_of : (arities : Signature) (rs : List Rule) (i : ℕ) (r : Rule) → AreRules arities rs → slice_get rs i ≡ Some r → IsRule arities r
-rule_of arities [] i r h e = absurd (cc)
-rule_of arities (q ∷ rs) zero r h e = (let same : q ≡ r = cc in subst (IsRule arities) same h.0)
-rule_of arities (q ∷ rs) (suc i) r h e = rule_of arities rs i r h.1 e
 
 pub left_small : (arities : Signature) (r : Rule) → IsRule arities r → (k : ℕ) → occurs k r.left ≡ true → k < 2 ^ 31
 left_small arities r h k o =
@@ -110,17 +106,8 @@ none_before : (sys : System) (t : Term) → AreBefore sys t 0
 none_before sys t zero r e l = absurd (no_rule sys r e)
 none_before sys t (suc i) r e l = absurd (omega (arith, l))
 
-le_or_same : (k n : ℕ) → k ≤ suc n → (k ≤ n) ⊎ (k ≡ suc n)
-le_or_same zero n h = inl (omega arith)
-le_or_same (suc k) zero h = inr (omega (arith, h))
-le_or_same (suc k) (suc n) h = up (le_or_same k n (omega (arith, h)))
-  where
-    up : (k ≤ n) ⊎ (k ≡ suc n) → (suc k ≤ suc n) ⊎ (suc k ≡ suc (suc n))
-    up (inl a) = inl (omega (arith, a))
-    up (inr e) = inr (ap suc e)
-
 pub one_more : (sys : System) (t : Term) (n : ℕ) (q : Rule) → slice_get sys.rules n ≡ Some q → IsOutcomeOf q.left t clash → AreBefore sys t n → AreBefore sys t (suc n)
-one_more sys t n q at run before i r e l = go (le_or_same i n l)
+one_more sys t n q at run before i r e l = go (le_or_next i n l)
   where
     same_rule : Some q ≡ Some r → q ≡ r
     same_rule h = cc
@@ -189,7 +176,7 @@ next sys f t number rest sound (q ∷ qs) n left e before =
         })
     go false h later =
         (let whole : number ∷ rest ≡ numbers_with_root f (suc (suc n)) qs = rw h at e in
-        later after whole (λ m c held. one_more sys (frozen sys c) n q at (other_clash sys q f t m c (rule_of sys.arities sys.rules n q sound.rules at) held h) (before m c held)))
+        later after whole (λ m c held. one_more sys (frozen sys c) n q at (other_clash sys q f t m c (is_rule_at sys.arities sys.rules n q sound.rules at) held h) (before m c held)))
 
 none_left : (sys : System) (f : ℕ) (t : Term) → IsSystem sys → (qs : List Rule) (n : ℕ) → drop n sys.rules ≡ qs → [] ≡ numbers_with_root f (suc n) qs → (m : ℕ) (c : Cap) → IsHeld sys f t m c → AreBefore sys (frozen sys c) n → DoRulesClash sys (frozen sys c)
 none_left sys f t sound [] n left e m c held before = all_before sys (frozen sys c) n (past sys.rules n left) before
@@ -210,7 +197,7 @@ none_left sys f t sound (q ∷ qs) n left e m c held before =
     go true h later = (let whole : [] ≡ suc n ∷ numbers_with_root f (suc (suc n)) qs = rw h at e in absurd (cc))
     go false h later =
         (let whole : [] ≡ numbers_with_root f (suc (suc n)) qs = rw h at e in
-        later (drop_next sys.rules n q qs left).1 whole m c held (one_more sys (frozen sys c) n q at (other_clash sys q f t m c (rule_of sys.arities sys.rules n q sound.rules at) held h) before))
+        later (drop_next sys.rules n q qs left).1 whole m c held (one_more sys (frozen sys c) n q at (other_clash sys q f t m c (is_rule_at sys.arities sys.rules n q sound.rules at) held h) before))
 
 pub tried_none : (sys : System) (f : ℕ) (t : Term) (numbers : List ℕ) → numbers ≡ rules_with_root sys f → Tried sys f t numbers 0
 tried_none sys f t numbers e = record { passed = 0; rest = e; clash = λ n c held. none_before sys (frozen sys c) }

@@ -1,5 +1,5 @@
 -- The instance of a term, argument by argument.
-use Rattle.std.proofs.Common.{◌≡◌, ℕ, zero, suc, ◌≤◌, ◌<◌, ◌+◌, ◌-◌, ◌⊎◌, inl, inr, max, List, [], ◌∷◌, map, length, take, arith, Vec, Global, refl, sym, ap, ◌∙◌}
+use Rattle.std.proofs.Common.{◌≡◌, ℕ, suc, ◌≤◌, ◌<◌, ◌+◌, ◌-◌, ◌⊎◌, inl, inr, max, List, [], ◌∷◌, map, arith, Vec, Global, refl, sym, ap, ◌∙◌}
 use Rattle.rewriting.specs.Terms as math
 use Rattle.rewriting.specs.Terms.{app, cons, terms_of}
 use Rattle.rewriting.specs.Substitutions.{apply, apply_all}
@@ -15,12 +15,6 @@ pub apply-Fun : (s : ℕ → math.Term) (t : Term) (f : ℕ) (v w : Vec Term Glo
     → view (Fun f w) ≡ apply s (view t)
 apply-Fun s t f v w is e =
     view-Fun f w ∙ ap (app f) (ap terms_of e ∙ instances s v.items) ∙ sym (ap (apply s) (ap view is ∙ view-Fun f v))
-
-pub take_all : (ts : List Term) (i : ℕ) → length ts ≤ i → take i ts ≡ ts
-take_all [] zero h = refl
-take_all [] (suc i) h = refl
-take_all (t ∷ ts) zero h = absurd (omega arith)
-take_all (t ∷ ts) (suc i) h = ap (λ q. t ∷ q) (take_all ts i (omega arith))
 
 pub size_apply-Fun : (s : ℕ → math.Term) (t : Term) (f : ℕ) (v : Vec Term Global) → t ≡ Fun f v → math.size (apply s (view t)) ≡ suc (math.size_all (apply_all s (views v.items)))
 size_apply-Fun s t f v is = ap (λ u. math.size (apply s u)) (ap view is ∙ view-Fun f v)

@@ -23,9 +23,6 @@ pub record Moving (repeated : BTreeSet ℕ) (whole : Term) (rest : Terms) (b c :
   pub kept : Keeps repeated whole b c
 
 module _ (repeated : BTreeSet ℕ) (whole t : Term) (rest : Terms) (b c : Bindings) (has : HasRepeated repeated whole) (m : Moving repeated whole (cons t rest) b c) where
-  pub part_repeated : HasRepeated repeated t
-  part_repeated x h = has x (omega (arith, h, m.within x))
-
   pub part_instance : apply (values_of c) t ≡ apply (values_of b) t
   part_instance = apply-agree (values_of c) (values_of b) t (λ x o. ap (λ v. unwrap_or v (var x)) (m.coming x (omega (arith, occurs-counted x t o))))
 

@@ -12,10 +12,6 @@ pub length-numbers_from : (k n : ℕ) → length (numbers_from k n) ≡ n
 length-numbers_from k zero = refl
 length-numbers_from k (suc n) = ap suc (length-numbers_from (suc k) n)
 
-either : (a b : Bool) → b ≡ true → (a || b) ≡ true
-either true b e = refl
-either false b e = e
-
 has_step : (x k : ℕ) (rest : Bool) (b : Bool) → nat_eq x k ≡ b → ((x ≡ k → ⊥) → rest ≡ true) → (b || rest) ≡ true
 has_step x k rest true e h = refl
 has_step x k rest false e h = h (λ same. (let yes : nat_eq x k ≡ true = eq-eqb x k same in cc))

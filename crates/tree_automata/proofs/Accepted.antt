@@ -4,6 +4,7 @@ use Rattle.std.proofs.Math.ListN.{set}
 use Rattle.std.specs.List.{filter}
 use Rattle.std.proofs.lemmas.Bool.{cases_lt}
 use Rattle.std.proofs.lemmas.Option.{get_or_from_slice_get, slice_get_within}
+use Rattle.std.proofs.lemmas.List.{take_all, get_or_default}
 use Rattle.rewriting.specs.Terms.{Term}
 use Rattle.certificates.specs.Evidence.{Transition, Automaton}
 use Rattle.automata.specs.Runs.{Moves, Reach, at, RunsFrom0}
@@ -19,36 +20,24 @@ use Rattle.automaton_runs.specs.Indexed.{pointed}
 use Rattle.automaton_runs.specs.Choices.{Batch}
 use Rattle.automaton_runs.specs.Reached.{AreWhere, Reaches}
 use Rattle.rewriting.proofs.Lists.{among_map, among_of_map, among_at}
-use Rattle.automaton_runs.proofs.Members.{contains_in, in_contains}
+use Rattle.rewriting.proofs.Members.{among_contained, contained_among}
 use Rattle.automaton_runs.proofs.Counted.{symbol_from, symbol_to}
-use Rattle.automaton_runs.proofs.Twins.{all_of}
 use Rattle.tree_automata.specs.Accepts.{IsOneAccepting, IsMarked}
 use Rattle.tree_automata.proofs.Lists.{in_front}
-
--- an element at a place, whatever the default
-itself : (xs : List ℕ) (i d : ℕ) → i < length xs → get_or xs i d ≡ get_or xs i (get_or xs i d)
-itself [] i d h = absurd (omega arith)
-itself (y ∷ ys) zero d h = refl
-itself (y ∷ ys) (suc i) d h = go ys i (omega arith)
-  where
-    go : (zs : List ℕ) (j : ℕ) → j < length zs → get_or zs j d ≡ get_or zs j (get_or ys i d)
-    go [] j h = absurd (omega arith)
-    go (z ∷ zs) zero h = refl
-    go (z ∷ zs) (suc j) h = go zs j (omega arith)
 
 -- one of the listed states is related to some number
 module _ (a : Automaton) (r : NumberRelation) (listed : List ℕ) (same : listed ≡ a.accepting) (i : ℕ) where
   pub accepting_here : i < length listed → get_or listed i 0 < a.states → ((k : ℕ) × Relates r (get_or listed i 0) k) → IsOneAccepting a r
-  accepting_here inside low (k, there) = (get_or listed i 0, k, there, (in_contains _ a.accepting (subst (IsAmong (get_or listed i 0)) same (among_at listed i 0 (get_or listed i 0) inside refl)), low))
+  accepting_here inside low (k, there) = (get_or listed i 0, k, there, (contained_among _ a.accepting (subst (IsAmong (get_or listed i 0)) same (among_at listed i 0 (get_or listed i 0) inside refl)), low))
 
   pub none_more : i < length listed → ((q k : ℕ) → IsAmong q (take i listed) → q < a.states → Relates r q k → ⊥) → (get_or listed i 0 < a.states → ((k : ℕ) × Relates r (get_or listed i 0) k) → ⊥)
       → (q k : ℕ) → IsAmong q (take (i + 1) listed) → q < a.states → Relates r q k → ⊥
   none_more inside front never q k h low there =
       ⊎_elim (λ f. front q k f low there) (λ e. never (subst (λ (p : ℕ). p < a.states) e low) (k, subst (λ (p : ℕ). Relates r p k) e there))
-      (in_front listed i (get_or listed i 0) q inside (itself listed i 0 inside) h)
+      (in_front listed i (get_or listed i 0) q inside (get_or_default listed i 0 (get_or listed i 0) inside) h)
 
   pub none_at_all : length listed ≤ i → ((q k : ℕ) → IsAmong q (take i listed) → q < a.states → Relates r q k → ⊥) → IsOneAccepting a r → ⊥
-  none_at_all past front (q, k, there, acc) = front q k (subst (IsAmong q) (sym (all_of listed i past)) (subst (IsAmong q) (sym same) (contains_in q a.accepting acc.0))) acc.1 there
+  none_at_all past front (q, k, there, acc) = front q k (subst (IsAmong q) (sym (take_all i listed past)) (subst (IsAmong q) (sym same) (among_contained q a.accepting acc.0))) acc.1 there
 
 -- states 0
 module _ (a : Indexed) (f n : ℕ) (refs : List (Bor cert.Transition)) (is : pointed refs ≡ filter (chosen a.symbols symbol_key a.automaton.states f) a.automaton.transitions) (i : ℕ) where
@@ -74,7 +63,7 @@ module _ (a : Indexed) (f n : ℕ) (refs : List (Bor cert.Transition)) (is : poi
   zero_nowhere past front has =
       let t : Transition = record { symbol = Some f; arguments = replicate n 0; target = 0 } in
       let there = subst (λ (l : List Transition). IsAmong t l) (sym is) (symbol_to a f (replicate n 0) 0 has) in
-      front t (subst (λ (l : List (Bor cert.Transition)). IsAmong t (pointed l)) (sym (all_of refs i past)) there) refl refl
+      front t (subst (λ (l : List (Bor cert.Transition)). IsAmong t (pointed l)) (sym (take_all i refs past)) there) refl refl
 
 -- the symbols below a number, one more at a time
 pub zeros_more : (arities items : List ℕ) (M : Moves) (i : ℕ) → items ≡ arities → M (Some i) (replicate (get_or items i 0) 0) 0 → ((g n : ℕ) → g < i → slice_get arities g ≡ Some n → M (Some g) (replicate n 0) 0)

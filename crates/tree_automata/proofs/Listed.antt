@@ -2,6 +2,7 @@
 use Rattle.std.proofs.Common.{◌≡◌, ℕ, ◌+◌, ◌<◌, ◌≤◌, ◌^◌, ⊎_elim, List, length, get_or, take, false, IsTrue, Bor, ap, sym, subst, ◌∙◌}
 use Rattle.std.specs.List.{filter}
 use Rattle.std.proofs.lemmas.Bool.{false≢true}
+use Rattle.std.proofs.lemmas.List.{take_all}
 use Rattle.rewriting.specs.Terms.{Term}
 use Rattle.rewriting.specs.Variables.{variable_occurrences}
 use Rattle.certificates.specs.Evidence.{Transition, Automaton}
@@ -13,7 +14,6 @@ use Rattle.rewriting.specs.Lists.{IsAmong}
 use Rattle.automaton_runs.specs.Counting.{chosen, target_key}
 use Rattle.automaton_runs.specs.Indexed.{pointed}
 use Rattle.rewriting.proofs.Lists.{among_map, among_of_map, among_at}
-use Rattle.automaton_runs.proofs.Twins.{all_of}
 use Rattle.tree_automata.specs.Open.{HaveTwins}
 use Rattle.tree_automata.proofs.Lists.{in_front}
 use Rattle.automaton_runs.proofs.Looked.{looked_from}
@@ -49,4 +49,4 @@ module _ (a : Indexed) (q p : ℕ) (refs : List (Bor cert.Transition)) (is : poi
   pub twins_all : length refs ≤ i → HaveTwins a (pointed (take i refs)) q → Includes (Finds a) q p
   twins_all past front =
       twins_include a q p (pointed (take i refs))
-      (λ t h. subst (λ (l : List (Bor cert.Transition)). IsAmong t (pointed l)) (sym (all_of refs i past)) (subst (λ (l : List Transition). IsAmong t l) (sym is) h)) front
+      (λ t h. subst (λ (l : List (Bor cert.Transition)). IsAmong t (pointed l)) (sym (take_all i refs past)) (subst (λ (l : List Transition). IsAmong t l) (sym is) h)) front

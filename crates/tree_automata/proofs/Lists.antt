@@ -5,12 +5,6 @@ use Rattle.std.proofs.lemmas.Option.{same_Some}
 use Rattle.rewriting.specs.Lists.{IsAmong}
 use Rattle.automaton_runs.specs.Choices.{as_lists}
 
--- the element at a place
-pub mapped_at : {X Y : Type 0} (f : X → Y) (xs : List X) (i : ℕ) (x : X) → i < length xs → x ≡ get_or xs i x → slice_get (map f xs) i ≡ Some (f x)
-mapped_at f [] i x h e = absurd (omega arith)
-mapped_at f (y ∷ ys) zero x h e = ap (λ z. Some (f z)) (sym e)
-mapped_at f (y ∷ ys) (suc i) x h e = mapped_at f ys i x (omega arith) e
-
 -- the first of some lists
 pub first_of : (vs : List (Vec ℕ Global)) (v : Vec ℕ Global) → slice_get vs 0 ≡ Some v → slice_get (as_lists vs) 0 ≡ Some v.items
 first_of [] v e = absurd (cc)

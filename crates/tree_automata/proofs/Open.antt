@@ -16,12 +16,13 @@ use Rattle.rewriting.specs.Lists.{IsAmong}
 use Rattle.automaton_runs.specs.Counting.{chosen, target_key}
 use Rattle.tree_automata.specs.Open.{HaveSides, IsRuleClosed, AreClosed, IsOpenAt, HaveTwins}
 use Rattle.std.proofs.lemmas.List.{length-map}
+use Rattle.general_lemmas.proofs.Places.{slice_get-map_read}
 use Rattle.rewriting.specs.Systems.{IsSystem}
 use Rattle.term_core.specs.View.{view}
 use Rattle.term_core.specs.RuleView.{rule_view}
 use Rattle.term_core.specs.declared.systems.Rule as data_rule
 use Rattle.rewriting.proofs.Lists.{among_map, among_of_map}
-use Rattle.tree_automata.proofs.Lists.{mapped_at, in_front, place_in_front}
+use Rattle.tree_automata.proofs.Lists.{in_front, place_in_front}
 use Rattle.automaton_runs.proofs.Looked.{looked_to}
 
 -- a state that a term reaches is one of the automaton
@@ -104,7 +105,7 @@ twins_include a q p ts whole twins s qs has = twins (record { symbol = s; argume
 -- the rules of a program's system
 module _ (sys : System) (rules : List data_rule.Rule) (i : ℕ) (rule : data_rule.Rule) (same : map rule_view rules ≡ sys.rules) where
   pub rule_stands : i < length rules → rule ≡ get_or rules i rule → slice_get sys.rules i ≡ Some (rule_view rule)
-  rule_stands inside is = subst (λ (l : List Rule). slice_get l i ≡ Some (rule_view rule)) same (mapped_at rule_view rules i rule inside is)
+  rule_stands inside is = subst (λ (l : List Rule). slice_get l i ≡ Some (rule_view rule)) same (slice_get-map_read rule_view rules i rule inside is)
 
 pub rules_past : (sys : System) (rules : List data_rule.Rule) (i : ℕ) → map rule_view rules ≡ sys.rules → length rules ≤ i → length sys.rules ≤ i
 rules_past sys rules i same h = let long = ap length same in omega (arith, length-map rules rule_view)

@@ -1,10 +1,6 @@
 -- Sizes of terms.
 use Rattle.std.proofs.Common.{◌≤◌, arith}
-use Rattle.rewriting.specs.Terms.{Term, var, app, size, depth}
-
-pub size_positive : (t : Term) → 1 ≤ size t
-size_positive (var x) = omega arith
-size_positive (app f ts) = omega arith
+use Rattle.rewriting.specs.Terms.{Term, var, app, depth}
 
 pub depth_positive : (t : Term) → 1 ≤ depth t
 depth_positive (var x) = omega arith

@@ -1,26 +1,18 @@
 -- Lists of terms as the program has them.
-use Rattle.std.proofs.Common.{ℕ, zero, suc, ◌≡◌, ◌+◌, ◌<◌, ◌≤◌, true, List, [], ◌∷◌, length, drop, get_or, ◌⊎◌, inl, inr, ◌^◌, Vec, Global, refl, sym, ap, ◌∙◌, subst, subst₂, arith, add-one}
+use Rattle.std.proofs.Common.{ℕ, zero, suc, ◌≡◌, ◌+◌, ◌<◌, ◌≤◌, true, List, [], ◌∷◌, length, drop, get_or, ◌⊎◌, inl, inr, ◌^◌, Vec, Global, refl, sym, ap, ◌∙◌, subst, subst₂, arith}
+use Rattle.std.proofs.lemmas.Bool.{or_right, or_left}
 use Rattle.rewriting.specs.Terms.{nil, cons, Fits, size, size_all}
 use Rattle.rewriting.specs.Systems.{Each}
 use Rattle.rewriting.specs.Substitutions.{apply, apply_all}
 use Rattle.rewriting.specs.Variables.{occurs, occurs_in}
-use Rattle.rewriting.proofs.Instances.{or_left, or_right}
 use Rattle.unifier_run.specs.Run.{Binding, value}
 use Rattle.term_core.specs.View.{view, views}
 use Rattle.term_core.specs.declared.terms.Term.{Term, Fun}
 use Rattle.term_core.proofs.Views.{view-Fun}
+use Rattle.term_core.proofs.Over.{views-drop}
 use Rattle.unification.proofs.Measure.{weight, grown_less, same_less}
 use Rattle.unification.proofs.Under.{size_at}
 use Rattle.unification.proofs.Solve.{Remain}
-
--- the terms from a place on: the one there, then the rest
-views-drop_suc : (ts : List Term) (i : ℕ) (t : Term) → i < length ts → t ≡ get_or ts i t → views (drop i ts) ≡ cons (view t) (views (drop (suc i) ts))
-views-drop_suc [] i t h e = absurd (omega arith)
-views-drop_suc (u ∷ ts) zero t h e = ap (λ z. cons z (views ts)) (ap view (sym e))
-views-drop_suc (u ∷ ts) (suc i) t h e = views-drop_suc ts i t (omega arith) e
-
-pub views-drop : (ts : List Term) (i : ℕ) (t : Term) → i < length ts → t ≡ get_or ts i t → views (drop i ts) ≡ cons (view t) (views (drop (i + 1) ts))
-views-drop ts i t h e = rw add-one (views-drop_suc ts i t h e)
 
 pub views-drop_all : (ts : List Term) (i : ℕ) → length ts ≤ i → views (drop i ts) ≡ nil
 views-drop_all [] zero h = refl

@@ -4,21 +4,14 @@ use Rattle.std.proofs.lemmas.Bool.{false≢true}
 use Rattle.rewriting.specs.Terms.{Term, var}
 use Rattle.rewriting.specs.Substitutions.{Substitution, apply}
 use Rattle.rewriting.specs.Variables.{occurs}
-use Rattle.rewriting.proofs.Instances.{apply-apply, apply-agree}
 use Rattle.unifier_run.specs.Run.{Binding, value, only, under, extended}
 use Rattle.unifier_run.proofs.Values.{value-extended, apply-extended}
-use Rattle.unifier_run.proofs.General.{Absorbs, IsSettled, absorbs_only, settled_fixed, settled_empty, untouched}
+use Rattle.unifier_run.proofs.General.{Absorbs, IsSettled, absorbs_only, settled_fixed, settled_empty, untouched, absorbed, only-same}
 use Rattle.unification.specs.Solving.{IsHead, bound_in_turn, MayBind, MayBindInTurn}
 
 -- one more variable
 abbrev pub added : List Binding → Binding → List Binding
 added b e = extended b e.variable (apply (value b) e.term)
-
-absorbed : (s m : Substitution) → Absorbs s m → (t : Term) → apply s (apply m t) ≡ apply s t
-absorbed s m a t = apply-apply m s t ∙ sym (apply-agree s (λ x. apply s (m x)) t (λ x o. a x))
-
-only-same : (x : ℕ) (v : Term) → only x v x ≡ v
-only-same x v = rw (eq-eqb x x refl) refl
 
 only-other : (x : ℕ) (v : Term) (y : ℕ) → y ≢ x → only x v y ≡ var y
 only-other x v y n = go (nat_eq y x) refl

@@ -55,7 +55,7 @@ pub fn head<'a>(found: &[Bound<'a>], t: &'a Term) -> &'a Term
 
 // The room that the instance of t, which is not built, leaves of a number of nodes, where it has no more nodes and levels
 // than these.
-#[tactic(auto, using(crate::proofs::Sizes::size_positive, crate::proofs::Sizes::depth_positive))]
+#[tactic(auto, using(rewriting::proofs::Lengths::size_positive, crate::proofs::Sizes::depth_positive))]
 fn room_under<'a>(found: &[Bound<'a>], t: &'a Term, room: u32, levels: u32) -> Option<u32>
     requires { AreInTurn found.now }
     ensures nodes { IfSome result (λ left. left + math.size (apply (value (bindings found.now)) (view t.now)) ≡ room) }

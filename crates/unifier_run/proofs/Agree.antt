@@ -21,10 +21,10 @@ agree_later b c ts us (inr (x, v, e)) h =
     subst (λ z. apply_all (value z) ts ≡ apply_all (value z) us) (sym e)
     (apply_all-extended b x v ts ∙ (ap (apply_all (only x v)) h ∙ sym (apply_all-extended b x v us)))
 
-head_of : (t u : Term) (ts us : Terms) → cons t ts ≡ cons u us → t ≡ u
+pub head_of : (t u : Term) (ts us : Terms) → cons t ts ≡ cons u us → t ≡ u
 head_of t u ts us e = cc
 
-tail_of : (t u : Term) (ts us : Terms) → cons t ts ≡ cons u us → ts ≡ us
+pub tail_of : (t u : Term) (ts us : Terms) → cons t ts ≡ cons u us → ts ≡ us
 tail_of t u ts us e = cc
 
 behind : (c : List Binding) (xs ts us : Terms) → apply_all (value c) ts ≡ apply_all (value c) us → apply_all (value c) (append xs ts) ≡ apply_all (value c) (append xs us)

@@ -5,11 +5,12 @@ use Rattle.rewriting.specs.Systems.{Each}
 use Rattle.rewriting.specs.Substitutions.{apply, apply_all}
 use Rattle.rewriting.proofs.Equality.{same}
 use Rattle.rewriting.proofs.Over.{count-apply}
+use Rattle.rewriting.proofs.Instances.{inj_app}
 use Rattle.unifier_run.specs.Run.{Binding, value, DoFit, Outcome, equal_sides, arguments, append, Runs, last_equation, next_equation}
 use Rattle.unifier_run.proofs.Unique.{takes_same, same_on, run_along, ended_or_on}
 use Rattle.unifier_run.proofs.Lists.{apply_all-append}
 use Rattle.unifier_run.proofs.Agree.{Runs-agree}
-use Rattle.unifier_run.proofs.General.{IsSettled, settled_fixed_all, inj_arguments}
+use Rattle.unifier_run.proofs.General.{IsSettled, settled_fixed_all}
 
 -- the arguments of a term that fits, fit
 pub arguments_fit : (ts : Terms) → size_all ts ≤ 10000 → depth_all ts ≤ 400 → Each Fits ts
@@ -41,7 +42,7 @@ open_equation b f xs ys vs ws o s fit c r = go (same (apply (value b) (app f xs)
   where
     go : Dec (apply (value b) (app f xs) ≡ apply (value b) (app f ys)) → Runs b (cons (app f xs) vs) (cons (app f ys) ws) o
     go (yes e) =
-        let inside : apply_all (value b) xs ≡ apply_all (value b) ys = inj_arguments f f _ _ e in
+        let inside : apply_all (value b) xs ≡ apply_all (value b) ys = inj_app f f _ _ e in
         next_equation (equal_sides fit e) (undrop_equal b xs ys vs ws o inside (arguments_fit _ (omega (arith, fit.0.nodes)) (omega (arith, fit.0.levels))) r)
     go (no k) =
         next_equation (arguments fit k (apply_all (value b) xs) (apply_all (value b) ys) (refl, count-apply _ xs ∙ (c ∙ sym (count-apply _ ys)), refl, refl))

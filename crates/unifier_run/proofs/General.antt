@@ -1,20 +1,22 @@
 -- The unifier of a run is most general, and where a run clashes there is no unifier.
-use Rattle.std.proofs.Common.{ℕ, ◌≡◌, ◌≢◌, suc, ◌≤◌, inl, inr, Bool, true, false, nat_eq, if◌then◌else◌, ◌||◌, refl, sym, ap, ap₂, ◌∙◌, subst, arith, List, [], eqb-true, eq-eqb}
+use Rattle.std.proofs.Common.{ℕ, ◌≡◌, ◌≢◌, suc, ◌≤◌, inl, inr, Bool, true, false, nat_eq, if◌then◌else◌, refl, sym, ap, ap₂, ◌∙◌, subst, arith, List, [], eqb-true, eq-eqb}
+use Rattle.std.proofs.lemmas.Bool.{or_parts}
 use Rattle.rewriting.specs.Terms.{Term, var, app, Terms, nil, cons, count, size, size_all}
 use Rattle.rewriting.specs.Substitutions.{Substitution, apply, apply_all}
 use Rattle.rewriting.specs.Variables.{occurs, occurs_in}
 use Rattle.rewriting.specs.Unifiers.{IsMostGeneralOfAll}
-use Rattle.rewriting.proofs.Instances.{apply-apply, apply-agree, or_cases}
+use Rattle.rewriting.proofs.Instances.{apply-apply, apply-agree, or_cases, inj_app, inj_symbol}
 use Rattle.rewriting.proofs.Over.{count-apply}
 use Rattle.unifier_run.specs.Run.{Binding, value, only, extended, Binds, DoRootsDiffer, HaveArguments, unifier, clash, ends, goes_on, Takes, equal_sides, occurs_inside, binding, roots_differ, arguments, append, Runs, no_equation, last_equation, next_equation}
 use Rattle.unifier_run.proofs.Values.{value-extended, apply-extended}
 use Rattle.unifier_run.proofs.Lists.{apply_all-append, part}
+use Rattle.unifier_run.proofs.Agree.{head_of, tail_of}
 
 -- s is m followed by s
 abbrev pub Absorbs : Substitution → Substitution → Type 0
 Absorbs s m = (x : ℕ) → s x ≡ apply s (m x)
 
-absorbed : (s m : Substitution) → Absorbs s m → (t : Term) → apply s (apply m t) ≡ apply s t
+pub absorbed : (s m : Substitution) → Absorbs s m → (t : Term) → apply s (apply m t) ≡ apply s t
 absorbed s m a t = apply-apply m s t ∙ sym (apply-agree s (λ x. apply s (m x)) t (λ x o. a x))
 
 -- one variable put in for v leaves the instance where s has the two alike
@@ -36,16 +38,10 @@ binds_back s (var y) r x v (e, h) u = ap s (sym e) ∙ (u ∙ ap (apply s) h)
 binds_back s (app f ts) (var y) x v (e, h) u = sym (ap s (sym e) ∙ (u ∙ ap (apply s) h))
 binds_back s (app f ts) (app g us) x v h u = absurd h
 
-pub inj_arguments : (f g : ℕ) (ts us : Terms) → app f ts ≡ app g us → ts ≡ us
-inj_arguments f g ts us e = cc
-
-inj_symbol : (f g : ℕ) (ts us : Terms) → app f ts ≡ app g us → f ≡ g
-inj_symbol f g ts us e = cc
-
 arguments_unify : (s : Substitution) (l r : Term) (xs ys : Terms) → HaveArguments l r xs ys → apply s l ≡ apply s r → apply_all s xs ≡ apply_all s ys
 arguments_unify s (var y) r xs ys h e = absurd h
 arguments_unify s (app f ts) (var y) xs ys h e = absurd h
-arguments_unify s (app f ts) (app g us) xs ys (fg, c, hx, hy) e = ap (apply_all s) hx ∙ (inj_arguments f g _ _ e ∙ ap (apply_all s) (sym hy))
+arguments_unify s (app f ts) (app g us) xs ys (fg, c, hx, hy) e = ap (apply_all s) hx ∙ (inj_app f g _ _ e ∙ ap (apply_all s) (sym hy))
 
 arguments_back : (s : Substitution) (l r : Term) (xs ys : Terms) → HaveArguments l r xs ys → apply_all s xs ≡ apply_all s ys → apply s l ≡ apply s r
 arguments_back s (var y) r xs ys h e = absurd h
@@ -61,7 +57,7 @@ roots_apart : (s : Substitution) (l r : Term) → DoRootsDiffer l r → apply s 
 roots_apart s (var y) r h e = absurd h
 roots_apart s (app f ts) (var y) h e = absurd h
 roots_apart s (app f ts) (app g us) (inl n) e = n (inj_symbol f g _ _ e)
-roots_apart s (app f ts) (app g us) (inr n) e = n (sym (count-apply s ts) ∙ (ap count (inj_arguments f g _ _ e) ∙ count-apply s us))
+roots_apart s (app f ts) (app g us) (inr n) e = n (sym (count-apply s ts) ∙ (ap count (inj_app f g _ _ e) ∙ count-apply s us))
 
 -- a variable inside another term: the instance of the term is larger
 mutual
@@ -126,7 +122,7 @@ takes_back b c l r xs ys s (binding f n x v h o d e k) hl hr a u =
     fixed_variable b (app f ts) (var y) x v (e, h) hl hr = ap (value b) e ∙ (hr ∙ ap var (sym e))
     fixed_variable b (app f ts) (app g us) x v h hl hr = absurd h
 
-only-same : (x : ℕ) (v : Term) → only x v x ≡ v
+pub only-same : (x : ℕ) (v : Term) → only x v x ≡ v
 only-same x v = rw (eq-eqb x x refl) refl
 
 takes_lengths : (b c : List Binding) (l r : Term) (xs ys : Terms) → Takes b l r (goes_on c xs ys) → count xs ≡ count ys
@@ -140,10 +136,6 @@ IsSettled b = Absorbs (value b) (value b)
 
 pub settled_fixed : (b : List Binding) → IsSettled b → (t : Term) → apply (value b) (apply (value b) t) ≡ apply (value b) t
 settled_fixed b h t = absorbed (value b) (value b) h t
-
-or_false : (a b : Bool) → (a || b) ≡ false → (a ≡ false) × (b ≡ false)
-or_false true b h = absurd (cc)
-or_false false b h = (refl, h)
 
 pub settled_fixed_all : (b : List Binding) → IsSettled b → (ts : Terms) → apply_all (value b) (apply_all (value b) ts) ≡ apply_all (value b) ts
 settled_fixed_all b h nil = refl
@@ -161,7 +153,7 @@ mutual
 
   pub untouched_all : (x : ℕ) (v : Term) (ts : Terms) → occurs_in x ts ≡ false → apply_all (only x v) ts ≡ ts
   untouched_all x v nil o = refl
-  untouched_all x v (cons t ts) o = (let p = or_false (occurs x t) (occurs_in x ts) o in ap₂ cons (untouched x v t p.0) (untouched_all x v ts p.1))
+  untouched_all x v (cons t ts) o = (let p = or_parts (occurs x t) (occurs_in x ts) o in ap₂ cons (untouched x v t p.0) (untouched_all x v ts p.1))
 
 value_binds : (l r : Term) (x : ℕ) (v : Term) → Binds l r x v → (s : Substitution) → apply s l ≡ l → apply s r ≡ r → (s x ≡ var x) × (apply s v ≡ v)
 value_binds (var y) r x v (e, h) s hl hr = (ap s e ∙ (hl ∙ ap var (sym e)), ap (apply s) h ∙ (hr ∙ sym h))
@@ -187,7 +179,7 @@ takes_settled b c l r xs ys (binding f n x v h o d e k) hl hr s =
     let p = value_binds l r x v h (value b) hl hr in
     subst IsSettled (sym e) (settled_extended b x v s p.0 p.1 o)
 
-ends_clash_or_large : (b : List Binding) (l r : Term) (m : List Binding) → Takes b l r (ends (unifier m)) → ⊥
+pub ends_clash_or_large : (b : List Binding) (l r : Term) (m : List Binding) → Takes b l r (ends (unifier m)) → ⊥
 ends_clash_or_large b l r m h = elim h [ ]
 
 pub runs_settled : {b : List Binding} {ts us : Terms} {m : List Binding} → Runs b ts us (unifier m) → IsSettled b → IsSettled m
@@ -216,12 +208,6 @@ runs_solves no_equation s = record { unifies = refl; absorbs = s }
 runs_solves (last_equation k) s = absurd (ends_clash_or_large _ _ _ _ k)
 runs_solves (next_equation {b = b} {c = c} {t = t} {u = u} {ts = ts} {us = us} {xs = xs} {ys = ys} k r) s =
     solves_next b c t u ts us xs ys _ s k (runs_solves r (takes_settled b c _ _ xs ys k (settled_fixed b s t) (settled_fixed b s u) s))
-
-head_of : (t u : Term) (ts us : Terms) → cons t ts ≡ cons u us → t ≡ u
-head_of t u ts us e = cc
-
-tail_of : (t u : Term) (ts us : Terms) → cons t ts ≡ cons u us → ts ≡ us
-tail_of t u ts us e = cc
 
 sides_unify : (b : List Binding) (s : Substitution) (t u : Term) → Absorbs s (value b) → apply s t ≡ apply s u → apply s (apply (value b) t) ≡ apply s (apply (value b) u)
 sides_unify b s t u a e = absorbed s (value b) a t ∙ (e ∙ sym (absorbed s (value b) a u))

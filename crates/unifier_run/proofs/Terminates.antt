@@ -1,26 +1,23 @@
 -- Why each run between lists of one length ends: an equation that binds leaves fewer variables, and each other that
 -- goes on leaves smaller sides (Baader and Nipkow, Term Rewriting and All That, section 4.5).
 use Rattle.std.proofs.Common.{ℕ, zero, suc, ◌≡◌, ◌≢◌, ◌+◌, ◌<◌, ◌≤◌, ◌⊎◌, inl, inr, Bool, true, false, nat_eq, if◌then◌else◌, List, [], ◌∷◌, length, refl, sym, ap, ◌∙◌, subst, arith, eqb-true, eq-eqb}
+use Rattle.std.proofs.lemmas.Bool.{or_right, or_left}
 use native.Mathlib.Decide.{ℕ_discrete}
+use Rattle.general_lemmas.proofs.Decisions.{dec_and}
 use Rattle.rewriting.specs.Terms.{Term, var, app, Terms, nil, cons, count, size, size_all}
 use Rattle.rewriting.specs.Substitutions.{apply, apply_all}
 use Rattle.rewriting.specs.Variables.{occurs, occurs_in}
 use Rattle.rewriting.specs.Lists.{IsAmong}
-use Rattle.rewriting.proofs.Instances.{or_left, or_right, or_cases}
+use Rattle.rewriting.proofs.Instances.{or_cases, inj_app}
 use Rattle.rewriting.proofs.Equality.{same, fits_decided}
 use Rattle.unifier_run.specs.Run.{Binding, value, only, extended, DoFit, DoAllFit, Binds, Outcome, unifier, clash, too_large, ends, goes_on, Takes, side_too_large, equal_sides, occurs_inside, binding, binding_too_large, roots_differ, arguments, append, Runs, no_equation, last_equation, next_equation}
 use Rattle.unifier_run.proofs.Values.{apply_all-extended}
 use Rattle.unifier_run.proofs.Lists.{apply_all-append, count-append}
-use Rattle.unifier_run.proofs.General.{IsSettled, settled_fixed, takes_settled, inj_arguments}
-
-pub do_both : {A B : Type 0} → Dec A → Dec B → Dec (A × B)
-do_both (yes a) (yes b) = yes (a, b)
-do_both (yes a) (no h) = no (λ p. h p.1)
-do_both (no h) d = no (λ p. h p.0)
+use Rattle.unifier_run.proofs.General.{IsSettled, settled_fixed, takes_settled}
 
 do_all_fit : (b : List Binding) → Dec (DoAllFit b)
 do_all_fit [] = yes tt
-do_all_fit (e ∷ b) = do_both (fits_decided e.term) (do_all_fit b)
+do_all_fit (e ∷ b) = dec_and (fits_decided e.term) (do_all_fit b)
 
 -- what becomes of an equation: the run ends, a variable is bound, or sides of smaller size take its place
 data Next (b : List Binding) (l r : Term) : Type 0 where
@@ -49,7 +46,7 @@ apart b (app f ts) (app g us) fit differ = go (ℕ_discrete f g) (ℕ_discrete (
     go (no h) d = stops clash (roots_differ fit (inl h))
 
 next : (b : List Binding) (l r : Term) → Next b l r
-next b l r = go (do_both (fits_decided l) (fits_decided r)) (same l r)
+next b l r = go (dec_and (fits_decided l) (fits_decided r)) (same l r)
   where
     go : Dec (DoFit l r) → Dec (l ≡ r) → Next b l r
     go (no h) d = stops too_large (side_too_large h)
@@ -160,7 +157,7 @@ size_all-append (cons x xs) ts = let h = size_all-append xs ts in omega (arith, 
 opened : (b : List Binding) (t : Term) (f : ℕ) (xs ts : Terms) → IsSettled b → apply (value b) t ≡ app f xs → apply_all (value b) (append xs ts) ≡ append xs (apply_all (value b) ts)
 opened b t f xs ts s e =
     let fixed : app f (apply_all (value b) xs) ≡ app f xs = ap (apply (value b)) (sym e) ∙ (settled_fixed b s t ∙ e) in
-    apply_all-append (value b) xs ts ∙ ap (λ k. append k (apply_all (value b) ts)) (inj_arguments f f _ _ fixed)
+    apply_all-append (value b) xs ts ∙ ap (λ k. append k (apply_all (value b) ts)) (inj_app f f _ _ fixed)
 
 opened_has : (vs : List ℕ) (b : List Binding) (t : Term) (f : ℕ) (xs ts : Terms) → IsSettled b → apply (value b) t ≡ app f xs → HasAll vs (apply_all (value b) (cons t ts)) → HasAll vs (apply_all (value b) (append xs ts))
 opened_has vs b t f xs ts s e all z o = go (occurs_in_append z xs (apply_all (value b) ts) (subst (λ k. occurs_in z k ≡ true) (opened b t f xs ts s e) o))

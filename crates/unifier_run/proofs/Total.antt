@@ -1,7 +1,9 @@
 -- Each run has an outcome, and each question on a system's runs an answer: whether a term is absolutely irreducible, which
 -- rule is the first that does not clash, and which overlaps there are.
 use Rattle.std.proofs.Common.{ℕ, suc, ◌≡◌, ◌≢◌, ◌<◌, ◌≤◌, ◌⊎◌, inl, inr, true, List, [], ◌∷◌, ◌++◌, length, Option, Some, None, refl, sym, ap, ◌∙◌, subst, subst₂, arith, append_assoc}
+use Rattle.std.proofs.lemmas.Bool.{or_right, or_left}
 use native.Mathlib.Decide.{dec_le}
+use Rattle.general_lemmas.proofs.Decisions.{dec_and}
 use Rattle.rewriting.specs.Terms.{Term, var, app, Terms, nil, cons, count, Fits, IsVariable}
 use Rattle.rewriting.specs.Positions.{Position, subterm}
 use Rattle.rewriting.specs.Substitutions.{apply, compose}
@@ -12,19 +14,18 @@ use Rattle.rewriting.specs.Systems.{Each}
 use Rattle.rewriting.specs.Overlaps.{IsPlace, IsEarlierOverlap, conditions_under, CriticalPair, IsCriticalPair}
 use Rattle.rewriting.specs.Lists.{IsAmong}
 use Rattle.rewriting.proofs.Variables.{variables_have_all}
-use Rattle.rewriting.proofs.Instances.{or_left, or_right}
 use Rattle.rewriting.proofs.Positions.{replaceable}
 use Rattle.rewriting.proofs.Places.{subterm-apply}
 use Rattle.rewriting.proofs.Unifiers.{of_list}
 use Rattle.rewriting.proofs.Search.{FirstRule, search_rules, FirstSubterm, AllSubterms, search_subterms}
-use Rattle.rewriting.proofs.Equality.{fits_decided}
+use Rattle.rewriting.proofs.Equality.{fits_decided, all_fit}
 use Rattle.unifier_run.specs.Run.{Binding, value, Outcome, unifier, clash, too_large, IsOutcome}
 use Rattle.unifier_run.specs.Overlaps.{Triple, IsOutcomeOf, Overlap, triple, DoesPairFit, IsOverlapOf, IsTooLargeAt, AreOverlapsAt, AreOverlaps, IsPairTooLarge, AreTooManyOverlaps}
 use Rattle.unifier_run.specs.Irreducible.{IsTrial, IsEarlierTrial, DoAllClash, IsFirstOutcome, IsFirstRule, DoRulesClash}
 use Rattle.unifier_run.proofs.Values.{apply_all_nothing}
 use Rattle.unifier_run.proofs.General.{settled_empty, most_general}
 use Rattle.unifier_run.proofs.Unique.{runs_same}
-use Rattle.unifier_run.proofs.Terminates.{by_variables, do_both}
+use Rattle.unifier_run.proofs.Terminates.{by_variables}
 use Rattle.unifier_run.proofs.Triples.{AreInOrder, AreThose, those_append, overlaps_at, overlaps_before}
 use Rattle.unifier_run.proofs.Spots.{has_all, order_all}
 use Rattle.unifier_run.specs.Triples.{all_triples, DoesClash}
@@ -115,13 +116,8 @@ all_clash_decided sys t = go (first_trial sys t)
     go (inl all) = inl all
     go (inr (o, differs, f)) = inr (λ all. differs (runs_same f.outcome (all f.position f.number f.part f.rule f.trial)))
 
--- every term fits, or some does not
-all_fit : (ts : Terms) → Dec (Each Fits ts)
-all_fit nil = yes tt
-all_fit (cons t ts) = do_both (fits_decided t) (all_fit ts)
-
 pair_fits : (pair : CriticalPair) → Dec (DoesPairFit pair)
-pair_fits pair = go (do_both (fits_decided pair.source) (fits_decided pair.left)) (do_both (fits_decided pair.right) (all_fit (sides pair.conditions)))
+pair_fits pair = go (dec_and (fits_decided pair.source) (fits_decided pair.left)) (dec_and (fits_decided pair.right) (all_fit (sides pair.conditions)))
   where
     go : Dec (Fits pair.source × Fits pair.left) → Dec (Fits pair.right × Each Fits (sides pair.conditions)) → Dec (DoesPairFit pair)
     go (yes a) (yes b) = yes (record { source = a.0; left = a.1; right = b.0; conditions = b.1 })

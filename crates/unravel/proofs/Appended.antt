@@ -1,6 +1,7 @@
 -- Rules put behind others, one by one.
 use Rattle.std.proofs.Common.{◌≡◌, ℕ, suc, ◌+◌, ◌≤◌, max, refl, sym, ap, ap₂, ◌∙◌, subst, List, [], ◌∷◌, ◌++◌, map, length, get_or, drop, take, ◌<◌, ◌-◌, arith, append_assoc, length-drop, Result, Ok, Err}
-use Rattle.std.proofs.Math.Seq.{take-length}
+use Rattle.std.proofs.lemmas.List.{take_rest}
+use Rattle.simplifications.proofs.Anew.{fits_renamed}
 use Rattle.rewriting.specs.Terms as math
 use Rattle.rewriting.specs.Terms.{Term, var, app, Terms, nil, cons, Fits}
 use Rattle.rewriting.specs.Substitutions.{apply, apply_all}
@@ -36,14 +37,6 @@ mutual
   depth-all_renamed f nil = refl
   depth-all_renamed f (cons t ts) = ap₂ max (depth-renamed f t) (depth-all_renamed f ts)
 
-fits-renamed : (f : ℕ → ℕ) (t : Term) → Fits t → Fits (apply (λ x. var (f x)) t)
-fits-renamed f t h =
-    let n = h.nodes in
-    let l = h.levels in
-    let a = size-renamed f t in
-    let b = depth-renamed f t in
-    record { nodes = omega (arith, n, a); levels = omega (arith, l, b) }
-
 renamed-fits : (f : ℕ → ℕ) (t : Term) → Fits (apply (λ x. var (f x)) t) → Fits t
 renamed-fits f t h =
     let n = h.nodes in
@@ -56,14 +49,14 @@ pub no_fit : (l r : Term) (rs : List rules.Rule) → (Fits l → Fits r → ⊥)
 no_fit l r rs k h = k (renamed-fits _ l h.0) (renamed-fits _ r h.1)
 
 pub pushed_last : (l r : Term) (before after : List Rule) (result : Result (Unit {0}) RuleError) → PushAnswers l r before after result → AppendAnswers (numbered_anew l r ∷ []) before after result
-pushed_last l r before after (Ok _) h = (h.0, (fits-renamed _ l h.1, fits-renamed _ r h.2, tt))
+pushed_last l r before after (Ok _) h = (h.0, (fits_renamed _ l h.1, fits_renamed _ r h.2, tt))
 pushed_last l r before after (Err cause.TooLarge) h = no_fit l r [] h
 pushed_last l r before after (Err cause.NoMemory) h = tt
 
 pub pushed_first : (l r : Term) (rs : List rules.Rule) (before mid after : List Rule) (done : Unit {0}) (result : Result (Unit {0}) RuleError)
     → PushAnswers l r before mid (Ok done) → AppendAnswers rs mid after result → AppendAnswers (numbered_anew l r ∷ rs) before after result
 pushed_first l r rs before mid after done (Ok _) p h =
-    (h.0 ∙ ap (λ q. q ++ rs) p.0 ∙ append_assoc (map rule_view before) (numbered_anew l r ∷ []) rs, (fits-renamed _ l p.1, fits-renamed _ r p.2, h.1))
+    (h.0 ∙ ap (λ q. q ++ rs) p.0 ∙ append_assoc (map rule_view before) (numbered_anew l r ∷ []) rs, (fits_renamed _ l p.1, fits_renamed _ r p.2, h.1))
 pushed_first l r rs before mid after done (Err cause.TooLarge) p h = λ all. h all.2
 pushed_first l r rs before mid after done (Err cause.NoMemory) p h = tt
 
@@ -82,9 +75,6 @@ pushed_badly f xs head right [] c before mid after error h is p = absurd (omega 
 pushed_badly f xs head right (d ∷ cs) c before mid after cause.TooLarge h is p = no_fit head (keeper f (view d.left) xs) _ (subst (λ q. PushAnswers head (keeper f (view q.left) xs) before mid (Err cause.TooLarge)) is p)
 pushed_badly f xs head right (d ∷ cs) c before mid after cause.NoMemory h is p = tt
 
-pub rest_of : {A : Type 0} (n : ℕ) (xs : List A) → take (length xs - n) (drop n xs) ≡ drop n xs
-rest_of n xs = rw (← length-drop n xs) (take-length (drop n xs))
-
 -- a condition is left, its rule is put behind, and then the others
 pub pushed_one : (f : ℕ) (xs ys : List ℕ) (head right : Term) (conds : List Cond) (c : Cond) (before mid after : List Rule) (done : Unit {0}) (result : Result (Unit {0}) RuleError)
     → 1 ≤ length conds → c ≡ get_or conds 0 c → ys ≡ with_variables xs (view c.right)
@@ -93,7 +83,7 @@ pub pushed_one : (f : ℕ) (xs ys : List ℕ) (head right : Term) (conds : List 
     → AppendAnswers (unraveled_from f xs head (map condition_view conds) right) before after result
 pushed_one f xs ys head right [] c before mid after done result h is e p q = absurd (omega (arith, h))
 pushed_one f xs ys head right (d ∷ cs) c before mid after done result h is e p given =
-    let q = subst (λ zs. AppendAnswers (unraveled_from (f + 1) ys (keeper f (view c.right) xs) (map condition_view zs) right) mid after result) (rest_of 1 (d ∷ cs)) given in
+    let q = subst (λ zs. AppendAnswers (unraveled_from (f + 1) ys (keeper f (view c.right) xs) (map condition_view zs) right) mid after result) (take_rest (d ∷ cs) 1) given in
     pushed_first head (keeper f (view d.left) xs) _ before mid after done result (subst (λ z. PushAnswers head (keeper f (view z.left) xs) before mid (Ok done)) is p)
     (subst (λ n. AppendAnswers (unraveled_from n (with_variables xs (view d.right)) (keeper f (view d.right) xs) (map condition_view cs) right) mid after result) (let n : f + 1 ≡ suc f = omega arith in n)
     (subst (λ z. AppendAnswers (unraveled_from (f + 1) (with_variables xs (view z.right)) (keeper f (view z.right) xs) (map condition_view cs) right) mid after result) is
@@ -105,11 +95,11 @@ first_fits [] c h le is = absurd (omega (arith, le))
 first_fits (d ∷ cs) c h le is = subst (λ z. Fits (view z.left) × Fits (view z.right)) (sym is) (h.0, h.1.0)
 
 pub others_fit : (conds : List Cond) → Each Fits (sides (map condition_view conds)) → 1 ≤ length conds → Each Fits (sides (map condition_view (take (length conds - 1) (drop 1 conds))))
-others_fit conds h le = subst (λ cs. Each Fits (sides (map condition_view cs))) (sym (rest_of 1 conds)) (go conds h le)
+others_fit conds h le = subst (λ cs. Each Fits (sides (map condition_view cs))) (sym (take_rest conds 1)) (go conds h le)
   where
     go : (conds : List Cond) → Each Fits (sides (map condition_view conds)) → 1 ≤ length conds → Each Fits (sides (map condition_view (drop 1 conds)))
     go [] h le = absurd (omega (arith, le))
     go (d ∷ cs) h le = h.1.1
 
 pub others_count : (conds : List Cond) → length (take (length conds - 1) (drop 1 conds)) ≡ length conds - 1
-others_count conds = ap length (rest_of 1 conds) ∙ length-drop 1 conds
+others_count conds = ap length (take_rest conds 1) ∙ length-drop 1 conds

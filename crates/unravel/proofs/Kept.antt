@@ -1,5 +1,5 @@
 -- Sizes of sides, places in a list, and variables one after the other.
-use Rattle.std.proofs.Common.{◌≡◌, ℕ, zero, suc, ◌+◌, ◌<◌, ◌≤◌, refl, ap, ◌∙◌, List, [], ◌∷◌, map, length, get_or, drop, take, nat_eq, if◌then◌else◌, arith, add-one}
+use Rattle.std.proofs.Common.{◌≡◌, ℕ, zero, suc, ◌+◌, ◌<◌, ◌≤◌, refl, ap, ◌∙◌, List, [], ◌∷◌, map, length, get_or, drop, nat_eq, if◌then◌else◌, arith, add-one}
 use Rattle.rewriting.specs.Terms as math
 use Rattle.rewriting.specs.Terms.{Term, var, app, cons, terms_of, Fits}
 use Rattle.rewriting.specs.Substitutions.{apply, apply_all}
@@ -65,12 +65,6 @@ places_here s t us xs e = ap terms_of e ∙ ap (cons (apply s t)) (go xs)
     go : (ys : List ℕ) → terms_of (map s ys) ≡ apply_all s (variable_terms ys)
     go [] = refl
     go (y ∷ ys) = ap (cons (s y)) (go ys)
-
-pub take_every : (xs : List ℕ) (i : ℕ) → length xs ≤ i → take i xs ≡ xs
-take_every [] zero h = refl
-take_every [] (suc i) h = refl
-take_every (x ∷ xs) zero h = absurd (omega arith)
-take_every (x ∷ xs) (suc i) h = ap (λ q. x ∷ q) (take_every xs i (omega arith))
 
 pub few_variables : (l r : Term) (order : List ℕ) → Fits l → Fits r → order ≡ with_variables (with_variables [] l) r → length order ≤ 20000
 few_variables l r order left right e =

@@ -1,7 +1,7 @@
 -- Rules put behind others, rule by rule.
-use Rattle.std.proofs.Common.{◌≡◌, ℕ, zero, suc, ◌+◌, ◌<◌, ◌≤◌, refl, sym, ap, ap₂, ◌∙◌, subst, List, [], ◌∷◌, ◌++◌, map, length, get_or, take, arith, append_assoc, append-nil, slice_get, option_map, Some, Ok, Err, Vec, Global}
-use Rattle.std.proofs.lemmas.List.{length-map}
-use Rattle.std.proofs.lemmas.Option.{slice_get-map, slice_get_read}
+use Rattle.std.proofs.Common.{◌≡◌, ℕ, zero, suc, ◌+◌, ◌<◌, ◌≤◌, refl, sym, ap, ap₂, ◌∙◌, subst, List, [], ◌∷◌, ◌++◌, map, length, get_or, take, arith, append_assoc, append-nil, slice_get, Some, Ok, Err, Vec, Global}
+use Rattle.std.proofs.lemmas.List.{length-map, take_all}
+use Rattle.general_lemmas.proofs.Places.{slice_get-map_read}
 use Rattle.rewriting.specs.Terms.{Fits}
 use Rattle.rewriting.specs.Rules as rules
 use Rattle.rewriting.specs.Systems.{Each, terms_of_rule, condition_count, AreRules, DoSidesFit}
@@ -11,12 +11,6 @@ use Rattle.term_core.specs.RuleView.{rule_view, condition_view, AreCounted}
 use Rattle.term_core.specs.declared.systems.Rule.{Rule}
 use Rattle.unravel.specs.declared.rules.RuleError.TheVariants as cause
 use Rattle.unravel.specs.RuleAnswers.{DoTermsFit, IsLargeAt, AppendAnswers, RulesAnswers}
-
-take_all : {A : Type 0} (xs : List A) (i : ℕ) → length xs ≤ i → take i xs ≡ xs
-take_all [] zero h = refl
-take_all [] (suc i) h = refl
-take_all (x ∷ xs) zero h = absurd (omega arith)
-take_all (x ∷ xs) (suc i) h = ap (λ q. x ∷ q) (take_all xs i (omega arith))
 
 pub sides_fit-append : (xs ys : List rules.Rule) → DoSidesFit xs → DoSidesFit ys → DoSidesFit (xs ++ ys)
 sides_fit-append [] ys h k = k
@@ -58,12 +52,8 @@ terms_fit_at [] i q h e = absurd (cc)
 terms_fit_at (r ∷ rs) zero q h e = let same : r ≡ q = cc in subst (λ z. Each Fits (terms_of_rule z)) same h.0
 terms_fit_at (r ∷ rs) (suc i) q h e = terms_fit_at rs i q h.1 e
 
--- the rule at a place, seen as a mathematical one
-at_place : (rs : List Rule) (i : ℕ) (r : Rule) → i < length rs → r ≡ get_or rs i r → slice_get (map rule_view rs) i ≡ Some (rule_view r)
-at_place rs i r h is = slice_get-map rule_view rs i ∙ ap (option_map rule_view) (slice_get_read rs (length rs) i r refl h is)
-
 pub terms_fit_here : (rs : List Rule) (i : ℕ) (r : Rule) → DoTermsFit (map rule_view rs) → i < length rs → r ≡ get_or rs i r → Each Fits (terms_of_rule (rule_view r))
-terms_fit_here rs i r fit h is = terms_fit_at (map rule_view rs) i (rule_view r) fit (at_place rs i r h is)
+terms_fit_here rs i r fit h is = terms_fit_at (map rule_view rs) i (rule_view r) fit (slice_get-map_read rule_view rs i r h is)
 
 -- the rules of the first i rules fit, and the next auxiliary symbol has this number
 pub record Front (f : ℕ) (rs : List Rule) (i symbol : ℕ) : Type 0 where
@@ -74,12 +64,12 @@ pub front_begin : (f : ℕ) (rs : List Rule) → Front f rs 0 f
 front_begin f rs = record { symbol_is = omega arith; fit = tt }
 
 pub front_all : (rs : List Rule) (i : ℕ) → length rs ≤ i → take i (map rule_view rs) ≡ map rule_view rs
-front_all rs i h = take_all (map rule_view rs) i (let same = length-map rs rule_view in omega (arith, same, h))
+front_all rs i h = take_all i (map rule_view rs) (let same = length-map rs rule_view in omega (arith, same, h))
 
 -- one rule more
 module _ (f : ℕ) (rs : List Rule) (i symbol : ℕ) (r : Rule) (p : Front f rs i symbol) (h : i < length rs) (is : r ≡ get_or rs i r) where
   there : slice_get (map rule_view rs) i ≡ Some (rule_view r)
-  there = at_place rs i r h is
+  there = slice_get-map_read rule_view rs i r h is
 
   next_count : condition_count (take (suc i) (map rule_view rs)) ≡ condition_count (take i (map rule_view rs)) + length r.conds.items
   next_count =

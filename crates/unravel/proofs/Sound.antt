@@ -1,6 +1,6 @@
 -- The unraveling of a system is again a system as files give it: its rules are over its symbols, numbered anew, and few.
 use Rattle.std.proofs.Common.{◌≡◌, ℕ, zero, suc, ◌+◌, ◌^◌, ◌<◌, refl, sym, ap, ap₂, ◌∙◌, subst, List, [], ◌∷◌, ◌++◌, map, length, arith, slice_get, Some, Result, Ok, Err, IfOk, OnOk, Vec, Global}
-use Rattle.std.proofs.lemmas.List.{length-append}
+use Rattle.std.proofs.lemmas.List.{length-append, length-map}
 use Rattle.rewriting.specs.Terms.{Term, nil, cons, Fits}
 use Rattle.rewriting.specs.Substitutions.{apply}
 use Rattle.rewriting.specs.Signatures.{Signature}
@@ -13,7 +13,6 @@ use Rattle.interpretations.proofs.Bound.{length-heads}
 use Rattle.rewriting.proofs.Unraveled.{unraveled_well_formed}
 use Rattle.rewriting.proofs.Variables.{variables_have_all}
 use Rattle.simplifications.proofs.Anew.{numbered_counts, list_renamed, places_differ}
-use Rattle.simplifications.proofs.Parts.{length_map}
 use Rattle.term_core.specs.RuleView.{rule_view, AreCounted}
 use Rattle.term_core.specs.HeadView.{head_view}
 use Rattle.term_core.specs.declared.systems.Head.{Head}
@@ -72,7 +71,7 @@ few_heads sys hs h same =
     let symbols = length-append sys.arities (all_keeper_arities sys.rules) in
     let keepers = length-all_keepers sys.rules in
     let whole = length-heads sys in
-    let many = length_map head_view hs in
+    let many = length-map hs head_view in
     let as_many = ap length same in
     omega (arith, few, symbols, keepers, whole, many, as_many)
 
@@ -154,7 +153,7 @@ counted_anew l r order u v e a b =
     let xs = variables_of ts in
     let first : u ≡ apply (numbered xs) l = a ∙ ap (λ (o : List ℕ). apply (numbered o) l) e in
     let second : v ≡ apply (numbered xs) r = b ∙ ap (λ (o : List ℕ). apply (numbered o) r) e in
-    ap length e ∙ sym (length_map (index_in xs) xs) ∙ ap length (sym (list_renamed xs (index_in xs) (places_differ xs) ts (λ z o. variables_have_all z [] ts o)))
+    ap length e ∙ sym (length-map xs (index_in xs)) ∙ ap length (sym (list_renamed xs (index_in xs) (places_differ xs) ts (λ z o. variables_have_all z [] ts o)))
     ∙ ap₂ (λ (s t : Term). length (variables_of (cons s (cons t nil)))) (sym first) (sym second)
 
 pub counted_more : (rs : List Rule) (q : Rule) (after : List Rule) → after ≡ rs ++ q ∷ [] → q.vars ≡ length (rule_variables (rule_view q)) → AreCounted rs → AreCounted after

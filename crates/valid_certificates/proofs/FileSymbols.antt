@@ -1,11 +1,12 @@
 -- Whether a term has only symbols below a number.
 use Rattle.std.proofs.Common.{ℕ, ◌≤◌, ◌<◌, ◌⊎◌, inl, inr, arith}
+use Rattle.general_lemmas.proofs.Numbers.{le_or_lt}
 use Rattle.rewriting.specs.Signatures.{HasSymbolsBelow, HaveSymbolsBelow}
 use Rattle.rewriting.proofs.Common.{Term, var, app, Terms, nil, cons}
-use Rattle.rewriting.proofs.Decided.{IsDecided, or_greater, both}
+use Rattle.rewriting.proofs.Decided.{IsDecided, both}
 
 less : (f n : ℕ) → IsDecided (f < n)
-less f n = go (or_greater n f)
+less f n = go (le_or_lt n f)
   where
     go : (n ≤ f) ⊎ (f < n) → IsDecided (f < n)
     go (inl le) = inr (λ lt. omega (arith, le, lt))

@@ -16,7 +16,7 @@ use Rattle.valid_certificates.specs.Entries.{AreSettled, AreNotSettled, DoSettle
 use Rattle.valid_certificates.specs.Confluence.{IsValidOrtho, IsBlameOf, IsOrthoRejected, not_left_linear, not_type3, not_oriented, not_right_stable, ortho_pairs_fail, AreRightSidesIrreducible, IsFirstReducible, IsValidQuasi, IsQuasiRejected, not_deterministic, side_is_reducible, measure_is_bad, unraveling_is_large, quasi_pairs_fail}
 use Rattle.valid_certificates.specs.Certificates.{IsMeasureJudged, IsValid, IsStepRejected, IsRejected}
 use Rattle.simplifications.specs.Simplifying.{AllSimplify}
-use Rattle.simplifications.proofs.OneAnswer.{one_answer}
+use Rattle.simplifications.proofs.OneAnswer.{one_answer, all_once}
 use Rattle.valid_certificates.specs.Laws.{IsOneAnswer, CertificatesHaveOneAnswer}
 use Rattle.rewriting.proofs.Once.{IsOnce, or_once, test_once, with_once, once_within}
 use Rattle.valid_certificates.proofs.OneAnswer.{peak_answer}
@@ -209,9 +209,6 @@ pub measure_judged_once : (sys : System) (m : MeasureCertificate) → IsOnce Jud
 measure_judged_once sys (linear_measure es) = judgement_once sys es
 measure_judged_once sys (precedence_measure order) = precedence_once sys order
 
-steps_once : (sys : System) (steps : List Simplification) (a b : System) → AllSimplify sys steps a → AllSimplify sys steps b → a ≡ b
-steps_once sys steps a b h k = (one_answer sys steps).one_system a b h k
-
 -- steps fail at one of them, for one reason, and then they lead to no system
 step_rejected_once : (sys : System) (steps : List Simplification) (r s : Rejection) → IsStepRejected sys steps r → IsStepRejected sys steps s → r ≡ s
 step_rejected_once sys steps r s (n, why, h, e) (m, other, k, d) =
@@ -227,11 +224,11 @@ module _ (sys : System) (steps : List Simplification) (c : Certificate) (each : 
   BodyFails r = (last : System) × AllSimplify sys steps last × IsRejected last c r
 
   body_once : (r s : Rejection) → BodyFails r → BodyFails s → r ≡ s
-  body_once r s h k = (each h.0).one_reason r s h.2 (subst (λ (x : System). IsRejected x c s) (steps_once sys steps k.0 h.0 k.1 h.1) k.2)
+  body_once r s h k = (each h.0).one_reason r s h.2 (subst (λ (x : System). IsRejected x c s) (all_once sys steps k.0 h.0 k.1 h.1) k.2)
 
   behind_or_not : (r : Rejection) → IsRejected sys (simplified_certificate steps c) r → IsValid sys (simplified_certificate steps c) → ⊥
   behind_or_not r (inl h) v = steps_or_not sys steps r v.0 h v.1
-  behind_or_not r (inr h) v = (each h.0).never_both r h.2 (subst (λ (x : System). IsValid x c) (steps_once sys steps v.0 h.0 v.1 h.1) v.2)
+  behind_or_not r (inr h) v = (each h.0).never_both r h.2 (subst (λ (x : System). IsValid x c) (all_once sys steps v.0 h.0 v.1 h.1) v.2)
 
   behind_steps : IsOneAnswer (IsValid sys (simplified_certificate steps c)) (IsRejected sys (simplified_certificate steps c))
   behind_steps = record {

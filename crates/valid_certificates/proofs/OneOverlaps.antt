@@ -1,6 +1,7 @@
 -- The list of overlaps is one, and it excludes a triple that is too large and too many overlaps.
 use Rattle.std.proofs.Common.{◌≡◌, ◌⊎◌, inl, inr, ℕ, suc, ◌≤◌, List, [], ◌∷◌, ◌++◌, length, Option, Some, refl, sym, ap, ap₂, ◌∙◌, subst, subst₂, arith}
 use Rattle.std.proofs.lemmas.List.{length-append}
+use Rattle.caps.proofs.Unique.{unifier_no_clash, large_no_clash, unifier_or_large}
 use Rattle.rewriting.specs.Terms.{Term}
 use Rattle.rewriting.specs.Positions.{Position, IsBefore, subterm, replace}
 use Rattle.rewriting.specs.Substitutions.{apply}
@@ -52,15 +53,6 @@ same_some o q x y s e f = cc
 
 same_unifier : (b c : List Binding) → unifier b ≡ unifier c → b ≡ c
 same_unifier b c e = cc
-
-unifier_or_clash : (b : List Binding) → unifier b ≡ clash → ⊥
-unifier_or_clash b e = cc
-
-unifier_or_large : (b : List Binding) → unifier b ≡ too_large → ⊥
-unifier_or_large b e = cc
-
-large_or_clash : too_large ≡ clash → ⊥
-large_or_clash e = cc
 
 -- the critical pair under a substitution is one
 pair_once : (m : List Binding) (p : Position) (inner outer : Rule) (part : Term) (a b : CriticalPair)
@@ -153,8 +145,8 @@ module _ (sys : System) where
 
       go : Ran spot too_large ⊎ ((by : List Binding) × (pair : CriticalPair) × Ran spot (unifier by) × Gives by p spot pair × (DoesPairFit pair → ⊥))
           → Ran spot clash ⊎ ((o : Overlap) × IsOverlapOf sys o × (triple o ≡ (i, (p, j)))) → ⊥
-      go (inl h) (inl k) = large_or_clash (runs_same h k)
-      go (inr (by, pair, h, g, n)) (inl k) = unifier_or_clash by (runs_same h k)
+      go (inl h) (inl k) = large_no_clash (runs_same h k)
+      go (inr (by, pair, h, g, n)) (inl k) = unifier_no_clash by (runs_same h k)
       go (inl h) (inr (o, a, e)) = unifier_or_large a.by (ran_once (i, (p, j)) (spot_of a) spot (unifier a.by) too_large (there o e a) large.place a.outcome h)
       go (inr (by, pair, h, g, n)) (inr (o, a, e)) =
           let made : Gives a.by p (spot_of a) o.pair = subst (λ z. Gives a.by z (spot_of a) o.pair) (ap (λ (x : Triple). x.1.0) e) a.pair in
@@ -165,7 +157,7 @@ module _ (sys : System) where
   listed Counts os are o a c = go (are.whole o.inner o.position o.outer a.inner a.outer a.part a.place c)
     where
       go : IsOutcomeOf a.inner.left a.part clash ⊎ ((q : Overlap) × IsAmong q os × (triple q ≡ triple o)) → IsAmong o os
-      go (inl h) = absurd (unifier_or_clash a.by (runs_same a.outcome h))
+      go (inl h) = absurd (unifier_no_clash a.by (runs_same a.outcome h))
       go (inr (q, l, e)) = subst (λ z. IsAmong z os) (overlap_once q o e (are.each q l).0 a) l
 
 -- a sorted list has no more members than another that has all of them

@@ -1,8 +1,8 @@
 use Rattle.cops_read.specs.Answers.{ReadAnswers}
 use Rattle.cops_read.proofs.Readings.{no_tree, read_from}
-use Rattle.cops_systems.proofs.Tells.{handed}
+use Rattle.cops_read.proofs.Tells.{handed}
 use Rattle.cops_read.proofs.read_system.Goals as goal
-use Rattle.cops_systems.specs.Steps.{read_error_of}
+use Rattle.cops_read.specs.Steps.{read_error_of}
 
 pub returns-in_err-file : goal.returns-in_err-file
 returns-in_err-file c =

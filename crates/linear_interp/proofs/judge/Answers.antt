@@ -1,10 +1,11 @@
 use Rattle.std.proofs.Common.{◌≡◌, map, length, None, Some, subst, ap, ◌∙◌, arith}
+use Rattle.interpretations.proofs.Bound.{few_heads}
 use Rattle.rewriting.specs.Unraveling.{heads, unraveled}
 use Rattle.rewriting.proofs.Laws.{well_formed}
 use Rattle.term_core.specs.HeadView.{head_view}
 use Rattle.cert_model.specs.CertificateView.{linear_entry_view}
 use Rattle.linear_interp.specs.Entries.{BadAnswers}
-use Rattle.linear_interp.proofs.Final.{misshapen, shape, bad, all_good_numbers, few_entries, few_heads, rules_ready, judged}
+use Rattle.linear_interp.proofs.Final.{misshapen, shape, bad, all_good_numbers, few_entries, rules_ready, judged}
 use Rattle.linear_interp.proofs.judge.Goals as goal
 
 pub returns-in-Some : goal.returns-in-Some

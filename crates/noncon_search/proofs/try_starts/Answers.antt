@@ -2,7 +2,7 @@ use Rattle.std.proofs.Common.{Ok, map, sym, subst}
 use Rattle.rewriting.specs.Systems.{AreRules}
 use Rattle.term_core.specs.View.{view}
 use Rattle.search_spaces.specs.PeakItems.{peak_items}
-use Rattle.noncon_search.specs.Given.{IsOverlapList}
+use Rattle.search_answers.specs.Given.{IsOverlapList}
 use Rattle.noncon_search.specs.Answers.{WalkAnswers}
 use Rattle.noncon_search.proofs.Listed.{lefts_fit, sources_fit}
 use Rattle.noncon_search.proofs.Ending.{items_of_rules, starts_end, starts_fail, starts_over}

@@ -1,6 +1,7 @@
 use Rattle.std.proofs.Common.{Ok}
+use Rattle.search_answers.proofs.Refused.{unlisted}
 use Rattle.validity.specs.declared.Search.TheVariants.{Nothing}
-use Rattle.ortho_search.proofs.Ending.{found_valid, nothing_valid, closed_searched, closed_paid, closed_by_class}
+use Rattle.ortho_search.proofs.Ending.{found_valid, nothing_valid, closed_searched, closed_paid, closed_by_class, closed_by_overlaps}
 use Rattle.ortho_search.proofs.search_ortho_over.Goals as goal
 
 pub returns-then-is_in_classes-clause-nothing : goal.returns-then-is_in_classes-clause-nothing
@@ -20,3 +21,7 @@ returns-else-is_in_classes-clause-nothing c =
 pub returns-else-is_in_classes-clause-paid : goal.returns-else-is_in_classes-clause-paid
 returns-else-is_in_classes-clause-paid c =
     closed_paid c.args.names.now c.args.sys.now (closed_by_class c.args.names.now c.args.sys.now (λ h. (let e = c.if-is_in_classes.ensures.1 (rw c.system.ensures h) in cc))) c.args.budget.now
+
+pub returns-in_default-clause-searched : goal.returns-in_default-clause-searched
+returns-in_default-clause-searched c =
+    closed_searched c.args.names.now c.args.sys.now (closed_by_overlaps c.args.names.now c.args.sys.now (unlisted c.args.sys.now c.args.overlaps c.requires.overlaps (λ os e. c.in_default.not-Some os e))) c.args.budget.now

@@ -1,4 +1,4 @@
-use Rattle.search_spaces.proofs.Whole.{ortho_searchable, peak_searchable, whole_searchable}
+use Rattle.search_spaces.proofs.OrthoThenPeak.{ortho_searchable, peak_searchable, whole_searchable}
 use Rattle.search_spaces.proofs.FewUnits.{ortho_costs_few}
 use Rattle.search_spaces.proofs.spaces_are_searchable.Goals as goal
 

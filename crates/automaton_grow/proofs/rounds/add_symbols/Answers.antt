@@ -1,8 +1,9 @@
 use Rattle.std.proofs.Common.{◌≡◌, ◌∙◌, map, subst, get_or, Ok, Err, Some}
+use Rattle.std.proofs.lemmas.Option.{slice_get-get_or}
 use Rattle.cert_model.specs.EvidenceView.{transition_view}
 use Rattle.automaton_grow.specs.Growing.{AddAnswers}
 use Rattle.automaton_grow.specs.Placing.{transition_of}
-use Rattle.automaton_grow.proofs.Parts.{number_at, symbols_next, symbols_error}
+use Rattle.automaton_grow.proofs.Parts.{symbols_next, symbols_error}
 use Rattle.automaton_grow.proofs.rounds.add_symbols.Goals as goal
 
 pub returns-in-Err : goal.returns-in-Err
@@ -11,7 +12,7 @@ returns-in-Err c =
     let b = map transition_view c.loop-f.transitions.items in
     let e = map transition_view c.add.new.transitions.items in
     let zeros = c.deref.ensures.value ∙ c.in_ok-args.ensures.items_if_clones_equal (λ y h. h) in
-    symbols_error c.args.arities.now c.loop-f.f (get_or c.args.arities.now c.loop-f.f 0) c.loop-f-test.true (number_at c.args.arities.now c.loop-f.f c.loop-f-test.true) a b e c.in-Err.e c.loop-f.invariant
+    symbols_error c.args.arities.now c.loop-f.f (get_or c.args.arities.now c.loop-f.f 0) c.loop-f-test.true (slice_get-get_or c.args.arities.now c.loop-f.f 0 c.loop-f-test.true) a b e c.in-Err.e c.loop-f.invariant
     (subst (λ z. AddAnswers (λ d. d ≡ transition_of (Some c.loop-f.f) z 0) b e (Err c.in-Err.e)) zeros c.in-Err.ensures)
 
 pub loop-f-preserved : goal.loop-f-preserved
@@ -20,5 +21,5 @@ loop-f-preserved c =
     let b = map transition_view c.loop-f.transitions.items in
     let e = map transition_view c.add.new.transitions.items in
     let zeros = c.deref.ensures.value ∙ c.in_ok-args.ensures.items_if_clones_equal (λ y h. h) in
-    symbols_next c.args.arities.now c.loop-f.f (get_or c.args.arities.now c.loop-f.f 0) c.loop-f-test.true (number_at c.args.arities.now c.loop-f.f c.loop-f-test.true) a b e c.loop-f.invariant
+    symbols_next c.args.arities.now c.loop-f.f (get_or c.args.arities.now c.loop-f.f 0) c.loop-f-test.true (slice_get-get_or c.args.arities.now c.loop-f.f 0 c.loop-f-test.true) a b e c.loop-f.invariant
     (subst (λ z. AddAnswers (λ d. d ≡ transition_of (Some c.loop-f.f) z 0) b e (Ok tt)) zeros c.in-Ok.ensures)

@@ -4,9 +4,9 @@ use Rattle.automata.specs.Runs.{ReachBy}
 use Rattle.automaton_runs.specs.Counted.{Finds}
 use Rattle.term_core.specs.View.{view}
 use Rattle.number_sets.specs.Sets.{below}
+use Rattle.number_sets.proofs.Members.{length-below}
 use Rattle.automaton_runs.specs.Reached.{AreWhere}
 use Rattle.automaton_runs.proofs.NumberedTerms.{where_occurrences, leaves_few}
-use Rattle.automaton_runs.proofs.NumberedLeaves.{length_below}
 use Rattle.automaton_runs.proofs.batch_runs.reached_by_occurrences.Goals as goal
 
 pub numbers-requires : goal.numbers-requires
@@ -17,7 +17,7 @@ numbers-requires c =
     omega (arith, leaves_few (view c.args.t.now))
 
 pub reached-requires : goal.reached-requires
-reached-requires c = ap length (c.deref.ensures.value ∙ c.in_ok-names.ensures) ∙ length_below c.occurrences.result ∙ c.occurrences.ensures.count
+reached-requires c = ap length (c.deref.ensures.value ∙ c.in_ok-names.ensures) ∙ length-below c.occurrences.result ∙ c.occurrences.ensures.count
 
 pub returns : goal.returns
 returns c =

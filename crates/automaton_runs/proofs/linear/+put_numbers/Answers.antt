@@ -1,10 +1,10 @@
 use Rattle.std.proofs.Common.{◌≡◌, ◌+◌, ◌<◌, ◌∙◌, ℕ, List, ap, sym, subst, arith, length, take}
+use Rattle.std.proofs.lemmas.List.{take_all}
 use Rattle.rewriting.specs.Terms.{size}
 use Rattle.rewriting.specs.Variables.{variable_occurrences, variable_occurrences_of}
 use Rattle.term_core.specs.View.{view, views}
 use Rattle.term_core.specs.declared.terms.Term.{Term}
 use Rattle.automaton_runs.specs.Linear.{linear_all}
-use Rattle.automaton_runs.proofs.Twins.{all_of}
 use Rattle.automaton_runs.proofs.NumberedTerms.{size_below, count_more, count_within, leaves_shown, numbered_more, numbered_symbol}
 use Rattle.automaton_runs.proofs.linear.+put_numbers.Goals as goal
 
@@ -32,7 +32,7 @@ loop-arg-preserved t c =
 pub returns-after-loop-arg : goal.returns-after-loop-arg
 returns-after-loop-arg t c =
     let ts = c.deref-arg-items.result.now in
-    let whole : take c.loop-arg.arg-index ts ≡ ts = all_of ts c.loop-arg.arg-index c.loop-arg-test.false in
+    let whole : take c.loop-arg.arg-index ts ≡ ts = take_all c.loop-arg.arg-index ts c.loop-arg-test.false in
     let shown = leaves_shown c.args.t.now c.in-Fun.f c.in-Fun.args c.in-Fun.is in
     let names : variable_occurrences_of (views (take c.loop-arg.arg-index ts)) ≡ variable_occurrences (view c.args.t.now) = ap (λ (l : List Term). variable_occurrences_of (views l)) (whole ∙ c.deref-arg-items.ensures.value) ∙ sym shown in record {
       next = c.loop-arg.invariant.next ∙ ap (λ (l : List ℕ). c.args.next.now + length l) names;

@@ -1,8 +1,7 @@
 use Rattle.std.proofs.Common.{◌≡◌, ◌-◌, ◌*◌, ◌<◌, ◌∙◌, ℕ, Vec, Global, length, ap, ap₂, sym, mul_comm, arith}
-use Rattle.std.proofs.lemmas.List.{length-map}
+use Rattle.std.proofs.lemmas.List.{length-map, get_or_default}
 use Rattle.automaton_runs.specs.Choices.{as_lists, before_each}
 use Rattle.automaton_runs.proofs.ChoiceLists.{choices_before, length_each}
-use Rattle.automaton_runs.proofs.Zips.{any_default}
 use Rattle.automaton_runs.proofs.listing.tails.Goals as goal
 
 pub pools-preserved : goal.pools-preserved
@@ -11,7 +10,7 @@ pools-preserved c =
     let made = c.pools.made.items in
     let inside : c.pools.place - 1 < length c.args.pools.now = omega (arith, c.pools.invariant.within, c.pools-test.true) in
     let same : c.index-pools-place.result ≡ c.index-pools-place-in-pools.result =
-    c.index-pools-place.is ∙ any_default c.args.pools.now (c.pools.place - 1) c.index-pools-place.result c.index-pools-place-in-pools.result inside ∙ sym c.index-pools-place-in-pools.is in
+    c.index-pools-place.is ∙ get_or_default c.args.pools.now (c.pools.place - 1) c.index-pools-place.result c.index-pools-place-in-pools.result inside ∙ sym c.index-pools-place-in-pools.is in
     let listed : as_lists c.in_ok-made-2.made.items ≡ before_each c.index-pools-place-in-pools.result.items (as_lists c.pools.made.items) = c.in_ok-made-2.ensures ∙ ap₂ before_each c.deref.ensures.value (ap as_lists c.deref-in-pools.ensures.value) in
     let count : length c.in_ok-made-2.made.items ≡ length c.index-pools-place-in-pools.result.items * length c.pools.made.items =
     sym (length-map c.in_ok-made-2.made.items (λ v. v.items)) ∙ ap length listed ∙ length_each c.index-pools-place-in-pools.result.items (as_lists c.pools.made.items)

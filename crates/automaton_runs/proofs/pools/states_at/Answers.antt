@@ -1,6 +1,8 @@
 use Rattle.std.proofs.Common.{◌≡◌, ◌↔◌, ◌+◌, ◌≤◌, ◌∙◌, inl, inr, ⊎_elim, ℕ, true, List, Bor, Some, length, take, slice_get, ap, sym, subst, arith}
 use Rattle.std.proofs.lemmas.Result.{IfOk-weaker}
 use Rattle.std.proofs.lemmas.Option.{same_Some, slice_get_within}
+use Rattle.std.proofs.lemmas.List.{take_all}
+use Rattle.general_lemmas.proofs.Places.{map-take_read}
 use Rattle.rewriting.specs.Lists.{IsAmong}
 use Rattle.certificates.specs.Evidence as math
 use Rattle.cert_model.specs.EvidenceView.{transition_view}
@@ -11,9 +13,7 @@ use Rattle.number_sets.proofs.Members.{members_ascending}
 use Rattle.automaton_runs.specs.Indexed.{pointed}
 use Rattle.automaton_runs.specs.Pools.{stands_in}
 use Rattle.automaton_runs.proofs.BatchParts.{got, not_got}
-use Rattle.automaton_runs.proofs.Members.{mapped_more}
 use Rattle.automaton_runs.proofs.PoolStates.{stands_more, states_are}
-use Rattle.automaton_runs.proofs.Twins.{all_of}
 use Rattle.automaton_runs.proofs.pools.states_at.Goals as goal
 use Rattle.automaton_runs.proofs.pools.states_at.Goals.{in-Some+in_ok-insert, in_default}
 
@@ -25,7 +25,7 @@ loop-transition-preserved c q =
     let t = transition_view c.transition-item.result.now in
     let place = c.args.place in
     let ts = pointed (take c.loop-transition.transition-index c.with_symbol-transition-items.result.now) in
-    let more = mapped_more (λ (t : Bor Transition). transition_view t.now) c.with_symbol-transition-items.result.now c.loop-transition.transition-index c.transition-item.result c.loop-transition-test.true c.transition-item.is in
+    let more = map-take_read (λ (t : Bor Transition). transition_view t.now) c.with_symbol-transition-items.result.now c.loop-transition.transition-index c.transition-item.result c.loop-transition-test.true c.transition-item.is in
     let step = stands_more c.args.place q (pointed (take c.loop-transition.transition-index c.with_symbol-transition-items.result.now)) (transition_view c.transition-item.result.now) in
     let front = c.loop-transition.invariant q in
     let whole = λ (set : NumberSet). IsAmong q (members set) ↔ (stands_in c.args.place q (pointed (take (c.loop-transition.transition-index + 1) c.with_symbol-transition-items.result.now)) ≡ true) in
@@ -54,7 +54,7 @@ pub returns : goal.returns
 returns c =
     let set = c.loop-transition.set in
     let items = c.with_symbol-transition-items.result.now in
-    let whole = all_of c.with_symbol-transition-items.result.now c.loop-transition.transition-index c.loop-transition-test.false in
+    let whole = take_all c.loop-transition.transition-index c.with_symbol-transition-items.result.now c.loop-transition-test.false in
     let has : (q : ℕ) → IsAmong q (members c.loop-transition.set) ↔ (stands_in c.args.place q (pointed c.with_symbol-transition-items.result.now) ≡ true) =
     subst (λ (l : List (Bor Transition)). (q : ℕ) → IsAmong q (members c.loop-transition.set) ↔ (stands_in c.args.place q (pointed l) ≡ true)) whole c.loop-transition.invariant in
     IfOk-weaker c.numbers.result _ _

@@ -1,7 +1,7 @@
 use Rattle.std.proofs.Common.{subst}
 use Rattle.rewriting.specs.Lists.{IsAmong}
+use Rattle.rewriting.proofs.Members.{none_among}
 use Rattle.number_sets.specs.Sets.{members}
-use Rattle.automaton_runs.proofs.Shared.{none_among}
 use Rattle.automaton_runs.proofs.sharing.clear.Goals as goal
 
 pub returns : goal.returns

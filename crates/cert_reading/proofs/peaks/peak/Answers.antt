@@ -1,4 +1,5 @@
 use Rattle.std.proofs.Common.{[], ◌∷◌, ◌++◌, List, codes, refl, ap}
+use Rattle.cert_laws.proofs.PathSkeletons.{start_text}
 use Rattle.cert_model.specs.DerivationView.{derivation_view}
 use Rattle.cert_model.specs.CertificateView.{apart_view}
 use Rattle.term_core.specs.View.{view}
@@ -10,7 +11,6 @@ use Rattle.cert_grammar.specs.Items.{node, derivations_left, apart, start_line}
 use Rattle.cert_sharing.proofs.UseMarks.{AreStill, counts_still, still_both, term_still, derivation_still}
 use Rattle.cert_words.proofs.Walking.{then_reads, as_marks, framed}
 use Rattle.cert_reading.specs.Uses.{version_by, automata_by, uses_by}
-use Rattle.cert_reading.proofs.ListMarks.{peak_parts}
 use Rattle.cert_reading.proofs.UseReads.{known_behind}
 use Rattle.cert_reading.proofs.peaks.peak.Goals as goal
 
@@ -35,7 +35,7 @@ returns-clause-read c =
     let v = version_by c.args.uses in
     let rest = derivations_left 1 0 ∷ derivations_left 1 0 ∷ apart v ∷ [] in
     as_marks (λ none u. ap (λ (ms : List Mark). fixed (codes "start ") ∷ ms)
-    (peak_parts (term_marks u 1 1 (view c.start_term-start.result)) (derivation_marks (derivation_view c.derivation-first.result)) (derivation_marks (derivation_view c.derivation-second.result)) (apart_marks u (uses_by names c.args.uses) (apart_view c.apart-apart.result)) closing (fixed (codes "\n"))))
+    (start_text (term_marks u 1 1 (view c.start_term-start.result)) (derivation_marks (derivation_view c.derivation-first.result)) (derivation_marks (derivation_view c.derivation-second.result)) (apart_marks u (uses_by names c.args.uses) (apart_view c.apart-apart.result)) closing (fixed (codes "\n"))))
     (then_reads (c.text.ensures.read names (start_line v) (node 1 [] ∷ rest) refl)
     (then_reads (framed rest c.start_term-start.ensures)
     (then_reads (framed (derivations_left 1 0 ∷ apart v ∷ []) (c.derivation-first.ensures names 0))

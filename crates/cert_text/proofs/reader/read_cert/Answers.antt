@@ -1,8 +1,10 @@
 use Rattle.std.proofs.Common.{rules, ◌≡◌, ◌<◌, length, refl}
+use Rattle.std.proofs.lemmas.List.{nil_from_length}
+use Rattle.general_lemmas.proofs.Lists.{not_nil}
 use Rattle.cert_model.specs.CertificateView.{certificate_view}
 use Rattle.cert_reading.proofs.Stopping.{ran, stopped_where}
 use Rattle.cert_reading.proofs.FoundSecond.{whole_read}
-use Rattle.cert_text.proofs.Runs.{refused_as, refused_behind, no_bytes, some_bytes}
+use Rattle.cert_text.proofs.Runs.{refused_as, refused_behind}
 use Rattle.cert_text.proofs.reader.read_cert.Goals as goal
 
 pub returns-in-Some-clause-refused : goal.returns-in-Some-clause-refused
@@ -11,9 +13,9 @@ returns-in-Some-clause-refused c = refused_as c.args.names.now c.args.bytes.now 
 pub returns-then-not-is_empty-clause-refused : goal.returns-then-not-is_empty-clause-refused
 returns-then-not-is_empty-clause-refused c =
     let zero : 0 < length c.certificate-found.new.at.left.now = search rules in
-    refused_behind c.args.names.now c.args.bytes.now c.certificate-found.new.at.left.now _ _ c.new-shares.ensures (some_bytes c.certificate-found.new.at.left.now zero) c.saturating_sub.ensures (ran refl c.in_default.is c.certificate-found.ensures.read)
+    refused_behind c.args.names.now c.args.bytes.now c.certificate-found.new.at.left.now _ _ c.new-shares.ensures (not_nil c.certificate-found.new.at.left.now zero) c.saturating_sub.ensures (ran refl c.in_default.is c.certificate-found.ensures.read)
 
 pub returns-clause-found : goal.returns-clause-found
 returns-clause-found c =
     let zero : length c.certificate-found.new.at.left.now ≡ 0 = search rules in
-    whole_read c.args.names.now c.args.bytes.now (certificate_view c.certificate-found.result) _ c.certificate-found.new.at refl c.new-shares.ensures refl c.in_default.is (no_bytes c.certificate-found.new.at.left.now zero) c.certificate-found.ensures
+    whole_read c.args.names.now c.args.bytes.now (certificate_view c.certificate-found.result) _ c.certificate-found.new.at refl c.new-shares.ensures refl c.in_default.is (nil_from_length c.certificate-found.new.at.left.now zero) c.certificate-found.ensures

@@ -1,7 +1,7 @@
+use Rattle.run_parts.specs.Devices.{shelf_run}
 use Rattle.concon_run.specs.Check.{said_of_check, IsCheckAnswer}
 use Rattle.concon_run.specs.Checking.{check_answer}
 use Rattle.concon_run.specs.Replies.{reply_said}
-use Rattle.concon_run.specs.Run.{shelf_run}
 use Rattle.concon_run.proofs.Answered.{answered}
 use Rattle.concon_run.proofs.check.check_reply.Goals as goal
 

@@ -1,7 +1,7 @@
 use Rattle.std.proofs.Common.{inl, inr, subst}
 use Rattle.cc_io.specs.Faults.{Rose}
-use Rattle.concon_run.specs.Run.{shelf_run}
-use Rattle.concon_run.specs.Systems.{told_or_any}
+use Rattle.run_parts.specs.Devices.{shelf_run}
+use Rattle.run_parts.specs.Bytes.{told_or_any}
 use Rattle.concon_run.specs.Checking.{CertificateAnswers}
 use Rattle.concon_run.proofs.Checks.{rose_since, file_gives_none, certificate_answered}
 use Rattle.concon_run.proofs.check.judge.Goals as goal

@@ -5,7 +5,7 @@ use Rattle.cert_grammar.specs.CertificateText.{IsCertificateText}
 use Rattle.cert_check.specs.Answers.{OnNo}
 use Rattle.cert_check.specs.Bytes.{BytesAnswers}
 use Rattle.cert_check.specs.declared.bytes.BytesError.{BytesError}
-use Rattle.concon_run.specs.Systems.{told_or_any}
+use Rattle.run_parts.specs.Bytes.{told_or_any}
 use Rattle.concon_run.proofs.Checks.{cert_not_read, cert_rejected, body_rejected, cert_judged}
 use Rattle.concon_run.proofs.check.verdict_on.Goals as goal
 

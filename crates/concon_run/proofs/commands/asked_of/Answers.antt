@@ -1,4 +1,4 @@
-use Rattle.concon_run.specs.Words.{texts}
+use Rattle.run_parts.specs.Words.{texts}
 use Rattle.concon_run.proofs.OneCommand.{no_command}
 use Rattle.concon_run.proofs.commands.asked_of.Goals as goal
 

@@ -1,7 +1,7 @@
+use Rattle.run_parts.specs.Devices.{shelf_run}
 use Rattle.concon_run.specs.Prove.{said_of_prove, IsProveAnswer}
 use Rattle.concon_run.specs.Proving.{prove_answer}
 use Rattle.concon_run.specs.Replies.{reply_said}
-use Rattle.concon_run.specs.Run.{shelf_run}
 use Rattle.concon_run.proofs.Answered.{answered}
 use Rattle.concon_run.proofs.prove.prove_reply.Goals as goal
 

@@ -1,4 +1,4 @@
-use Rattle.concon_run.specs.Run.{shelf_run}
+use Rattle.run_parts.specs.Devices.{shelf_run}
 use Rattle.concon_run.proofs.Searches.{file_gives_none, search_answered}
 use Rattle.concon_run.proofs.prove.search.Goals as goal
 

@@ -1,7 +1,7 @@
+use Rattle.run_parts.specs.Devices.{shelf_run}
 use Rattle.concon_run.specs.Query.{said_of_query, IsQueryReply}
 use Rattle.concon_run.specs.Querying.{query_reply}
 use Rattle.concon_run.specs.Replies.{reply_said}
-use Rattle.concon_run.specs.Run.{shelf_run}
 use Rattle.concon_run.proofs.Answered.{answered}
 use Rattle.concon_run.proofs.queries.query_reply.Goals as goal
 

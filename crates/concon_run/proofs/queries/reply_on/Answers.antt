@@ -1,6 +1,6 @@
 use Rattle.std.proofs.Common.{Err, subst}
+use Rattle.run_parts.specs.Bytes.{told_or_any}
 use Rattle.concon_run.specs.Querying.{BytesReply}
-use Rattle.concon_run.specs.Systems.{told_or_any}
 use Rattle.concon_run.proofs.Asking.{query_not_read, query_refused}
 use Rattle.concon_run.proofs.queries.reply_on.Goals as goal
 

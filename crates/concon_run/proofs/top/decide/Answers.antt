@@ -1,5 +1,5 @@
 use Rattle.std.proofs.Common.{inl, inr, refl, subst}
-use Rattle.concon_run.specs.Words.{texts}
+use Rattle.run_parts.specs.Words.{texts}
 use Rattle.concon_run.specs.Commands.{check, prove, selftest, query, command_view, IsCommand}
 use Rattle.concon_run.proofs.top.decide.Goals as goal
 

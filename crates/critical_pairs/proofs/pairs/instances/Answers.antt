@@ -1,11 +1,12 @@
 use Rattle.std.proofs.Common.{◌≡◌, ◌∙◌, ◌+◌, ◌++◌, ◌∷◌, [], sym, ap, ap₂, map, subst, take, append_assoc}
+use Rattle.general_lemmas.proofs.Places.{map-take_read}
 use Rattle.rewriting.specs.Terms.{Fits}
 use Rattle.rewriting.specs.Substitutions.{values_of}
 use Rattle.rewriting.specs.Rules.{sides}
 use Rattle.rewriting.specs.Systems.{Each}
 use Rattle.rewriting.specs.Overlaps.{condition_under, conditions_under}
 use Rattle.term_core.specs.RuleView.{condition_view}
-use Rattle.critical_pairs.proofs.Conditions.{both_fit, under-append, fit_append, map_take_next, map-append}
+use Rattle.critical_pairs.proofs.Conditions.{both_fit, under-append, fit_append, map-append}
 use Rattle.critical_pairs.specs.Building.{InstancesAnswers}
 use Rattle.critical_pairs.proofs.Exits.{handed_on}
 use Rattle.critical_pairs.proofs.Sizes.{instances_error}
@@ -31,7 +32,7 @@ loop-cond-preserved c =
     let before = map condition_view c.args.out.now.items in
     let done = conditions_under s (map condition_view (take i c.args.conds.now)) in
     let next : done ++ condition_under s (condition_view c.cond-item.result) ∷ [] ≡ conditions_under s (map condition_view (take (i + 1) c.args.conds.now)) =
-    sym (under-append s _ _) ∙ ap (conditions_under s) (sym (map_take_next _ i _ c.loop-cond-test.true c.cond-item.is)) in
+    sym (under-append s _ _) ∙ ap (conditions_under s) (sym (map-take_read condition_view _ i _ c.loop-cond-test.true c.cond-item.is)) in
     record {
       added =
           ap (map condition_view) c.in_ok-push.ensures.items

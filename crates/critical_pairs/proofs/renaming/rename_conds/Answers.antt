@@ -1,8 +1,9 @@
 use Rattle.std.proofs.Common.{◌∙◌, ◌++◌, ◌∷◌, [], sym, ap, ap₂, map}
+use Rattle.general_lemmas.proofs.Places.{map-take_read}
 use Rattle.rewriting.specs.Overlaps.{conditions_under}
 use Rattle.term_core.specs.RuleView.{condition_view}
 use Rattle.unification.specs.Answers.{renaming}
-use Rattle.critical_pairs.proofs.Conditions.{left_occurs, right_occurs, under-append, map_take_next, map-append}
+use Rattle.critical_pairs.proofs.Conditions.{left_occurs, right_occurs, under-append, map-append}
 use Rattle.critical_pairs.proofs.renaming.rename_conds.Goals as goal
 
 pub renamed-requires : goal.renamed-requires
@@ -16,4 +17,4 @@ loop-cond-preserved c =
     let s = renaming 2 c.args.add in
     ap (map condition_view) c.in_ok-push.ensures.items
     ∙ (map-append _ _ ∙ (ap₂ (λ x y. x ++ y ∷ []) c.loop-cond.invariant (ap₂ (λ x y. record { left = x; right = y }) c.in_ok-left.ensures c.in_ok-right.ensures)
-    ∙ (sym (under-append s _ _) ∙ ap (conditions_under s) (sym (map_take_next _ c.loop-cond.cond-index _ c.loop-cond-test.true c.cond-item.is)))))
+    ∙ (sym (under-append s _ _) ∙ ap (conditions_under s) (sym (map-take_read condition_view _ c.loop-cond.cond-index _ c.loop-cond-test.true c.cond-item.is)))))

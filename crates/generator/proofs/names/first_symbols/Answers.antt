@@ -1,6 +1,6 @@
 use Rattle.std.proofs.Common.{◌∙◌, ap, List, ℕ, codes}
 use Rattle.cops_names.specs.NameTable.{NameTable}
-use Rattle.cops_systems.specs.Meaning.{with_symbol}
+use Rattle.cops_read.specs.Meaning.{with_symbol}
 use Rattle.generator.proofs.names.first_symbols.Goals as goal
 
 abbrev put : List ℕ → ℕ → List (List ℕ × ℕ) → List (List ℕ × ℕ)

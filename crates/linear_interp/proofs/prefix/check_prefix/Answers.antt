@@ -1,9 +1,10 @@
 use Rattle.std.proofs.Common.{◌≡◌, Some, map, slice_get, sym, ap, ◌∙◌, subst, arith}
 use Rattle.std.proofs.lemmas.List.{length-map}
 use Rattle.std.proofs.lemmas.Bool.{false≢true}
+use Rattle.general_lemmas.proofs.Places.{slice_get-map_read}
 use Rattle.cert_model.specs.CertificateView.{linear_entry_view}
 use Rattle.term_core.specs.RuleView.{rule_view}
-use Rattle.linear_interp.proofs.Judging.{at_place, one_more, all_hold}
+use Rattle.linear_interp.proofs.Judging.{one_more, all_hold}
 use Rattle.linear_interp.proofs.Completed.{rule_ready}
 use Rattle.linear_interp.proofs.Prefixes.{DoesFallWithin, dead_at, not_dead}
 use Rattle.linear_interp.proofs.prefix.check_prefix.Goals as goal
@@ -25,7 +26,7 @@ returns-then-not-branch c =
     let long = length-map c.args.prefix.now linear_entry_view in
     let needs = c.rule_needs.ensures in
     let within = c.if-rule_needs-prefix.true in
-    let there = subst (λ rules. slice_get rules c.rules.rule-index ≡ Some (rule_view c.rule-item.result)) (c.rules-rule-items.ensures.rules ∙ ap (λ z. z.rules) u.system) (at_place c.rules-rule-items.result.now c.rules.rule-index c.rule-item.result c.rules-test.true c.rule-item.is) in
+    let there = subst (λ rules. slice_get rules c.rules.rule-index ≡ Some (rule_view c.rule-item.result)) (c.rules-rule-items.ensures.rules ∙ ap (λ z. z.rules) u.system) (slice_get-map_read rule_view c.rules-rule-items.result.now c.rules.rule-index c.rule-item.result c.rules-test.true c.rule-item.is) in
     dead_at sys es c.rules.rule-index (rule_view c.rule-item.result) there (omega (arith, needs, within, long)) (λ f. false≢true (sym c.if-not-branch.true ∙ c.in_ok-does_fall.ensures.1 f))
 
 pub rules-preserved : goal.rules-preserved

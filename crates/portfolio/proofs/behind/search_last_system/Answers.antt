@@ -5,12 +5,7 @@ use Rattle.proof_spaces.specs.Proofs.{three_with_steps}
 use Rattle.portfolio.specs.Answers.{SearchesAll}
 use Rattle.portfolio.proofs.behind.search_last_system.Goals as goal
 
-pub returns-in-Some-clause-searched : goal.returns-in-Some-clause-searched
-returns-in-Some-clause-searched c =
-    subst (λ s. SearchesAll (three_with_steps pruned_measures c.args.names.now (map simp_view c.args.steps.items) s) c.args.budget.now c.search_three_behind.new.budget c.search_three_behind.result) (c.in_ok-lefts.ensures ∙ c.in_ok-indexed.ensures)
-    c.search_three_behind.ensures.searched
-
 pub returns-clause-searched : goal.returns-clause-searched
 returns-clause-searched c =
-    subst (λ s. SearchesAll (three_with_steps pruned_measures c.args.names.now (map simp_view c.args.steps.items) s) c.args.budget.now c.search_three_behind-in-None.new.budget c.search_three_behind-in-None.result)
-    (c.in_ok-lefts.ensures ∙ c.in_ok-indexed.ensures) c.search_three_behind-in-None.ensures.searched
+    subst (λ s. SearchesAll (three_with_steps pruned_measures c.args.names.now (map simp_view c.args.steps.items) s) c.args.budget.now c.search_three_behind.new.budget c.search_three_behind.result)
+    (c.in_ok-lefts.ensures ∙ c.in_ok-indexed.ensures) c.search_three_behind.ensures.searched

@@ -5,4 +5,4 @@ use Rattle.portfolio.proofs.behind.search_ortho_behind.Goals as goal
 
 pub returns-clause-searched : goal.returns-clause-searched
 returns-clause-searched c =
-    ortho_behind c.args.names.now (map simp_view c.args.steps.items) c.args.last.now c.args.budget.now c.search_ortho_if.new.budget c.in_ok-answer.answer c.with_the_steps.result c.in_ok-answer.ensures.searched c.with_the_steps.ensures
+    ortho_behind c.args.names.now (map simp_view c.args.steps.items) c.args.last.now c.args.budget.now c.search_ortho_over.new.budget c.in_ok-answer.answer c.with_the_steps.result c.in_ok-answer.ensures.searched c.with_the_steps.ensures

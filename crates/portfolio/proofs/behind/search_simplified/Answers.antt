@@ -2,7 +2,13 @@ use Rattle.std.proofs.Common.{map, Ok, subst}
 use Rattle.cert_model.specs.CertificateView.{simp_view}
 use Rattle.step_search.specs.Answers.{FindAnswers}
 use Rattle.portfolio.proofs.Proving.{steps_run_out, no_steps, some_steps, kept_behind}
+use Rattle.portfolio.proofs.StepOrigins.{good_steps}
 use Rattle.portfolio.proofs.behind.search_simplified.Goals as goal
+
+pub search_last_system-requires-clause-steps : goal.search_last_system-requires-clause-steps
+search_last_system-requires-clause-steps c =
+    good_steps c.args.sys.now (map simp_view c.in-Ok-Steps.steps.items) c.in-Ok-Steps.last c.args.budget.now c.find_steps.new.budget
+    (subst (λ a. FindAnswers c.args.sys.now c.args.budget.now c.find_steps.new.budget (Ok a)) c.in-Ok-Steps.field-0-is c.in-Ok-Steps.ensures)
 
 pub returns-then-is_empty-clause-searched : goal.returns-then-is_empty-clause-searched
 returns-then-is_empty-clause-searched c =

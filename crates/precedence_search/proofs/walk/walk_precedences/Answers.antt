@@ -1,12 +1,12 @@
 use Rattle.std.proofs.Common.{◌≡◌, ◌+◌, ◌-◌, List, [], true, false, map, length, sym, ap, ◌∙◌, subst, arith}
 use Rattle.std.proofs.lemmas.List.{length-map}
+use Rattle.interpretations.proofs.Bound.{few_heads}
 use Rattle.rewriting.specs.Unraveling.{Head}
 use Rattle.term_core.specs.HeadView.{head_view}
 use Rattle.cc_count.specs.Counts.{Counts}
 use Rattle.lpo.specs.Places.{ArePlaces}
 use Rattle.term_core.specs.RuleView.{rule_view}
 use Rattle.lpo.proofs.HeadOrder.{sorted_heads}
-use Rattle.lpo.proofs.Judging.{few_symbols}
 use Rattle.precedence_search.proofs.Visits.{alive_before, at_start, fewer_left, first_good, goes, none_good, paid_down, paid_on, smaller, sound_of, still_kept, stopped, unspent}
 use Rattle.precedence_search.proofs.walk.walk_precedences.Goals as goal
 
@@ -23,7 +23,7 @@ go_down-requires-clause-sorted c = sorted_heads c.args.sys.now (map head_view c.
 
 pub go_down-requires-clause-few : goal.go_down-requires-clause-few
 go_down-requires-clause-few c =
-    let few = few_symbols c.args.sys.now c.args.unraveled.now.system c.requires.system c.rules-rules.ensures.sound in
+    let few = few_heads c.args.sys.now c.args.unraveled.now.system c.requires.system c.rules-rules.ensures.sound in
     let many = length-map c.deref-heads.result.now head_view in
     let same = ap length (ap (map head_view) c.deref-heads.ensures.value ∙ c.requires.heads) in
     omega (arith, few, many, same)
@@ -33,7 +33,7 @@ go_on-requires-clause-sorted c = sorted_heads c.args.sys.now (map head_view c.de
 
 pub go_on-requires-clause-few : goal.go_on-requires-clause-few
 go_on-requires-clause-few c =
-    let few = few_symbols c.args.sys.now c.args.unraveled.now.system c.requires.system c.rules-rules.ensures.sound in
+    let few = few_heads c.args.sys.now c.args.unraveled.now.system c.requires.system c.rules-rules.ensures.sound in
     let many = length-map c.deref-heads.result.now head_view in
     let same = ap length (ap (map head_view) c.deref-heads.ensures.value ∙ c.requires.heads) in
     omega (arith, few, many, same)
@@ -120,7 +120,7 @@ visit-requires-clause-sorted c = sorted_heads c.args.sys.now (map head_view c.de
 
 pub visit-requires-clause-few : goal.visit-requires-clause-few
 visit-requires-clause-few c =
-    let few = few_symbols c.args.sys.now c.args.unraveled.now.system c.requires.system c.rules-rules.ensures.sound in
+    let few = few_heads c.args.sys.now c.args.unraveled.now.system c.requires.system c.rules-rules.ensures.sound in
     let many = length-map c.deref-heads.result.now head_view in
     let same = ap length (ap (map head_view) c.deref-heads.ensures.value ∙ c.requires.heads) in
     omega (arith, few, many, same)

@@ -1,6 +1,6 @@
 use Rattle.std.proofs.Common.{◌≡◌, ◌+◌, ◌<◌, ◌≤◌, ◌∙◌, ◌||◌, inl, inr, length, drop, sym, ap, subst, refl}
+use Rattle.std.proofs.lemmas.Bool.{or_left}
 use Rattle.rewriting.specs.Terms.{size}
-use Rattle.rewriting.proofs.Instances.{or_left}
 use Rattle.term_core.specs.View.{view, views}
 use Rattle.unification.proofs.Terms.{size_inside}
 use Rattle.tcap_infeasible.specs.Clashes.{do_any_clash}

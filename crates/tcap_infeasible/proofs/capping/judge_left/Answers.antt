@@ -1,5 +1,5 @@
 use Rattle.std.proofs.Common.{◌∙◌, sym}
-use Rattle.rewriting.proofs.Instances.{or_left}
+use Rattle.std.proofs.lemmas.Bool.{or_left}
 use Rattle.rewriting.proofs.Variables.{linear_in_parts}
 use Rattle.term_core.specs.View.{view}
 use Rattle.tcap_infeasible.proofs.Linear.{AreLinearApart, clash_outcome, unifier_outcome}

@@ -1,10 +1,10 @@
 use Rattle.std.proofs.Common.{◌∙◌, sym, ap, subst, take, ◌+◌, List}
+use Rattle.std.proofs.lemmas.List.{take_all}
 use Rattle.term_core.specs.declared.terms.Term.{Term}
 use Rattle.rewriting.specs.Variables.{occurrences, occurrences_in}
 use Rattle.term_core.specs.View.{view, views}
 use Rattle.term_core.specs.Noting.{AreNoted}
 use Rattle.term_core.proofs.Views.{view-Fun}
-use Rattle.term_core.proofs.Instances.{take_all}
 use Rattle.term_core.proofs.Noting.{nothing_noted, noted_then, counted_take}
 use Rattle.term_core.proofs.variables.+note_all.Goals as goal
 
@@ -22,5 +22,5 @@ pub returns-after-loop-arg : goal.returns-after-loop-arg
 returns-after-loop-arg t c =
     let items = c.deref-arg-items.result.now in
     let noted : List Term → Type 0 = λ ts. AreNoted (λ x. occurrences_in x (views ts)) c.args.seen.now c.loop-arg.seen c.args.repeated.now c.loop-arg.repeated in
-    let all = subst noted (take_all items c.loop-arg.arg-index c.loop-arg-test.false ∙ c.deref-arg-items.ensures.value) c.loop-arg.invariant in
+    let all = subst noted (take_all c.loop-arg.arg-index items c.loop-arg-test.false ∙ c.deref-arg-items.ensures.value) c.loop-arg.invariant in
     subst (λ u. AreNoted (λ x. occurrences x u) c.args.seen.now c.loop-arg.seen c.args.repeated.now c.loop-arg.repeated) (sym (ap view c.in-Fun.is ∙ view-Fun c.in-Fun.field-0 c.in-Fun.args)) all

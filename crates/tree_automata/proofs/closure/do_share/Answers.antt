@@ -1,9 +1,8 @@
 use Rattle.std.proofs.Common.{◌∙◌, ℕ, [], ◌∷◌, ⊎_elim, get_or, take, refl, sym, subst}
 use Rattle.std.proofs.lemmas.Bool.{false≢true}
-use Rattle.std.proofs.lemmas.List.{take_more}
+use Rattle.std.proofs.lemmas.List.{take_more, take_all}
 use Rattle.rewriting.specs.Lists.{IsAmong}
 use Rattle.rewriting.proofs.Lists.{among_at, among_either}
-use Rattle.automaton_runs.proofs.Twins.{all_of}
 use Rattle.tree_automata.proofs.Lists.{among_of_any, any_of_among}
 use Rattle.tree_automata.proofs.closure.do_share.Goals as goal
 
@@ -25,5 +24,5 @@ loop-x-preserved c = λ x i k.
 pub returns : goal.returns
 returns c = (
   λ h. absurd (false≢true h),
-  λ (x, i, k). absurd (c.loop-x.invariant x (subst (IsAmong x) (sym (all_of c.args.first.now c.loop-x.x-index c.loop-x-test.false)) i) k),
+  λ (x, i, k). absurd (c.loop-x.invariant x (subst (IsAmong x) (sym (take_all c.loop-x.x-index c.args.first.now c.loop-x-test.false)) i) k),
 )

@@ -1,9 +1,10 @@
 use Rattle.std.proofs.Common.{◌<◌, ap, ◌∙◌, map, subst}
+use Rattle.std.proofs.lemmas.List.{take_all}
 use Rattle.rewriting.specs.Terms.{size}
 use Rattle.rewriting.specs.Substitutions.{apply}
 use Rattle.unifier_run.specs.Run.{value}
 use Rattle.term_core.specs.View.{view}
-use Rattle.term_core.proofs.Instances.{apply-Fun, take_all}
+use Rattle.term_core.proofs.Instances.{apply-Fun}
 use Rattle.unification.specs.Solving.{bindings}
 use Rattle.unification.proofs.Under.{argument_is_smaller}
 use Rattle.unification.proofs.bound.+instance.Goals as goal
@@ -21,5 +22,5 @@ returns-after-loop-arg t c =
     let s = value (bindings c.args.found.now) in
     let items = c.deref-arg-items.result.now in
     apply-Fun s _ _ _ c.loop-arg.out c.in-Fun.is
-    (c.loop-arg.invariant ∙ ap (map (λ u. apply s (view u))) (take_all items c.loop-arg.arg-index c.loop-arg-test.false ∙ c.deref-arg-items.ensures.value))
+    (c.loop-arg.invariant ∙ ap (map (λ u. apply s (view u))) (take_all c.loop-arg.arg-index items c.loop-arg-test.false ∙ c.deref-arg-items.ensures.value))
     ∙ c.head.ensures.same

@@ -1,8 +1,9 @@
 use Rattle.std.proofs.Common.{ap, ◌∙◌, map, subst, ◌<◌}
+use Rattle.std.proofs.lemmas.List.{take_all}
 use Rattle.rewriting.specs.Terms.{size}
 use Rattle.rewriting.specs.Substitutions.{apply}
 use Rattle.term_core.specs.View.{view}
-use Rattle.term_core.proofs.Instances.{apply-Fun, take_all}
+use Rattle.term_core.proofs.Instances.{apply-Fun}
 use Rattle.unification.specs.Answers.{renaming}
 use Rattle.unification.proofs.Terms.{occurs_inside, size_inside}
 use Rattle.unification.proofs.renaming.+renamed.Goals as goal
@@ -15,4 +16,4 @@ returns-after-loop-arg t c =
     let s = renaming c.args.mul c.args.add in
     let items = c.deref-arg-items.result.now in
     apply-Fun s _ _ _ c.loop-arg.out c.in-Fun.is
-    (c.loop-arg.invariant ∙ ap (map (λ u. apply s (view u))) (take_all items c.loop-arg.arg-index c.loop-arg-test.false ∙ c.deref-arg-items.ensures.value))
+    (c.loop-arg.invariant ∙ ap (map (λ u. apply s (view u))) (take_all c.loop-arg.arg-index items c.loop-arg-test.false ∙ c.deref-arg-items.ensures.value))

@@ -1,7 +1,8 @@
 use Rattle.std.proofs.Common.{ap, ◌∙◌, map}
+use Rattle.std.proofs.lemmas.List.{take_all}
 use Rattle.rewriting.specs.Substitutions.{apply}
 use Rattle.term_core.specs.View.{view}
-use Rattle.term_core.proofs.Instances.{apply-Fun, take_all}
+use Rattle.term_core.proofs.Instances.{apply-Fun}
 use Rattle.unravel.specs.SideView.{numbered}
 use Rattle.unravel.proofs.sides.+numbered.Goals as goal
 
@@ -10,4 +11,4 @@ returns-after-loop-arg t c =
     let s = numbered c.args.order.now in
     let items = c.deref-arg-items.result.now in
     apply-Fun s _ _ _ c.loop-arg.out c.in-Fun.is
-    (c.loop-arg.invariant ∙ ap (map (λ u. apply s (view u))) (take_all items c.loop-arg.arg-index c.loop-arg-test.false ∙ c.deref-arg-items.ensures.value))
+    (c.loop-arg.invariant ∙ ap (map (λ u. apply s (view u))) (take_all c.loop-arg.arg-index items c.loop-arg-test.false ∙ c.deref-arg-items.ensures.value))

@@ -1,8 +1,9 @@
 use Rattle.std.proofs.Common.{rules, ◌≡◌, ◌<◌, ◌+◌, refl, sym, ◌∙◌, length, arith}
+use Rattle.std.proofs.lemmas.List.{nil_from_length}
+use Rattle.general_lemmas.proofs.Lists.{not_nil}
 use Rattle.cert_model.specs.CertificateView.{pair_entry_view}
 use Rattle.cert_reading.specs.Uses.{version_by, automata_by}
 use Rattle.cert_reading.proofs.Stopping.{ran}
-use Rattle.cert_text.proofs.Runs.{no_bytes, some_bytes}
 use Rattle.cert_text.proofs.Advancing.{by_uses, from_uses, front_kept, held_back, next_refused, held_on, reads_on, never_whole, at_end, no_entry, not_whole, behind_refused, refused_there, not_told, not_told_at}
 use Rattle.cert_text.proofs.pairs.Pairs.next.Goals as goal
 
@@ -41,7 +42,7 @@ returns-then-more-eq0-clause-none c =
     let u = by_uses c.uses_of-uses.result _ _ c.self.inside.names.now c.self.inside.bytes.now c.self.inside.at.left.now c.self.inside.count c.self.inside.at.shares c.uses_of-uses.ensures.version c.uses_of-uses.ensures.automata c.self.invariant.1 in
     let run = ran c.self.invariant.0 (sym c.take.ensures.value ∙ c.in_default.is) c.in-None.ensures.last in
     let zero : length c.next_pair-found.new.at.left.now ≡ 0 = search rules in
-    at_end (version_by c.uses_of-uses.result) (automata_by c.uses_of-uses.result) c.self.inside.names.now c.self.inside.bytes.now c.self.inside.at.left.now c.self.inside.count (c.self.inside.count + 1) c.self.inside.at.shares u (omega arith) c.args.self.now c.self.view_is c.next_pair-found.new.at.left.now _ run (no_bytes c.next_pair-found.new.at.left.now zero)
+    at_end (version_by c.uses_of-uses.result) (automata_by c.uses_of-uses.result) c.self.inside.names.now c.self.inside.bytes.now c.self.inside.at.left.now c.self.inside.count (c.self.inside.count + 1) c.self.inside.at.shares u (omega arith) c.args.self.now c.self.view_is c.next_pair-found.new.at.left.now _ run (nil_from_length c.next_pair-found.new.at.left.now zero)
 
 pub returns-then-more-eq0-clause-ready : goal.returns-then-more-eq0-clause-ready
 returns-then-more-eq0-clause-ready c =
@@ -67,7 +68,7 @@ returns-else-more-eq0-clause-none_exactly c =
     let u = by_uses c.uses_of-uses.result _ _ c.self.inside.names.now c.self.inside.bytes.now c.self.inside.at.left.now c.self.inside.count c.self.inside.at.shares c.uses_of-uses.ensures.version c.uses_of-uses.ensures.automata c.self.invariant.1 in
     let run = ran c.self.invariant.0 (sym c.take.ensures.value ∙ c.in_default.is) c.in-None.ensures.last in
     let some : 0 < length c.next_pair-found.new.at.left.now = search rules in
-    absurd (not_whole (version_by c.uses_of-uses.result) (automata_by c.uses_of-uses.result) c.self.inside.names.now c.self.inside.bytes.now c.self.inside.at.left.now c.self.inside.count (c.self.inside.count + 1) c.self.inside.at.shares u (omega arith) c.args.self.now c.self.view_is c.next_pair-found.new.at.left.now _ run (some_bytes c.next_pair-found.new.at.left.now some) o es h k)
+    absurd (not_whole (version_by c.uses_of-uses.result) (automata_by c.uses_of-uses.result) c.self.inside.names.now c.self.inside.bytes.now c.self.inside.at.left.now c.self.inside.count (c.self.inside.count + 1) c.self.inside.at.shares u (omega arith) c.args.self.now c.self.view_is c.next_pair-found.new.at.left.now _ run (not_nil c.next_pair-found.new.at.left.now some) o es h k)
 
 pub returns-else-more-eq0-clause-ready : goal.returns-else-more-eq0-clause-ready
 returns-else-more-eq0-clause-ready c =
@@ -81,4 +82,4 @@ returns-else-more-eq0-clause-refused c =
     let u = by_uses c.uses_of-uses.result _ _ c.self.inside.names.now c.self.inside.bytes.now c.self.inside.at.left.now c.self.inside.count c.self.inside.at.shares c.uses_of-uses.ensures.version c.uses_of-uses.ensures.automata c.self.invariant.1 in
     let run = ran c.self.invariant.0 (sym c.take.ensures.value ∙ c.in_default.is) c.in-None.ensures.last in
     let some : 0 < length c.next_pair-found.new.at.left.now = search rules in
-    behind_refused (version_by c.uses_of-uses.result) (automata_by c.uses_of-uses.result) c.self.inside.names.now c.self.inside.bytes.now c.self.inside.at.left.now c.self.inside.count (c.self.inside.count + 1) c.self.inside.at.shares u (omega arith) c.args.self.now c.self.view_is c.next_pair-found.new.at.left.now _ run c.saturating_sub.result (some_bytes c.next_pair-found.new.at.left.now some) c.saturating_sub.ensures
+    behind_refused (version_by c.uses_of-uses.result) (automata_by c.uses_of-uses.result) c.self.inside.names.now c.self.inside.bytes.now c.self.inside.at.left.now c.self.inside.count (c.self.inside.count + 1) c.self.inside.at.shares u (omega arith) c.args.self.now c.self.view_is c.next_pair-found.new.at.left.now _ run c.saturating_sub.result (not_nil c.next_pair-found.new.at.left.now some) c.saturating_sub.ensures

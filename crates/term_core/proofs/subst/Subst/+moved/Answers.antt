@@ -1,8 +1,9 @@
 use Rattle.std.proofs.Common.{◌+◌, ◌∙◌, ap, map, drop}
+use Rattle.std.proofs.lemmas.List.{take_all}
 use Rattle.rewriting.specs.Substitutions.{values_of, apply}
 use Rattle.term_core.specs.View.{view, views}
 use Rattle.term_core.proofs.Views.{views-drop}
-use Rattle.term_core.proofs.Instances.{apply-Fun, take_all}
+use Rattle.term_core.proofs.Instances.{apply-Fun}
 use Rattle.term_core.proofs.Moving.{part_instance, moved_on, made_on}
 use Rattle.term_core.proofs.subst.Subst.+moved.Goals as goal
 
@@ -27,4 +28,4 @@ returns-after-loop-arg-clause-instance t c =
     let s = values_of c.args.self.now in
     let items = c.deref-arg-items.result.now in
     apply-Fun s _ _ _ c.loop-arg.out c.in-Fun.is
-    (c.loop-arg.invariant.made ∙ ap (map (λ u. apply s (view u))) (take_all items c.loop-arg.arg-index c.loop-arg-test.false ∙ c.deref-arg-items.ensures.value))
+    (c.loop-arg.invariant.made ∙ ap (map (λ u. apply s (view u))) (take_all c.loop-arg.arg-index items c.loop-arg-test.false ∙ c.deref-arg-items.ensures.value))

@@ -1,0 +1,10 @@
+pub mod Cursor
+pub mod Lists
+pub mod Bodies
+pub mod Conditions
+pub mod Parts
+pub mod Named
+pub mod Spelt
+pub mod SameLists
+pub mod Functions
+pub mod Written

@@ -1,0 +1,4 @@
+mod Pushes
+pub mod FlatTrees
+mod FlatBlocks
+pub mod Parsed

@@ -1,4 +1,0 @@
-mod Pushes
-pub mod FlatTrees
-mod FlatBlocks
-mod Parsed

@@ -1,0 +1,7 @@
+use denote.Text.{Utf8}
+use denote.Shadow.{shadow}
+use Rattle.lens_cases.proofs.print_cases.Given as goal
+
+-- the last certificate is text
+abbrev pub invariant-loop-part : goal.invariant-loop-part
+invariant-loop-part l = (goal.iterator-loop-part).can_next l.part-iterator × (goal.iterator-loop-part).is_finite l.part-iterator × shadow (Utf8 l.cert)

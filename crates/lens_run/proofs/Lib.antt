@@ -1,0 +1,4 @@
+pub mod Commands
+pub mod Told
+pub mod Unread
+pub mod Causes

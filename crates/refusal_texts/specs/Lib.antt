@@ -1,0 +1,4 @@
+pub mod Refusals
+pub mod Files
+pub mod Certificates
+pub mod Queries

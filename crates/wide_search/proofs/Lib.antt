@@ -1,0 +1,4 @@
+pub mod GoodNumbers
+pub mod Prefixes
+pub mod Reached
+pub mod Some

@@ -1,0 +1,54 @@
+//! What settles the overlaps in a certificate with a measure.
+ghost use Rattle.std.specs.Prelude.{map};
+ghost use Rattle.unifier_run.specs.Overlaps.{IsOverlapOf};
+ghost use Rattle.critical_pairs.specs.View.{overlap_view};
+ghost use Rattle.pair_check.specs.Walk.{EachIsOverlap};
+ghost use Rattle.pair_search.specs.Grown.{IsGrown};
+
+use crate::joins::try_joins;
+use cc_count::Budget;
+use critical_pairs::Overlap;
+use irreducible::LeftSides;
+use pair_search::{Entries, Grown, Walk, add_entry};
+use quasi_search::try_overlap;
+use std::alloc::Global;
+use term_core::NoMemory;
+
+// What the smaller search tries for an overlap, and then joins by longer lists.
+fn try_widely(
+    alloc: Global,
+    sys: &LeftSides<'_>,
+    overlap: &Overlap,
+    budget: &mut Budget,
+    grown: &mut Grown,
+) -> Result<Walk, NoMemory>
+    requires overlap { IsOverlapOf sys.now (overlap_view overlap.now) }
+    requires knows { IsGrown grown.old sys.now }
+    ensures knows { IsGrown grown.new sys.now }
+{
+    match try_overlap(alloc, sys, overlap, budget, grown)? {
+        Walk::Nothing => try_joins(alloc, sys, overlap, budget),
+        end => Ok(end),
+    }
+}
+
+/// An entry for each overlap, in order; at the first that has none the walk ends.
+pub(crate) fn entries_for(
+    alloc: Global,
+    sys: &LeftSides<'_>,
+    overlaps: &[Overlap],
+    budget: &mut Budget,
+) -> Result<Entries, NoMemory>
+    requires overlaps { EachIsOverlap sys.now (map overlap_view overlaps.now) }
+{
+    let mut entries = Vec::new(alloc);
+    let mut grown = Grown::new();
+    'rows: for overlap in overlaps {
+        match try_widely(alloc, sys, overlap, budget, &mut grown)? {
+            Walk::Given(evidence) => add_entry(alloc, &mut entries, overlap, evidence)?,
+            Walk::Nothing => return Ok(Entries::Missing),
+            Walk::Spent => return Ok(Entries::Spent),
+        }
+    }
+    Ok(Entries::Whole(entries))
+}

@@ -1,0 +1,57 @@
+//! The search for a certificate with a measure.
+ghost use Rattle.std.specs.Prelude.{map};
+ghost use Rattle.unifier_run.specs.Overlaps.{AreOverlaps};
+ghost use Rattle.critical_pairs.specs.View.{overlap_view};
+
+use crate::entries::entries_for;
+use crate::measures::{MeasureSearch, search_measures};
+use crate::shares::{part_of, settle};
+use cc_count::Budget;
+use cert_model::{Certificate, PairEntry};
+use critical_pairs::Overlap;
+use ctrs_classes::is_deterministic;
+use irreducible::LeftSides;
+use pair_search::Entries;
+use quasi_check::are_right_sides_irreducible;
+use std::alloc::Global;
+use term_core::NoMemory;
+use validity::Search;
+
+// Searches for a measure behind the entries.
+fn search_behind(
+    alloc: Global,
+    sys: &LeftSides<'_>,
+    pairs: Vec<PairEntry>,
+    budget: &mut Budget,
+) -> Result<Search, NoMemory> {
+    match search_measures(alloc, sys.system(), budget)? {
+        MeasureSearch::Good(measure) => Ok(Search::Found(Certificate::Quasi(measure, pairs))),
+        MeasureSearch::NoneGood => Ok(Search::Nothing),
+        MeasureSearch::Spent => Ok(Search::Spent),
+    }
+}
+
+/// Searches for the entries with half of the units, and behind them for a measure.
+pub(crate) fn search_quasi_widely(
+    alloc: Global,
+    sys: &LeftSides<'_>,
+    overlaps: &[Overlap],
+    budget: &mut Budget,
+) -> Result<Search, NoMemory>
+    requires overlaps { AreOverlaps sys.now (map overlap_view overlaps.now) }
+{
+    if !is_deterministic(sys.system()) {
+        return Ok(Search::Nothing);
+    }
+    if !are_right_sides_irreducible(alloc, sys)? {
+        return Ok(Search::Nothing);
+    }
+    let mut share = part_of(budget, 2);
+    let entries = entries_for(alloc, sys, overlaps, &mut share)?;
+    settle(budget, &share);
+    match entries {
+        Entries::Whole(pairs) => search_behind(alloc, sys, pairs, budget),
+        Entries::Missing => Ok(Search::Nothing),
+        Entries::Spent => Ok(Search::Spent),
+    }
+}
