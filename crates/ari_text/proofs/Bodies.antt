@@ -12,9 +12,6 @@ pub record IsInside (old new : List Sign) (open_brackets : ℕ) : Type 0 where
   pub words : old ≡ inside ++ new
   pub goes_on : (ws : List Sign) → AreMatched open_brackets ws → AreMatched 0 (inside ++ ws)
 
-pub inside_none : (ws : List Sign) → IsInside ws ws 0
-inside_none ws = record { inside = []; words = refl; goes_on = λ vs m. m }
-
 inside_more : (old new : List Sign) (n m : ℕ) (w : Sign) (i : IsInside old (w ∷ new) n) → ((ws : List Sign) → AreMatched m ws → AreMatched n (w ∷ ws)) → IsInside old new m
 inside_more old new n m w i f = record {
   inside = i.inside ++ w ∷ [];
@@ -59,9 +56,6 @@ body_read old mid new n j e z = let i = subst (λ (k : ℕ). IsInside old mid k)
 pub record ArePassed (old new : List Sign) : Type 0 where
   pub goes_on : (k : List Sign) → IsBehindMetas new k → IsBehindMetas old k
 
-pub passed_none : (ws : List Sign) → ArePassed ws ws
-passed_none ws = record { goes_on = λ k h. h }
-
 pub none_behind : (ws : List Sign) → IsBehindMetas ws ws
 none_behind ws = record { metas = []; matched = tt; words = refl }
 
@@ -74,9 +68,6 @@ passed_more old mid opened named new f p e g t b = record {
         (b.words ∙ ap (λ (ws : List Sign). b.inside ++ closing ∷ ws) h.words));
   };
 }
-
-pub key_read : (old mid opened new : List Sign) (f : List ℕ) → ArePassed old mid → mid ≡ opening ∷ opened → opened ≡ name f ∷ new → IsBehindMetas old (opening ∷ name f ∷ new)
-key_read old mid opened new f p e g = p.goes_on (opening ∷ name f ∷ new) (subst (λ (ws : List Sign). IsBehindMetas ws (opening ∷ name f ∷ new)) (sym (e ∙ ap (λ (ws : List Sign). opening ∷ ws) g)) (none_behind (opening ∷ name f ∷ new)))
 
 pub end_read : (old mid : List Sign) → ArePassed old mid → mid ≡ [] → IsBehindMetas old []
 end_read old mid p e = p.goes_on [] (subst (λ (ws : List Sign). IsBehindMetas ws []) (sym e) (none_behind []))

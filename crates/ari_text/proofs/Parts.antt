@@ -3,10 +3,9 @@ use Rattle.std.proofs.Common.{◌≡◌, ℕ, List, [], ◌∷◌, ◌++◌, cod
 use Rattle.file_text.specs.Syntax.{RuleTree}
 use Rattle.cops_syntax.specs.declared.tree.RuleText.{RuleText}
 use Rattle.cops_syntax.specs.View.{IsRule, AreRules}
-use Rattle.cops_names.specs.NameTable.{NameTable}
 use Rattle.ari_text.specs.Signs.{Sign, opening, name}
 use Rattle.ari_text.specs.Grammar.{IsBehindMetas, AreRulesIn, ArePartsIn}
-use Rattle.ari_text.specs.Reads.{IsFunctionRead, IsRuleRead, ArePartsRead}
+use Rattle.ari_text.specs.Reads.{IsRuleRead, ArePartsRead}
 
 abbrev pub Functions : Type 0
 Functions = List (List ℕ × ℕ)
@@ -17,14 +16,6 @@ pub record ArePartsSoFar (ws rest : List Sign) (fs : Functions) (rs : List RuleT
   pub are : AreRules rs trees
   pub rules_go_on : (qs : List RuleTree) → AreRulesIn rest qs → ArePartsIn ws fs (trees ++ qs)
   pub functions_go_on : trees ≡ [] → (gs : Functions) (qs : List RuleTree) → ArePartsIn rest gs qs → ArePartsIn ws (fs ++ gs) qs
-
-pub no_parts : (ws : List Sign) (fs : Functions) → fs ≡ [] → ArePartsSoFar ws ws fs []
-no_parts ws fs e = record {
-  trees = [];
-  are = tt;
-  rules_go_on = λ qs h. subst (λ (gs : Functions). ArePartsIn ws gs qs) (sym e) h;
-  functions_go_on = λ t gs qs h. subst (λ (hs : Functions). ArePartsIn ws (hs ++ gs) qs) (sym e) h;
-}
 
 are_more : (rs : List RuleText) (ts : List RuleTree) (r : RuleText) (t : RuleTree) → AreRules rs ts → IsRule r t → AreRules (rs ++ r ∷ []) (ts ++ t ∷ [])
 are_more [] [] r t h i = (i, tt)
@@ -49,20 +40,6 @@ one_rule_more ws mid named new fs rs f r s k e h = record {
       (s.rules_go_on (h.tree ∷ qs) (new, subst (IsBehindMetas mid) (ap (λ (t : List ℕ). opening ∷ name t ∷ named) e ∙ ap (λ (vs : List Sign). opening ∷ name (codes "rule") ∷ vs) h.words) k, g));
   functions_go_on = λ t gs qs g. absurd (not_empty s.trees h.tree t);
 }
-
-pub one_function_more : (ws mid named new : List Sign) (before after : NameTable) (rs : List RuleText) (f : List ℕ)
-    → ArePartsSoFar ws mid before.symbols rs → IsBehindMetas mid (opening ∷ name f ∷ named) → f ≡ codes "fun" → rs ≡ [] → IsFunctionRead named new before after → ArePartsSoFar ws new after.symbols rs
-one_function_more ws mid named new before after rs f s k e none h =
-    let empty : s.trees ≡ [] = no_trees s.trees (subst (λ (qs : List RuleText). AreRules qs s.trees) none s.are) in
-    let behind = subst (IsBehindMetas mid) (ap (λ (t : List ℕ). opening ∷ name t ∷ named) e ∙ ap (λ (vs : List Sign). opening ∷ name (codes "fun") ∷ vs) h.words) k in
-    record {
-      trees = s.trees;
-      are = s.are;
-      rules_go_on = λ qs g. subst (λ (ts : List RuleTree). ArePartsIn ws after.symbols (ts ++ qs)) (sym empty)
-          (subst (λ (gs : Functions). ArePartsIn ws gs qs) (sym h.listed) (s.functions_go_on empty (h.function ∷ []) qs (new, behind, g)));
-      functions_go_on = λ t gs qs g. subst (λ (hs : Functions). ArePartsIn ws (hs ++ gs) qs) (sym h.listed)
-          (subst (λ (hs : Functions). ArePartsIn ws hs qs) (sym (append_assoc before.symbols (h.function ∷ []) gs)) (s.functions_go_on empty (h.function ∷ gs) qs (new, behind, g)));
-    }
 
 pub parts_read : (ws mid : List Sign) (fs : Functions) (rs : List RuleText) → ArePartsSoFar ws mid fs rs → IsBehindMetas mid [] → ArePartsRead ws fs rs
 parts_read ws mid fs rs s e = record {

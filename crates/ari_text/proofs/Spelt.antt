@@ -1,7 +1,6 @@
 -- A text that is one identifier, and words that are spelt.
-use Rattle.std.proofs.Common.{◌≡◌, ℕ, zero, suc, ◌+◌, ◌-◌, ◌<◌, ◌≤◌, true, false, List, [], ◌∷◌, ◌++◌, length, refl, sym, ap, ◌∙◌, subst, take, drop, get_or, All, Option, Some, None, arith, append_assoc}
+use Rattle.std.proofs.Common.{◌≡◌, ℕ, zero, suc, ◌+◌, ◌-◌, ◌<◌, ◌≤◌, true, false, List, [], ◌∷◌, ◌++◌, length, refl, sym, ap, ◌∙◌, subst, take, drop, get_or, All, Option, Some, None, arith}
 use Rattle.std.specs.Prelude.{slice_range}
-use Rattle.std.proofs.lemmas.List.{map-append}
 use Rattle.std.proofs.lemmas.List.Elements.{All-head}
 use Rattle.std.proofs.Math.Seq.{take-length}
 use Rattle.file_text.specs.Bytes.{is_white}
@@ -162,18 +161,10 @@ first_byte (x ∷ xs) behind lt q = ap (λ (ys : List ℕ). x ∷ ys) (sym q)
 pub pushed_none : (ws : List Word) → IsPushed ws ws None
 pushed_none ws = record { words = λ vs. refl }
 
-pub pushed_some : (before after : List Word) (w : Word) → after ≡ before ++ w ∷ [] → IsPushed before after (Some w)
-pushed_some before after w e = record {
-  words = λ vs. ap (λ (us : List Word). signs_of us ++ vs) e ∙ ap (λ (us : List Sign). us ++ vs) (map-append sign_of before (w ∷ [])) ∙ append_assoc (signs_of before) (sign_of w ∷ []) vs;
-}
-
 -- words up to a place, and what goes on with them
 pub record IsSpeltTo (bytes : List ℕ) (words : List Word) (at : ℕ) : Type 0 where
   pub within : at ≤ length bytes
   pub goes_on : (ws : List Sign) → Spell (drop at bytes) ws → Spell bytes (signs_of words ++ ws)
-
-pub spelt_start : (bytes : List ℕ) (ws : List Word) → ws ≡ [] → IsSpeltTo bytes ws 0
-spelt_start bytes ws e = record { within = omega arith; goes_on = λ vs s. subst (λ (us : List Word). Spell bytes (signs_of us ++ vs)) (sym e) s }
 
 drop_none : (n : ℕ) → drop {A = ℕ} n [] ≡ []
 drop_none zero = refl

@@ -13,10 +13,8 @@ ghost use Rattle.cert_grammar.specs.Items as spec;
 ghost use Rattle.cert_words.specs.Walks.{Reads};
 
 use cert_model::{Derivation, Step};
-use cert_words::{CertCount, Reading, counted, either, nested, number, position, put, text};
+use cert_words::{BOUND, CertCount, Reading, counted, either, nested, number, position, put, text};
 use std::alloc::Global;
-
-const BOUND: u64 = 4_294_967_296;
 
 /// A derivation in this nesting.
 #[cycle(derivation)]

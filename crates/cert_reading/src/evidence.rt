@@ -11,11 +11,9 @@ ghost use Rattle.cert_reading.specs.Uses.{version_by, automata_by, uses_by, AreK
 use crate::derivations::derivation;
 use crate::uses::{Uses, used_automaton};
 use cert_model::{InfEvidence, PairEvidence};
-use cert_words::{Lead, Reading, choose, either, number, text};
+use cert_words::{BOUND, Lead, Reading, choose, either, number, text};
 use cops_names::Names;
 use std::alloc::Global;
-
-const BOUND: u64 = 4_294_967_296;
 
 /// The evidence that conditions are never met.
 pub fn infeasibility(

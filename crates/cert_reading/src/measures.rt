@@ -21,13 +21,11 @@ use crate::uses::Uses;
 use cert_grammar::MOST_ENTRIES;
 use cert_model::{Head, Linear, LinearEntry, MeasureCert};
 use cert_words::{
-    CertCount, CertError, Lead, Reading, choose, either, front, name, number, numbered, put, stuck,
-    text,
+    BOUND, CertCount, CertError, Lead, Reading, choose, either, front, name, number, numbered, put,
+    stuck, text,
 };
 use cops_names::Names;
 use std::alloc::Global;
-
-const BOUND: u64 = 4_294_967_296;
 
 // What an entry is for.
 #[derive(Clone, Copy, Drop)]

@@ -12,11 +12,11 @@ ghost use Rattle.cert_reading.specs.Stops.{ReadsWhere, Anywhere, WithinEntry};
 use crate::evidence::evidence;
 use crate::uses::Uses;
 use cert_model::PairEntry;
-use cert_words::{CertCount, Lead, Reading, choose, counted_or, number, position, put, text};
+use cert_words::{
+    BOUND, CertCount, Lead, Reading, choose, counted_or, number, position, put, text,
+};
 use cops_names::Names;
 use std::alloc::Global;
-
-const BOUND: u64 = 4_294_967_296;
 
 /// The overlap with this number; none at the last line, which is read then.
 pub fn next_pair(

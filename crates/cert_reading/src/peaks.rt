@@ -14,12 +14,11 @@ use crate::terms::start_term;
 use crate::uses::Uses;
 use cert_model::{NonJoin, Peak, Redex};
 use cert_words::{
-    CertCount, Lead, Reading, choose, counted_or, either, last_word, number, position, put, text,
+    BOUND, CertCount, Lead, Reading, choose, counted_or, either, last_word, number, position, put,
+    text,
 };
 use cops_names::Names;
 use std::alloc::Global;
-
-const BOUND: u64 = 4_294_967_296;
 
 // The redex with this number; none at the last line, which is read then.
 fn next_redex(

@@ -14,11 +14,9 @@ ghost use Rattle.cert_reading.specs.Uses.{AreShared};
 use crate::evidence::infeasibility;
 use crate::uses::Uses;
 use cert_model::{Automaton, Simp};
-use cert_words::{Reading, either, number, put, text};
+use cert_words::{BOUND, Reading, either, number, put, text};
 use cops_names::Names;
 use std::alloc::Global;
-
-const BOUND: u64 = 4_294_967_296;
 
 // One step.
 fn simplification(

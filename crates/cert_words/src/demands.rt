@@ -19,6 +19,9 @@ use term_core::MAX_NODES;
 /// The greatest number.
 pub const LARGEST: u64 = 4_294_967_295;
 
+/// Each number is below it.
+pub const BOUND: u64 = LARGEST + 1;
+
 pub fn limit(what: CertCount) -> usize
     ensures { result ≡ spec.limit (counted_view what) }
 {

@@ -13,7 +13,7 @@ mod shared;
 mod words;
 
 pub use choices::choose;
-pub use demands::limit;
+pub use demands::{BOUND, limit};
 pub use error::{CertCount, CertError};
 pub use leads::{Lead, front, stuck};
 pub use nodes::{Next, Node, closed_or, next_node, opened_or};

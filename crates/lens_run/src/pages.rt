@@ -9,13 +9,11 @@ use crate::judged::judged_page;
 use crate::reply::Reply;
 use cc_io::Shelf;
 use cops_read::one_reading;
+use run_parts::USUAL_BUDGET;
 use shown_systems::{SkeletonKind, show, skeleton};
 use std::alloc::Global;
 use term_core::NoMemory;
 use told_certificates::svg;
-
-// The units for each space, as many as `concon` has for all where it is given no budget.
-const UNITS: u64 = 1_000_000;
 
 /// The page of a file's system.
 pub fn shown<S: Shelf>(alloc: Global, shelf: &mut S, file: &str) -> Reply
@@ -25,7 +23,8 @@ pub fn shown<S: Shelf>(alloc: Global, shelf: &mut S, file: &str) -> Reply
         Ok(found) => found,
         Err(reply) => return reply,
     };
-    match show(alloc, &sys, &names, UNITS) {
+    // (each space has as many units as `concon` has for all)
+    match show(alloc, &sys, &names, USUAL_BUDGET) {
         Ok(page) => Reply::Page(page),
         Err(NoMemory) => Reply::NoMemory,
     }

@@ -16,15 +16,10 @@ use critical_pairs::Overlap;
 use flatterm::Work;
 use reach::{Entry, ReachStop, reach_in};
 use rule_index::IndexedSystem;
+use search_answers::{COND_DEPTH, STEPS};
 use std::alloc::Global;
 use term_core::{NoMemory, Rule, Term};
 use validity::Search;
-
-// The steps of a listing.
-const STEPS: u32 = 5;
-
-// Its condition depth.
-const COND_DEPTH: u32 = 2;
 
 // Tries the pairs of a start's listed terms.
 fn try_listed(

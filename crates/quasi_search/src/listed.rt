@@ -10,14 +10,9 @@ use critical_pairs::Overlap;
 use flatterm::Work;
 use irreducible::LeftSides;
 use reach::{Entry, ReachStop, reach_in};
+use search_answers::{COND_DEPTH, STEPS};
 use std::alloc::Global;
 use term_core::{NoMemory, Term};
-
-// The steps of a listing.
-const STEPS: u32 = 5;
-
-// Its condition depth.
-const COND_DEPTH: u32 = 2;
 
 /// The listing of a term with the conditions of an overlap as hypotheses; none where the budget is spent before.
 pub fn listed_under(

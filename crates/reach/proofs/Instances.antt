@@ -57,19 +57,9 @@ pub no_room : (t : math.Term) (room : ℕ) → (room < size t) ⊎ (room < depth
 no_room t room (inl h) = h
 no_room t room (inr h) = let d = depth_small t in omega (arith, h, d)
 
-pub value_room : (t u : math.Term) (room : ℕ) (o : Option ℕ) → t ≡ u → IfSome o (λ left. left + size t ≡ room) → IfSome o (λ left. left + size u ≡ room)
-value_room t u room None e h = h
-value_room t u room (Some left) e h = let k = ap size e in omega (arith, h, k)
-
 pub value_none : (t u : math.Term) (room : ℕ) (o : Option ℕ) → t ≡ u → IfNone o ((room < size t) ⊎ (room < depth t)) → IfNone o (room < size u)
 value_none t u room None e h = let k = ap size e in let n = no_room t room h in omega (arith, n, k)
 value_none t u room (Some left) e h = h
-
--- the first of some arguments, and the others
-pub first_room : (b : Bindings) (t : math.Term) (ts all : math.Terms) (room left : ℕ) (o : Option ℕ) → all ≡ cons t ts → left + size (apply (values_of b) t) ≡ room
-    → IfSome o (λ n. n + size_all (apply_all (values_of b) ts) ≡ left) → IfSome o (λ n. n + size_all (apply_all (values_of b) all) ≡ room)
-first_room b t ts all room left None e h k = k
-first_room b t ts all room left (Some n) e h k = let s = ap (λ z. size_all (apply_all (values_of b) z)) e in omega (arith, s, h, k)
 
 pub first_none : (b : Bindings) (t : math.Term) (ts all : math.Terms) (room left : ℕ) (o : Option ℕ) → all ≡ cons t ts → left + size (apply (values_of b) t) ≡ room
     → IfNone o (left < size_all (apply_all (values_of b) ts)) → IfNone o (room < size_all (apply_all (values_of b) all))

@@ -4,7 +4,7 @@ use Rattle.std.proofs.lemmas.Bool.{and_from, cond-true}
 use Rattle.rewriting.specs.Terms as math
 use Rattle.rewriting.specs.Terms.{var, app}
 use Rattle.rewriting.specs.Matching.{Covers}
-use Rattle.rewriting.specs.Substitutions.{Bindings, apply, apply_all, values_of}
+use Rattle.rewriting.specs.Substitutions.{Bindings, apply, values_of}
 use Rattle.rewriting.specs.Rules.{Condition, System}
 use Rattle.rewriting.specs.Tests.{is_covered, is_fit, match_onto, match_all_onto}
 use Rattle.rewriting.proofs.Tests.{covers_is, fits_fit, depth_small}
@@ -14,7 +14,7 @@ use Rattle.reach_lists.specs.Solutions as lists
 use Rattle.reach_lists.specs.Solutions.{starts, extended}
 use Rattle.reach_lists.specs.Lists.{total, condition_list, condition_cost, reach_list, reach_cost, with_terms}
 use Rattle.solution_paths.specs.Paths.{followed, asked_on_paths}
-use Rattle.term_core.specs.View.{view, views}
+use Rattle.term_core.specs.View.{view}
 use Rattle.term_core.specs.declared.terms.Term.{Term}
 use Rattle.term_core.specs.declared.terms.Term.TheVariants.{Fun}
 use Rattle.term_core.proofs.Views.{view-Fun}
@@ -28,16 +28,6 @@ use Rattle.reach.proofs.Following.{offered_same, nothing_paid, list_part, condit
 pub other_roots : (p t : Term) (f g : ℕ) (v w : Vec Term Global) → p ≡ Fun f v → t ≡ Fun g w → (f ≡ g → ⊥) → RootsDiffer (view p) (view t)
 other_roots p t f g v w is_p is_t other =
     subst₂ RootsDiffer (sym (ap view is_p ∙ view-Fun f v)) (sym (ap view is_t ∙ view-Fun g w)) other
-
--- a symbol is the root of each instance
-pub differ_under : (b : Bindings) (p : math.Term) (t : Term) (f : ℕ) (v : Vec Term Global) → t ≡ Fun f v → RootsDiffer p (view t) → RootsDiffer p (apply (values_of b) (view t))
-differ_under b p t f v is h =
-    let whole = ap view is ∙ view-Fun f v in
-    subst (λ z. RootsDiffer p (apply (values_of b) z)) (sym whole) (same p (subst (RootsDiffer p) whole h))
-  where
-    same : (q : math.Term) → RootsDiffer q (app f (views v.items)) → RootsDiffer q (app f (apply_all (values_of b) (views v.items)))
-    same (var x) k = k
-    same (app g ps) k = k
 
 -- where the roots differ, there is no match
 pub no_match_off : (b : Bindings) (p t : math.Term) → RootsDiffer p t → match_onto b p t ≡ None

@@ -1,4 +1,4 @@
-//! What searches answer, as endings of the spaces that they search, and the list of overlaps that they are lent.
+//! What searches answer, as endings of the spaces that they search, how far their lists go, and the list of overlaps that they are lent.
 #![tactic(auto)]
 
 ghost use Rattle.std.specs.Prelude.{IfOk, map};
@@ -9,6 +9,12 @@ ghost use Rattle.search_answers.specs.Given.{HasOverlaps};
 use critical_pairs::{Overlap, OverlapError, overlaps, overlaps_with};
 use std::alloc::Global;
 use term_core::{NoMemory, System};
+
+/// A listing has terms of so many steps.
+pub const STEPS: u32 = 5;
+
+/// Its condition depth.
+pub const COND_DEPTH: u32 = 2;
 
 /// The overlaps of a system, or none where they are refused.
 pub fn overlaps_or_none(alloc: Global, sys: &System) -> Result<Option<Vec<Overlap>>, NoMemory>

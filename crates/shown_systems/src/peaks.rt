@@ -12,14 +12,9 @@ use lens_pages::Page;
 use noncon_search::search_peak_over;
 use reach::{Entry, ReachStop, reach_in};
 use rule_index::IndexedSystem;
+use search_answers::{COND_DEPTH, STEPS};
 use term_core::{Cond, NoMemory, Term, fits};
 use validity::Search;
-
-// The steps of a listing.
-const STEPS: u32 = 5;
-
-// Its condition depth.
-const COND_DEPTH: u32 = 2;
 
 /// How many starts there are, how many terms are listed for them, how many pairs these make, and for how many starts there are any.
 #[derive(Clone, Copy)]

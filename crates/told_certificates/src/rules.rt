@@ -1,5 +1,5 @@
 //! The rules of a system by their numbers.
-ghost use Rattle.std.specs.Prelude.{◌≡◌, IfSome};
+ghost use Rattle.std.specs.Prelude.{IfSome};
 ghost use Rattle.redex_conditions.specs.Judged.{IsOfSystem};
 
 use crate::scene::Scene;
