@@ -11,7 +11,6 @@ ghost use Rattle.noncon_search.specs.Ends.{end_view, IsEnd, AreEnds};
 ghost use Rattle.noncon_search.specs.Answers.{peak_of, EntriesAnswers, CapsAnswers, ApartAnswers, CandidateAnswers};
 
 use crate::ends::End;
-use crate::made_caps::FIRST_HOLE;
 use crate::redexes::refute_redexes;
 use cert_limits::has_text;
 use cert_model::{Certificate, NonJoin, Peak, Redex};
@@ -19,7 +18,7 @@ use cops_names::Names;
 use reach::Entry;
 use rule_index::IndexedSystem;
 use std::alloc::Global;
-use tcap_infeasible::{ComparedCaps, compare_rigid_caps, made_caps_clash};
+use tcap_infeasible::{ComparedCaps, FIRST_HOLE, compare_rigid_caps, made_caps_clash};
 use term_core::{NoMemory, Term, has_symbols_below, try_clone};
 
 // An entry with valid evidence for each redex of both ends, the first that is tried; none where a redex has none.

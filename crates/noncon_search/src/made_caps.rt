@@ -7,11 +7,8 @@ ghost use Rattle.noncon_search.specs.Ends.{StandsForCap};
 
 use rule_index::IndexedSystem;
 use std::alloc::Global;
-use tcap_infeasible::{Cap, rigid_cap_in};
+use tcap_infeasible::{Cap, FIRST_HOLE, rigid_cap_in};
 use term_core::{NoMemory, Term};
-
-/// The number of the first hole of a cap. The variables of listed terms are below, unless a rule has a thousand million of them.
-pub const FIRST_HOLE: u32 = 1 << 31;
 
 // Whether the variables of a term are below a number.
 fn is_below(t: &Term, bound: u32) -> bool

@@ -4,10 +4,9 @@ ghost use Rattle.rewriting.specs.Terms as math;
 ghost use Rattle.term_core.specs.View.{view, views};
 ghost use Rattle.noncon_search.specs.Laying.{laid, IsLaid};
 
-use crate::made_caps::FIRST_HOLE;
 use std::alloc::Global;
 use std::mem;
-use tcap_infeasible::made_caps_clash;
+use tcap_infeasible::{FIRST_HOLE, made_caps_clash};
 use term_core::{NoMemory, Term, try_clone};
 
 /// What each of the caps has at the holes of the others. It is closed where two of them clash, or one was not made.

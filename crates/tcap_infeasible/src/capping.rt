@@ -14,7 +14,7 @@ use std::alloc::Global;
 use term_core::{NoMemory, Term};
 use unification::{Unified, unify_fitting};
 
-/// The number of the first hole: the variables of rules are below.
+/// The number of the first hole: the variables of rules and listed terms are below, unless a rule has a thousand million of them.
 pub const FIRST_HOLE: u32 = 1 << 31;
 
 /// What becomes of a variable.

@@ -7,6 +7,7 @@ mod evidence;
 mod keys;
 mod thawing;
 
+pub use capping::FIRST_HOLE;
 pub use comparing::{ComparedCaps, compare_caps, compare_rigid_caps, made_caps_clash};
 pub use evidence::{IndexedTcap, TcapEvidence};
 use term_core::Term;
