@@ -1,10 +1,9 @@
 //! Cases of `run`: what is answered to a file and a certificate, or a query.
 //!
 //! Each word that the program is given names a file of cases, which begins with an account of their form. For each case it
-//! prints how the run ended and what was written.
+//! prints how the run ended and what was written; and the same of runs over files and streams that fail.
 #![tactic(auto)]
 
-#[cfg(test)]
 mod faults;
 
 use case_texts::{Case, case_of, text_of};
@@ -120,5 +119,5 @@ fn main(rt: HostRuntime) -> io::Result<()> {
     for name in env::args(&rt)?.skip(1) {
         print_cases(&rt, &name)?;
     }
-    Ok(())
+    faults::print_faults(&rt)
 }
