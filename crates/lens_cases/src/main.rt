@@ -1,10 +1,14 @@
-//! Cases of `run`: what is said to words, with a file and a certificate.
+//! Cases of the companion: what is said to words, with a file and a certificate.
 //!
 //! Each word that the program is given names a file of cases, which begins with an account of their form. For each case it prints how the run ended and
-//! what was written on the error stream; pages have cases of their own. Then it prints what is said where a file or a stream fails.
+//! what was written on the error stream. Then it prints what is said where a file or a stream fails, and last the pages themselves.
 #![tactic(auto)]
 
+mod ari;
 mod faults;
+mod shown;
+mod sought;
+mod told;
 
 use case_texts::{Case, case_of, text_of};
 use cc_io::{MemoryFile, MemoryShelf, MemorySink};
@@ -79,5 +83,9 @@ fn main(rt: HostRuntime) -> io::Result<()> {
     for name in env::args(&rt)?.skip(1) {
         print_cases(&rt, &name)?;
     }
-    faults::print_faults(&rt)
+    faults::print_faults(&rt)?;
+    ari::print_problems(&rt)?;
+    told::print_pages(&rt)?;
+    shown::print_pages(&rt)?;
+    sought::print_searches(&rt)
 }

@@ -1,13 +1,9 @@
-//! Prints the pages on systems, and certificates to be filled.
-//!
-//! Each word that the program is given names a file of cases. A case is a line with the name of a system's file and the units for each space, or the kind of a
-//! certificate.
-#![tactic(auto)]
-
+//! Pages on systems, and certificates to be filled: a line of `shown.txt` has the name of a system's file, and the units for each space or the kind of
+//! a certificate.
 use cops_read::{Names, read_system};
 use shown_systems::{SkeletonKind, show, skeleton};
 use std::alloc::Global;
-use std::{env, fs, io};
+use std::{fs, io};
 use term_core::{NoMemory, System};
 
 // What a case asks for: a page, with so many units for each space, or a certificate to be filled.
@@ -53,17 +49,11 @@ fn print_case(rt: &HostRuntime, line: &str) -> io::Result<()> {
     }
 }
 
-fn print_cases(rt: &HostRuntime, file: &str) -> io::Result<()> {
-    let text = fs::read_to_string(rt, file)?;
+/// Prints the pages.
+pub fn print_pages(rt: &HostRuntime) -> io::Result<()> {
+    let text = fs::read_to_string(rt, "shown.txt")?;
     for line in text.as_str().lines() {
         print_case(rt, line)?;
-    }
-    Ok(())
-}
-
-fn main(rt: HostRuntime) -> io::Result<()> {
-    for word in env::args(&rt)?.skip(1) {
-        print_cases(&rt, &word)?;
     }
     Ok(())
 }

@@ -1,7 +1,5 @@
-//! Tells of each problem of `data/` what it is in the other text, or why there is none, and where. A line of
-//! `refused.txt` is a problem, but that a line that begins with `#` is a heading.
-#![tactic(auto)]
-
+//! Problems of the other format: what each is in this one, or why there is none, and where. A line of `ari.txt` is a problem, but that a
+//! line that begins with `#` is a heading.
 use ari_text::ari_to_cops;
 use std::alloc::{AllocError, Global};
 use std::{fs, io};
@@ -40,13 +38,14 @@ fn print_line(rt: &HostRuntime, line: &str) -> io::Result<()> {
     print!(rt; "{line}  =>  {answer}")
 }
 
-fn main(rt: HostRuntime) -> io::Result<()> {
+/// Prints what each problem is told as.
+pub fn print_problems(rt: &HostRuntime) -> io::Result<()> {
     for file in PROBLEMS {
-        print_problem(&rt, file)?;
+        print_problem(rt, file)?;
     }
-    let text = fs::read_to_string(&rt, "refused.txt")?;
+    let text = fs::read_to_string(rt, "ari.txt")?;
     for line in text.lines() {
-        print_line(&rt, line)?;
+        print_line(rt, line)?;
     }
     Ok(())
 }

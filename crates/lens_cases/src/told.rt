@@ -1,7 +1,5 @@
-//! Prints the pages of certificates. A line of `data/pages.txt` names a system and a certificate, which may have the same name:
-//! `tell` prints the certificate in words, or where it breaks if the check rejects it, and `draw` the picture. A last line tells that all were printed.
-#![tactic(auto)]
-
+//! Pages of certificates. A line of `told.txt` names a system and a certificate, which may have the same name: `tell` prints the certificate in
+//! words, or where it breaks if the check rejects it, and `draw` the picture.
 ghost use Rattle.std.specs.Prelude.{◌≡◌, map};
 
 use cert_check::{BytesError, Verdict, check_bytes};
@@ -61,10 +59,11 @@ fn print_line(rt: &HostRuntime, line: &str) -> io::Result<()> {
     print_page(rt, call, &file, &text)
 }
 
-fn main(rt: HostRuntime) -> io::Result<()> {
-    let text = fs::read_to_string(&rt, "pages.txt")?;
+/// Prints the pages.
+pub fn print_pages(rt: &HostRuntime) -> io::Result<()> {
+    let text = fs::read_to_string(rt, "told.txt")?;
     for line in text.as_str().lines() {
-        print_line(&rt, line)?;
+        print_line(rt, line)?;
     }
-    println!(rt; "== end")
+    Ok(())
 }
