@@ -1,46 +1,62 @@
-//! Prints, for each line of `data/searches.txt`, what a search answers.
-//!
-//! `ortho BUDGET; FILE` asks for the certificate of an almost orthogonal system, `peak BUDGET; FILE` for one that the system is
-//! not confluent, `quasi BUDGET; FILE` for one with a measure: the answer is its text, with a slash for each line end, or that there is none or that the budget is spent; then
-//! what is left of the budget and what was spent. Where something is found, the search is asked again with its cost as the budget,
-//! and with one unit less.
-//! `text; FILE; OTHER; CERTIFICATE` reads the certificate with the names of the first file, and tells whether it has a text with the
-//! names of the other.
-//!
-//! Files and certificates are written on one line, certificates with a slash for each line end. Empty lines and those that begin
-//! with `#` are printed as they are.
+//! Prints what operations of the searches answer to each line of the tables in `data/`; the module of a table says how its lines are spelt. Files
+//! are written on one line. Empty lines and those that begin with `#` are printed as they are.
 #![tactic(auto)]
 
+mod answers;
+mod asked;
+mod files;
+mod lines;
+mod made;
+mod orders;
+mod prefixes;
+mod questions;
+mod replayed;
 mod searched;
+mod solving;
 mod texts;
+mod told;
 
-use searched::Kind;
 use std::alloc::{AllocError, Global};
 use std::{fs, io};
 
-fn told_of(alloc: Global, line: &str) -> Result<String, AllocError> {
-    let (asked, rest) = line.split_once("; ").unwrap_or((line, ""));
-    let mut words = asked.split_whitespace();
-    let kind = words.next().unwrap_or("");
-    let budget = words.next().and_then(|word| word.parse::<u64>().ok());
-    match (kind, budget) {
-        ("ortho", Some(budget)) => searched::of_search(alloc, Kind::Ortho, budget, rest),
-        ("peak", Some(budget)) => searched::of_search(alloc, Kind::Peak, budget, rest),
-        ("quasi", Some(budget)) => searched::of_search(alloc, Kind::Quasi, budget, rest),
-        ("text", None) => texts::of_certificate(alloc, rest),
-        _ => String::from_str(alloc, "no question"),
+// What the lines of a table ask for.
+#[derive(Clone, Copy)]
+enum Table {
+    List,
+    Steps,
+    Certificate,
+    Query,
+}
+
+fn told_of(alloc: Global, table: Table, line: &str) -> Result<String, AllocError> {
+    match table {
+        Table::List => match line.strip_prefix("first ") {
+            Some(conditions) => solving::of_line(alloc, conditions),
+            None => answers::of_line(alloc, line),
+        },
+        Table::Steps => made::of_line(alloc, line),
+        Table::Certificate => searched::of_line(alloc, line),
+        Table::Query => asked::of_line(alloc, line),
     }
 }
 
-fn main(rt: HostRuntime) -> io::Result<()> {
-    let text = fs::read_to_string(&rt, "searches.txt")?;
+fn print_table(rt: &HostRuntime, table: Table, name: &str) -> io::Result<()> {
+    let text = fs::read_to_string(rt, name)?;
     for line in text.as_str().lines() {
         if line.is_empty() || line.starts_with('#') {
-            println!(&rt; "{line}")?;
+            println!(rt; "{line}")?;
         } else {
-            let told = told_of(rt.alloc(), line)?;
-            println!(&rt; "{line}  =>  {told}")?;
+            let told = told_of(rt.alloc(), table, line)?;
+            println!(rt; "{line}  =>  {told}")?;
         }
     }
     Ok(())
+}
+
+fn main(rt: HostRuntime) -> io::Result<()> {
+    print_table(&rt, Table::List, "lists.txt")?;
+    print_table(&rt, Table::Steps, "steps.txt")?;
+    orders::print_cases(&rt)?;
+    print_table(&rt, Table::Certificate, "searches.txt")?;
+    print_table(&rt, Table::Query, "queries.txt")
 }

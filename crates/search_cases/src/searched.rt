@@ -1,5 +1,12 @@
-//! What a search answers.
-use crate::texts::on_one_line;
+//! What a search answers to a line of `searches.txt`.
+//!
+//! `ortho BUDGET; FILE` asks for the certificate of an almost orthogonal system, `peak BUDGET; FILE` for one that the system is
+//! not confluent, `quasi BUDGET; FILE` for one with a measure: the answer is its text, with a slash for each line end, or that there is none or that the budget is spent; then
+//! what is left of the budget and what was spent. Where something is found, the search is asked again with its cost as the budget,
+//! and with one unit less.
+//! `text; FILE; OTHER; CERTIFICATE` reads the certificate with the names of the first file, and tells whether it has a text with the
+//! names of the other. Certificates are written with a slash for each line end.
+use crate::texts::{of_certificate, on_one_line};
 use cc_count::Budget;
 use cops_read::{Names, read_system};
 use noncon_search::search_peak;
@@ -8,9 +15,9 @@ use quasi_search::search_quasi;
 use std::alloc::{AllocError, Global};
 use term_core::{NoMemory, System};
 
-/// Which certificate is searched for.
+// Which certificate is searched for.
 #[derive(Clone, Copy)]
-pub enum Kind {
+enum Kind {
     Ortho,
     Peak,
     Quasi,
@@ -30,8 +37,8 @@ fn search(
     }
 }
 
-/// What the search in a file answers within the budget.
-pub fn of_search(alloc: Global, kind: Kind, budget: u64, file: &str) -> Result<String, AllocError> {
+// What the search in a file answers within the budget.
+fn of_search(alloc: Global, kind: Kind, budget: u64, file: &str) -> Result<String, AllocError> {
     match read_system(alloc, file.as_bytes()) {
         Ok((sys, names)) => of_system(alloc, kind, budget, &sys, &names),
         Err(e) => format!(in alloc; "{e}"),
@@ -79,4 +86,19 @@ fn is_exact(alloc: Global, kind: Kind, sys: &System, names: &Names, price: u64) 
         && (price == 0 || matches!(stopped, Ok(Search::Spent)))
         && enough.left() == 0
         && less.left() == 0
+}
+
+/// What is told of a line.
+pub fn of_line(alloc: Global, line: &str) -> Result<String, AllocError> {
+    let (asked, rest) = line.split_once("; ").unwrap_or((line, ""));
+    let mut words = asked.split_whitespace();
+    let kind = words.next().unwrap_or("");
+    let budget = words.next().and_then(|word| word.parse::<u64>().ok());
+    match (kind, budget) {
+        ("ortho", Some(budget)) => of_search(alloc, Kind::Ortho, budget, rest),
+        ("peak", Some(budget)) => of_search(alloc, Kind::Peak, budget, rest),
+        ("quasi", Some(budget)) => of_search(alloc, Kind::Quasi, budget, rest),
+        ("text", None) => of_certificate(alloc, rest),
+        _ => String::from_str(alloc, "no question"),
+    }
 }
