@@ -5,7 +5,7 @@
 mod answers;
 mod built;
 mod case;
-mod certificates;
+mod cert_tables;
 mod entries;
 mod readings;
 mod texts;
@@ -57,5 +57,5 @@ fn main(rt: HostRuntime) -> io::Result<()> {
     println!(rt; "# A symbol is added, and another of its name\n{added}")?;
     let text = built::without_rules(rt.alloc())?;
     println!(rt; "# A system with a symbol that no rule uses\n{text}")?;
-    certificates::print_tables(&rt)
+    cert_tables::print_tables(&rt)
 }
