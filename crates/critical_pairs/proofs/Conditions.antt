@@ -1,35 +1,19 @@
 -- Conditions of a list, one by one.
-use Rattle.std.proofs.Common.{ℕ, zero, suc, ◌≡◌, ◌<◌, true, List, [], ◌∷◌, ◌++◌, map, length, get_or, refl, sym, ap, ◌∙◌, subst, arith}
-use Rattle.std.proofs.lemmas.Bool.{or_right, or_left}
+use Rattle.std.proofs.Common.{ℕ, zero, suc, ◌≡◌, ◌<◌, List, [], ◌∷◌, ◌++◌, map, length, get_or, sym, ap, ◌∙◌, subst, arith}
 use Rattle.rewriting.specs.Terms.{Fits}
 use Rattle.rewriting.specs.Substitutions.{Substitution, apply}
-use Rattle.rewriting.specs.Variables.{occurs, occurs_in}
 use Rattle.rewriting.specs.Rules as math
 use Rattle.rewriting.specs.Rules.{sides}
 use Rattle.rewriting.specs.Systems.{Each}
-use Rattle.rewriting.specs.Overlaps.{condition_under, conditions_under}
+use Rattle.rewriting.specs.Overlaps.{conditions_under}
 use Rattle.term_core.specs.View.{view}
 use Rattle.term_core.specs.RuleView.{condition_view}
 use Rattle.term_core.specs.declared.systems.Cond.{Cond}
-
-pub left_occurs : (k : ℕ) (cs : List Cond) (i : ℕ) (c : Cond) → i < length cs → c ≡ get_or cs i c → occurs k (view c.left) ≡ true → occurs_in k (sides (map condition_view cs)) ≡ true
-left_occurs k [] i c h e o = absurd (omega arith)
-left_occurs k (d ∷ cs) zero c h e o = or_left _ _ (subst (λ z. occurs k (view z.left) ≡ true) e o)
-left_occurs k (d ∷ cs) (suc i) c h e o = or_right _ _ (or_right _ _ (left_occurs k cs i c (omega arith) e o))
-
-pub right_occurs : (k : ℕ) (cs : List Cond) (i : ℕ) (c : Cond) → i < length cs → c ≡ get_or cs i c → occurs k (view c.right) ≡ true → occurs_in k (sides (map condition_view cs)) ≡ true
-right_occurs k [] i c h e o = absurd (omega arith)
-right_occurs k (d ∷ cs) zero c h e o = or_right _ _ (or_left _ _ (subst (λ z. occurs k (view z.right) ≡ true) e o))
-right_occurs k (d ∷ cs) (suc i) c h e o = or_right _ _ (or_right _ _ (right_occurs k cs i c (omega arith) e o))
 
 pub both_fit : (cs : List Cond) (i : ℕ) (c : Cond) → i < length cs → c ≡ get_or cs i c → Each Fits (sides (map condition_view cs)) → Fits (view c.left) × Fits (view c.right)
 both_fit [] i c h e f = absurd (omega arith)
 both_fit (d ∷ cs) zero c h e f = (subst (λ z. Fits (view z.left)) (sym e) f.0, subst (λ z. Fits (view z.right)) (sym e) f.1.0)
 both_fit (d ∷ cs) (suc i) c h e f = both_fit cs i c (omega arith) e f.1.1
-
-pub under-append : (s : Substitution) (cs ds : List math.Condition) → conditions_under s (cs ++ ds) ≡ conditions_under s cs ++ conditions_under s ds
-under-append s [] ds = refl
-under-append s (c ∷ cs) ds = ap (λ z. condition_under s c ∷ z) (under-append s cs ds)
 
 pub fit_append : (cs ds : List math.Condition) → Each Fits (sides cs) → Each Fits (sides ds) → Each Fits (sides (cs ++ ds))
 fit_append [] ds h k = k
@@ -48,10 +32,6 @@ pub one_fits : (m : Substitution) (cs : List Cond) (i : ℕ) (c : Cond) → i < 
 one_fits m [] i c h e f = absurd (omega arith)
 one_fits m (d ∷ cs) zero c h e f = (subst (λ z. Fits (apply m (view z.left))) (sym e) f.0, subst (λ z. Fits (apply m (view z.right))) (sym e) f.1.0)
 one_fits m (d ∷ cs) (suc i) c h e f = one_fits m cs i c (omega arith) e f.1.1
-
-pub map-append : (cs ds : List Cond) → map condition_view (cs ++ ds) ≡ map condition_view cs ++ map condition_view ds
-map-append [] ds = refl
-map-append (c ∷ cs) ds = ap (λ z. condition_view c ∷ z) (map-append cs ds)
 
 -- the instances of some conditions, and then of others, from none on
 pub both_added : (m : Substitution) (cs ds start middle end : List math.Condition) → start ≡ [] → (middle ≡ start ++ conditions_under m cs) × Each Fits (sides (conditions_under m cs)) → (end ≡ middle ++ conditions_under m ds) × Each Fits (sides (conditions_under m ds))

@@ -8,7 +8,7 @@ use Rattle.unifier_run.specs.Triples.{DoesClash}
 use Rattle.critical_pairs.specs.Offers.{Search, DoesPass, IsNext, IsOffered, IsBeyond, IsRefused}
 use Rattle.critical_pairs.specs.Cursors.{rest_of, IsCursor, StandsBefore, IsTripleAt}
 use Rattle.critical_pairs.specs.Finding.{StandsAt, IsFound, IsRefusedThere, IsCounted}
-use Rattle.critical_pairs.specs.Sides.{IsSpotOf, IsUnifierAt, IsOverlapAt, IsRefusedAt}
+use Rattle.critical_pairs.specs.Spots.{IsSpotOf, IsUnifierAt, IsOverlapAt, IsRefusedAt}
 use Rattle.critical_pairs.specs.declared.pairs.Triple as Named
 use Rattle.critical_pairs.specs.declared.cursor.Cursor.{Cursor}
 use Rattle.critical_pairs.specs.declared.OverlapError.{OverlapError}

@@ -1,6 +1,5 @@
 pub mod Exits
 pub mod Conditions
-pub mod Rooms
 pub mod Sizes
 pub mod Measures
 pub mod Spot

@@ -6,7 +6,6 @@ use Rattle.rewriting.specs.Lists.{IsAmong}
 use Rattle.rewriting.specs.Terms.{app, Fits}
 use Rattle.rewriting.specs.Rules.{Rule, System, rule_at}
 use Rattle.rewriting.specs.Systems.{IsSystem}
-use Rattle.rule_index.specs.Index.{listed, IsIndexOf}
 use Rattle.rule_index.specs.Roots.{rules_with_root}
 use Rattle.rule_index.proofs.Walks.{ascending, listed_rule}
 use Rattle.unifier_run.specs.Overlaps.{Triple}
@@ -16,7 +15,7 @@ use Rattle.rewriting.proofs.Systems.{numbered_rule}
 use Rattle.critical_pairs.specs.Offers.{DoesPass}
 use Rattle.critical_pairs.specs.Places.{RootAt, place_view, places_of, triples_of, IsRootAt}
 use Rattle.critical_pairs.specs.Cursors.{rest_of_places, rest_of, IsCursor, StandsBefore, CandidateAnswers, IsEntered}
-use Rattle.critical_pairs.specs.Sides.{IsSpotOf}
+use Rattle.critical_pairs.specs.Spots.{IsSpotOf}
 use Rattle.critical_pairs.specs.declared.cursor.Cursor.{Cursor}
 use Rattle.critical_pairs.specs.declared.places.Place as Program
 use Rattle.term_core.specs.RuleView.{rule_view}
@@ -111,24 +110,23 @@ view_at (y ∷ ys) zero x h e = ap (λ z. Some (place_view z)) (sym e)
 view_at (y ∷ ys) (suc k) x h e = view_at ys k x (omega arith) e
 
 -- within one outer rule
-module _ (sys : System) (h : IsSystem sys) (index : List (List ℕ)) (by_root : IsIndexOf sys index) (b c d : Cursor) (is : IsCursor sys b) (o : c.outer ≡ b.outer) (ps : c.places ≡ b.places) (x : Program.Place) (l : c.place < length c.places.items) (e : x ≡ get_or c.places.items c.place x) where
+module _ (sys : System) (h : IsSystem sys) (b c d : Cursor) (is : IsCursor sys b) (o : c.outer ≡ b.outer) (ps : c.places ≡ b.places) (x : Program.Place) (l : c.place < length c.places.items) (e : x ≡ get_or c.places.items c.place x) where
   here_root : IsRootAt sys c.outer (place_view x)
   here_root = subst (λ z. IsRootAt sys z (place_view x)) (sym o) (is.places (place_view x) (subst (λ z. IsAmong (place_view x) (map place_view z.items)) ps (place_among _ c.place _ (view_at c.places.items c.place x l e))))
 
-  pub stands_here : (i : ℕ) → CandidateAnswers (listed index x.root) x.pos.items c.outer c.candidate (Some i) → StandsBefore sys c i
+  pub stands_here : (i : ℕ) → CandidateAnswers (rules_with_root sys x.root) x.pos.items c.outer c.candidate (Some i) → StandsBefore sys c i
   stands_here i a =
       record {
         at = place_view x;
         is_place = view_at c.places.items c.place x l e;
-        is_candidate = subst (λ z. slice_get z c.candidate ≡ Some i) (by_root x.root) a.0;
+        is_candidate = a.0;
         counts = a.1;
       }
 
-  pub past_here : CandidateAnswers (listed index x.root) x.pos.items c.outer c.candidate None → d.outer ≡ c.outer → d.places ≡ c.places → d.place ≡ suc c.place → d.candidate ≡ 0 → DoesPass sys (rest_of sys c) (rest_of sys d)
+  pub past_here : CandidateAnswers (rules_with_root sys x.root) x.pos.items c.outer c.candidate None → d.outer ≡ c.outer → d.places ≡ c.places → d.place ≡ suc c.place → d.candidate ≡ 0 → DoesPass sys (rest_of sys c) (rest_of sys d)
   past_here a q qs k n =
       subst (DoesPass sys (rest_of sys c)) (sym (moved q qs k n))
-      (past_place sys h c.outer c.place c.candidate (map place_view c.places.items) (place_view x) (view_at c.places.items c.place x l e) here_root (triples_from (length sys.rules) c.outer (drop c.outer sys.rules))
-      (subst (λ z. CandidateAnswers z x.pos.items c.outer c.candidate None) (by_root x.root) a))
+      (past_place sys h c.outer c.place c.candidate (map place_view c.places.items) (place_view x) (view_at c.places.items c.place x l e) here_root (triples_from (length sys.rules) c.outer (drop c.outer sys.rules)) a)
     where
       moved : d.outer ≡ c.outer → d.places ≡ c.places → d.place ≡ suc c.place → d.candidate ≡ 0 → rest_of sys d ≡ rest_of_places sys c.outer (drop (suc c.place) (map place_view c.places.items)) 0 ++ triples_from (length sys.rules) c.outer (drop c.outer sys.rules)
       moved q qs k n =

@@ -19,8 +19,9 @@ use Rattle.unifier_run.specs.Overlaps.{Overlap, IsOutcomeOf, DoesPairFit, IsTooL
 use Rattle.unifier_run.proofs.General.{most_general}
 use Rattle.unifier_run.proofs.Maps.{values_of-as_map}
 use Rattle.unifier_run.specs.Triples.{DoesClash}
-use Rattle.critical_pairs.specs.Building.{rule_under, IsMade, IsNumbered}
-use Rattle.critical_pairs.specs.Sides.{IsSpotOf, IsUnifierAt, IsOverlapAt}
+use Rattle.critical_pairs.specs.Building.{IsMade, IsNumbered}
+use Rattle.prepared_system.specs.Renamed.{rule_under}
+use Rattle.critical_pairs.specs.Spots.{IsSpotOf, IsUnifierAt, IsOverlapAt}
 use Rattle.critical_pairs.specs.View.{overlap_view}
 use Rattle.critical_pairs.specs.declared.Overlap as Made
 use Rattle.term_core.specs.RuleView.{condition_view, rule_view}

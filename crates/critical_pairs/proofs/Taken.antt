@@ -7,7 +7,7 @@ use Rattle.rewriting.specs.Rules.{System}
 use Rattle.unifier_run.specs.Overlaps.{Triple, Overlap, triple}
 use Rattle.unifier_run.specs.Triples.{all_triples, DoesClash}
 use Rattle.unifier_run.proofs.Spots.{order_all}
-use Rattle.critical_pairs.specs.Sides.{SpotAnswers}
+use Rattle.critical_pairs.specs.Spots.{SpotAnswers}
 use Rattle.critical_pairs.specs.View.{overlap_view}
 use Rattle.critical_pairs.specs.Kept.{AreKnown, AreNumbersNow, renumbered, IsOld, AreKept, TakeAnswers}
 use Rattle.critical_pairs.specs.declared.Overlap as Made

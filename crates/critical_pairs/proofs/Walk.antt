@@ -12,7 +12,7 @@ use Rattle.critical_pairs.specs.Answers.{OverlapsAnswers, PutAnswers}
 use Rattle.critical_pairs.specs.Offers.{Search, DoesPass}
 use Rattle.critical_pairs.specs.Places.{place_view}
 use Rattle.critical_pairs.specs.Cursors.{rest_of, rest_of_places, IsCursor, StandsBefore, IsTripleAt}
-use Rattle.critical_pairs.specs.Sides.{IsOverlapAt, IsRefusedAt, SpotAnswers}
+use Rattle.critical_pairs.specs.Spots.{IsOverlapAt, IsRefusedAt, SpotAnswers}
 use Rattle.critical_pairs.specs.Kept.{AreOrigins, AreKept}
 use Rattle.critical_pairs.specs.View.{overlap_view}
 use Rattle.critical_pairs.specs.declared.cursor.Cursor.{Cursor}

@@ -1,11 +1,10 @@
 -- What the parts of a critical pair answer, over rules whose variables are renamed apart already.
-use Rattle.std.specs.Prelude.{ℕ, ◌≡◌, ◌<◌, ◌+◌, ◌*◌, ◌^◌, true, List, ◌++◌, map, length, Some, Vec, Result, Ok, Err}
+use Rattle.std.specs.Prelude.{ℕ, ◌≡◌, List, ◌++◌, map, length, Some, Vec, Result, Ok, Err}
 use Rattle.std.specs.Global.{Global}
 use Rattle.rewriting.specs.Terms as terms
 use Rattle.rewriting.specs.Terms.{Fits}
 use Rattle.rewriting.specs.Positions.{Position, replace}
 use Rattle.rewriting.specs.Substitutions.{Substitution, apply}
-use Rattle.rewriting.specs.Variables.{occurs_in}
 use Rattle.rewriting.specs.Rules as math
 use Rattle.rewriting.specs.Rules.{sides}
 use Rattle.rewriting.specs.Systems.{Each}
@@ -19,14 +18,6 @@ use Rattle.term_core.specs.declared.terms.TermError.TheVariants.{NoPosition, Too
 use Rattle.term_core.specs.declared.systems.Cond.{Cond}
 use Rattle.critical_pairs.specs.declared.Overlap.{Overlap}
 use Rattle.critical_pairs.specs.View.{overlap_view}
-
--- a rule with its variables renamed
-abbrev pub rule_under : Substitution → math.Rule → math.Rule
-rule_under s r = record { left = apply s r.left; right = apply s r.right; conditions = conditions_under s r.conditions }
-
--- each variable k of the terms may be named 2k + add in 32 bits
-abbrev pub HasRoom : ℕ → terms.Terms → Type 0
-HasRoom add ts = (k : ℕ) → occurs_in k ts ≡ true → 2 * k + add < 2 ^ 32
 
 -- the critical pair that m makes of an inner and an outer rule
 pub record IsMade (m : Substitution) (p : Position) (inner outer : math.Rule) (pair : CriticalPair) : Type 0 where

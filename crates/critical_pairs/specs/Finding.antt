@@ -4,7 +4,7 @@ use Rattle.rewriting.specs.Rules.{System}
 use Rattle.unifier_run.specs.Overlaps.{Triple, IsTooLargeAt}
 use Rattle.critical_pairs.specs.Cursors.{rest_of, StandsBefore}
 use Rattle.critical_pairs.specs.declared.cursor.Cursor.{Cursor}
-use Rattle.critical_pairs.specs.Sides.{IsUnifierAt}
+use Rattle.critical_pairs.specs.Spots.{IsUnifierAt}
 use Rattle.critical_pairs.specs.declared.OverlapError.{OverlapError}
 use Rattle.critical_pairs.specs.declared.search.Found.{Found}
 use Rattle.critical_pairs.specs.declared.OverlapError.TheVariants.{PairTooLarge, TooManyPairs, NoMemory}

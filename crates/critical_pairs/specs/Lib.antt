@@ -4,7 +4,7 @@ pub mod Building
 pub mod Offers
 pub mod Places
 pub mod Cursors
-pub mod Sides
+pub mod Spots
 pub mod Finding
 pub mod SearchView
 pub mod Kept

@@ -2,20 +2,20 @@
 use Rattle.std.specs.Prelude.{ℕ, ◌≤◌, List, refl}
 use Rattle.std.specs.Coded.{Coded, code_by, coded×, coded_ℕ, coded_list}
 use Rattle.rewriting.specs.Rules.{System}
+use Rattle.rewriting.specs.Systems.{IsSystem}
 use Rattle.rewriting.specs.Codes.{coded_system}
 use Rattle.unifier_run.specs.Overlaps.{Triple}
 use Rattle.critical_pairs.specs.Offers.{Search}
 use Rattle.critical_pairs.specs.Cursors.{rest_of, IsCursor}
-use Rattle.critical_pairs.specs.Sides.{AreSides}
 use Rattle.critical_pairs.specs.declared.search.OverlapSearch.TheInside.{Inside}
 
 abbrev pub search_view : Inside → Search
-search_view s = record { system = s.sides.sys.now; rest = rest_of s.sides.sys.now s.cursor; offered = s.offered }
+search_view s = record { system = s.sys.now; rest = rest_of s.sys.now s.cursor; offered = s.offered }
 
 -- what a search keeps
 pub record IsHeld (s : Inside) : Type 0 where
-  pub sides : AreSides s.sides
-  pub cursor : IsCursor s.sides.sys.now s.cursor
+  pub sound : IsSystem s.sys.now
+  pub cursor : IsCursor s.sys.now s.cursor
   pub few : s.offered ≤ 20000
 
 -- a code, by which a program's type may have a search as its value

@@ -1,16 +1,15 @@
 //! Where a search for overlaps stands: at an outer rule, a position of its left side, and an inner rule.
 ghost use Rattle.std.specs.Prelude.{◌≡◌, ◌<◌, ◌^◌, [], length};
 ghost use Rattle.rewriting.specs.Terms.{Fits};
-ghost use Rattle.rule_index.specs.Index.{listed};
+ghost use Rattle.rewriting.specs.Systems.{IsSystem};
+ghost use Rattle.rule_index.specs.Roots.{rules_with_root};
 ghost use Rattle.term_core.specs.View.{view};
 ghost use Rattle.critical_pairs.specs.Offers.{DoesPass};
 ghost use Rattle.critical_pairs.specs.Cursors.{rest_of, IsCursor, IsTripleAt, CandidateAnswers, StandAnswers, EnterAnswers, SettleAnswers};
-ghost use Rattle.critical_pairs.specs.Sides.{AreSides};
 
 use crate::pairs::Triple;
 use crate::places::{Place, places};
-use crate::sides::Sides;
-use rule_index::RuleIndex;
+use prepared_system::PreparedSystem;
 use std::alloc::Global;
 use term_core::{NoMemory, Term};
 
@@ -28,10 +27,10 @@ pub struct Cursor {
 }
 
 // The inner rule with a number among the candidates at a place. At the root only those before the outer rule count.
-fn candidate(index: &RuleIndex, place: &Place, outer: u32, number: usize) -> Option<u32>
-    ensures { CandidateAnswers (listed index.now place.now.root) place.now.pos.items outer number result }
+fn candidate(sys: &PreparedSystem<'_>, place: &Place, outer: u32, number: usize) -> Option<u32>
+    ensures { CandidateAnswers (rules_with_root sys.now place.now.root) place.now.pos.items outer number result }
 {
-    let inner = *index.with_root(place.root).get(number)?;
+    let inner = *sys.indexed().with_root(place.root).get(number)?;
     if place.pos.is_empty() && inner >= outer {
         None
     } else {
@@ -66,17 +65,17 @@ impl Cursor {
     }
 
     // Goes on to the next inner rule that the outer rule may overlap with.
-    fn settle_in_rule(&mut self, sides: &Sides) -> Option<u32>
-        requires sides { AreSides sides.now }
-        requires cursor { IsCursor sides.now.sys.now self.old }
+    fn settle_in_rule(&mut self, sys: &PreparedSystem<'_>) -> Option<u32>
+        requires sound { IsSystem sys.now }
+        requires cursor { IsCursor sys.now self.old }
         ensures outer { self.new.outer ≡ self.old.outer }
         ensures places { self.new.places ≡ self.old.places }
-        ensures passes { DoesPass sides.now.sys.now (rest_of sides.now.sys.now self.old) (rest_of sides.now.sys.now self.new) }
-        ensures answer { StandAnswers sides.now.sys.now self.new result }
+        ensures passes { DoesPass sys.now (rest_of sys.now self.old) (rest_of sys.now self.new) }
+        ensures answer { StandAnswers sys.now self.new result }
     {
         while self.place < self.places.len() {
             let place = &self.places[self.place];
-            if let Some(inner) = candidate(&sides.index, place, self.outer, self.candidate) {
+            if let Some(inner) = candidate(sys, place, self.outer, self.candidate) {
                 return Some(inner);
             }
             self.place += 1;
@@ -99,18 +98,22 @@ impl Cursor {
     }
 
     /// Goes on to the next inner rule whose left side has the root of a place: its number, or none where nothing is left.
-    pub fn settle(&mut self, alloc: Global, sides: &Sides) -> Result<Option<u32>, NoMemory>
-        requires sides { AreSides sides.now }
-        requires cursor { IsCursor sides.now.sys.now self.old }
-        ensures cursor { IsCursor sides.now.sys.now self.new }
-        ensures passes { DoesPass sides.now.sys.now (rest_of sides.now.sys.now self.old) (rest_of sides.now.sys.now self.new) }
-        ensures answer { SettleAnswers sides.now.sys.now self.new result }
+    pub fn settle(
+        &mut self,
+        alloc: Global,
+        sys: &PreparedSystem<'_>,
+    ) -> Result<Option<u32>, NoMemory>
+        requires sound { IsSystem sys.now }
+        requires cursor { IsCursor sys.now self.old }
+        ensures cursor { IsCursor sys.now self.new }
+        ensures passes { DoesPass sys.now (rest_of sys.now self.old) (rest_of sys.now self.new) }
+        ensures answer { SettleAnswers sys.now self.new result }
     {
         'rules: loop {
-            if let Some(inner) = self.settle_in_rule(sides) {
+            if let Some(inner) = self.settle_in_rule(sys) {
                 return Ok(Some(inner));
             }
-            let Some(rule) = sides.sys.rules().get(self.outer as usize) else {
+            let Some(rule) = sys.rules().get(self.outer as usize) else {
                 return Ok(None);
             };
             self.enter(alloc, &rule.left)?;

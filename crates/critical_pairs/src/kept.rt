@@ -4,12 +4,13 @@ ghost use Rattle.rewriting.specs.Rules as math;
 ghost use Rattle.unifier_run.specs.Overlaps as triples;
 ghost use Rattle.unifier_run.specs.Triples.{all_triples};
 ghost use Rattle.critical_pairs.specs.View.{overlap_view};
-ghost use Rattle.critical_pairs.specs.Sides.{AreSides, IsSpotOf, SpotAnswers};
+ghost use Rattle.critical_pairs.specs.Spots.{IsSpotOf, SpotAnswers};
 ghost use Rattle.critical_pairs.specs.Kept.{number_at as held_under, AreOrigins, AreKnown, AreNumbersNow, noted, renumbered as with_numbers_now, IsOld, AreKept, TakeAnswers};
 
 use crate::pairs::Triple;
-use crate::sides::Sides;
+use crate::spots::{overlap_by, unifier_at};
 use crate::{Overlap, OverlapError};
+use prepared_system::PreparedSystem;
 use std::alloc::Global;
 use std::collections::VecDeque;
 use term_core::{NoMemory, System};
@@ -145,20 +146,19 @@ impl<'a> Kept<'a> {
 /// The overlap at a triple, or none where the run clashes there. Of two old rules this is known, and no run is made.
 pub fn overlap_at(
     alloc: Global,
-    sides: &Sides,
+    sys: &PreparedSystem<'_>,
     kept: &mut Kept,
     triple: &Triple,
 ) -> Result<Option<Overlap>, OverlapError>
-    requires sides { AreSides sides.now }
-    requires spot { IsSpotOf sides.now.sys.now triple.now.inner triple.now.pos.now triple.now.outer }
-    ensures answer { (later : List triples.Triple) → AreKept sides.now.sys.now ((triple.now.inner, (triple.now.pos.now, triple.now.outer)) ∷ later) kept.old → SpotAnswers sides.now.sys.now triple.now.inner triple.now.pos.now triple.now.outer result }
-    ensures kept { (later : List triples.Triple) → AreKept sides.now.sys.now ((triple.now.inner, (triple.now.pos.now, triple.now.outer)) ∷ later) kept.old → OnOk result (AreKept sides.now.sys.now later kept.new) }
+    requires { IsSpotOf sys.now triple.now.inner triple.now.pos.now triple.now.outer }
+    ensures answer { (later : List triples.Triple) → AreKept sys.now ((triple.now.inner, (triple.now.pos.now, triple.now.outer)) ∷ later) kept.old → SpotAnswers sys.now triple.now.inner triple.now.pos.now triple.now.outer result }
+    ensures kept { (later : List triples.Triple) → AreKept sys.now ((triple.now.inner, (triple.now.pos.now, triple.now.outer)) ∷ later) kept.old → OnOk result (AreKept sys.now later kept.new) }
 {
     if kept.knows(triple) {
         return Ok(kept.take(triple));
     }
-    match sides.unifier(alloc, triple)? {
-        Some(unifier) => Ok(Some(sides.overlap(alloc, &unifier, triple)?)),
+    match unifier_at(alloc, sys, triple)? {
+        Some(unifier) => Ok(Some(overlap_by(alloc, sys, &unifier, triple)?)),
         None => Ok(None),
     }
 }

@@ -17,15 +17,15 @@ mod fitting;
 mod kept;
 mod pairs;
 mod places;
-mod renaming;
 mod search;
-mod sides;
+mod spots;
 
 use cursor::Cursor;
 use kept::{Kept, overlap_at};
+use prepared_system::PreparedSystem;
+use rule_index::IndexedSystem;
 use search::MOST;
 pub use search::OverlapSearch;
-use sides::Sides;
 use std::alloc::{AllocError, AllocFailed, Global};
 use term_core::{Cond, NoMemory, System, Term};
 
@@ -96,15 +96,24 @@ impl<T: Drop> From<AllocFailed<T>> for OverlapError {
 
 /// All overlaps in order by the outer rule, the position and the inner rule, or the first refusal in
 /// that order (after Ohlebusch, Advanced Topics in Term Rewriting, chapter 7).
-pub fn overlaps(alloc: Global, sys: &System) -> Result<Vec<Overlap>, OverlapError>
+pub fn overlaps_in(alloc: Global, sys: &PreparedSystem<'_>) -> Result<Vec<Overlap>, OverlapError>
     ensures { OverlapsAnswers sys.now result }
 {
-    let mut search = OverlapSearch::new(alloc, sys)?;
+    let mut search = OverlapSearch::new(alloc, sys);
     let mut found = Vec::new(alloc);
     while let Some(overlap) = search.next(alloc)? {
         found.push(overlap)?;
     }
     Ok(found)
+}
+
+/// The same list, where nothing is prepared.
+pub fn overlaps(alloc: Global, sys: &System) -> Result<Vec<Overlap>, OverlapError>
+    ensures { OverlapsAnswers sys.now result }
+{
+    let indexed = IndexedSystem::new(alloc, sys)?;
+    let prepared = PreparedSystem::new(alloc, indexed)?;
+    overlaps_in(alloc, &prepared)
 }
 
 // Appends the overlap, if there is one, unless there are 20,000.
@@ -126,7 +135,7 @@ fn put(found: &mut Vec<Overlap>, overlap: Option<Overlap>) -> Result<(), Overlap
 /// if it is a rule of that.
 pub fn overlaps_with(
     alloc: Global,
-    sys: &System,
+    sys: &PreparedSystem<'_>,
     earlier: &System,
     origins: &[Option<u32>],
     known: Vec<Overlap>,
@@ -134,12 +143,13 @@ pub fn overlaps_with(
     requires { AreKnown earlier.now sys.now origins.now (map overlap_view known.items) }
     ensures { OverlapsAnswers sys.now result }
 {
-    let sides = Sides::new(alloc, sys)?;
+    // That the rules are those of a system is known of a prepared one.
+    let _rules = sys.rules();
     let mut kept = Kept::new(alloc, earlier, origins, known)?;
     let mut cursor = Cursor::new(alloc);
     let mut all = Vec::new(alloc);
-    'triples: while let Some(inner) = cursor.settle(alloc, &sides)? {
-        let overlap = overlap_at(alloc, &sides, &mut kept, &cursor.triple(inner))?;
+    'triples: while let Some(inner) = cursor.settle(alloc, sys)? {
+        let overlap = overlap_at(alloc, sys, &mut kept, &cursor.triple(inner))?;
         put(&mut all, overlap)?;
         cursor.candidate += 1;
     }

@@ -1,30 +1,32 @@
 //! The overlaps of a system, one after the other.
-ghost use Rattle.std.specs.Prelude.{◌≡◌, ◌+◌, ◌<◌, ◌≤◌, ◌^◌, IfOk, OnErr};
+ghost use Rattle.std.specs.Prelude.{◌≡◌, ◌+◌, ◌<◌, ◌≤◌, ◌^◌, OnErr};
+ghost use Rattle.rewriting.specs.Systems.{IsSystem};
 ghost use Rattle.critical_pairs.specs.Offers.{search_of, OfferAnswers, PassAnswers, DoesStay, DoesPass};
 ghost use Rattle.critical_pairs.specs.Cursors.{rest_of, IsCursor};
-ghost use Rattle.critical_pairs.specs.Sides.{AreSides};
 ghost use Rattle.critical_pairs.specs.Finding.{FindAnswers, CountAnswers};
 
 use crate::cursor::Cursor;
-use crate::sides::Sides;
+use crate::spots::{measure_by, overlap_by, unifier_at};
 use crate::{Overlap, OverlapError};
+use prepared_system::PreparedSystem;
 use std::alloc::Global;
 use std::marker::Model;
-use term_core::{NoMemory, Subst, System};
+use term_core::Subst;
 
 /// The greatest number of overlaps.
 pub const MOST: usize = 20_000;
 
 /// A search for the overlaps of a system. It offers or passes them one after the other, in order by the outer rule, the
-/// position and the inner rule, and keeps none: memory is taken for the rules and for the positions of one left side.
+/// position and the inner rule, and keeps none: memory is taken for the positions of one left side.
 #[derive(Debug, Drop)]
 pub struct OverlapSearch<'a> {
-    sides: Sides<'a>,
+    sys: &'a PreparedSystem<'a>,
     cursor: Cursor,
     offered: usize,
 }
 
 impl<'a> Model for OverlapSearch<'a> {
+    ghost use Rattle.rewriting.specs.Systems.{IsSystem};
     ghost use Rattle.critical_pairs.specs.Offers.{Search};
     ghost use Rattle.critical_pairs.specs.SearchView.{search_view, coded_search, IsHeld};
 
@@ -45,15 +47,19 @@ struct Found {
 }
 
 // The next triple at which the run does not clash; the cursor stands at that triple.
-fn find(alloc: Global, sides: &Sides, cursor: &mut Cursor) -> Result<Option<Found>, OverlapError>
-    requires sides { AreSides sides.now }
-    requires cursor { IsCursor sides.now.sys.now cursor.old }
-    ensures cursor { IsCursor sides.now.sys.now cursor.new }
-    ensures passes { DoesPass sides.now.sys.now (rest_of sides.now.sys.now cursor.old) (rest_of sides.now.sys.now cursor.new) }
-    ensures answer { FindAnswers sides.now.sys.now cursor.new result }
+fn find(
+    alloc: Global,
+    sys: &PreparedSystem<'_>,
+    cursor: &mut Cursor,
+) -> Result<Option<Found>, OverlapError>
+    requires sound { IsSystem sys.now }
+    requires cursor { IsCursor sys.now cursor.old }
+    ensures cursor { IsCursor sys.now cursor.new }
+    ensures passes { DoesPass sys.now (rest_of sys.now cursor.old) (rest_of sys.now cursor.new) }
+    ensures answer { FindAnswers sys.now cursor.new result }
 {
-    while let Some(inner) = cursor.settle(alloc, sides)? {
-        if let Some(unifier) = sides.unifier(alloc, &cursor.triple(inner))? {
+    while let Some(inner) = cursor.settle(alloc, sys)? {
+        if let Some(unifier) = unifier_at(alloc, sys, &cursor.triple(inner))? {
             return Ok(Some(Found { inner, unifier }));
         }
         cursor.candidate += 1;
@@ -77,14 +83,16 @@ fn count(here: &mut Cursor, offered: &mut usize) -> Result<(), OverlapError>
 
 impl<'a> OverlapSearch<'a> {
     /// The search in a system, before its first overlap.
-    pub fn new(alloc: Global, sys: &'a System) -> Result<OverlapSearch<'a>, NoMemory>
-        ensures { IfOk result (λ s. s ≡ search_of sys.now) }
+    pub fn new(alloc: Global, sys: &'a PreparedSystem<'a>) -> OverlapSearch<'a>
+        ensures { result ≡ search_of sys.now }
     {
-        Ok(OverlapSearch {
-            sides: Sides::new(alloc, sys)?,
+        // That the rules are those of a system is known of a prepared one.
+        let _rules = sys.rules();
+        OverlapSearch {
+            sys,
             cursor: Cursor::new(alloc),
             offered: 0,
-        })
+        }
     }
 
     /// The next overlap, or none where there is no further one.
@@ -98,11 +106,11 @@ impl<'a> OverlapSearch<'a> {
         ensures system { self.new.system ≡ self.old.system }
         ensures refused { OnErr result (DoesStay self.old self.new) }
     {
-        let Some(found) = find(alloc, &self.sides, &mut self.cursor)? else {
+        let Some(found) = find(alloc, self.sys, &mut self.cursor)? else {
             return Ok(None);
         };
         let triple = self.cursor.triple(found.inner);
-        let overlap = self.sides.overlap(alloc, &found.unifier, &triple)?;
+        let overlap = overlap_by(alloc, self.sys, &found.unifier, &triple)?;
         count(&mut self.cursor, &mut self.offered)?;
         Ok(Some(overlap))
     }
@@ -118,11 +126,11 @@ impl<'a> OverlapSearch<'a> {
         ensures system { self.new.system ≡ self.old.system }
         ensures refused { OnErr result (DoesStay self.old self.new) }
     {
-        let Some(found) = find(alloc, &self.sides, &mut self.cursor)? else {
+        let Some(found) = find(alloc, self.sys, &mut self.cursor)? else {
             return Ok(false);
         };
         let triple = self.cursor.triple(found.inner);
-        self.sides.measure(alloc, &found.unifier, &triple)?;
+        measure_by(alloc, self.sys, &found.unifier, &triple)?;
         count(&mut self.cursor, &mut self.offered)?;
         Ok(true)
     }

@@ -1,4 +1,3 @@
-pub mod Lefts
 pub mod Judge
 pub mod Parts
 pub mod Tried

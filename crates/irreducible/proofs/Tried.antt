@@ -15,9 +15,10 @@ use Rattle.unifier_run.proofs.Renamed.{fits_with_names}
 use Rattle.rule_index.specs.Roots.{has_root, rules_with_root}
 use Rattle.rule_index.proofs.Walks.{ascending, is_listed, listed_rule, Stands}
 use Rattle.term_core.specs.View.{view}
-use Rattle.term_core.specs.declared.terms.Term as T
-use Rattle.irreducible.specs.Judging.{AreLefts}
-use Rattle.irreducible.proofs.Lefts.{left_at, rule_within}
+use Rattle.term_core.specs.RuleView.{rule_view}
+use Rattle.term_core.specs.declared.systems.Rule as Program
+use Rattle.prepared_system.specs.Renamed.{rule_under, inner_rules}
+use Rattle.prepared_system.proofs.Renamed.{renamed_rule, number_within}
 
 -- a left side with another root
 other_clash : (f : ℕ) (l part : Term) → (IsVariable l → ⊥) → has_root f l ≡ false → has_root f part ≡ true → Fits l → Fits part → IsOutcome (cons (apply even l) nil) (cons part nil) clash
@@ -26,15 +27,6 @@ other_clash f (app g ts) (var x) v a b p q = absurd (false≢true b)
 other_clash f (app g ts) (app h us) v a b p q =
     heads_clash g h (apply_all even ts) us (λ e. false≢true (sym a ∙ eq-eqb f g (eqb-true f h b ∙ sym e))) (fits_with_names (λ k. 2 * k) (app g ts) p) q
 
--- the left side that a rule's number leads to
-numbered_left : (sys : System) (lefts : List T.Term) (n : ℕ) (t : T.Term) (r : Rule) → AreLefts sys (map view lefts) → t ≡ get_or lefts (n - 1) t → rule_at sys n ≡ Some r → view t ≡ apply even r.left
-numbered_left sys lefts zero t r are e h = absurd (cc)
-numbered_left sys lefts (suc i) t r are e h = (let one : suc i - 1 ≡ i = omega arith in left_at sys.rules lefts i t r are (subst (λ z. t ≡ get_or lefts z t) one e) h)
-
-number_inside : (sys : System) (lefts : List T.Term) (n : ℕ) (r : Rule) → AreLefts sys (map view lefts) → rule_at sys n ≡ Some r → (1 ≤ n) × (n - 1 < length lefts)
-number_inside sys lefts zero r are h = absurd (cc)
-number_inside sys lefts (suc i) r are h = (let k = rule_within sys.rules lefts i r are h in (omega arith, omega (arith, k)))
-
 -- the rules whose numbers stand before a place clash
 abbrev pub Tried : System → List ℕ → Term → ℕ → Type 0
 Tried sys ns part n = (s : Term) → part ≡ apply odd s → (j : ℕ) (r : Rule) → j < n → rule_at sys (get_or ns j 0) ≡ Some r → IsOutcomeOf r.left s clash
@@ -42,28 +34,28 @@ Tried sys ns part n = (s : Term) → part ≡ apply odd s → (j : ℕ) (r : Rul
 pub tried_none : (sys : System) (ns : List ℕ) (part : Term) → Tried sys ns part 0
 tried_none sys ns part s e j r l h = absurd (omega (arith, l))
 
-module _ (sys : System) (f : ℕ) (ns : List ℕ) (lefts : List T.Term) (part : Term) (n : ℕ) (sound : IsSystem sys) (are : AreLefts sys (map view lefts)) (is : ns ≡ rules_with_root sys f) where
+module _ (sys : System) (f : ℕ) (ns : List ℕ) (inners : List Program.Rule) (part : Term) (n : ℕ) (sound : IsSystem sys) (are : map rule_view inners ≡ inner_rules sys) (is : ns ≡ rules_with_root sys f) where
   rule_there : n < length ns → (r : Rule) × (rule_at sys (get_or ns n 0) ≡ Some r)
   rule_there l =
       let h = listed_rule sys f n (subst (λ z. n < length z) is l) in
       (h.0, subst (λ z. rule_at sys (get_or z n 0) ≡ Some h.0) (sym is) h.1)
 
   pub number_low : n < length ns → 1 ≤ get_or ns n 0
-  number_low l = let h = rule_there l in (number_inside sys lefts (get_or ns n 0) h.0 are h.1).0
+  number_low l = let h = rule_there l in (number_within sys (rule_under even) inners (get_or ns n 0) h.0 are h.1).0
 
-  pub number_high : n < length ns → get_or ns n 0 - 1 < length lefts
-  number_high l = let h = rule_there l in (number_inside sys lefts (get_or ns n 0) h.0 are h.1).1
+  pub number_high : n < length ns → get_or ns n 0 - 1 < length inners
+  number_high l = let h = rule_there l in (number_within sys (rule_under even) inners (get_or ns n 0) h.0 are h.1).1
 
   -- the run on the left side that is tried next
-  run_there : (left : T.Term) (o : Outcome) → left ≡ get_or lefts (get_or ns n 0 - 1) left → IsOutcome (cons (view left) nil) (cons part nil) o → (s : Term) → part ≡ apply odd s → (r : Rule) → rule_at sys (get_or ns n 0) ≡ Some r → IsOutcomeOf r.left s o
-  run_there left o at run s e r h = subst₂ (λ x y. IsOutcome (cons x nil) (cons y nil) o) (numbered_left sys lefts (get_or ns n 0) left r are at h) e run
+  run_there : (inner : Program.Rule) (o : Outcome) → inner ≡ get_or inners (get_or ns n 0 - 1) inner → IsOutcome (cons (view inner.left) nil) (cons part nil) o → (s : Term) → part ≡ apply odd s → (r : Rule) → rule_at sys (get_or ns n 0) ≡ Some r → IsOutcomeOf r.left s o
+  run_there inner o at run s e r h = subst₂ (λ x y. IsOutcome (cons x nil) (cons y nil) o) (ap (λ z. z.left) (renamed_rule sys (rule_under even) inners (get_or ns n 0) inner r are h at)) e run
 
-  pub tried_next : (left : T.Term) → left ≡ get_or lefts (get_or ns n 0 - 1) left → Tried sys ns part n → IsOutcome (cons (view left) nil) (cons part nil) clash → Tried sys ns part (n + 1)
-  tried_next left at tried run s e j r l h = go (cases_lt j n)
+  pub tried_next : (inner : Program.Rule) → inner ≡ get_or inners (get_or ns n 0 - 1) inner → Tried sys ns part n → IsOutcome (cons (view inner.left) nil) (cons part nil) clash → Tried sys ns part (n + 1)
+  tried_next inner at tried run s e j r l h = go (cases_lt j n)
     where
       go : (j < n) ⊎ (n ≤ j) → IsOutcomeOf r.left s clash
       go (inl a) = tried s e j r a h
-      go (inr a) = (let same : j ≡ n = omega (arith, a, l) in run_there left clash at run s e r (subst (λ z. rule_at sys (get_or ns z 0) ≡ Some r) same h))
+      go (inr a) = (let same : j ≡ n = omega (arith, a, l) in run_there inner clash at run s e r (subst (λ z. rule_at sys (get_or ns z 0) ≡ Some r) same h))
 
   -- a rule whose number is not listed, or stands before the place
   clash_by : (s : Term) → part ≡ apply odd s → has_root f part ≡ true → Fits part → Tried sys ns part n → (i : ℕ) (r : Rule) → rule_at sys i ≡ Some r → ((j : ℕ) → j < length ns → get_or ns j 0 ≡ i → j < n) → IsOutcomeOf r.left s clash
@@ -83,15 +75,15 @@ module _ (sys : System) (f : ℕ) (ns : List ℕ) (lefts : List T.Term) (part : 
   pub tried_all : has_root f part ≡ true → Fits part → length ns ≤ n → Tried sys ns part n → (s : Term) → part ≡ apply odd s → DoRulesClash sys s
   tried_all root fit past tried s e i r h = clash_by s e root fit tried i r h (λ j l k. omega (arith, l, past))
 
-  pub first_tried : has_root f part ≡ true → Fits part → (left : T.Term) (o : Outcome) → n < length ns → left ≡ get_or lefts (get_or ns n 0 - 1) left → Tried sys ns part n → IsOutcome (cons (view left) nil) (cons part nil) o
+  pub first_tried : has_root f part ≡ true → Fits part → (inner : Program.Rule) (o : Outcome) → n < length ns → inner ≡ get_or inners (get_or ns n 0 - 1) inner → Tried sys ns part n → IsOutcome (cons (view inner.left) nil) (cons part nil) o
       → (s : Term) → part ≡ apply odd s → IsFirstRule sys s o
-  first_tried root fit left o l at tried run s e =
+  first_tried root fit inner o l at tried run s e =
       let h = rule_there l in
       record {
         number = get_or ns n 0;
         rule = h.0;
         is_rule = h.1;
-        outcome = run_there left o at run s e h.0 h.1;
+        outcome = run_there inner o at run s e h.0 h.1;
         before = λ i r q less. clash_by s e root fit tried i r q (λ j k same. before_place i j k same less);
       }
     where

@@ -1,9 +1,7 @@
 -- What judging a part of a term answers, all of whose variables are odd numbers.
-use Rattle.std.specs.Prelude.{◌≡◌, List, [], ◌∷◌, Result, Ok, Err}
+use Rattle.std.specs.Prelude.{List, Result, Ok, Err}
 use Rattle.rewriting.specs.Terms as math
-use Rattle.rewriting.specs.Substitutions.{Substitution, apply}
-use Rattle.rewriting.specs.Unifiers.{even}
-use Rattle.rewriting.specs.Rules.{Rule, System}
+use Rattle.rewriting.specs.Rules.{System}
 use Rattle.unifier_run.specs.Run.{Binding, unifier, too_large}
 use Rattle.unifier_run.specs.Irreducible.{DoAllClash, IsFirstOutcome, IsFirstRule, DoRulesClash}
 use Rattle.term_core.specs.declared.terms.NoMemory.{NoMemory}
@@ -21,12 +19,3 @@ JudgeAnswers sys t (Ok Yes) = DoAllClash sys t
 JudgeAnswers sys t (Ok No) = (b : List Binding) × IsFirstOutcome sys t (unifier b)
 JudgeAnswers sys t (Ok TooLarge) = IsFirstOutcome sys t too_large
 JudgeAnswers sys t (Err e) = Unit {0}
-
--- the left sides of rules under a substitution
-abbrev pub lefts_under : Substitution → List Rule → List math.Term
-lefts_under s [] = []
-lefts_under s (r ∷ rs) = apply s r.left ∷ lefts_under s rs
-
--- the terms are the left sides of the system's rules, with variables 2k
-abbrev pub AreLefts : System → List math.Term → Type 0
-AreLefts sys ts = ts ≡ lefts_under even sys.rules

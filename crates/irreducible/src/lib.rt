@@ -11,10 +11,9 @@ ghost use Rattle.irreducible.specs.Judging.{JudgeAnswers};
 ghost use Rattle.irreducible.specs.Answers.{IrreducibleAnswers};
 
 mod judging;
-mod left_sides;
 
 use crate::judging::judge;
-pub use left_sides::LeftSides;
+use prepared_system::PreparedSystem;
 use renumbering::Numbering;
 use rule_index::IndexedSystem;
 use std::alloc::Global;
@@ -33,14 +32,14 @@ pub enum Irreducible {
 }
 
 // A term that does not fit: the first run on it passes the size.
-fn judge_large(lefts: &LeftSides<'_>, t: &Term) -> Irreducible
+fn judge_large(sys: &PreparedSystem<'_>, t: &Term) -> Irreducible
     requires { math.Fits (view t.now) → ⊥ }
-    ensures { JudgeAnswers lefts.now (view t.now) (Answered result) }
+    ensures { JudgeAnswers sys.now (view t.now) (Answered result) }
 {
     match t {
         Term::Var(_) => Irreducible::Yes,
         Term::Fun(_, _) => {
-            if lefts.rules().is_empty() {
+            if sys.rules().is_empty() {
                 Irreducible::Yes
             } else {
                 Irreducible::TooLarge
@@ -50,33 +49,37 @@ fn judge_large(lefts: &LeftSides<'_>, t: &Term) -> Irreducible
 }
 
 // A term whose variables have renamed numbers in 32 bits.
-fn judge_small(alloc: Global, lefts: &LeftSides<'_>, t: &Term) -> Result<Irreducible, NoMemory>
+fn judge_small(alloc: Global, sys: &PreparedSystem<'_>, t: &Term) -> Result<Irreducible, NoMemory>
     requires fits { math.Fits (view t.now) }
     requires small { (k : ℕ) → occurs k (view t.now) ≡ true → k < 2 ^ 31 }
-    ensures { JudgeAnswers lefts.now (view t.now) result }
+    ensures { JudgeAnswers sys.now (view t.now) result }
 {
     let apart = renamed(alloc, t, 2, 1)?;
-    judge(alloc, lefts, &apart)
+    judge(alloc, sys, &apart)
 }
 
 // A term that fits, judged by one with small numbers for its variables.
-fn judge_numbered(alloc: Global, lefts: &LeftSides<'_>, t: &Term) -> Result<Irreducible, NoMemory>
+fn judge_numbered(
+    alloc: Global,
+    sys: &PreparedSystem<'_>,
+    t: &Term,
+) -> Result<Irreducible, NoMemory>
     requires { math.Fits (view t.now) }
-    ensures { JudgeAnswers lefts.now (view t.now) result }
+    ensures { JudgeAnswers sys.now (view t.now) result }
 {
     let mut numbering = Numbering::new(alloc);
     let small = numbering.numbered(alloc, t)?;
-    judge_small(alloc, lefts, &small)
+    judge_small(alloc, sys, &small)
 }
 
 // Whether it fits or not.
-fn judge_any(alloc: Global, lefts: &LeftSides<'_>, t: &Term) -> Result<Irreducible, NoMemory>
-    ensures { JudgeAnswers lefts.now (view t.now) result }
+fn judge_any(alloc: Global, sys: &PreparedSystem<'_>, t: &Term) -> Result<Irreducible, NoMemory>
+    ensures { JudgeAnswers sys.now (view t.now) result }
 {
     if !fits(t) {
-        return Ok(judge_large(lefts, t));
+        return Ok(judge_large(sys, t));
     }
-    judge_numbered(alloc, lefts, t)
+    judge_numbered(alloc, sys, t)
 }
 
 /// Judges the subterms that are no variables in preorder, each with the rules in order; the first
@@ -84,15 +87,15 @@ fn judge_any(alloc: Global, lefts: &LeftSides<'_>, t: &Term) -> Result<Irreducib
 #[tactic(auto, using(crate::proofs::Parts::judged_whole))]
 pub fn is_absolutely_irreducible_in(
     alloc: Global,
-    lefts: &LeftSides<'_>,
+    sys: &PreparedSystem<'_>,
     t: &Term,
 ) -> Result<Irreducible, NoMemory>
-    ensures { IrreducibleAnswers lefts.now (view t.now) result }
+    ensures { IrreducibleAnswers sys.now (view t.now) result }
 {
-    judge_any(alloc, lefts, t)
+    judge_any(alloc, sys, t)
 }
 
-/// Judges a term alike, where nothing is prepared: the left sides are renamed for this one question.
+/// Judges a term alike, where nothing is prepared: the rules are renamed for this one question.
 pub fn is_absolutely_irreducible(
     alloc: Global,
     sys: &System,
@@ -101,15 +104,15 @@ pub fn is_absolutely_irreducible(
     ensures { IrreducibleAnswers sys.now (view t.now) result }
 {
     let indexed = IndexedSystem::new(alloc, sys)?;
-    let lefts = LeftSides::new(alloc, indexed)?;
-    is_absolutely_irreducible_in(alloc, &lefts, t)
+    let prepared = PreparedSystem::new(alloc, indexed)?;
+    is_absolutely_irreducible_in(alloc, &prepared, t)
 }
 
 /// Whether every run for the term ends in a clash; a run that passes the size does not.
-pub fn do_all_clash(alloc: Global, lefts: &LeftSides<'_>, t: &Term) -> Result<bool, NoMemory>
-    ensures { IfOk result (λ b. IsTrue b ↔ DoAllClash lefts.now (view t.now)) }
+pub fn do_all_clash(alloc: Global, sys: &PreparedSystem<'_>, t: &Term) -> Result<bool, NoMemory>
+    ensures { IfOk result (λ b. IsTrue b ↔ DoAllClash sys.now (view t.now)) }
 {
-    match is_absolutely_irreducible_in(alloc, lefts, t)? {
+    match is_absolutely_irreducible_in(alloc, sys, t)? {
         Irreducible::Yes => Ok(true),
         Irreducible::No | Irreducible::TooLarge => Ok(false),
     }

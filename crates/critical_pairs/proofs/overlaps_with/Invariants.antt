@@ -5,7 +5,7 @@ use Rattle.critical_pairs.proofs.Walk.{Walks}
 use Rattle.critical_pairs.proofs.overlaps_with.Given as goal
 
 abbrev pub decreases-triples : goal.decreases-triples
-decreases-triples l = length (rest_of l.sides.sys.now l.cursor)
+decreases-triples l = length (rest_of l.sys l.cursor)
 
 abbrev pub invariant-triples : goal.invariant-triples
-invariant-triples l = Walks l.sides.sys.now l.cursor l.kept (map overlap_view l.all.items)
+invariant-triples l = Walks l.sys l.cursor l.kept (map overlap_view l.all.items)

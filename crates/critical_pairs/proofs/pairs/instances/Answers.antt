@@ -1,4 +1,5 @@
 use Rattle.std.proofs.Common.{◌≡◌, ◌∙◌, ◌+◌, ◌++◌, ◌∷◌, [], sym, ap, ap₂, map, subst, take, append_assoc}
+use Rattle.std.proofs.lemmas.List.{map-append}
 use Rattle.general_lemmas.proofs.Places.{map-take_read}
 use Rattle.rewriting.specs.Terms.{Fits}
 use Rattle.rewriting.specs.Substitutions.{values_of}
@@ -6,7 +7,8 @@ use Rattle.rewriting.specs.Rules.{sides}
 use Rattle.rewriting.specs.Systems.{Each}
 use Rattle.rewriting.specs.Overlaps.{condition_under, conditions_under}
 use Rattle.term_core.specs.RuleView.{condition_view}
-use Rattle.critical_pairs.proofs.Conditions.{both_fit, under-append, fit_append, map-append}
+use Rattle.prepared_system.proofs.Conditions.{under-append}
+use Rattle.critical_pairs.proofs.Conditions.{both_fit, fit_append}
 use Rattle.critical_pairs.specs.Building.{InstancesAnswers}
 use Rattle.critical_pairs.proofs.Exits.{handed_on}
 use Rattle.critical_pairs.proofs.Sizes.{instances_error}
@@ -36,7 +38,7 @@ loop-cond-preserved c =
     record {
       added =
           ap (map condition_view) c.in_ok-push.ensures.items
-          ∙ (map-append _ _ ∙ (ap₂ (λ x y. x ++ y ∷ []) c.loop-cond.invariant.added c.in_ok-instance.ensures.0
+          ∙ (map-append condition_view _ _ ∙ (ap₂ (λ x y. x ++ y ∷ []) c.loop-cond.invariant.added c.in_ok-instance.ensures.0
           ∙ (append_assoc before done (condition_under s (condition_view c.cond-item.result) ∷ []) ∙ ap (λ z. before ++ z) next)));
       fit = subst (λ z. Each Fits (sides z)) next (fit_append _ _ c.loop-cond.invariant.fit (c.in_ok-instance.ensures.1, (c.in_ok-instance.ensures.2, tt)));
     }

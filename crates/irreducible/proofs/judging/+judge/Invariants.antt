@@ -7,4 +7,4 @@ abbrev pub decreases-judge : goal.decreases-judge
 decreases-judge l = size (view l.part.now)
 
 abbrev pub invariant-loop-arg : goal.invariant-loop-arg
-invariant-loop-arg l = Judged l.lefts l.arg-items l.arg-index
+invariant-loop-arg l = Judged l.sys l.arg-items l.arg-index

@@ -9,11 +9,11 @@ use Rattle.critical_pairs.proofs.cursor.Cursor.settle.Goals as goal
 use Rattle.critical_pairs.proofs.cursor.Cursor.settle.Goals.{In-Some-get, After-settle_in_rule}
 
 -- up to the outer rule's end
-passed : (c : After-settle_in_rule) → DoesPass c.args.sides.now.sys.now (rest_of c.args.sides.now.sys.now c.args.self.now) (rest_of c.args.sides.now.sys.now c.settle_in_rule.new.self)
-passed c = pass_more c.args.sides.now.sys.now (rest_of c.args.sides.now.sys.now c.args.self.now) (rest_of c.args.sides.now.sys.now c.rules.self) _ c.rules.invariant.passes c.settle_in_rule.ensures.passes
+passed : (c : After-settle_in_rule) → DoesPass c.args.sys.now (rest_of c.args.sys.now c.args.self.now) (rest_of c.args.sys.now c.settle_in_rule.new.self)
+passed c = pass_more c.args.sys.now (rest_of c.args.sys.now c.args.self.now) (rest_of c.args.sys.now c.rules.self) _ c.rules.invariant.passes c.settle_in_rule.ensures.passes
 
 -- the next outer rule
-rule : (c : In-Some-get) → slice_get c.args.sides.now.sys.now.rules c.settle_in_rule.new.self.outer ≡ Some (rule_view c.in-Some-get.rule.now)
+rule : (c : In-Some-get) → slice_get c.args.sys.now.rules c.settle_in_rule.new.self.outer ≡ Some (rule_view c.in-Some-get.rule.now)
 rule c = rule_there c.rules-in-rules.result.now _ c.settle_in_rule.new.self.outer c.in-Some-get.rule.now c.rules-in-rules.ensures.rules (ltb-true c.settle_in_rule.new.self.outer (length c.rules-in-rules.result.now) (sym c.in-Some-get.ensures.lookup.0)) c.in-Some-get.ensures.lookup.1
 
 pub returns-in-Some-clause-passes : goal.returns-in-Some-clause-passes
@@ -23,11 +23,11 @@ pub returns-in_default-get-clause-passes : goal.returns-in_default-get-clause-pa
 returns-in_default-get-clause-passes c = passed (goal.at.returns-in_default-get-clause-passes c).After-settle_in_rule
 
 pub enter-requires-clause-fits : goal.enter-requires-clause-fits
-enter-requires-clause-fits c = left_fits c.args.sides.now.sys.now c.settle_in_rule.new.self.outer (rule_view c.in-Some-get.rule.now) c.requires.sides.system (rule (goal.at.enter-requires-clause-fits c).In-Some-get)
+enter-requires-clause-fits c = left_fits c.args.sys.now c.settle_in_rule.new.self.outer (rule_view c.in-Some-get.rule.now) c.requires.sound (rule (goal.at.enter-requires-clause-fits c).In-Some-get)
 
 pub rules-preserved : goal.rules-preserved
 rules-preserved c =
-    let sys = c.args.sides.now.sys.now in
+    let sys = c.args.sys.now in
     let before = c.settle_in_rule.new.self in
     let is : IsCursor sys before = cursor_kept sys c.rules.self before c.rules.invariant.cursor c.settle_in_rule.ensures.outer c.settle_in_rule.ensures.places in
     let next = rule (goal.at.rules-preserved c).In-Some-get in
@@ -40,5 +40,5 @@ rules-preserved c =
 
 pub returns-in_err-enter-clause-passes : goal.returns-in_err-enter-clause-passes
 returns-in_err-enter-clause-passes c =
-    subst (λ z. DoesPass c.args.sides.now.sys.now (rest_of c.args.sides.now.sys.now c.args.self.now) (rest_of c.args.sides.now.sys.now z)) (sym c.in_err-enter.ensures)
+    subst (λ z. DoesPass c.args.sys.now (rest_of c.args.sys.now c.args.self.now) (rest_of c.args.sys.now z)) (sym c.in_err-enter.ensures)
     (passed (goal.at.returns-in_err-enter-clause-passes c).After-settle_in_rule)

@@ -10,5 +10,5 @@ abbrev pub invariant-loop-self : goal.invariant-loop-self
 invariant-loop-self l = record {
   outer : l.self.outer ≡ l.fn.self.outer;
   places : l.self.places ≡ l.fn.self.places;
-  passes : DoesPass l.sides.sys.now (rest_of l.sides.sys.now l.fn.self) (rest_of l.sides.sys.now l.self);
+  passes : DoesPass l.sys (rest_of l.sys l.fn.self) (rest_of l.sys l.self);
 }

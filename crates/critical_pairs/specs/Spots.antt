@@ -1,0 +1,68 @@
+-- What a run of two rules at a triple answers, and what its unifier makes there.
+use Rattle.std.specs.Prelude.{ℕ, ◌≡◌, List, Option, None, Some, Result, Ok, Err}
+use Rattle.rewriting.specs.Terms.{Term}
+use Rattle.rewriting.specs.Positions.{Position}
+use Rattle.rewriting.specs.Substitutions.{Bindings}
+use Rattle.rewriting.specs.Rules.{Rule, System}
+use Rattle.rewriting.specs.Overlaps.{IsPlace}
+use Rattle.unifier_run.specs.Run.{Binding, unifier}
+use Rattle.unifier_run.specs.Laws.{as_map}
+use Rattle.unifier_run.specs.Overlaps as math
+use Rattle.unifier_run.specs.Overlaps.{triple, IsOutcomeOf, IsOverlapOf, IsTooLargeAt}
+use Rattle.unifier_run.specs.Triples.{DoesClash}
+use Rattle.critical_pairs.specs.View.{overlap_view}
+use Rattle.critical_pairs.specs.declared.Overlap.{Overlap}
+use Rattle.critical_pairs.specs.declared.OverlapError.{OverlapError}
+use Rattle.critical_pairs.specs.declared.OverlapError.TheVariants.{PairTooLarge, TooManyPairs, NoMemory}
+
+-- a triple of two rules and a position, where no variable stands
+pub record IsSpotOf (sys : System) (i : ℕ) (p : Position) (j : ℕ) : Type 0 where
+  pub inner : Rule
+  pub outer : Rule
+  pub part : Term
+  pub place : IsPlace sys i p j inner outer part
+
+-- the run at the triple has this unifier
+pub record IsUnifierAt (sys : System) (i : ℕ) (p : Position) (j : ℕ) (m : Bindings) : Type 0 where
+  pub spot : IsSpotOf sys i p j
+  pub by : List Binding
+  pub outcome : IsOutcomeOf spot.inner.left spot.part (unifier by)
+  pub is : m ≡ as_map by
+
+-- an overlap at the triple
+abbrev pub IsOverlapAt : System → ℕ → Position → ℕ → math.Overlap → Type 0
+IsOverlapAt sys i p j o = IsOverlapOf sys o × (triple o ≡ (i, (p, j)))
+
+-- the error names the triple, or want of memory
+abbrev pub IsRefusal : ℕ → Position → ℕ → OverlapError → Type 0
+IsRefusal i p j (PairTooLarge k q l) = (k ≡ i) × (q.items ≡ p) × (l ≡ j)
+IsRefusal i p j TooManyPairs = ⊥
+IsRefusal i p j NoMemory = Unit {0}
+
+-- the same, where the triple is too large
+abbrev pub IsRefusedAt : System → ℕ → Position → ℕ → OverlapError → Type 0
+IsRefusedAt sys i p j (PairTooLarge k q l) = IsTooLargeAt sys i p j × IsRefusal i p j (PairTooLarge k q l)
+IsRefusedAt sys i p j TooManyPairs = ⊥
+IsRefusedAt sys i p j NoMemory = Unit {0}
+
+-- the unifier of the run at the triple, or none where it clashes
+abbrev pub UnifierAnswers : System → ℕ → Position → ℕ → Result (Option Bindings) OverlapError → Type 0
+UnifierAnswers sys i p j (Ok None) = DoesClash sys (i, (p, j))
+UnifierAnswers sys i p j (Ok (Some m)) = IsUnifierAt sys i p j m
+UnifierAnswers sys i p j (Err e) = IsRefusedAt sys i p j e
+
+-- the overlap at the triple
+abbrev pub OverlapAnswers : System → ℕ → Position → ℕ → Result Overlap OverlapError → Type 0
+OverlapAnswers sys i p j (Ok o) = IsOverlapAt sys i p j (overlap_view o)
+OverlapAnswers sys i p j (Err e) = IsRefusedAt sys i p j e
+
+-- the overlap at the triple, or none where the run clashes
+abbrev pub SpotAnswers : System → ℕ → Position → ℕ → Result (Option Overlap) OverlapError → Type 0
+SpotAnswers sys i p j (Ok None) = DoesClash sys (i, (p, j))
+SpotAnswers sys i p j (Ok (Some o)) = IsOverlapAt sys i p j (overlap_view o)
+SpotAnswers sys i p j (Err e) = IsRefusedAt sys i p j e
+
+-- that there is one
+abbrev pub MeasureAnswers : System → ℕ → Position → ℕ → Result (Unit {0}) OverlapError → Type 0
+MeasureAnswers sys i p j (Ok u) = (o : math.Overlap) × IsOverlapAt sys i p j o
+MeasureAnswers sys i p j (Err e) = IsRefusedAt sys i p j e

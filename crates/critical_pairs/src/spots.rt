@@ -1,0 +1,84 @@
+//! The unifiers and overlaps of two rules of a prepared system.
+ghost use Rattle.critical_pairs.specs.Spots.{IsSpotOf, IsUnifierAt, UnifierAnswers, OverlapAnswers, MeasureAnswers, IsRefusal};
+
+use crate::fitting::does_pair_fit;
+use crate::pairs::{Triple, copy, pair};
+use crate::{Overlap, OverlapError};
+use prepared_system::PreparedSystem;
+use std::alloc::Global;
+use term_core::{Subst, TermError, subterm};
+use unification::{Unified, unify_terms};
+
+fn too_large(alloc: Global, triple: &Triple) -> OverlapError
+    ensures { IsRefusal triple.now.inner triple.now.pos.now triple.now.outer result }
+{
+    match copy(alloc, triple.pos) {
+        Ok(pos) => OverlapError::PairTooLarge {
+            inner: triple.inner,
+            pos,
+            outer: triple.outer,
+        },
+        Err(_) => OverlapError::NoMemory,
+    }
+}
+
+/// The unifier of the run at a triple, none where it clashes, or the refusal of one that passes the size.
+pub fn unifier_at(
+    alloc: Global,
+    sys: &PreparedSystem<'_>,
+    triple: &Triple,
+) -> Result<Option<Subst>, OverlapError>
+    requires { IsSpotOf sys.now triple.now.inner triple.now.pos.now triple.now.outer }
+    ensures { UnifierAnswers sys.now triple.now.inner triple.now.pos.now triple.now.outer result }
+{
+    let inner = &sys.inner_rules()[triple.inner as usize - 1];
+    let outer = &sys.outer_rules()[triple.outer as usize - 1];
+    // The renamed left side has the positions of the rule's.
+    let Some(part) = subterm(&outer.left, triple.pos) else {
+        unreachable!();
+    };
+    match unify_terms(alloc, &inner.left, part)? {
+        Unified::Clash => Ok(None),
+        Unified::TooLarge => Err(too_large(alloc, triple)),
+        Unified::Mgu(m) => Ok(Some(m)),
+    }
+}
+
+/// The overlap at a triple by the unifier of its run, or the refusal of one that does not fit.
+pub fn overlap_by(
+    alloc: Global,
+    sys: &PreparedSystem<'_>,
+    m: &Subst,
+    triple: &Triple,
+) -> Result<Overlap, OverlapError>
+    requires { IsUnifierAt sys.now triple.now.inner triple.now.pos.now triple.now.outer m.now }
+    ensures { OverlapAnswers sys.now triple.now.inner triple.now.pos.now triple.now.outer result }
+{
+    let inner = &sys.inner_rules()[triple.inner as usize - 1];
+    let outer = &sys.outer_rules()[triple.outer as usize - 1];
+    match pair(alloc, m, inner, outer, triple) {
+        Ok(overlap) => Ok(overlap),
+        Err(TermError::TooLarge) => Err(too_large(alloc, triple)),
+        Err(TermError::NoPosition) => unreachable!(),
+        Err(TermError::NoMemory) => Err(OverlapError::NoMemory),
+    }
+}
+
+/// Refuses the same overlaps, and makes none.
+pub fn measure_by(
+    alloc: Global,
+    sys: &PreparedSystem<'_>,
+    m: &Subst,
+    triple: &Triple,
+) -> Result<(), OverlapError>
+    requires { IsUnifierAt sys.now triple.now.inner triple.now.pos.now triple.now.outer m.now }
+    ensures { MeasureAnswers sys.now triple.now.inner triple.now.pos.now triple.now.outer result }
+{
+    let inner = &sys.inner_rules()[triple.inner as usize - 1];
+    let outer = &sys.outer_rules()[triple.outer as usize - 1];
+    if does_pair_fit(m, inner, outer, triple.pos) {
+        Ok(())
+    } else {
+        Err(too_large(alloc, triple))
+    }
+}
