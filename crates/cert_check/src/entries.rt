@@ -17,7 +17,9 @@ use cert_model::{MeasureCert, PairEntry};
 use cert_text::{CertError, Pairs};
 use measure::Measure;
 use ortho_check::OrthoRun;
+use prepared_system::PreparedSystem;
 use quasi_check::QuasiRun;
+use rule_index::IndexedSystem;
 use std::alloc::Global;
 use term_core::{NoMemory, System};
 
@@ -44,10 +46,10 @@ fn take_quasi<M: Measure>(
     run.take(alloc, &entry)
 }
 
-/// Judges the entries of a text of which the opening is read. The text is read to its end, also where an entry fails.
-pub fn judge_ortho(
+// Judges the entries, where the system is prepared.
+fn judge_ortho_entries(
     alloc: Global,
-    sys: &System,
+    sys: &PreparedSystem<'_>,
     pairs: &mut Pairs<'_>,
 ) -> Result<Verdict, BytesError>
     requires { (o : Opening) × HasRead pairs.old o [] }
@@ -67,10 +69,26 @@ pub fn judge_ortho(
     unreachable!();
 }
 
-/// The same under a measure.
-pub fn judge_quasi(
+/// Judges the entries of a text of which the opening is read. The text is read to its end, also where an entry fails.
+pub fn judge_ortho(
     alloc: Global,
     sys: &System,
+    pairs: &mut Pairs<'_>,
+) -> Result<Verdict, BytesError>
+    requires { (o : Opening) × HasRead pairs.old o [] }
+    ensures answers { (o : Opening) → HasRead pairs.old o [] → EntriesAnswer sys.now pairs.old.names pairs.old.bytes o ortho_opening result }
+    ensures yes { OnYes result (IsConfluent sys.now) }
+    ensures no { OnNo result ⊥ }
+{
+    let indexed = IndexedSystem::new(alloc, sys)?;
+    let prepared = PreparedSystem::new(alloc, indexed)?;
+    judge_ortho_entries(alloc, &prepared, pairs)
+}
+
+// Judges the entries under a measure, where the system is prepared.
+fn judge_quasi_entries(
+    alloc: Global,
+    sys: &PreparedSystem<'_>,
     measure: &MeasureCert,
     pairs: &mut Pairs<'_>,
 ) -> Result<Verdict, BytesError>
@@ -90,6 +108,23 @@ pub fn judge_quasi(
     }
     // No text has more than 20,000 entries.
     unreachable!();
+}
+
+/// The same under a measure.
+pub fn judge_quasi(
+    alloc: Global,
+    sys: &System,
+    measure: &MeasureCert,
+    pairs: &mut Pairs<'_>,
+) -> Result<Verdict, BytesError>
+    requires { (o : Opening) × HasRead pairs.old o [] }
+    ensures answers { (o : Opening) → HasRead pairs.old o [] → EntriesAnswer sys.now pairs.old.names pairs.old.bytes o (quasi_opening (measure_view measure.now)) result }
+    ensures yes { OnYes result (IsConfluent sys.now) }
+    ensures no { OnNo result ⊥ }
+{
+    let indexed = IndexedSystem::new(alloc, sys)?;
+    let prepared = PreparedSystem::new(alloc, indexed)?;
+    judge_quasi_entries(alloc, &prepared, measure, pairs)
 }
 
 /// Reads the entries to the end of the text, and judges none.

@@ -15,13 +15,13 @@ mod texts;
 use behind::print_behind;
 use cert_model::PairEvidence;
 use cops_read::read_system;
-use critical_pairs::overlaps;
+use critical_pairs::overlaps_in;
 use foreign::print_foreign;
 use infeasible::JudgeByKind;
-use irreducible::LeftSides;
 use measures::{NoRules, print_linear};
 use pair_check::{CertKind, judge_evidence};
 use prefixes::print_prefixes;
+use prepared_system::PreparedSystem;
 use quasi_check::check_quasi;
 use rule_index::IndexedSystem;
 use std::{fs, io};
@@ -34,10 +34,10 @@ fn print_conflict(rt: &HostRuntime, sys: &System) -> io::Result<()> {
     let Ok(indexed) = IndexedSystem::new(alloc, sys) else {
         return println!(rt; "no index");
     };
-    let Ok(sides) = LeftSides::new(alloc, indexed) else {
-        return println!(rt; "no left sides");
+    let Ok(prepared) = PreparedSystem::new(alloc, indexed) else {
+        return println!(rt; "not prepared");
     };
-    let Ok(found) = overlaps(alloc, sides.system()) else {
+    let Ok(found) = overlaps_in(alloc, &prepared) else {
         return println!(rt; "no list");
     };
     let [overlap] = found.as_slice() else {
@@ -47,7 +47,7 @@ fn print_conflict(rt: &HostRuntime, sys: &System) -> io::Result<()> {
     let mut judge = JudgeByKind::new();
     let answer = judge_evidence(
         alloc,
-        &sides,
+        &prepared,
         CertKind::Ortho,
         overlap,
         &evidence,

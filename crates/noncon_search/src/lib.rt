@@ -26,6 +26,7 @@ use cops_names::Names;
 use critical_pairs::Overlap;
 pub use ends::{End, ends_of};
 pub use pairs::try_pairs;
+use prepared_system::PreparedSystem;
 use rule_index::IndexedSystem;
 use search_answers::overlaps_or_none;
 use std::alloc::Global;
@@ -87,6 +88,7 @@ pub fn search_peak(
     ensures kept { (n : ℕ) × Spends budget.old n budget.new }
 {
     let indexed = IndexedSystem::new(alloc, sys)?;
-    let found = overlaps_or_none(alloc, sys)?;
-    search_peak_over(alloc, &indexed, names, found.as_deref(), budget)
+    let prepared = PreparedSystem::new(alloc, indexed)?;
+    let found = overlaps_or_none(alloc, &prepared)?;
+    search_peak_over(alloc, prepared.indexed(), names, found.as_deref(), budget)
 }

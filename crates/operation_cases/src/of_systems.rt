@@ -4,10 +4,11 @@ use crate::of_numbers::unary;
 use cert_model::Class;
 use critical_pairs::{OverlapSearch, overlaps};
 use ctrs_classes::why_not;
-use irreducible::{LeftSides, do_all_clash, is_absolutely_irreducible};
+use irreducible::{do_all_clash, is_absolutely_irreducible};
+use prepared_system::PreparedSystem;
 use rule_index::{IndexedSystem, RuleIndex};
 use std::io;
-use term_core::{System, Term};
+use term_core::{NoMemory, System, Term};
 use unravel::unravel;
 
 /// The rules of the symbols with the first numbers.
@@ -32,11 +33,17 @@ pub fn print_overlaps(rt: &HostRuntime, sys: &System) -> io::Result<()> {
     Ok(())
 }
 
+fn prepare<'a>(rt: &HostRuntime, sys: &'a System) -> Result<PreparedSystem<'a>, NoMemory> {
+    let indexed = IndexedSystem::new(rt.alloc(), sys)?;
+    PreparedSystem::new(rt.alloc(), indexed)
+}
+
 /// What a search offers at its first two calls.
 pub fn print_search(rt: &HostRuntime, sys: &System) -> io::Result<()> {
-    let Ok(mut search) = OverlapSearch::new(rt.alloc(), sys) else {
+    let Ok(prepared) = prepare(rt, sys) else {
         return println!(rt; "no memory");
     };
+    let mut search = OverlapSearch::new(rt.alloc(), &prepared);
     for _ in 0..2 {
         println!(rt; "{:?}", search.next(rt.alloc()))?;
     }
@@ -45,12 +52,11 @@ pub fn print_search(rt: &HostRuntime, sys: &System) -> io::Result<()> {
 
 /// Whether a search offers an overlap, or its refusal, and what another answers that passes the same, at three calls.
 pub fn print_passes(rt: &HostRuntime, sys: &System) -> io::Result<()> {
-    let Ok(mut offers) = OverlapSearch::new(rt.alloc(), sys) else {
+    let Ok(prepared) = prepare(rt, sys) else {
         return println!(rt; "no memory");
     };
-    let Ok(mut passes) = OverlapSearch::new(rt.alloc(), sys) else {
-        return println!(rt; "no memory");
-    };
+    let mut offers = OverlapSearch::new(rt.alloc(), &prepared);
+    let mut passes = OverlapSearch::new(rt.alloc(), &prepared);
     for _ in 0..3 {
         match offers.next(rt.alloc()) {
             Ok(offered) => println!(rt; "{}", offered.is_some())?,
@@ -79,25 +85,22 @@ pub fn print_classes(rt: &HostRuntime, sys: &System) -> io::Result<()> {
     Ok(())
 }
 
-fn print_judged(rt: &HostRuntime, lefts: &LeftSides<'_>, t: &Term) -> io::Result<()> {
-    let judged = is_absolutely_irreducible(rt.alloc(), lefts.system(), t);
-    let clash = do_all_clash(rt.alloc(), lefts, t);
+fn print_judged(rt: &HostRuntime, sys: &PreparedSystem<'_>, t: &Term) -> io::Result<()> {
+    let judged = is_absolutely_irreducible(rt.alloc(), sys.system(), t);
+    let clash = do_all_clash(rt.alloc(), sys, t);
     println!(rt; "{judged:?} {clash:?}")
 }
 
 /// Whether each term, and then symbol 0 over the greatest variable, is absolutely irreducible, and whether all runs for it clash.
 pub fn print_irreducible(rt: &HostRuntime, sys: &System, terms: &[Term]) -> io::Result<()> {
-    let Ok(indexed) = IndexedSystem::new(rt.alloc(), sys) else {
-        return println!(rt; "no memory");
-    };
-    let Ok(lefts) = LeftSides::new(rt.alloc(), indexed) else {
+    let Ok(prepared) = prepare(rt, sys) else {
         return println!(rt; "no memory");
     };
     for t in terms {
-        print_judged(rt, &lefts, t)?;
+        print_judged(rt, &prepared, t)?;
     }
     match unary(rt.alloc(), 4294967295) {
-        Ok(t) => print_judged(rt, &lefts, &t),
+        Ok(t) => print_judged(rt, &prepared, &t),
         Err(e) => println!(rt; "{e:?}"),
     }
 }

@@ -14,15 +14,19 @@ ghost use Rattle.ortho_check.specs.Laws.{ValidSystemsAreConfluent};
 
 use cert_model::PairEntry;
 use level_theorem::levels_commute;
+use prepared_system::PreparedSystem;
+use rule_index::IndexedSystem;
 pub use run::OrthoRun;
 use std::alloc::Global;
 use term_core::System;
 pub use validity::CheckError;
 
-/// Whether entries for the overlaps show that the levels of the system commute, and so that it is confluent: it is
-/// left-linear, of type 3, extended properly oriented and right-stable, and each overlap has an entry, in order, with
-/// valid evidence that it is trivial, infeasible or in conflict (after Suzuki, Middeldorp, Ida 1995).
-pub fn check_ortho(alloc: Global, sys: &System, pairs: &[PairEntry]) -> Result<(), CheckError>
+// The same, where the system is prepared.
+fn check_prepared(
+    alloc: Global,
+    sys: &PreparedSystem<'_>,
+    pairs: &[PairEntry],
+) -> Result<(), CheckError>
     requires short { ArePairsShort (map pair_entry_view pairs.now) }
     ensures judged { OrthoAnswers sys.now (map pair_entry_view pairs.now) result }
     ensures levels { OnOk result (DoLevelsCommute sys.now) }
@@ -36,6 +40,20 @@ pub fn check_ortho(alloc: Global, sys: &System, pairs: &[PairEntry]) -> Result<(
         Ok(()) => Ok(()),
         Err(reason) => Err(CheckError::Rejected(reason)),
     }
+}
+
+/// Whether entries for the overlaps show that the levels of the system commute, and so that it is confluent: it is
+/// left-linear, of type 3, extended properly oriented and right-stable, and each overlap has an entry, in order, with
+/// valid evidence that it is trivial, infeasible or in conflict (after Suzuki, Middeldorp, Ida 1995).
+pub fn check_ortho(alloc: Global, sys: &System, pairs: &[PairEntry]) -> Result<(), CheckError>
+    requires short { ArePairsShort (map pair_entry_view pairs.now) }
+    ensures judged { OrthoAnswers sys.now (map pair_entry_view pairs.now) result }
+    ensures levels { OnOk result (DoLevelsCommute sys.now) }
+    ensures confluent { OnOk result (IsConfluent sys.now) }
+{
+    let indexed = IndexedSystem::new(alloc, sys)?;
+    let prepared = PreparedSystem::new(alloc, indexed)?;
+    check_prepared(alloc, &prepared, pairs)
 }
 
 /// A system that has a valid certificate is confluent. This is a law of the definitions: nothing is checked here.

@@ -13,16 +13,17 @@ use cert_model::{PairEntry, Rejected};
 use infeasible::JudgeByKind;
 use level_theorem::levels_commute;
 use pair_check::PairRun;
+use prepared_system::PreparedSystem;
 use std::alloc::Global;
 use std::marker::Model;
-use term_core::{NoMemory, System};
+use term_core::NoMemory;
 use validity::{CertKind, CheckError};
 
 /// A run over the entries of a certificate of an almost orthogonal system. In contracts it is the system and the tally of the
 /// entries.
 #[derive(Debug)]
 pub struct OrthoRun<'a> {
-    sys: &'a System,
+    sys: &'a PreparedSystem<'a>,
     /// The run over the entries, or the reason for which any are rejected.
     pairs: Result<PairRun<'a>, Rejected>,
     judge: JudgeByKind,
@@ -55,17 +56,17 @@ impl<'a> Model for OrthoRun<'a> {
 }
 
 // The run over the entries, where the system is in the classes and its overlaps have a list.
-fn start_pairs<'a>(alloc: Global, sys: &'a System) -> Result<PairRun<'a>, CheckError>
+fn start_pairs<'a>(alloc: Global, sys: &'a PreparedSystem<'a>) -> Result<PairRun<'a>, CheckError>
     ensures { StartAnswers sys.now result }
 {
-    check_classes(sys)?;
+    check_classes(sys.system())?;
     PairRun::start(alloc, sys, CertKind::Ortho)
 }
 
 impl<'a> OrthoRun<'a> {
     /// The run before the first entry. It keeps the reason for which any entries are rejected, where there is one: the system
     /// is not in the classes, or its overlaps have no list.
-    pub fn start(alloc: Global, sys: &'a System) -> Result<OrthoRun<'a>, NoMemory>
+    pub fn start(alloc: Global, sys: &'a PreparedSystem<'a>) -> Result<OrthoRun<'a>, NoMemory>
         ensures system { IfOk result (λ run. run.system ≡ sys.now) }
         ensures tally { IfOk result (λ run. IsOrthoTally sys.now [] run.tally) }
     {

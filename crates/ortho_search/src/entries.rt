@@ -12,15 +12,15 @@ ghost use Rattle.pair_search.specs.Answers.{EntriesAnswers};
 use crate::trying::try_overlap;
 use cc_count::Budget;
 use critical_pairs::Overlap;
-use irreducible::LeftSides;
 use pair_search::{Entries, Grown, Walk, add_entry};
+use prepared_system::PreparedSystem;
 use std::alloc::Global;
 use term_core::NoMemory;
 
 /// For each overlap, in order, the first valid evidence; at the first that has none the walk ends.
 pub fn entries_for(
     alloc: Global,
-    sys: &LeftSides<'_>,
+    sys: &PreparedSystem<'_>,
     overlaps: &[Overlap],
     budget: &mut Budget,
 ) -> Result<Entries, NoMemory>

@@ -24,8 +24,8 @@ use cert_model::Certificate;
 use cops_names::Names;
 use critical_pairs::Overlap;
 use ctrs_classes::{is_extended_oriented, is_left_linear, is_right_stable, is_type3};
-use irreducible::LeftSides;
 use pair_search::Entries;
+use prepared_system::PreparedSystem;
 use rule_index::IndexedSystem;
 use search_answers::overlaps_or_none;
 use std::alloc::Global;
@@ -42,7 +42,7 @@ fn is_in_classes(sys: &System) -> bool
 // Searches where the classes hold.
 fn search_open(
     alloc: Global,
-    sys: &LeftSides<'_>,
+    sys: &PreparedSystem<'_>,
     names: &Names,
     overlaps: &[Overlap],
     budget: &mut Budget,
@@ -71,7 +71,7 @@ fn search_open(
 /// The same as `search_ortho`, over left sides and a list of the overlaps that were made before; none where the overlaps are refused.
 pub fn search_ortho_over(
     alloc: Global,
-    sys: &LeftSides<'_>,
+    sys: &PreparedSystem<'_>,
     names: &Names,
     overlaps: Option<&[Overlap]>,
     budget: &mut Budget,
@@ -110,7 +110,7 @@ pub fn search_ortho(
     ensures kept { (n : ℕ) × Spends budget.old n budget.new }
 {
     let indexed = IndexedSystem::new(alloc, sys)?;
-    let lefts = LeftSides::new(alloc, indexed)?;
-    let found = overlaps_or_none(alloc, sys)?;
-    search_ortho_over(alloc, &lefts, names, found.as_deref(), budget)
+    let prepared = PreparedSystem::new(alloc, indexed)?;
+    let found = overlaps_or_none(alloc, &prepared)?;
+    search_ortho_over(alloc, &prepared, names, found.as_deref(), budget)
 }

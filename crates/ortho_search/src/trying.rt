@@ -14,8 +14,8 @@ use crate::items::{Item, items_of};
 use cc_count::Budget;
 use cert_model::PairEvidence;
 use critical_pairs::Overlap;
-use irreducible::LeftSides;
 use pair_search::{Grown, Walk, judged, try_refuting};
+use prepared_system::PreparedSystem;
 use std::alloc::Global;
 use term_core::NoMemory;
 use validity::CertKind;
@@ -23,7 +23,7 @@ use validity::CertKind;
 // The evidence that an item tries, where it is valid.
 fn try_item(
     alloc: Global,
-    sys: &LeftSides<'_>,
+    sys: &PreparedSystem<'_>,
     overlap: &Overlap,
     item: Item,
     grown: &mut Grown,
@@ -48,7 +48,7 @@ fn try_item(
 // Tries the items in order, a unit each, up to the first that gives valid evidence.
 fn try_items(
     alloc: Global,
-    sys: &LeftSides<'_>,
+    sys: &PreparedSystem<'_>,
     overlap: &Overlap,
     items: &[Item],
     budget: &mut Budget,
@@ -76,7 +76,7 @@ fn try_items(
 /// Tries all items of the overlap in order, a unit each, up to the first that gives valid evidence.
 pub fn try_overlap(
     alloc: Global,
-    sys: &LeftSides<'_>,
+    sys: &PreparedSystem<'_>,
     overlap: &Overlap,
     budget: &mut Budget,
     grown: &mut Grown,

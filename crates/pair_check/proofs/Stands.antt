@@ -179,9 +179,9 @@ keeps_to kind sys s n (Some o) e stands h = stands_still sys s n o stands
 pub kept_failed : (i : Inside) (now : PairRun) → run_view i ≡ now → is_some i.failed ≡ true → (e : PairEntry) → DoesTake now e now
 kept_failed i now is some e = go i.failed some is
   where
-    go : (f : Option reasons.Rejected) → is_some f ≡ true → run (kind_view i.kind) i.sys (tally_view i.taken f) ≡ now → DoesTake now e now
+    go : (f : Option reasons.Rejected) → is_some f ≡ true → run (kind_view i.kind) i.sys.now (tally_view i.taken f) ≡ now → DoesTake now e now
     go None some is = cc
-    go (Some r) some is = subst (λ z. DoesTake z e z) is (take_failed (kind_view i.kind) i.sys (rejected_view r) e)
+    go (Some r) some is = subst (λ z. DoesTake z e z) is (take_failed (kind_view i.kind) i.sys.now (rejected_view r) e)
 
 pub not_failed : (f : Option reasons.Rejected) → is_some f ≡ false → f ≡ None
 not_failed None h = refl
@@ -189,52 +189,52 @@ not_failed (Some r) h = cc
 
 -- of a run that has not failed
 module _ (i : Inside) (held : IsHeld i) (none : i.failed ≡ None) where
-  stands : StandsBefore i.sys i.search i.taken i.next
+  stands : StandsBefore i.sys.now i.search i.taken i.next
   stands = held.stands none
 
-  pub next_there : IsNextOf i.sys i.next
-  next_there = next_of i.sys i.search i.taken i.next stands
+  pub next_there : IsNextOf i.sys.now i.next
+  next_there = next_of i.sys.now i.search i.taken i.next stands
 
   pub few_taken : i.taken ≤ 20000
-  few_taken = few_behind i.sys i.search i.taken i.next stands
+  few_taken = few_behind i.sys.now i.search i.taken i.next stands
 
   module _ (now : PairRun) (is : run_view i ≡ now) where
-    as_run : run (kind_view i.kind) i.sys (passed i.taken) ≡ now
-    as_run = ap (λ z. run (kind_view i.kind) i.sys (tally_view i.taken z)) (sym none) ∙ is
+    as_run : run (kind_view i.kind) i.sys.now (passed i.taken) ≡ now
+    as_run = ap (λ z. run (kind_view i.kind) i.sys.now (tally_view i.taken z)) (sym none) ∙ is
 
-    pub taken_failing : (e : PairEntry) (reason : reasons.Rejected) → DoesFailNext (kind_view i.kind) i.sys i.taken i.next e (rejected_view reason)
-        → (f : Option reasons.Rejected) → f ≡ Some reason → DoesTake now e (run (kind_view i.kind) i.sys (tally_view i.taken f))
+    pub taken_failing : (e : PairEntry) (reason : reasons.Rejected) → DoesFailNext (kind_view i.kind) i.sys.now i.taken i.next e (rejected_view reason)
+        → (f : Option reasons.Rejected) → f ≡ Some reason → DoesTake now e (run (kind_view i.kind) i.sys.now (tally_view i.taken f))
     taken_failing e reason h f fails =
-        subst₂ (λ z g. DoesTake z e (run (kind_view i.kind) i.sys (tally_view i.taken g))) as_run (sym fails)
-        (take_fails (kind_view i.kind) i.sys i.search i.taken i.next stands e (rejected_view reason) h)
+        subst₂ (λ z g. DoesTake z e (run (kind_view i.kind) i.sys.now (tally_view i.taken g))) as_run (sym fails)
+        (take_fails (kind_view i.kind) i.sys.now i.search i.taken i.next stands e (rejected_view reason) h)
 
-    pub taken_settling : (e : PairEntry) → DoesSettleNext (kind_view i.kind) i.sys i.next e → DoesTake now e (run (kind_view i.kind) i.sys (tally_view (i.taken + 1) i.failed))
+    pub taken_settling : (e : PairEntry) → DoesSettleNext (kind_view i.kind) i.sys.now i.next e → DoesTake now e (run (kind_view i.kind) i.sys.now (tally_view (i.taken + 1) i.failed))
     taken_settling e h =
-        subst₂ (λ z g. DoesTake z e (run (kind_view i.kind) i.sys (tally_view (i.taken + 1) g))) as_run (sym none) (take_settles (kind_view i.kind) i.sys i.search i.taken i.next stands e h)
+        subst₂ (λ z g. DoesTake z e (run (kind_view i.kind) i.sys.now (tally_view (i.taken + 1) g))) as_run (sym none) (take_settles (kind_view i.kind) i.sys.now i.search i.taken i.next stands e h)
 
     pub finished_missing : (o : Overlap) → i.next ≡ Some o → (es : List PairEntry) → HasTaken now es → DoNotSettle now.kind now.system es (pair_missing o.inner o.pos.items o.outer)
     finished_missing o there es h =
         subst (λ z. DoNotSettle z.kind z.system es (pair_missing o.inner o.pos.items o.outer)) is
-        (finish_missing (kind_view i.kind) i.sys i.search i.taken o (subst (StandsBefore i.sys i.search i.taken) there stands) es (subst (λ z. HasTaken z es) (sym as_run) h))
+        (finish_missing (kind_view i.kind) i.sys.now i.search i.taken o (subst (StandsBefore i.sys.now i.search i.taken) there stands) es (subst (λ z. HasTaken z es) (sym as_run) h))
 
     pub finished_all : i.next ≡ None → (es : List PairEntry) → HasTaken now es → DoSettle now.kind now.system es
     finished_all there es h =
         subst (λ z. DoSettle z.kind z.system es) is
-        (finish_all (kind_view i.kind) i.sys i.search i.taken es (subst (StandsBefore i.sys i.search i.taken) there stands) (subst (λ z. HasTaken z es) (sym as_run) h))
+        (finish_all (kind_view i.kind) i.sys.now i.search i.taken es (subst (StandsBefore i.sys.now i.search i.taken) there stands) (subst (λ z. HasTaken z es) (sym as_run) h))
 
-  module _ (e : PairEntry) (h : DoesSettleNext (kind_view i.kind) i.sys i.next e) where
+  module _ (e : PairEntry) (h : DoesSettleNext (kind_view i.kind) i.sys.now i.next e) where
     pub list_ahead : HasList i.search
-    list_ahead = list_of (kind_view i.kind) i.sys i.search i.taken i.next e stands h
+    list_ahead = list_of (kind_view i.kind) i.sys.now i.search i.taken i.next e stands h
 
-    pub goes_on_to : (t : Search) → t.system ≡ i.search.system → (after : Option Overlap) → OfferAnswers i.search t (Ok after) → StandsBefore i.sys t (i.taken + 1) after
-    goes_on_to = goes_to (kind_view i.kind) i.sys i.search i.taken i.next e stands h
+    pub goes_on_to : (t : Search) → t.system ≡ i.search.system → (after : Option Overlap) → OfferAnswers i.search t (Ok after) → StandsBefore i.sys.now t (i.taken + 1) after
+    goes_on_to = goes_to (kind_view i.kind) i.sys.now i.search i.taken i.next e stands h
 
-    pub keeps_on : (t : Search) → t.system ≡ i.search.system → DoesStay i.search t → (next : Option Overlap) → next ≡ i.next → StandsBefore i.sys t i.taken next
-    keeps_on t system stay next same = subst (StandsBefore i.sys t i.taken) (sym same) (keeps_to (kind_view i.kind) i.sys i.search i.taken i.next e stands h t system stay)
+    pub keeps_on : (t : Search) → t.system ≡ i.search.system → DoesStay i.search t → (next : Option Overlap) → next ≡ i.next → StandsBefore i.sys.now t i.taken next
+    keeps_on t system stay next same = subst (StandsBefore i.sys.now t i.taken) (sym same) (keeps_to (kind_view i.kind) i.sys.now i.search i.taken i.next e stands h t system stay)
 
 -- a run that has failed
 pub finished_failed : (i : Inside) (now : PairRun) → run_view i ≡ now → (reason : reasons.Rejected) → i.failed ≡ Some reason → (es : List PairEntry) → HasTaken now es
     → DoNotSettle now.kind now.system es (rejected_view reason)
 finished_failed i now is reason fails es h =
     subst (λ z. DoNotSettle z.kind z.system es (rejected_view reason)) is
-    (finish_failed (kind_view i.kind) i.sys (rejected_view reason) es (subst (λ z. HasTaken z es) (sym (ap (λ z. run (kind_view i.kind) i.sys (tally_view i.taken z)) (sym fails) ∙ is)) h))
+    (finish_failed (kind_view i.kind) i.sys.now (rejected_view reason) es (subst (λ z. HasTaken z es) (sym (ap (λ z. run (kind_view i.kind) i.sys.now (tally_view i.taken z)) (sym fails) ∙ is)) h))

@@ -21,7 +21,7 @@ tally_view n (Some reason) = failed (rejected_view reason)
 
 -- the kind, the system and the tally
 abbrev pub run_view : Inside → PairRun
-run_view r = record { kind = kind_view r.kind; system = r.sys; tally = tally_view r.taken r.failed }
+run_view r = record { kind = kind_view r.kind; system = r.sys.now; tally = tally_view r.taken r.failed }
 
 -- so many overlaps are behind the run, and the search has offered these and the next one, if there is one
 abbrev pub StandsBefore : System → Search → ℕ → Option Overlap → Type 0
@@ -30,4 +30,4 @@ StandsBefore sys s n None = (done : List math.Overlap) × (length done ≡ n) ×
 
 -- what a run keeps
 pub record IsHeld (r : Inside) : Type 0 where
-  pub stands : r.failed ≡ None → StandsBefore r.sys r.search r.taken r.next
+  pub stands : r.failed ≡ None → StandsBefore r.sys.now r.search r.taken r.next

@@ -14,7 +14,8 @@ ghost use Rattle.pair_check.specs.Judges.{EndAnswers, AreIrreducibleApart};
 use cert_model::{Derivation, EvidenceReason, condition};
 use critical_pairs::Overlap;
 use derivation::{ReplayError, replay};
-use irreducible::{LeftSides, do_all_clash};
+use irreducible::do_all_clash;
+use prepared_system::PreparedSystem;
 use refuter::Refusal;
 use std::alloc::Global;
 use term_core::{System, Term, equal};
@@ -80,7 +81,7 @@ pub fn judge_join(
 // The end of the first derivation from a condition's left side.
 fn first_end(
     alloc: Global,
-    sys: &LeftSides<'_>,
+    sys: &PreparedSystem<'_>,
     overlap: &Overlap,
     start: &Term,
     d: &Derivation,
@@ -100,7 +101,7 @@ fn first_end(
 // The end of the second one.
 fn second_end(
     alloc: Global,
-    sys: &LeftSides<'_>,
+    sys: &PreparedSystem<'_>,
     overlap: &Overlap,
     start: &Term,
     d: &Derivation,
@@ -118,7 +119,7 @@ fn second_end(
 }
 
 // That two terms are absolutely irreducible and do not unify.
-fn judge_ends(alloc: Global, sys: &LeftSides<'_>, u: &Term, v: &Term) -> Result<(), Refusal>
+fn judge_ends(alloc: Global, sys: &PreparedSystem<'_>, u: &Term, v: &Term) -> Result<(), Refusal>
     ensures { RefutesAnswers (AreIrreducibleApart sys.now (view u.now) (view v.now)) result }
 {
     if !do_all_clash(alloc, sys, u)? {
@@ -137,7 +138,7 @@ fn judge_ends(alloc: Global, sys: &LeftSides<'_>, u: &Term, v: &Term) -> Result<
 /// Judges that the left side of a condition, numbered from 1, derives two irreducible terms that do not unify.
 pub fn judge_unfeasible(
     alloc: Global,
-    sys: &LeftSides<'_>,
+    sys: &PreparedSystem<'_>,
     overlap: &Overlap,
     number: u32,
     first: &Derivation,

@@ -12,7 +12,7 @@ ghost use Rattle.pair_check.specs.Steps.{IsNextOf, EntryAnswers};
 use crate::evidence::judge_evidence;
 use cert_model::{PairEntry, Rejected};
 use critical_pairs::Overlap;
-use irreducible::LeftSides;
+use prepared_system::PreparedSystem;
 use refuter::Refusal;
 use std::alloc::Global;
 use term_core::NoMemory;
@@ -42,7 +42,7 @@ fn is_for(entry: &PairEntry, overlap: &Overlap) -> bool
 /// overlap taken away.
 pub fn judge_entry<J: InfeasibilityJudge>(
     alloc: Global,
-    sys: &LeftSides<'_>,
+    sys: &PreparedSystem<'_>,
     kind: CertKind,
     next: &mut Option<Overlap>,
     taken: u32,

@@ -12,7 +12,7 @@ use crate::conflict::judge_conflict;
 use crate::derived::{judge_join, judge_unfeasible};
 use cert_model::{EvidenceReason, PairEvidence};
 use critical_pairs::Overlap;
-use irreducible::LeftSides;
+use prepared_system::PreparedSystem;
 use refuter::Refusal;
 use std::alloc::Global;
 use term_core::equal;
@@ -34,7 +34,7 @@ fn judge_trivial(overlap: &Overlap) -> Result<(), Refusal>
 // The same whatever the kind of the certificate.
 fn judge_kind<J: InfeasibilityJudge>(
     alloc: Global,
-    sys: &LeftSides<'_>,
+    sys: &PreparedSystem<'_>,
     overlap: &Overlap,
     evidence: &PairEvidence,
     judge: &mut J,
@@ -64,7 +64,7 @@ fn judge_kind<J: InfeasibilityJudge>(
 /// the kind may not give is not looked at; evidence that the conditions are never met is left to the judge.
 pub fn judge_evidence<J: InfeasibilityJudge>(
     alloc: Global,
-    sys: &LeftSides<'_>,
+    sys: &PreparedSystem<'_>,
     kind: CertKind,
     overlap: &Overlap,
     evidence: &PairEvidence,

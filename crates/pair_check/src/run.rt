@@ -13,11 +13,10 @@ ghost use Rattle.pair_check.specs.Underway.{AreAll};
 use crate::entries::{judge_entry, missing};
 use cert_model::{PairEntry, Rejected};
 use critical_pairs::{Overlap, OverlapError, OverlapSearch};
-use irreducible::LeftSides;
-use rule_index::IndexedSystem;
+use prepared_system::PreparedSystem;
 use std::alloc::Global;
 use std::marker::Model;
-use term_core::{NoMemory, System};
+use term_core::NoMemory;
 use validity::{CertKind, CheckError, InfeasibilityJudge};
 
 /// A run over the entries of a certificate of a kind. It has one overlap at a time, and keeps no entry. In contracts it is the
@@ -25,7 +24,7 @@ use validity::{CertKind, CheckError, InfeasibilityJudge};
 #[derive(Debug, Drop)]
 pub struct PairRun<'a> {
     kind: CertKind,
-    sys: LeftSides<'a>,
+    sys: &'a PreparedSystem<'a>,
     search: OverlapSearch<'a>,
     /// The overlap that the next entry is for.
     next: Option<Overlap>,
@@ -49,10 +48,10 @@ impl<'a> Model for PairRun<'a> {
 }
 
 // Goes past all overlaps.
-fn walk(alloc: Global, sys: &System) -> Result<(), OverlapError>
+fn walk(alloc: Global, sys: &PreparedSystem<'_>) -> Result<(), OverlapError>
     ensures { WalkAnswers sys.now result }
 {
-    let mut search = OverlapSearch::new(alloc, sys)?;
+    let mut search = OverlapSearch::new(alloc, sys);
     'overlaps: while search.pass(alloc)? {}
     Ok(())
 }
@@ -93,16 +92,19 @@ fn fail(failed: &mut Option<Rejected>, reason: Rejected)
 
 impl<'a> PairRun<'a> {
     // The run before the first entry, where the overlaps have a list.
-    fn begin(alloc: Global, sys: &'a System, kind: CertKind) -> Result<PairRun<'a>, NoMemory>
+    fn begin(
+        alloc: Global,
+        sys: &'a PreparedSystem<'a>,
+        kind: CertKind,
+    ) -> Result<PairRun<'a>, NoMemory>
         requires list { (os : List math.Overlap) × AreAll sys.now os }
         ensures { IfOk result (λ run. run ≡ record { kind = kind_view kind; system = sys.now; tally = passed 0 }) }
     {
-        let lefts = LeftSides::new(alloc, IndexedSystem::new(alloc, sys)?)?;
-        let mut search = OverlapSearch::new(alloc, sys)?;
+        let mut search = OverlapSearch::new(alloc, sys);
         let next = next_overlap(alloc, &mut search)?;
         Ok(PairRun {
             kind,
-            sys: lefts,
+            sys,
             search,
             next,
             taken: 0,
@@ -115,7 +117,11 @@ impl<'a> PairRun<'a> {
     /// # Errors
     ///
     /// Why the overlaps have no list, for which entries of any kind are rejected.
-    pub fn start(alloc: Global, sys: &'a System, kind: CertKind) -> Result<PairRun<'a>, CheckError>
+    pub fn start(
+        alloc: Global,
+        sys: &'a PreparedSystem<'a>,
+        kind: CertKind,
+    ) -> Result<PairRun<'a>, CheckError>
         ensures { StartAnswers (kind_view kind) sys.now result }
     {
         match walk(alloc, sys) {
@@ -143,7 +149,7 @@ impl<'a> PairRun<'a> {
         }
         let judged = judge_entry(
             alloc,
-            &self.sys,
+            self.sys,
             self.kind,
             &mut self.next,
             self.taken,

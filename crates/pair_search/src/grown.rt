@@ -16,7 +16,7 @@ use cert_model::{Automaton, InfEvidence, PairEvidence, condition};
 use critical_pairs::Overlap;
 use evidence_offers::valid_growth;
 use infeasible::is_same_condition;
-use irreducible::LeftSides;
+use prepared_system::PreparedSystem;
 use std::alloc::Global;
 use std::marker::Model;
 use term_core::{Cond, NoMemory, try_clone};
@@ -85,7 +85,7 @@ impl Grown {
     fn grow_anew(
         &mut self,
         alloc: Global,
-        sys: &LeftSides<'_>,
+        sys: &PreparedSystem<'_>,
         overlap: &Overlap,
         number: u32,
         cond: &Cond,
@@ -111,7 +111,7 @@ impl Grown {
     pub(crate) fn grow(
         &mut self,
         alloc: Global,
-        sys: &LeftSides<'_>,
+        sys: &PreparedSystem<'_>,
         overlap: &Overlap,
         number: u32,
     ) -> Result<Option<PairEvidence>, NoMemory>

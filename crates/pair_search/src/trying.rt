@@ -14,15 +14,15 @@ use cert_model::{InfEvidence, PairEvidence};
 use critical_pairs::Overlap;
 use evidence_offers::Refuting;
 use infeasible::JudgeByKind;
-use irreducible::LeftSides;
 use pair_check::{CertKind, Refusal, judge_evidence};
+use prepared_system::PreparedSystem;
 use std::alloc::Global;
 use term_core::NoMemory;
 
 /// The evidence, where it is valid in a certificate of the kind.
 pub fn judged(
     alloc: Global,
-    sys: &LeftSides<'_>,
+    sys: &PreparedSystem<'_>,
     kind: CertKind,
     overlap: &Overlap,
     evidence: PairEvidence,
@@ -43,7 +43,7 @@ pub fn judged(
 /// is remembered.
 pub fn try_refuting(
     alloc: Global,
-    sys: &LeftSides<'_>,
+    sys: &PreparedSystem<'_>,
     kind: CertKind,
     overlap: &Overlap,
     refuting: Refuting,

@@ -1,5 +1,5 @@
 -- How a proof ends, from the ends of the searches of the system and of what its standard steps leave.
-use Rattle.std.proofs.Common.{ℕ, ◌≡◌, ◌+◌, ◌≤◌, Bool, true, false, nat_eq, List, [], ◌∷◌, map, length, Vec, Global, Result, Ok, Err, inl, refl, sym, ap, ◌∙◌, arith, eqb-true, eq-eqb}
+use Rattle.std.proofs.Common.{ℕ, ◌≡◌, ◌+◌, ◌≤◌, Bool, true, false, nat_eq, List, [], ◌∷◌, map, length, Vec, Global, Result, Ok, Err, inl, refl, sym, ap, ◌∙◌, subst₂, arith, eqb-true, eq-eqb}
 use Rattle.std.proofs.lemmas.List.{length-map, nil_from_length}
 use Rattle.rewriting.specs.Rules.{System}
 use Rattle.certificates.specs.Certificates.{Simplification, Certificate}
@@ -33,6 +33,10 @@ some_view : (v : Vec Simp Global) (b : Bool) → b ≡ nat_eq v.len 0 → b ≡ 
 some_view v b e t none =
     let zero : v.len ≡ 0 = v.ok.0 ∙ (sym (length-map v.items simp_view) ∙ ap length none) in
     let clash : false ≡ true = sym t ∙ (e ∙ eq-eqb v.len 0 zero) in cc
+
+-- the searches of the prepared system are those of the system
+pub own_searched : (names : NameTable) (s sys : System) (before here : Counts) (o p : Outcome) → s ≡ sys → o ≡ p → SearchesAll (pruned_spaces names s) before here (Ok o) → SearchesAll (pruned_spaces names sys) before here (Ok p)
+own_searched names s sys before here o p e is h = subst₂ (λ z q. SearchesAll (pruned_spaces names z) before here (Ok q)) e is h
 
 module _ (names : NameTable) (sys : System) where
   -- behind the standard steps

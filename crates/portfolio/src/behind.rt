@@ -20,9 +20,9 @@ use cert_limits::has_text;
 use cert_model::{Certificate, Simp};
 use cops_names::Names;
 use critical_pairs::Overlap;
-use irreducible::LeftSides;
 use noncon_search::search_peak_over;
 use ortho_search::search_ortho_over;
+use prepared_system::PreparedSystem;
 use quasi_search::search_quasi_over;
 use rule_index::IndexedSystem;
 use std::alloc::Global;
@@ -95,7 +95,7 @@ fn with_the_steps(
 // The search for a certificate that the last system is almost orthogonal.
 fn search_ortho_behind(
     alloc: Global,
-    last: &LeftSides<'_>,
+    last: &PreparedSystem<'_>,
     names: &Names,
     overlaps: Option<&[Overlap]>,
     steps: Vec<Simp>,
@@ -112,7 +112,7 @@ fn search_ortho_behind(
 // The search for one that it is not confluent.
 fn search_peak_behind(
     alloc: Global,
-    last: &LeftSides<'_>,
+    last: &PreparedSystem<'_>,
     names: &Names,
     overlaps: Option<&[Overlap]>,
     steps: Vec<Simp>,
@@ -129,7 +129,7 @@ fn search_peak_behind(
 // The search for one with a measure, which is the last.
 fn search_quasi_behind(
     alloc: Global,
-    last: &LeftSides<'_>,
+    last: &PreparedSystem<'_>,
     names: &Names,
     overlaps: Option<&[Overlap]>,
     steps: Vec<Simp>,
@@ -150,7 +150,7 @@ fn search_quasi_behind(
 // The first two searches, one behind the other.
 fn search_two_behind(
     alloc: Global,
-    last: &LeftSides<'_>,
+    last: &PreparedSystem<'_>,
     names: &Names,
     overlaps: Option<&[Overlap]>,
     steps: Vec<Simp>,
@@ -173,7 +173,7 @@ fn search_two_behind(
 // All three.
 fn search_three_behind(
     alloc: Global,
-    last: &LeftSides<'_>,
+    last: &PreparedSystem<'_>,
     names: &Names,
     overlaps: Option<&[Overlap]>,
     steps: Vec<Simp>,
@@ -193,7 +193,7 @@ fn search_three_behind(
     }
 }
 
-// All three, over the same left sides and one list of overlaps, which has what is known from the system before the steps.
+// All three, over the last system, prepared once, and one list of overlaps, which has what is known from the system before the steps.
 fn search_last_system(
     alloc: Global,
     sys: &System,
@@ -209,9 +209,9 @@ fn search_last_system(
     ensures kept { (n : ℕ) × Spends budget.old n budget.new }
 {
     let indexed = IndexedSystem::new(alloc, last)?;
-    let lefts = LeftSides::new(alloc, indexed)?;
-    let found = overlaps_behind(alloc, sys, known, &steps, last)?;
-    search_three_behind(alloc, &lefts, names, found.as_deref(), steps, budget)
+    let prepared = PreparedSystem::new(alloc, indexed)?;
+    let found = overlaps_behind(alloc, sys, known, &steps, &prepared)?;
+    search_three_behind(alloc, &prepared, names, found.as_deref(), steps, budget)
 }
 
 /// Finds the standard steps of the system, whose overlaps are known, and searches what they leave; where there are none, there is

@@ -19,7 +19,9 @@ use crate::own::search_whole;
 use cc_count::Budget;
 use cert_model::Certificate;
 use cops_names::Names;
+use prepared_system::PreparedSystem;
 use proof_spaces::proof_spaces_are_searchable;
+use rule_index::IndexedSystem;
 use search_answers::overlaps_or_none;
 use std::alloc::Global;
 use term_core::{NoMemory, System};
@@ -55,8 +57,10 @@ pub fn prove(
     ensures kept { (n : ℕ) × Spends budget.old n budget.new }
 {
     proof_spaces_are_searchable();
-    let found = overlaps_or_none(alloc, sys)?;
-    match search_whole(alloc, sys, names, found.as_deref(), budget) {
+    let indexed = IndexedSystem::new(alloc, sys)?;
+    let prepared = PreparedSystem::new(alloc, indexed)?;
+    let found = overlaps_or_none(alloc, &prepared)?;
+    match search_whole(alloc, &prepared, names, found.as_deref(), budget) {
         Ok(Outcome::Found(cert)) => Ok(Outcome::Found(cert)),
         Ok(Outcome::Exhausted) => search_simplified(alloc, sys, names, found, budget),
         Ok(Outcome::Spent) => Ok(Outcome::Spent),

@@ -16,20 +16,19 @@ use crate::Outcome;
 use cc_count::Budget;
 use cops_names::Names;
 use critical_pairs::Overlap;
-use irreducible::LeftSides;
 use noncon_search::search_peak_over;
 use ortho_search::search_ortho_over;
+use prepared_system::PreparedSystem;
 use quasi_search::search_quasi_over;
-use rule_index::IndexedSystem;
 use search_spaces::spaces_are_searchable;
 use std::alloc::Global;
-use term_core::{NoMemory, System};
+use term_core::NoMemory;
 use validity::Search;
 
 // The first two searches, one behind the other.
 fn search_both(
     alloc: Global,
-    sys: &LeftSides<'_>,
+    sys: &PreparedSystem<'_>,
     names: &Names,
     overlaps: Option<&[Overlap]>,
     budget: &mut Budget,
@@ -50,7 +49,7 @@ fn search_both(
 // The last search, behind the others.
 fn search_last(
     alloc: Global,
-    sys: &LeftSides<'_>,
+    sys: &PreparedSystem<'_>,
     names: &Names,
     overlaps: Option<&[Overlap]>,
     budget: &mut Budget,
@@ -67,10 +66,10 @@ fn search_last(
     }
 }
 
-// One search behind the other.
-fn search_all(
+/// All searches, one behind the other, over the system and the list of its overlaps.
+pub fn search_whole(
     alloc: Global,
-    sys: &LeftSides<'_>,
+    sys: &PreparedSystem<'_>,
     names: &Names,
     overlaps: Option<&[Overlap]>,
     budget: &mut Budget,
@@ -87,22 +86,4 @@ fn search_all(
         Ok(Search::Spent) => Ok(Outcome::Spent),
         Err(e) => Err(e),
     }
-}
-
-/// All searches, over the same left sides and the list of overlaps.
-pub fn search_whole(
-    alloc: Global,
-    sys: &System,
-    names: &Names,
-    overlaps: Option<&[Overlap]>,
-    budget: &mut Budget,
-) -> Result<Outcome, NoMemory>
-    requires overlaps { IsOverlapList sys.now overlaps }
-    ensures searched { SearchesAll (pruned_spaces names.now sys.now) budget.old budget.new result }
-    ensures ortho_first { (c : math.Certificate) (n : ℕ) → (ortho_space names.now sys.now).Finds c n → IfProved result (λ found. (found ≡ c) × Spends budget.old n budget.new) }
-    ensures kept { (n : ℕ) × Spends budget.old n budget.new }
-{
-    let indexed = IndexedSystem::new(alloc, sys)?;
-    let lefts = LeftSides::new(alloc, indexed)?;
-    search_all(alloc, &lefts, names, overlaps, budget)
 }

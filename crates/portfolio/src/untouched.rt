@@ -9,6 +9,7 @@ ghost use Rattle.search_answers.specs.Given.{HasOverlaps};
 
 use cert_model::Simp;
 use critical_pairs::Overlap;
+use prepared_system::PreparedSystem;
 use search_answers::{overlaps_or_none, overlaps_or_none_with};
 use std::alloc::Global;
 use term_core::{NoMemory, System};
@@ -58,7 +59,7 @@ pub fn overlaps_behind(
     sys: &System,
     known: Option<Vec<Overlap>>,
     steps: &[Simp],
-    last: &System,
+    last: &PreparedSystem<'_>,
 ) -> Result<Option<Vec<Overlap>>, NoMemory>
     requires known { HasOverlaps sys.now known }
     requires steps { AllSimplify sys.now (map simp_view steps.now) last.now }

@@ -12,14 +12,15 @@ use crate::sides::first_reducible;
 use cert_model::{Class, PairEntry, Rejected};
 use ctrs_classes::why_not;
 use descent_theorem::bounded_descents_are_confluent;
-use irreducible::LeftSides;
 use measure::{Measure, MeasureError};
+use prepared_system::PreparedSystem;
+use rule_index::IndexedSystem;
 use std::alloc::Global;
 use term_core::System;
 use validity::CheckError;
 
 // Whether the system is deterministic and the right side of each condition is absolutely irreducible.
-pub(crate) fn check_rules(alloc: Global, sys: &LeftSides<'_>) -> Result<(), CheckError>
+pub(crate) fn check_rules(alloc: Global, sys: &PreparedSystem<'_>) -> Result<(), CheckError>
     ensures { RulesAnswers sys.now result }
 {
     if let Some(blame) = why_not(sys.system(), Class::Deterministic) {
@@ -54,6 +55,27 @@ pub(crate) fn check_measure<M: Measure>(
     }
 }
 
+// The same, where the system is prepared.
+fn check_prepared<M: Measure>(
+    alloc: Global,
+    sys: &PreparedSystem<'_>,
+    measure: &M,
+    pairs: &[PairEntry],
+) -> Result<(), CheckError>
+    requires short { ArePairsShort (map pair_entry_view pairs.now) }
+    ensures judged { QuasiAnswers (M.judged measure.now sys.now) sys.now (map pair_entry_view pairs.now) result }
+    ensures confluent { OnOk result (IsConfluent sys.now) }
+{
+    let mut run = QuasiRun::start(alloc, sys, measure)?;
+    for entry in pairs {
+        run.take(alloc, entry)?;
+    }
+    match run.finish() {
+        Ok(()) => Ok(()),
+        Err(reason) => Err(CheckError::Rejected(reason)),
+    }
+}
+
 /// Judges a certificate that a system is confluent, by a measure and the evidence for each overlap (after Avenhaus and
 /// Loria-Saenz 1994). Where the answer is Ok, the system is confluent.
 ///
@@ -72,14 +94,9 @@ pub fn check_quasi<M: Measure>(
     ensures judged { QuasiAnswers (M.judged measure.now sys.now) sys.now (map pair_entry_view pairs.now) result }
     ensures confluent { OnOk result (IsConfluent sys.now) }
 {
-    let mut run = QuasiRun::start(alloc, sys, measure)?;
-    for entry in pairs {
-        run.take(alloc, entry)?;
-    }
-    match run.finish() {
-        Ok(()) => Ok(()),
-        Err(reason) => Err(CheckError::Rejected(reason)),
-    }
+    let indexed = IndexedSystem::new(alloc, sys)?;
+    let prepared = PreparedSystem::new(alloc, indexed)?;
+    check_prepared(alloc, &prepared, measure, pairs)
 }
 
 /// A system that has a valid certificate with a measure is confluent. This is a law of the definitions: nothing is checked here.

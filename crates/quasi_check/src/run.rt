@@ -5,27 +5,25 @@ ghost use Rattle.certificates.specs.Certificates as math;
 ghost use Rattle.cert_model.specs.CertificateView.{pair_entry_view};
 ghost use Rattle.valid_certificates.specs.Entries.{IsPairShort};
 ghost use Rattle.tallies.specs.Tally.{IsQuasiTally};
-ghost use Rattle.quasi_check.specs.Parts.{RulesAnswers};
 ghost use Rattle.quasi_check.specs.Runs.{StartAnswers, QuasiFinish};
 
 use crate::quasi::{check_measure, check_rules};
 use cert_model::{PairEntry, Rejected};
 use descent_theorem::bounded_descents_are_confluent;
 use infeasible::JudgeByKind;
-use irreducible::LeftSides;
 use measure::Measure;
 use pair_check::PairRun;
-use rule_index::IndexedSystem;
+use prepared_system::PreparedSystem;
 use std::alloc::Global;
 use std::marker::Model;
-use term_core::{NoMemory, System};
+use term_core::NoMemory;
 use validity::{CertKind, CheckError};
 
 /// A run over the entries of a certificate with a measure. In contracts it is the system, the measure and the tally of the
 /// entries.
 #[derive(Debug)]
 pub struct QuasiRun<'a, M: Measure> {
-    sys: &'a System,
+    sys: &'a PreparedSystem<'a>,
     measure: &'a M,
     /// The run over the entries, or the reason for which any are rejected.
     pairs: Result<PairRun<'a>, Rejected>,
@@ -59,25 +57,16 @@ impl<'a, M: Measure> Model for QuasiRun<'a, M> {
     ghost invariant = { λ r. AreHeld (M.judged r.measure.now r.sys.now) r.sys.now r.pairs × IsKnown r.judge r.sys.now };
 }
 
-// Whether the rules are good, over left sides that are given back before the run has its own.
-fn judge_rules(alloc: Global, sys: &System) -> Result<(), CheckError>
-    ensures { RulesAnswers sys.now result }
-{
-    let indexed = IndexedSystem::new(alloc, sys)?;
-    let lefts = LeftSides::new(alloc, indexed)?;
-    check_rules(alloc, &lefts)
-}
-
 // The run over the entries, where all that is judged before them holds.
 fn start_pairs<'a, M: Measure>(
     alloc: Global,
-    sys: &'a System,
+    sys: &'a PreparedSystem<'a>,
     measure: &M,
 ) -> Result<PairRun<'a>, CheckError>
     ensures { StartAnswers (M.judged measure.now sys.now) sys.now result }
 {
-    judge_rules(alloc, sys)?;
-    check_measure(alloc, sys, measure)?;
+    check_rules(alloc, sys)?;
+    check_measure(alloc, sys.system(), measure)?;
     PairRun::start(alloc, sys, CertKind::Quasi)
 }
 
@@ -86,7 +75,7 @@ impl<'a, M: Measure> QuasiRun<'a, M> {
     /// or the measure are not good, or the overlaps have no list.
     pub fn start(
         alloc: Global,
-        sys: &'a System,
+        sys: &'a PreparedSystem<'a>,
         measure: &'a M,
     ) -> Result<QuasiRun<'a, M>, NoMemory>
         ensures system { IfOk result (λ run. run.system ≡ sys.now) }

@@ -4,7 +4,8 @@ ghost use Rattle.term_core.specs.RuleView.{condition_view};
 ghost use Rattle.valid_certificates.specs.Confluence.{AreRightSidesIrreducible};
 ghost use Rattle.quasi_check.specs.Sides.{ConditionAnswers, SideAnswers};
 
-use irreducible::{LeftSides, do_all_clash};
+use irreducible::do_all_clash;
+use prepared_system::PreparedSystem;
 use std::alloc::Global;
 use term_core::{Cond, NoMemory};
 
@@ -18,7 +19,7 @@ pub(crate) struct SidePlace {
 // The first condition, from 1, whose right side is not absolutely irreducible.
 fn first_condition(
     alloc: Global,
-    sys: &LeftSides<'_>,
+    sys: &PreparedSystem<'_>,
     conds: &[Cond],
 ) -> Result<Option<u32>, NoMemory>
     requires { length conds.now ≤ 100 }
@@ -35,7 +36,7 @@ fn first_condition(
 // The first such condition of the first rule that has one.
 pub(crate) fn first_reducible(
     alloc: Global,
-    sys: &LeftSides<'_>,
+    sys: &PreparedSystem<'_>,
 ) -> Result<Option<SidePlace>, NoMemory>
     ensures { IfOk result (λ first. SideAnswers sys.now first) }
 {
@@ -51,7 +52,10 @@ pub(crate) fn first_reducible(
 }
 
 /// Whether the right side of each condition is absolutely irreducible.
-pub fn are_right_sides_irreducible(alloc: Global, sys: &LeftSides<'_>) -> Result<bool, NoMemory>
+pub fn are_right_sides_irreducible(
+    alloc: Global,
+    sys: &PreparedSystem<'_>,
+) -> Result<bool, NoMemory>
     ensures { IfOk result (λ b. IsTrue b ↔ AreRightSidesIrreducible sys.now) }
 {
     Ok(first_reducible(alloc, sys)?.is_none())

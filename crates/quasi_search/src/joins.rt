@@ -20,8 +20,8 @@ use cc_count::Budget;
 use cert_model::PairEvidence;
 use critical_pairs::Overlap;
 use indexmap::IndexMap;
-use irreducible::LeftSides;
 use pair_search::Walk;
+use prepared_system::PreparedSystem;
 use reach::{Entry, key_of};
 use std::alloc::Global;
 use term_core::NoMemory;
@@ -84,7 +84,7 @@ fn joined(alloc: Global, first: &Entry, second: &Entry) -> Result<PairEvidence, 
 /// Lists the terms that the left side leads to, then those that the right side leads to, and takes the first shared one.
 pub fn try_joins(
     alloc: Global,
-    sys: &LeftSides<'_>,
+    sys: &PreparedSystem<'_>,
     overlap: &Overlap,
     budget: &mut Budget,
 ) -> Result<Walk, NoMemory>

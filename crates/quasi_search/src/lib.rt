@@ -31,8 +31,8 @@ use cert_model::Certificate;
 use cops_names::Names;
 use critical_pairs::Overlap;
 use ctrs_classes::is_deterministic;
-use irreducible::LeftSides;
 use pair_search::Entries;
+use prepared_system::PreparedSystem;
 use quasi_check::are_right_sides_irreducible;
 use rule_index::IndexedSystem;
 use search_answers::overlaps_or_none;
@@ -41,7 +41,7 @@ use term_core::{NoMemory, System};
 pub use validity::Search;
 
 // Whether the system is deterministic, and the right side of each condition is absolutely irreducible.
-fn are_rules_good(alloc: Global, sys: &LeftSides<'_>) -> Result<bool, NoMemory>
+fn are_rules_good(alloc: Global, sys: &PreparedSystem<'_>) -> Result<bool, NoMemory>
     ensures { IfOk result (λ b. IsTrue b ↔ AreRulesGood sys.now) }
 {
     if !is_deterministic(sys.system()) {
@@ -53,7 +53,7 @@ fn are_rules_good(alloc: Global, sys: &LeftSides<'_>) -> Result<bool, NoMemory>
 // Searches where the rules are good: for the entries, and behind them for a measure.
 fn search_open(
     alloc: Global,
-    sys: &LeftSides<'_>,
+    sys: &PreparedSystem<'_>,
     names: &Names,
     overlaps: &[Overlap],
     budget: &mut Budget,
@@ -87,7 +87,7 @@ fn search_open(
 /// The same as `search_quasi`, over left sides and a list of the overlaps that were made before; none where the overlaps are refused.
 pub fn search_quasi_over(
     alloc: Global,
-    sys: &LeftSides<'_>,
+    sys: &PreparedSystem<'_>,
     names: &Names,
     overlaps: Option<&[Overlap]>,
     budget: &mut Budget,
@@ -132,7 +132,7 @@ pub fn search_quasi(
     ensures kept { (n : ℕ) × Spends budget.old n budget.new }
 {
     let indexed = IndexedSystem::new(alloc, sys)?;
-    let lefts = LeftSides::new(alloc, indexed)?;
-    let found = overlaps_or_none(alloc, sys)?;
-    search_quasi_over(alloc, &lefts, names, found.as_deref(), budget)
+    let prepared = PreparedSystem::new(alloc, indexed)?;
+    let found = overlaps_or_none(alloc, &prepared)?;
+    search_quasi_over(alloc, &prepared, names, found.as_deref(), budget)
 }

@@ -8,7 +8,7 @@ ghost use Rattle.quasi_search.specs.Listed.{ListedAnswers};
 use cc_count::Budget;
 use critical_pairs::Overlap;
 use flatterm::Work;
-use irreducible::LeftSides;
+use prepared_system::PreparedSystem;
 use reach::{Entry, ReachStop, reach_in};
 use search_answers::{COND_DEPTH, STEPS};
 use std::alloc::Global;
@@ -17,7 +17,7 @@ use term_core::{NoMemory, Term};
 /// The listing of a term with the conditions of an overlap as hypotheses; none where the budget is spent before.
 pub fn listed_under(
     alloc: Global,
-    sys: &LeftSides<'_>,
+    sys: &PreparedSystem<'_>,
     overlap: &Overlap,
     start: &Term,
     budget: &mut Budget,

@@ -22,8 +22,9 @@ use crate::listed::listed_under;
 use cc_count::Budget;
 use cert_model::PairEvidence;
 use critical_pairs::Overlap;
-use irreducible::{LeftSides, do_all_clash};
+use irreducible::do_all_clash;
 use pair_search::Walk;
+use prepared_system::PreparedSystem;
 use reach::Entry;
 use std::alloc::Global;
 use term_core::{Cond, NoMemory};
@@ -39,7 +40,7 @@ struct Reduct<'a> {
 // The terms of a list.
 fn reducts_of<'a>(
     alloc: Global,
-    sys: &LeftSides<'_>,
+    sys: &PreparedSystem<'_>,
     list: &'a [Entry],
 ) -> Result<Vec<Reduct<'a>>, NoMemory>
     ensures listed { IfOk result (λ rs. reducts_view rs.items ≡ table_view list.now) }
@@ -156,7 +157,7 @@ fn try_pairs(
 // Lists the terms that the left side of a condition leads to, and tries their pairs.
 fn try_condition(
     alloc: Global,
-    sys: &LeftSides<'_>,
+    sys: &PreparedSystem<'_>,
     overlap: &Overlap,
     number: u32,
     cond: &Cond,
@@ -179,7 +180,7 @@ fn try_condition(
 /// Tries the conditions in order, each with all pairs of an earlier and a later listed term of its left side.
 pub fn try_reducts(
     alloc: Global,
-    sys: &LeftSides<'_>,
+    sys: &PreparedSystem<'_>,
     overlap: &Overlap,
     budget: &mut Budget,
 ) -> Result<Walk, NoMemory>

@@ -12,16 +12,16 @@ ghost use Rattle.quasi_space.specs.QuasiItems.{try_refuting as refuting_item, qu
 use cc_count::Budget;
 use critical_pairs::Overlap;
 use evidence_offers::Refuting;
-use irreducible::LeftSides;
 use pair_check::CertKind;
 use pair_search::{Grown, Walk, try_refuting};
+use prepared_system::PreparedSystem;
 use std::alloc::Global;
 use term_core::NoMemory;
 
 // Tries one way, for a unit.
 fn try_way(
     alloc: Global,
-    sys: &LeftSides<'_>,
+    sys: &PreparedSystem<'_>,
     overlap: &Overlap,
     refuting: Refuting,
     budget: &mut Budget,
@@ -45,7 +45,7 @@ fn try_way(
 // Tries the automata that grow from conditions.
 fn try_growths(
     alloc: Global,
-    sys: &LeftSides<'_>,
+    sys: &PreparedSystem<'_>,
     overlap: &Overlap,
     budget: &mut Budget,
     grown: &mut Grown,
@@ -72,7 +72,7 @@ fn try_growths(
 /// Tries caps, then the automata that grow from conditions.
 pub fn try_refutings(
     alloc: Global,
-    sys: &LeftSides<'_>,
+    sys: &PreparedSystem<'_>,
     overlap: &Overlap,
     budget: &mut Budget,
     grown: &mut Grown,

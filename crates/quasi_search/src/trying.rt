@@ -12,15 +12,15 @@ use crate::reducts::try_reducts;
 use crate::refuting::try_refutings;
 use cc_count::Budget;
 use critical_pairs::Overlap;
-use irreducible::LeftSides;
 use pair_search::{Grown, Walk};
+use prepared_system::PreparedSystem;
 use std::alloc::Global;
 use term_core::NoMemory;
 
 /// Tries all items of the overlap in order, up to the first that gives valid evidence.
 pub fn try_overlap(
     alloc: Global,
-    sys: &LeftSides<'_>,
+    sys: &PreparedSystem<'_>,
     overlap: &Overlap,
     budget: &mut Budget,
     grown: &mut Grown,

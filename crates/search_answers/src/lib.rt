@@ -6,7 +6,8 @@ ghost use Rattle.critical_pairs.specs.Kept.{AreKnown};
 ghost use Rattle.critical_pairs.specs.View.{overlap_view};
 ghost use Rattle.search_answers.specs.Given.{HasOverlaps};
 
-use critical_pairs::{Overlap, OverlapError, overlaps, overlaps_with};
+use critical_pairs::{Overlap, OverlapError, overlaps_in, overlaps_with};
+use prepared_system::PreparedSystem;
 use std::alloc::Global;
 use term_core::{NoMemory, System};
 
@@ -17,10 +18,13 @@ pub const STEPS: u32 = 5;
 pub const COND_DEPTH: u32 = 2;
 
 /// The overlaps of a system, or none where they are refused.
-pub fn overlaps_or_none(alloc: Global, sys: &System) -> Result<Option<Vec<Overlap>>, NoMemory>
+pub fn overlaps_or_none(
+    alloc: Global,
+    sys: &PreparedSystem<'_>,
+) -> Result<Option<Vec<Overlap>>, NoMemory>
     ensures { IfOk result (HasOverlaps sys.now) }
 {
-    match overlaps(alloc, sys) {
+    match overlaps_in(alloc, sys) {
         Ok(found) => Ok(Some(found)),
         Err(OverlapError::PairTooLarge { .. }) => Ok(None),
         Err(OverlapError::TooManyPairs) => Ok(None),
@@ -31,7 +35,7 @@ pub fn overlaps_or_none(alloc: Global, sys: &System) -> Result<Option<Vec<Overla
 /// The same of a system that has rules of an earlier one, whose overlaps are known.
 pub fn overlaps_or_none_with(
     alloc: Global,
-    sys: &System,
+    sys: &PreparedSystem<'_>,
     earlier: &System,
     origins: &[Option<u32>],
     known: Vec<Overlap>,

@@ -51,16 +51,16 @@ fn put_growths(page: &mut Page<'_>, sys: &System, conds: &[Cond])
 
 // Why caps and automata do not show that the conditions of an overlap are never met.
 fn put_refutings(page: &mut Page<'_>, subject: &Subject<'_>, overlap: &Overlap)
-    requires overlap { IsOverlapOf subject.now.lefts.now (overlap_view overlap.now) }
+    requires overlap { IsOverlapOf subject.now.prepared.now (overlap_view overlap.now) }
 {
     // That conditions are few and fit is known of the rules of a system.
-    let _rules = subject.lefts.rules();
+    let _rules = subject.prepared.rules();
     page.words(if overlap.conds.is_empty() {
         "      tcap: there are no conditions\n"
     } else {
         "      tcap: by their caps the conditions may be met\n"
     });
-    put_growths(page, subject.lefts.system(), &overlap.conds);
+    put_growths(page, subject.prepared.system(), &overlap.conds);
 }
 
 // Why two conditions are not in conflict.
@@ -105,7 +105,7 @@ fn put_conflicts(page: &mut Page<'_>, inner: &[Cond], outer: &[Cond]) {
 
 /// Why an overlap is not settled in a certificate of almost orthogonal systems, a line for each kind of evidence.
 pub fn put_ortho_failures(page: &mut Page<'_>, subject: &Subject<'_>, overlap: &Overlap)
-    requires overlap { IsOverlapOf subject.now.lefts.now (overlap_view overlap.now) }
+    requires overlap { IsOverlapOf subject.now.prepared.now (overlap_view overlap.now) }
 {
     page.words(if overlap.pos.is_empty() {
         "      trivial: the two results differ\n"
@@ -141,7 +141,13 @@ fn put_list(
     requires fit { DoConditionsFit (map condition_view overlap.now.conds.items) }
     requires few { length overlap.now.conds.items ≤ 200 }
 {
-    match listed(page, subject.lefts.indexed(), &overlap.conds, start, budget) {
+    match listed(
+        page,
+        subject.prepared.indexed(),
+        &overlap.conds,
+        start,
+        budget,
+    ) {
         Some(list) => put_entries(page, subject.in_overlap(overlap), &list),
         None => page.words("the units were spent\n"),
     }
@@ -149,10 +155,10 @@ fn put_list(
 
 // Why the sides of an overlap do not join.
 fn put_join(page: &mut Page<'_>, subject: &Subject<'_>, overlap: &Overlap, budget: &mut Budget)
-    requires overlap { IsOverlapOf subject.now.lefts.now (overlap_view overlap.now) }
+    requires overlap { IsOverlapOf subject.now.prepared.now (overlap_view overlap.now) }
 {
     // That conditions are few and fit is known of the rules of a system.
-    let _rules = subject.lefts.rules();
+    let _rules = subject.prepared.rules();
     page.words(
         "      join: no term is reached from both, under the conditions and in five steps\n        left:  ",
     );
@@ -163,10 +169,10 @@ fn put_join(page: &mut Page<'_>, subject: &Subject<'_>, overlap: &Overlap, budge
 
 // Why no condition of an overlap is unfeasible.
 fn put_reducts(page: &mut Page<'_>, subject: &Subject<'_>, overlap: &Overlap, budget: &mut Budget)
-    requires overlap { IsOverlapOf subject.now.lefts.now (overlap_view overlap.now) }
+    requires overlap { IsOverlapOf subject.now.prepared.now (overlap_view overlap.now) }
 {
     // That conditions are few and fit is known of the rules of a system.
-    let _rules = subject.lefts.rules();
+    let _rules = subject.prepared.rules();
     'conds: for (i, cond) in overlap.conds.iter().enumerate() {
         page.put(
             "      unfeasible #: of the terms that its left side reaches no two are irreducible and do not unify\n        ",
@@ -183,7 +189,7 @@ pub fn put_quasi_failures(
     overlap: &Overlap,
     is_told: bool,
 )
-    requires overlap { IsOverlapOf subject.now.lefts.now (overlap_view overlap.now) }
+    requires overlap { IsOverlapOf subject.now.prepared.now (overlap_view overlap.now) }
 {
     if is_told {
         page.words("      tcap, auto: as above\n");

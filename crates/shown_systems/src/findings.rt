@@ -26,13 +26,19 @@ pub fn find(
     subject: &Subject<'_>,
     overlaps: Option<&[Overlap]>,
 ) -> Result<Findings, NoMemory>
-    requires overlaps { IsOverlapList subject.now.lefts.now overlaps }
+    requires overlaps { IsOverlapList subject.now.prepared.now overlaps }
 {
     let looks = subject.units_for_looks();
     let (ortho, quasi) = match overlaps {
         Some(list) => (
-            Some(walk_overlaps(page.alloc, subject.lefts, Way::Ortho, list, subject.units)?),
-            Some(walk_overlaps(page.alloc, subject.lefts, Way::Quasi, list, looks)?),
+            Some(walk_overlaps(
+                page.alloc,
+                subject.prepared,
+                Way::Ortho,
+                list,
+                subject.units,
+            )?),
+            Some(walk_overlaps(page.alloc, subject.prepared, Way::Quasi, list, looks)?),
         ),
         None => (None, None),
     };
@@ -40,7 +46,7 @@ pub fn find(
         reducible: first_reducible(page, subject)?,
         ortho,
         quasi,
-        measured: find_measure(page.alloc, subject.lefts.system(), looks)?,
-        peaks: find_peaks(page, subject.lefts, overlaps, subject.units)?,
+        measured: find_measure(page.alloc, subject.prepared.system(), looks)?,
+        peaks: find_peaks(page, subject.prepared, overlaps, subject.units)?,
     })
 }

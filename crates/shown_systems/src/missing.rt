@@ -23,7 +23,7 @@ const ORTHO_CLASSES: [Class; 4] = [
 // The first class of almost orthogonal systems that fails.
 fn first_blame(subject: &Subject<'_>) -> Option<Blame> {
     'classes: for class in ORTHO_CLASSES {
-        if let Some(blame) = why_not(subject.lefts.system(), class) {
+        if let Some(blame) = why_not(subject.prepared.system(), class) {
             return Some(blame);
         }
     }
@@ -63,7 +63,8 @@ fn put_peak_cost(page: &mut Page<'_>, peaks: &Peaks) {
 
 // Whether the rules are none for a certificate with a measure.
 fn are_rules_bad(subject: &Subject<'_>, findings: &Findings) -> bool {
-    findings.reducible.is_some() || why_not(subject.lefts.system(), Class::Deterministic).is_some()
+    findings.reducible.is_some()
+        || why_not(subject.prepared.system(), Class::Deterministic).is_some()
 }
 
 fn put_quasi_cost(page: &mut Page<'_>, subject: &Subject<'_>, findings: &Findings) {
@@ -177,7 +178,7 @@ fn put_quasi_missing(
     overlaps: &[Overlap],
 ) {
     page.words("  for `quasi`: ");
-    if let Some(blame) = why_not(subject.lefts.system(), Class::Deterministic) {
+    if let Some(blame) = why_not(subject.prepared.system(), Class::Deterministic) {
         put_class_missing(page, subject, &blame);
     } else if let Some(asked) = findings.reducible {
         page.words("irreducible right sides of conditions: ");

@@ -7,9 +7,9 @@ ghost use Rattle.search_answers.specs.Given.{IsOverlapList};
 use cc_count::Budget;
 use critical_pairs::Overlap;
 use flatterm::Work;
-use irreducible::LeftSides;
 use lens_pages::Page;
 use noncon_search::search_peak_over;
+use prepared_system::PreparedSystem;
 use reach::{Entry, ReachStop, reach_in};
 use rule_index::IndexedSystem;
 use search_answers::{COND_DEPTH, STEPS};
@@ -110,7 +110,7 @@ fn count(
 /// Searches for a peak, and counts what was tried where there is none.
 pub fn find_peaks(
     page: &mut Page<'_>,
-    sys: &LeftSides<'_>,
+    sys: &PreparedSystem<'_>,
     overlaps: Option<&[Overlap]>,
     units: u64,
 ) -> Result<Peaks, NoMemory>

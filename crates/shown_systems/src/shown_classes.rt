@@ -66,7 +66,7 @@ fn put_place(page: &mut Page<'_>, naming: Naming, number: u32, rule: &Rule, cond
 // The rule with a number, from 1.
 fn rule_at<'a>(subject: &'a Subject<'_>, number: u32) -> Option<&'a Rule> {
     let place = (number as usize).checked_sub(1)?;
-    subject.lefts.rules().get(place)
+    subject.prepared.rules().get(place)
 }
 
 /// The first rule that is not in the class, and what is at fault there.
@@ -81,7 +81,7 @@ pub fn put_blame(page: &mut Page<'_>, subject: &Subject<'_>, blame: &Blame) {
 
 fn put_class(page: &mut Page<'_>, subject: &Subject<'_>, class: Class) {
     page.put("  #: ", &[Piece::Words(class_name(class))]);
-    match why_not(subject.lefts.system(), class) {
+    match why_not(subject.prepared.system(), class) {
         None => page.words("yes\n"),
         Some(blame) => {
             page.words("no, ");
@@ -107,7 +107,7 @@ fn reducible_in(
     let mut number: u32 = 0;
     'conds: for cond in &rule.conds {
         number = number.saturating_add(1);
-        match is_absolutely_irreducible_in(page.alloc, subject.lefts, &cond.right)? {
+        match is_absolutely_irreducible_in(page.alloc, subject.prepared, &cond.right)? {
             Irreducible::Yes => {}
             Irreducible::No | Irreducible::TooLarge => return Ok(Some(number)),
         }
@@ -118,7 +118,7 @@ fn reducible_in(
 /// The first condition whose right side is not absolutely irreducible.
 pub fn first_reducible(page: &Page<'_>, subject: &Subject<'_>) -> Result<Option<Asked>, NoMemory> {
     let mut number: u32 = 0;
-    'rules: for rule in subject.lefts.rules() {
+    'rules: for rule in subject.prepared.rules() {
         number = number.saturating_add(1);
         if let Some(cond) = reducible_in(page, subject, rule)? {
             return Ok(Some(Asked { rule: number, cond }));

@@ -156,7 +156,7 @@ fn put_overlap(
     place: usize,
     overlap: &Overlap,
 )
-    requires overlap { IsOverlapOf subject.now.lefts.now (overlap_view overlap.now) }
+    requires overlap { IsOverlapOf subject.now.prepared.now (overlap_view overlap.now) }
 {
     put_head(page, overlap);
     put_terms(page, subject.in_overlap(overlap), overlap);
@@ -187,7 +187,7 @@ pub fn put_overlaps(
     findings: &Findings,
     overlaps: &[Overlap],
 )
-    requires overlaps { AreOverlaps subject.now.lefts.now (map overlap_view overlaps.now) }
+    requires overlaps { AreOverlaps subject.now.prepared.now (map overlap_view overlaps.now) }
 {
     put_heading(page, overlaps.len());
     'overlaps: for (place, overlap) in overlaps.iter().enumerate() {

@@ -52,7 +52,7 @@ pub fn put_rule(page: &mut Page<'_>, naming: Naming, number: usize, rule: &Rule)
 /// The rules with their numbers, a line each.
 pub fn put_rules(page: &mut Page<'_>, subject: &Subject<'_>) {
     let mut number: u32 = 0;
-    'rules: for rule in subject.lefts.rules() {
+    'rules: for rule in subject.prepared.rules() {
         number = number.saturating_add(1);
         put_rule(page, subject.in_rule(number), number as usize, rule);
     }
@@ -60,7 +60,7 @@ pub fn put_rules(page: &mut Page<'_>, subject: &Subject<'_>) {
 
 /// The system as it was read.
 pub fn put_system(page: &mut Page<'_>, subject: &Subject<'_>) {
-    let sys: &System = subject.lefts.system();
+    let sys: &System = subject.prepared.system();
     page.line(
         0,
         "SYSTEM: #, #",

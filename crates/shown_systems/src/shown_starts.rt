@@ -32,7 +32,7 @@ fn put_start(
     start: &Term,
     budget: &mut Budget,
 ) {
-    match listed(page, subject.lefts.indexed(), &[], start, budget) {
+    match listed(page, subject.prepared.indexed(), &[], start, budget) {
         Some(list) => put_list(page, naming, &list),
         None => page.words("the units were spent\n"),
     }
@@ -40,7 +40,7 @@ fn put_start(
 
 fn put_rule_starts(page: &mut Page<'_>, subject: &Subject<'_>, budget: &mut Budget) {
     let mut number: u32 = 0;
-    'rules: for rule in subject.lefts.rules().iter().take(SHOWN_STARTS) {
+    'rules: for rule in subject.prepared.rules().iter().take(SHOWN_STARTS) {
         number = number.saturating_add(1);
         page.put("  rule #: ", &[Piece::Number(number as usize)]);
         put_start(page, subject, subject.in_rule(number), &rule.left, budget);
@@ -71,7 +71,7 @@ pub fn put_starts(page: &mut Page<'_>, subject: &Subject<'_>, overlaps: &[Overla
     page.put(
         "STARTS OF PEAKS, with what they reach in five steps: #, # (at most 20 of each are shown)\n",
         &[
-            Piece::Count(subject.lefts.rules().len(), " left side", " left sides"),
+            Piece::Count(subject.prepared.rules().len(), " left side", " left sides"),
             Piece::Count(
                 overlaps.len(),
                 " source of an overlap",

@@ -39,7 +39,7 @@ fn put_made(page: &mut Page<'_>, unraveled: &Unraveled) {
 /// The unraveled system with the numbers of its rules, of which a measure is judged.
 pub fn put_unraveling(page: &mut Page<'_>, subject: &Subject<'_>) {
     page.words("UNRAVELED SYSTEM (each rule must fall under the measure of `quasi`): ");
-    match unravel(page.alloc, subject.lefts.system()) {
+    match unravel(page.alloc, subject.prepared.system()) {
         Ok(unraveled) => put_made(page, &unraveled),
         Err(UnravelError::TooLarge { rule }) => page.put(
             "a side that comes of rule # is too large, so that no measure is good\n",

@@ -9,9 +9,9 @@ use crate::shown_rules::put_rules;
 use crate::subject::Subject;
 use cc_count::Budget;
 use cert_model::{InfEvidence, Simp};
-use critical_pairs::{Overlap, OverlapError, overlaps};
-use irreducible::LeftSides;
+use critical_pairs::{Overlap, OverlapError, overlaps_in};
 use lens_pages::{Page, Piece};
+use prepared_system::PreparedSystem;
 use rule_index::IndexedSystem;
 use std::alloc::Global;
 use step_search::{SimpSearch, find_steps};
@@ -42,7 +42,7 @@ fn put_step(page: &mut Page<'_>, step: &Simp) {
 
 // What is missing for a system with its overlaps.
 fn put_with(page: &mut Page<'_>, subject: &Subject<'_>, list: &[Overlap]) -> Result<(), NoMemory>
-    requires overlaps { AreOverlaps subject.now.lefts.now (map overlap_view list.now) }
+    requires overlaps { AreOverlaps subject.now.prepared.now (map overlap_view list.now) }
 {
     let findings = find(page, subject, Some(list))?;
     put_missing(page, subject, &findings, list);
@@ -51,7 +51,7 @@ fn put_with(page: &mut Page<'_>, subject: &Subject<'_>, list: &[Overlap]) -> Res
 
 // What is missing for a system.
 fn put_behind(page: &mut Page<'_>, subject: &Subject<'_>) -> Result<(), NoMemory> {
-    match overlaps(page.alloc, subject.lefts.system()) {
+    match overlaps_in(page.alloc, subject.prepared) {
         Ok(list) => put_with(page, subject, &list)?,
         Err(OverlapError::NoMemory) => return Err(NoMemory),
         Err(_other) => page.words("  a list of its overlaps, which is refused\n"),
@@ -62,9 +62,9 @@ fn put_behind(page: &mut Page<'_>, subject: &Subject<'_>) -> Result<(), NoMemory
 // What is missing for the system that steps leave.
 fn put_left(page: &mut Page<'_>, sys: &System, units: u64) -> Result<(), NoMemory> {
     let indexed = IndexedSystem::new(page.alloc, sys)?;
-    let lefts = LeftSides::new(page.alloc, indexed)?;
+    let prepared = PreparedSystem::new(page.alloc, indexed)?;
     let subject = Subject {
-        lefts: &lefts,
+        prepared: &prepared,
         is_file: false,
         units,
     };
@@ -84,7 +84,7 @@ pub struct Simplified {
 /// Searches for the steps.
 pub fn simplify(alloc: Global, subject: &Subject<'_>) -> Result<Simplified, NoMemory> {
     let mut budget = Budget::new(subject.units);
-    let found = find_steps(alloc, subject.lefts.system(), &mut budget)?;
+    let found = find_steps(alloc, subject.prepared.system(), &mut budget)?;
     Ok(Simplified {
         found,
         units: budget.spent(),

@@ -1,12 +1,12 @@
 //! The system of which a page speaks.
 use critical_pairs::Overlap;
-use irreducible::LeftSides;
 use lens_pages::Naming;
+use prepared_system::PreparedSystem;
 
 /// A system. Behind steps that simplify the variables of its rules have numbers alone.
 #[derive(Drop)]
 pub struct Subject<'a> {
-    pub lefts: &'a LeftSides<'a>,
+    pub prepared: &'a PreparedSystem<'a>,
     pub is_file: bool,
     /// The units for the search of each space.
     pub units: u64,
@@ -21,7 +21,7 @@ const LOOKS: u64 = 4_000_000;
 impl<'a> Subject<'a> {
     /// The units for searches of which a unit may pay for a look at each rule: fewer where there are many.
     pub fn units_for_looks(&self) -> u64 {
-        let rules = self.lefts.rules().len() as u64;
+        let rules = self.prepared.rules().len() as u64;
         if rules > FEW_RULES {
             self.units.min(LOOKS / rules)
         } else {

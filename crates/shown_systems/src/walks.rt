@@ -6,8 +6,8 @@ ghost use Rattle.pair_search.specs.Grown.{IsGrown};
 
 use cc_count::Budget;
 use critical_pairs::Overlap;
-use irreducible::LeftSides;
 use pair_search::{Grown, Walk};
+use prepared_system::PreparedSystem;
 use std::alloc::Global;
 use term_core::NoMemory;
 
@@ -41,7 +41,7 @@ pub struct Walked {
 // What settles an overlap.
 fn try_overlap(
     alloc: Global,
-    sys: &LeftSides<'_>,
+    sys: &PreparedSystem<'_>,
     way: Way,
     overlap: &Overlap,
     budget: &mut Budget,
@@ -83,7 +83,7 @@ impl Walked {
 /// Tries the overlaps in order: the first ones, and those behind them up to the first that nothing settles.
 pub fn walk_overlaps(
     alloc: Global,
-    sys: &LeftSides<'_>,
+    sys: &PreparedSystem<'_>,
     way: Way,
     overlaps: &[Overlap],
     units: u64,

@@ -13,9 +13,9 @@ use crate::simplified::{put_simplified, put_step_cost, simplify};
 use crate::skeletons::{SkeletonKind, put_skeleton};
 use crate::subject::Subject;
 use cops_names::Names;
-use critical_pairs::{Overlap, OverlapError, overlaps};
-use irreducible::LeftSides;
+use critical_pairs::{Overlap, OverlapError, overlaps_in};
 use lens_pages::{Page, Piece};
+use prepared_system::PreparedSystem;
 use rule_index::IndexedSystem;
 use std::alloc::Global;
 use term_core::{NoMemory, System};
@@ -26,7 +26,7 @@ fn put_found(
     subject: &Subject<'_>,
     list: Option<&[Overlap]>,
 ) -> Result<(), NoMemory>
-    requires overlaps { IsOverlapList subject.now.lefts.now list }
+    requires overlaps { IsOverlapList subject.now.prepared.now list }
 {
     let findings = find(page, subject, list)?;
     put_classes(page, subject, findings.reducible);
@@ -58,7 +58,7 @@ fn put_large(page: &mut Page<'_>, inner: u32, pos: &[u32], outer: u32) {
 
 fn put_subject(page: &mut Page<'_>, subject: &Subject<'_>) -> Result<(), NoMemory> {
     put_system(page, subject);
-    match overlaps(page.alloc, subject.lefts.system()) {
+    match overlaps_in(page.alloc, subject.prepared) {
         Ok(list) => put_found(page, subject, Some(&list)),
         Err(OverlapError::PairTooLarge { inner, pos, outer }) => {
             put_large(page, inner, &pos, outer);
@@ -76,9 +76,9 @@ fn put_subject(page: &mut Page<'_>, subject: &Subject<'_>) -> Result<(), NoMemor
 /// measure with fewer where there are more than 100 rules.
 pub fn show(alloc: Global, sys: &System, names: &Names, units: u64) -> Result<Vec<u8>, NoMemory> {
     let indexed = IndexedSystem::new(alloc, sys)?;
-    let lefts = LeftSides::new(alloc, indexed)?;
+    let prepared = PreparedSystem::new(alloc, indexed)?;
     let subject = Subject {
-        lefts: &lefts,
+        prepared: &prepared,
         is_file: true,
         units,
     };

@@ -5,6 +5,8 @@ use crate::settled::tell_settled;
 use cert_model::PairEntry;
 use critical_pairs::{Overlap, OverlapError, OverlapSearch};
 use lens_pages::{Naming, Page, Piece};
+use prepared_system::PreparedSystem;
+use rule_index::IndexedSystem;
 use std::alloc::Global;
 use term_core::{Cond, NoMemory, System};
 
@@ -167,13 +169,19 @@ fn tell_rest(page: &mut Page<'_>, scene: Scene<'_>, search: &mut OverlapSearch<'
     }
 }
 
+fn prepare<'a>(alloc: Global, sys: &'a System) -> Result<PreparedSystem<'a>, NoMemory> {
+    let indexed = IndexedSystem::new(alloc, sys)?;
+    PreparedSystem::new(alloc, indexed)
+}
+
 // The overlap behind so many others.
 fn overlap_behind(
     alloc: Global,
     sys: &System,
     passed: u32,
 ) -> Result<Option<Overlap>, OverlapError> {
-    let mut search = OverlapSearch::new(alloc, sys)?;
+    let prepared = prepare(alloc, sys)?;
+    let mut search = OverlapSearch::new(alloc, &prepared);
     for _ in 0..passed {
         search.pass(alloc)?;
     }
@@ -212,10 +220,11 @@ fn tell_next(
 
 /// Tells the entries in order.
 pub fn tell_entries(page: &mut Page<'_>, scene: Scene<'_>, pairs: &[PairEntry]) {
-    let made = OverlapSearch::new(page.alloc, scene.sys);
-    let Some(mut search) = page.got(made) else {
+    let made = prepare(page.alloc, scene.sys);
+    let Some(prepared) = page.got(made) else {
         return;
     };
+    let mut search = OverlapSearch::new(page.alloc, &prepared);
     let mut number: usize = 0;
     for entry in pairs {
         number = number.saturating_add(1);

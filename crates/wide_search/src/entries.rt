@@ -8,8 +8,8 @@ ghost use Rattle.pair_search.specs.Grown.{IsGrown};
 use crate::joins::try_joins;
 use cc_count::Budget;
 use critical_pairs::Overlap;
-use irreducible::LeftSides;
 use pair_search::{Entries, Grown, Walk, add_entry};
+use prepared_system::PreparedSystem;
 use quasi_search::try_overlap;
 use std::alloc::Global;
 use term_core::NoMemory;
@@ -17,7 +17,7 @@ use term_core::NoMemory;
 // What the smaller search tries for an overlap, and then joins by longer lists.
 fn try_widely(
     alloc: Global,
-    sys: &LeftSides<'_>,
+    sys: &PreparedSystem<'_>,
     overlap: &Overlap,
     budget: &mut Budget,
     grown: &mut Grown,
@@ -35,7 +35,7 @@ fn try_widely(
 /// An entry for each overlap, in order; at the first that has none the walk ends.
 pub(crate) fn entries_for(
     alloc: Global,
-    sys: &LeftSides<'_>,
+    sys: &PreparedSystem<'_>,
     overlaps: &[Overlap],
     budget: &mut Budget,
 ) -> Result<Entries, NoMemory>

@@ -12,8 +12,8 @@ use cert_model::PairEvidence;
 use critical_pairs::Overlap;
 use flatterm::Work;
 use indexmap::IndexMap;
-use irreducible::LeftSides;
 use pair_search::Walk;
+use prepared_system::PreparedSystem;
 use reach::{Entry, ReachStop, key_of, reach_in};
 use std::alloc::Global;
 use term_core::{NoMemory, Term};
@@ -27,7 +27,7 @@ const COND_DEPTH: u32 = 3;
 // The terms that a term leads to with the conditions of an overlap as hypotheses; none where the budget is spent before.
 fn listed_under(
     alloc: Global,
-    sys: &LeftSides<'_>,
+    sys: &PreparedSystem<'_>,
     overlap: &Overlap,
     start: &Term,
     budget: &mut Budget,
@@ -89,7 +89,7 @@ fn first_shared<'a>(
 /// Lists the terms that either side leads to, and takes the first shared one.
 pub(crate) fn try_joins(
     alloc: Global,
-    sys: &LeftSides<'_>,
+    sys: &PreparedSystem<'_>,
     overlap: &Overlap,
     budget: &mut Budget,
 ) -> Result<Walk, NoMemory>

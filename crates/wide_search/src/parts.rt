@@ -16,8 +16,8 @@ use cc_count::Budget;
 use cert_model::Simp;
 use cops_names::Names;
 use critical_pairs::Overlap;
-use irreducible::LeftSides;
 use ortho_search::search_ortho_over;
+use prepared_system::PreparedSystem;
 use rule_index::IndexedSystem;
 use search_answers::overlaps_or_none;
 use std::alloc::Global;
@@ -46,7 +46,7 @@ const PARTS: [(Part, u64); 4] = [
 // Searches for a certificate with a measure; where the overlaps have no list, there is nothing to search.
 fn search_quasi(
     alloc: Global,
-    last: &LeftSides<'_>,
+    last: &PreparedSystem<'_>,
     overlaps: Option<&[Overlap]>,
     budget: &mut Budget,
 ) -> Result<Search, NoMemory>
@@ -61,7 +61,7 @@ fn search_quasi(
 // Searches for a peak.
 fn search_peaks(
     alloc: Global,
-    last: &LeftSides<'_>,
+    last: &PreparedSystem<'_>,
     names: &Names,
     overlaps: Option<&[Overlap]>,
     tried: Tried,
@@ -82,7 +82,7 @@ fn search_peaks(
 // One part.
 fn search_part(
     alloc: Global,
-    last: &LeftSides<'_>,
+    last: &PreparedSystem<'_>,
     names: &Names,
     overlaps: Option<&[Overlap]>,
     part: Part,
@@ -128,7 +128,7 @@ fn search_parts(
     sys: &System,
     names: &Names,
     steps: &[Simp],
-    last: &LeftSides<'_>,
+    last: &PreparedSystem<'_>,
     overlaps: Option<&[Overlap]>,
     budget: &mut Budget,
 ) -> Result<Search, NoMemory>
@@ -169,7 +169,15 @@ pub(crate) fn search_behind(
     ensures written { IfFound result (HasText names.now) }
 {
     let indexed = IndexedSystem::new(alloc, last)?;
-    let lefts = LeftSides::new(alloc, indexed)?;
-    let found = overlaps_or_none(alloc, last)?;
-    search_parts(alloc, sys, names, steps, &lefts, found.as_deref(), budget)
+    let prepared = PreparedSystem::new(alloc, indexed)?;
+    let found = overlaps_or_none(alloc, &prepared)?;
+    search_parts(
+        alloc,
+        sys,
+        names,
+        steps,
+        &prepared,
+        found.as_deref(),
+        budget,
+    )
 }

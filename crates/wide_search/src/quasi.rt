@@ -10,8 +10,8 @@ use cc_count::Budget;
 use cert_model::{Certificate, PairEntry};
 use critical_pairs::Overlap;
 use ctrs_classes::is_deterministic;
-use irreducible::LeftSides;
 use pair_search::Entries;
+use prepared_system::PreparedSystem;
 use quasi_check::are_right_sides_irreducible;
 use std::alloc::Global;
 use term_core::NoMemory;
@@ -20,7 +20,7 @@ use validity::Search;
 // Searches for a measure behind the entries.
 fn search_behind(
     alloc: Global,
-    sys: &LeftSides<'_>,
+    sys: &PreparedSystem<'_>,
     pairs: Vec<PairEntry>,
     budget: &mut Budget,
 ) -> Result<Search, NoMemory> {
@@ -34,7 +34,7 @@ fn search_behind(
 /// Searches for the entries with half of the units, and behind them for a measure.
 pub(crate) fn search_quasi_widely(
     alloc: Global,
-    sys: &LeftSides<'_>,
+    sys: &PreparedSystem<'_>,
     overlaps: &[Overlap],
     budget: &mut Budget,
 ) -> Result<Search, NoMemory>

@@ -18,21 +18,21 @@ pub returns-in-Some-clause-taken : goal.returns-in-Some-clause-taken
 returns-in-Some-clause-taken g c =
     let none = not_failed c.self.inside.failed (sym c.if-is_some.ensures) in
     let e = pair_entry_view c.args.entry.now in
-    let fails = subst (λ z. EntryAnswers (kind_view c.self.inside.kind) c.self.inside.sys c.self.inside.taken c.self.inside.next e (Ok z)) c.in-Some.is c.in_ok-judged.ensures.answer in
+    let fails = subst (λ z. EntryAnswers (kind_view c.self.inside.kind) c.self.inside.sys.now c.self.inside.taken c.self.inside.next e (Ok z)) c.in-Some.is c.in_ok-judged.ensures.answer in
     taken_failing c.self.inside c.self.invariant none c.args.self.now c.self.view_is e c.in-Some.reason fails c.fail.new.failed c.fail.ensures
 
 pub next_overlap-requires : goal.next_overlap-requires
 next_overlap-requires g c =
     let none = not_failed c.self.inside.failed (sym c.if-is_some.ensures) in
     let e = pair_entry_view c.args.entry.now in
-    let settles = subst (λ z. EntryAnswers (kind_view c.self.inside.kind) c.self.inside.sys c.self.inside.taken c.self.inside.next e (Ok z)) c.in-None.is c.in_ok-judged.ensures.answer in
+    let settles = subst (λ z. EntryAnswers (kind_view c.self.inside.kind) c.self.inside.sys.now c.self.inside.taken c.self.inside.next e (Ok z)) c.in-None.is c.in_ok-judged.ensures.answer in
     record { list = list_ahead c.self.inside c.self.invariant none e settles }
 
 pub invariant_of-self-in_err-self-inside-in-None : goal.invariant_of-self-in_err-self-inside-in-None
 invariant_of-self-in_err-self-inside-in-None g c =
     let none = not_failed c.self.inside.failed (sym c.if-is_some.ensures) in
     let e = pair_entry_view c.args.entry.now in
-    let settles = subst (λ z. EntryAnswers (kind_view c.self.inside.kind) c.self.inside.sys c.self.inside.taken c.self.inside.next e (Ok z)) c.in-None.is c.in_ok-judged.ensures.answer in
+    let settles = subst (λ z. EntryAnswers (kind_view c.self.inside.kind) c.self.inside.sys.now c.self.inside.taken c.self.inside.next e (Ok z)) c.in-None.is c.in_ok-judged.ensures.answer in
     let same = c.in_ok-judged.ensures.settled c.in-None.is in
     record { stands = λ _. keeps_on c.self.inside c.self.invariant none e settles c.next_overlap.new.search c.next_overlap.ensures.system c.in_err-self-inside-in-None.ensures.answer c.judge_entry.new.next same }
 
@@ -45,12 +45,12 @@ pub invariant_of-self-in-None : goal.invariant_of-self-in-None
 invariant_of-self-in-None g c =
     let none = not_failed c.self.inside.failed (sym c.if-is_some.ensures) in
     let e = pair_entry_view c.args.entry.now in
-    let settles = subst (λ z. EntryAnswers (kind_view c.self.inside.kind) c.self.inside.sys c.self.inside.taken c.self.inside.next e (Ok z)) c.in-None.is c.in_ok-judged.ensures.answer in
+    let settles = subst (λ z. EntryAnswers (kind_view c.self.inside.kind) c.self.inside.sys.now c.self.inside.taken c.self.inside.next e (Ok z)) c.in-None.is c.in_ok-judged.ensures.answer in
     record { stands = λ _. goes_on_to c.self.inside c.self.invariant none e settles c.next_overlap.new.search c.next_overlap.ensures.system c.in_ok-self-inside-in-None.field-0 c.in_ok-self-inside-in-None.ensures.answer }
 
 pub returns-in_ok-self-inside-in-None-clause-taken : goal.returns-in_ok-self-inside-in-None-clause-taken
 returns-in_ok-self-inside-in-None-clause-taken g c =
     let none = not_failed c.self.inside.failed (sym c.if-is_some.ensures) in
     let e = pair_entry_view c.args.entry.now in
-    let settles = subst (λ z. EntryAnswers (kind_view c.self.inside.kind) c.self.inside.sys c.self.inside.taken c.self.inside.next e (Ok z)) c.in-None.is c.in_ok-judged.ensures.answer in
+    let settles = subst (λ z. EntryAnswers (kind_view c.self.inside.kind) c.self.inside.sys.now c.self.inside.taken c.self.inside.next e (Ok z)) c.in-None.is c.in_ok-judged.ensures.answer in
     taken_settling c.self.inside c.self.invariant none c.args.self.now c.self.view_is e settles

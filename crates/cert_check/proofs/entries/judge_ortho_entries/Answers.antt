@@ -6,7 +6,7 @@ use Rattle.tallies.specs.Tally.{IsOrthoTally}
 use Rattle.cert_openings.specs.Openings.{ortho_opening}
 use Rattle.cert_check.proofs.Reading.{never_more, next_short, one_taken, all_read}
 use Rattle.cert_check.proofs.Texts.{valid_there, rejected_there, rejected_answer, refused_answer}
-use Rattle.cert_check.proofs.entries.judge_ortho.Goals as goal
+use Rattle.cert_check.proofs.entries.judge_ortho_entries.Goals as goal
 
 pub entries-init : goal.entries-init
 entries-init c = record {

@@ -1,7 +1,7 @@
 use Rattle.std.proofs.Common.{◌≡◌, map, take}
 use Rattle.cert_model.specs.CertificateView.{pair_entry_view}
 use Rattle.tallies.specs.Tally.{IsOrthoTally}
-use Rattle.ortho_check.proofs.check_ortho.Given as goal
+use Rattle.ortho_check.proofs.check_prepared.Given as goal
 
 abbrev pub invariant-loop-entry : goal.invariant-loop-entry
 invariant-loop-entry l = record {

@@ -4,7 +4,7 @@ use Rattle.cert_model.specs.ReasonView.{rejected_view}
 use Rattle.valid_certificates.specs.Confluence.{IsValidQuasi, IsQuasiRejected}
 use Rattle.pair_check.proofs.RunTallies.{entry_short}
 use Rattle.quasi_check.proofs.Runs.{of_whole, loop_goes_on}
-use Rattle.quasi_check.proofs.quasi.check_quasi.Goals as goal
+use Rattle.quasi_check.proofs.quasi.check_prepared.Goals as goal
 
 pub take-requires : goal.take-requires
 take-requires g c =

@@ -5,7 +5,7 @@ use Rattle.tallies.specs.Tally.{IsQuasiTally}
 use Rattle.cert_openings.specs.Openings.{Opening}
 use Rattle.cert_text.specs.Reading.{HasRead}
 use Rattle.cert_check.proofs.Reading.{AreTaken}
-use Rattle.cert_check.proofs.entries.judge_quasi.Given as goal
+use Rattle.cert_check.proofs.entries.judge_quasi_entries.Given as goal
 
 abbrev pub invariant-entries : goal.invariant-entries
 invariant-entries l = record {

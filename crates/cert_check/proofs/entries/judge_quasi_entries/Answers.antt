@@ -6,7 +6,7 @@ use Rattle.cert_check.specs.declared.measures.NamedMeasure.{NamedMeasure}
 use Rattle.cert_openings.specs.Openings.{quasi_opening}
 use Rattle.cert_check.proofs.Reading.{never_more, next_short, one_taken, all_read}
 use Rattle.cert_check.proofs.Texts.{tally_there, valid_there, rejected_there, rejected_answer, refused_answer}
-use Rattle.cert_check.proofs.entries.judge_quasi.Goals as goal
+use Rattle.cert_check.proofs.entries.judge_quasi_entries.Goals as goal
 
 -- the measure's certificate
 abbrev certificate_of : NamedMeasure → MeasureCertificate

@@ -3,7 +3,7 @@ use Rattle.tallies.specs.Tally.{IsOrthoTally}
 use Rattle.cert_openings.specs.Openings.{Opening}
 use Rattle.cert_text.specs.Reading.{HasRead}
 use Rattle.cert_check.proofs.Reading.{AreTaken}
-use Rattle.cert_check.proofs.entries.judge_ortho.Given as goal
+use Rattle.cert_check.proofs.entries.judge_ortho_entries.Given as goal
 
 abbrev pub invariant-entries : goal.invariant-entries
 invariant-entries l = record {

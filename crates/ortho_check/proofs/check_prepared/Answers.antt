@@ -5,7 +5,7 @@ use Rattle.rewriting.specs.Confluence.{IsConfluent}
 use Rattle.valid_certificates.specs.Confluence.{IsValidOrtho, IsOrthoRejected}
 use Rattle.pair_check.proofs.RunTallies.{entry_short}
 use Rattle.ortho_check.proofs.Runs.{of_whole}
-use Rattle.ortho_check.proofs.check_ortho.Goals as goal
+use Rattle.ortho_check.proofs.check_prepared.Goals as goal
 
 pub take-requires : goal.take-requires
 take-requires c =

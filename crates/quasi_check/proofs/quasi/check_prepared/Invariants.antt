@@ -1,7 +1,7 @@
 use Rattle.std.proofs.Common.{◌≡◌, map, take}
 use Rattle.cert_model.specs.CertificateView.{pair_entry_view}
 use Rattle.tallies.specs.Tally.{IsQuasiTally}
-use Rattle.quasi_check.proofs.quasi.check_quasi.Given as goal
+use Rattle.quasi_check.proofs.quasi.check_prepared.Given as goal
 
 abbrev pub invariant-loop-entry : goal.invariant-loop-entry
 invariant-loop-entry g l = record {
