@@ -10,8 +10,8 @@ use rule_index::IndexedSystem;
 use std::alloc::Global;
 use std::io;
 use tcap_infeasible::{
-    Cap, IndexedTcap, TcapEvidence, compare_caps, compare_rigid_caps, made_caps_clash, rigid_cap,
-    rigid_cap_in, tcap,
+    Cap, TcapEvidence, compare_caps, compare_rigid_caps, made_caps_clash, rigid_cap, rigid_cap_in,
+    tcap,
 };
 use term_core::{Cond, System, Term, fits, size, try_clone};
 
@@ -92,7 +92,7 @@ fn print_evidence(rt: &HostRuntime, sys: &IndexedSystem, u: &Term, v: &Term) -> 
         return println!(rt; "the copies do not fit");
     }
     let conds = [Cond { left, right }];
-    let indexed = IndexedTcap { sys }.refutes(alloc, &conds);
+    let indexed = TcapEvidence.refutes_in(alloc, sys, &conds);
     let alone = TcapEvidence.refutes(alloc, sys.system(), &conds);
     let by_kind = check_infeasible(alloc, sys.system(), &conds, &InfEvidence::Tcap);
     println!(rt;

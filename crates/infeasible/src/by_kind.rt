@@ -3,20 +3,20 @@ ghost use Rattle.std.specs.Prelude.{◌≡◌, ◌≤◌, None, Some, IfOk, IfSo
 ghost use Rattle.certificates.specs.Sizes.{DoConditionsFit};
 ghost use Rattle.automata.specs.Evidence.{IsConditionJudged, JudgedByAutomaton};
 ghost use Rattle.term_core.specs.RuleView.{condition_view};
-ghost use Rattle.cert_model.specs.EvidenceView.{automaton_view};
+ghost use Rattle.cert_model.specs.EvidenceView.{automaton_view, inf_evidence_view};
 ghost use Rattle.refuter.specs.Answers.{RefutesAnswers};
+ghost use Rattle.judged_evidence.specs.Evidence.{IsInfeasibilityJudged};
 ghost use Rattle.infeasible.specs.Known.{IsKnown};
 
 use crate::check_infeasible_in;
-use crate::same::{is_same, is_same_condition};
+use crate::same::{copied_condition, is_same, is_same_condition};
 use cert_model::{Automaton, EvidenceReason, InfEvidence, condition};
 use refuter::{Refusal, Refuter};
 use rule_index::IndexedSystem;
 use std::alloc::Global;
 use std::marker::Model;
-use term_core::{Cond, NoMemory, try_clone};
+use term_core::{Cond, NoMemory};
 use tree_automata::AutoEvidence;
-use validity::InfeasibilityJudge;
 
 // A condition that an automaton shows to be never met.
 #[derive(Debug, Drop)]
@@ -49,10 +49,7 @@ fn copied(alloc: Global, cond: &Cond, automaton: &Automaton) -> Result<NeverMet,
     ensures automaton { IfOk result (λ copy. automaton_view copy.automaton ≡ automaton_view automaton.now) }
 {
     Ok(NeverMet {
-        cond: Cond {
-            left: try_clone(alloc, &cond.left)?,
-            right: try_clone(alloc, &cond.right)?,
-        },
+        cond: copied_condition(alloc, cond)?,
         automaton: automaton.try_clone(alloc)?,
     })
 }
@@ -102,7 +99,7 @@ impl JudgeByKind {
         ensures judged { RefutesAnswers (JudgedByAutomaton sys.now (map condition_view conds.now) evidence.now.cond (automaton_view evidence.now.automaton.now)) result }
         ensures knows { IsKnown self.new sys.now }
     {
-        evidence.refutes(alloc, sys.system(), conds)?;
+        evidence.refutes_in(alloc, sys, conds)?;
         if let Some(cond) = condition(conds, evidence.cond) {
             self.last = Some(copied(alloc, cond, evidence.automaton)?);
         }
@@ -130,20 +127,21 @@ impl JudgeByKind {
             _ => self.judge_anew(alloc, sys, conds, evidence),
         }
     }
-}
 
-impl InfeasibilityJudge for JudgeByKind {
-    ghost use Rattle.infeasible.specs.Known.{IsKnown};
-
-    ghost knows = { IsKnown };
-
-    fn judge(
+    /// Judges evidence for conditions of a system: valid, or the first reason why not. What is remembered stays so of the system.
+    pub fn judge(
         &mut self,
         alloc: Global,
         sys: &IndexedSystem,
         conds: &[Cond],
         evidence: &InfEvidence,
-    ) -> Result<(), Refusal> {
+    ) -> Result<(), Refusal>
+        requires few { length conds.now ≤ 200 }
+        requires fit { DoConditionsFit (map condition_view conds.now) }
+        requires knows { IsKnown self.old sys.now }
+        ensures judged { RefutesAnswers (IsInfeasibilityJudged sys.now (map condition_view conds.now) (inf_evidence_view evidence.now)) result }
+        ensures knows { IsKnown self.new sys.now }
+    {
         match evidence {
             InfEvidence::Tcap => check_infeasible_in(alloc, sys, conds, evidence),
             InfEvidence::Auto { cond, automaton } => {

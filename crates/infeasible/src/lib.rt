@@ -17,9 +17,9 @@ use cert_model::InfEvidence;
 pub use refuter::Refusal;
 use refuter::Refuter;
 use rule_index::IndexedSystem;
-pub use same::is_same_condition;
+pub use same::{copied_condition, is_same_condition};
 use std::alloc::Global;
-use tcap_infeasible::IndexedTcap;
+use tcap_infeasible::TcapEvidence;
 use term_core::{Cond, System};
 use tree_automata::AutoEvidence;
 
@@ -36,7 +36,7 @@ fn refuted<R: Refuter>(
     ensures sound { OnOk result (IsInfeasible sys.now (map condition_view conds.now)) }
 {
     let _rules = sys.rules();
-    refuter.refutes(alloc, sys.system(), conds)
+    refuter.refutes_in(alloc, sys, conds)
 }
 
 /// Judges evidence for conditions of a system that has its index, by caps or by an automaton. Where it is valid, no level and no substitution meet all of them.
@@ -52,7 +52,7 @@ pub fn check_infeasible_in(
     ensures sound { OnOk result (IsInfeasible sys.now (map condition_view conds.now)) }
 {
     match evidence {
-        InfEvidence::Tcap => IndexedTcap { sys }.refutes(alloc, conds),
+        InfEvidence::Tcap => refuted(alloc, sys, conds, &TcapEvidence),
         InfEvidence::Auto { cond, automaton } => {
             let evidence = AutoEvidence {
                 cond: *cond,

@@ -1,10 +1,11 @@
-//! Whether automata, and conditions, are the same.
-ghost use Rattle.std.specs.Prelude.{◌≡◌, ◌↔◌, IsTrue, map};
+//! Whether automata, and conditions, are the same; copies of conditions.
+ghost use Rattle.std.specs.Prelude.{◌≡◌, IfOk, IsTrue, map};
 ghost use Rattle.term_core.specs.RuleView.{condition_view};
 ghost use Rattle.cert_model.specs.EvidenceView.{transition_view, automaton_view};
 
 use cert_model::{Automaton, Transition};
-use term_core::{Cond, equal};
+use std::alloc::Global;
+use term_core::{Cond, NoMemory, equal, try_clone};
 
 fn is_same_transition(a: &Transition, b: &Transition) -> bool
     ensures { IsTrue result → transition_view a.now ≡ transition_view b.now }
@@ -43,4 +44,14 @@ pub fn is_same_condition(a: &Cond, b: &Cond) -> bool
     ensures { IsTrue result → condition_view a.now ≡ condition_view b.now }
 {
     equal(&a.left, &b.left) && equal(&a.right, &b.right)
+}
+
+/// A copy of a condition.
+pub fn copied_condition(alloc: Global, cond: &Cond) -> Result<Cond, NoMemory>
+    ensures { IfOk result (λ copy. condition_view copy ≡ condition_view cond.now) }
+{
+    Ok(Cond {
+        left: try_clone(alloc, &cond.left)?,
+        right: try_clone(alloc, &cond.right)?,
+    })
 }

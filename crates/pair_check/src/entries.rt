@@ -5,6 +5,7 @@ ghost use Rattle.certificates.specs.Reasons.{pair_missing};
 ghost use Rattle.cert_model.specs.CertificateView.{pair_entry_view};
 ghost use Rattle.cert_model.specs.ReasonView.{rejected_view};
 ghost use Rattle.critical_pairs.specs.View.{overlap_view};
+ghost use Rattle.infeasible.specs.Known.{IsKnown};
 ghost use Rattle.valid_certificates.specs.Entries.{triple_of, IsPairShort};
 ghost use Rattle.validity.specs.KindView.{kind_view};
 ghost use Rattle.pair_check.specs.Steps.{IsNextOf, EntryAnswers};
@@ -12,11 +13,12 @@ ghost use Rattle.pair_check.specs.Steps.{IsNextOf, EntryAnswers};
 use crate::evidence::judge_evidence;
 use cert_model::{PairEntry, Rejected};
 use critical_pairs::Overlap;
+use infeasible::JudgeByKind;
 use prepared_system::PreparedSystem;
 use refuter::Refusal;
 use std::alloc::Global;
 use term_core::NoMemory;
-use validity::{CertKind, InfeasibilityJudge};
+use validity::CertKind;
 
 /// The rejection where the overlap has no entry; its position becomes that of the rejection.
 pub fn missing(overlap: Overlap) -> Rejected
@@ -40,20 +42,20 @@ fn is_for(entry: &PairEntry, overlap: &Overlap) -> bool
 
 /// Why the entry behind so many others fails for the next overlap, or nothing where it settles it. Only where it fails is the
 /// overlap taken away.
-pub fn judge_entry<J: InfeasibilityJudge>(
+pub fn judge_entry(
     alloc: Global,
     sys: &PreparedSystem<'_>,
     kind: CertKind,
     next: &mut Option<Overlap>,
     taken: u32,
     entry: &PairEntry,
-    judge: &mut J,
+    judge: &mut JudgeByKind,
 ) -> Result<Option<Rejected>, NoMemory>
     requires next { IsNextOf sys.now next.old }
     requires few { taken ≤ 20000 }
     requires short { IsPairShort (pair_entry_view entry.now).evidence }
-    requires knows { J.knows judge.old sys.now }
-    ensures knows { J.knows judge.new sys.now }
+    requires knows { IsKnown judge.old sys.now }
+    ensures knows { IsKnown judge.new sys.now }
     ensures answer { EntryAnswers (kind_view kind) sys.now taken next.old (pair_entry_view entry.now) result }
     ensures unchanged { OnErr result (next.new ≡ next.old) }
     ensures settled { IfOk result (λ reason. reason ≡ None → next.new ≡ next.old) }

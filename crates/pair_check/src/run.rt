@@ -3,6 +3,7 @@ ghost use Rattle.std.specs.Prelude.{◌≡◌, IfOk, List, OnErr, OnOk, Some};
 ghost use Rattle.unifier_run.specs.Overlaps as math;
 ghost use Rattle.certificates.specs.Certificates as entries;
 ghost use Rattle.cert_model.specs.CertificateView.{pair_entry_view};
+ghost use Rattle.infeasible.specs.Known.{IsKnown};
 ghost use Rattle.valid_certificates.specs.Entries.{IsPairShort};
 ghost use Rattle.validity.specs.KindView.{kind_view};
 ghost use Rattle.tallies.specs.Tally.{passed};
@@ -13,11 +14,12 @@ ghost use Rattle.pair_check.specs.Underway.{AreAll};
 use crate::entries::{judge_entry, missing};
 use cert_model::{PairEntry, Rejected};
 use critical_pairs::{Overlap, OverlapError, OverlapSearch};
+use infeasible::JudgeByKind;
 use prepared_system::PreparedSystem;
 use std::alloc::Global;
 use std::marker::Model;
 use term_core::NoMemory;
-use validity::{CertKind, CheckError, InfeasibilityJudge};
+use validity::{CertKind, CheckError};
 
 /// A run over the entries of a certificate of a kind. It has one overlap at a time, and keeps no entry. In contracts it is the
 /// kind, the system and what the entries taken so far come to.
@@ -132,15 +134,15 @@ impl<'a> PairRun<'a> {
 
     /// Judges the next entry, unless one before it has failed. The judge judges the evidence that conditions are never met. Where memory
     /// is refused the run is as before.
-    pub fn take<J: InfeasibilityJudge>(
+    pub fn take(
         &mut self,
         alloc: Global,
         entry: &PairEntry,
-        judge: &mut J,
+        judge: &mut JudgeByKind,
     ) -> Result<(), NoMemory>
         requires short { IsPairShort (pair_entry_view entry.now).evidence }
-        requires knows { J.knows judge.old self.old.system }
-        ensures knows { J.knows judge.new self.old.system }
+        requires knows { IsKnown judge.old self.old.system }
+        ensures knows { IsKnown judge.new self.old.system }
         ensures taken { OnOk result (DoesTake self.old (pair_entry_view entry.now) self.new) }
         ensures unchanged { OnErr result (self.new ≡ self.old) }
     {

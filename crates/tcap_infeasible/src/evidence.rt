@@ -1,12 +1,10 @@
 //! Evidence that conditions are never met: the caps of their left sides do not unify with their right sides.
-ghost use Rattle.std.specs.Prelude.{◌≤◌, IfOk, OnOk, length, map};
+ghost use Rattle.std.specs.Prelude.{◌≤◌, IfOk, length, map};
 ghost use Rattle.rewriting.specs.Rules.{right_sides};
-ghost use Rattle.rewriting.specs.Infeasibility.{IsInfeasible};
 ghost use Rattle.caps.specs.Evidence.{JudgedByCaps};
 ghost use Rattle.certificates.specs.Sizes.{DoConditionsFit};
 ghost use Rattle.term_core.specs.View.{views};
 ghost use Rattle.term_core.specs.RuleView.{condition_view};
-ghost use Rattle.refuter.specs.Answers.{RefutesAnswers};
 ghost use Rattle.tcap_infeasible.specs.Comparing.{LeftsAnswer, HaveRow};
 
 use crate::Cap;
@@ -16,7 +14,7 @@ use refuter::{Refusal, Refuter};
 use renumbering::Numbering;
 use rule_index::IndexedSystem;
 use std::alloc::Global;
-use term_core::{Cond, NoMemory, System, Term};
+use term_core::{Cond, NoMemory, Term};
 use unification::{Unified, unify};
 
 // The caps of the left sides, whose holes are numbered one after the other.
@@ -54,34 +52,7 @@ fn numbered_rights(alloc: Global, conds: &[Cond]) -> Result<Vec<Term>, NoMemory>
     Ok(rights)
 }
 
-/// Evidence that conditions are never met, for a system with its index: the caps of their left sides do not unify with their
-/// right sides.
-#[derive(Clone, Copy, Debug)]
-pub struct IndexedTcap<'a> {
-    pub sys: &'a IndexedSystem<'a>,
-}
-
-impl IndexedTcap<'_> {
-    /// Judges the evidence for conditions of the system. Where it is valid, no level and no substitution meet all of them.
-    pub fn refutes(&self, alloc: Global, conds: &[Cond]) -> Result<(), Refusal>
-        requires few { length conds.now ≤ 200 }
-        requires fit { DoConditionsFit (map condition_view conds.now) }
-        ensures judged { RefutesAnswers (JudgedByCaps self.now.sys.now (map condition_view conds.now)) result }
-        ensures sound { OnOk result (IsInfeasible self.now.sys.now (map condition_view conds.now)) }
-    {
-        let Some(lefts) = left_caps(alloc, self.sys, conds)? else {
-            return Err(Refusal::Reason(EvidenceReason::TcapLarge));
-        };
-        let rights = numbered_rights(alloc, conds)?;
-        match unify(alloc, &lefts, &rights)? {
-            Unified::Clash => Ok(()),
-            Unified::Mgu(_) => Err(Refusal::Reason(EvidenceReason::TcapUnifies)),
-            Unified::TooLarge => Err(Refusal::Reason(EvidenceReason::TcapLarge)),
-        }
-    }
-}
-
-/// The same for any system, with an index made for one question.
+/// Evidence that conditions are never met: the caps of their left sides do not unify with their right sides.
 #[derive(Clone, Copy, Debug)]
 pub struct TcapEvidence;
 
@@ -90,9 +61,21 @@ impl Refuter for TcapEvidence {
 
     ghost judged = { λ _ s cs. JudgedByCaps s cs };
 
-    fn refutes(&self, alloc: Global, sys: &System, conds: &[Cond]) -> Result<(), Refusal> {
-        let sys = IndexedSystem::new(alloc, sys)?;
-        IndexedTcap { sys: &sys }.refutes(alloc, conds)
+    fn refutes_in(
+        &self,
+        alloc: Global,
+        sys: &IndexedSystem,
+        conds: &[Cond],
+    ) -> Result<(), Refusal> {
+        let Some(lefts) = left_caps(alloc, sys, conds)? else {
+            return Err(Refusal::Reason(EvidenceReason::TcapLarge));
+        };
+        let rights = numbered_rights(alloc, conds)?;
+        match unify(alloc, &lefts, &rights)? {
+            Unified::Clash => Ok(()),
+            Unified::Mgu(_) => Err(Refusal::Reason(EvidenceReason::TcapUnifies)),
+            Unified::TooLarge => Err(Refusal::Reason(EvidenceReason::TcapLarge)),
+        }
     }
 
     ghost law = { λ _ s cs well h. never_met s cs h };

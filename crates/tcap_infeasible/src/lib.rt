@@ -9,7 +9,7 @@ mod thawing;
 
 pub use capping::FIRST_HOLE;
 pub use comparing::{ComparedCaps, compare_caps, compare_rigid_caps, made_caps_clash};
-pub use evidence::{IndexedTcap, TcapEvidence};
+pub use evidence::TcapEvidence;
 use term_core::Term;
 pub use thawing::{rigid_cap, rigid_cap_in, tcap, tcap_in};
 

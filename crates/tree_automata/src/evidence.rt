@@ -15,6 +15,7 @@ use crate::exclusion::judge_exclusion;
 use automaton_runs::AutomatonIndex;
 use cert_model::{Automaton, EvidenceReason, condition};
 use refuter::{Refusal, Refuter};
+use rule_index::IndexedSystem;
 use std::alloc::Global;
 use term_core::{Cond, System};
 
@@ -106,8 +107,13 @@ impl Refuter for AutoEvidence<'_> {
 
     ghost judged = { λ e s cs. JudgedByAutomaton s cs e.cond (automaton_view e.automaton.now) };
 
-    fn refutes(&self, alloc: Global, sys: &System, conds: &[Cond]) -> Result<(), Refusal> {
-        judge(alloc, sys, conds, self, false)
+    fn refutes_in(
+        &self,
+        alloc: Global,
+        sys: &IndexedSystem,
+        conds: &[Cond],
+    ) -> Result<(), Refusal> {
+        judge(alloc, sys.system(), conds, self, false)
     }
 
     ghost law = { λ e s cs well h. never_met s cs e.cond (automaton_view e.automaton.now) h };
