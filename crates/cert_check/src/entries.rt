@@ -46,29 +46,6 @@ fn take_quasi<M: Measure>(
     run.take(alloc, &entry)
 }
 
-// Judges the entries, where the system is prepared.
-fn judge_ortho_entries(
-    alloc: Global,
-    sys: &PreparedSystem<'_>,
-    pairs: &mut Pairs<'_>,
-) -> Result<Verdict, BytesError>
-    requires { (o : Opening) × HasRead pairs.old o [] }
-    ensures answers { (o : Opening) → HasRead pairs.old o [] → EntriesAnswer sys.now pairs.old.names pairs.old.bytes o ortho_opening result }
-    ensures yes { OnYes result (IsConfluent sys.now) }
-    ensures no { OnNo result ⊥ }
-{
-    let mut run = OrthoRun::start(alloc, sys)?;
-    'entries: for _ in 0..20_001u32 {
-        let Some(entry) = pairs.next(alloc)? else {
-            run.finish()?;
-            return Ok(Verdict::Yes);
-        };
-        take_ortho(alloc, &mut run, entry)?;
-    }
-    // No text has more than 20,000 entries.
-    unreachable!();
-}
-
 /// Judges the entries of a text of which the opening is read. The text is read to its end, also where an entry fails.
 pub fn judge_ortho(
     alloc: Global,
@@ -82,29 +59,13 @@ pub fn judge_ortho(
 {
     let indexed = IndexedSystem::new(alloc, sys)?;
     let prepared = PreparedSystem::new(alloc, indexed)?;
-    judge_ortho_entries(alloc, &prepared, pairs)
-}
-
-// Judges the entries under a measure, where the system is prepared.
-fn judge_quasi_entries(
-    alloc: Global,
-    sys: &PreparedSystem<'_>,
-    measure: &MeasureCert,
-    pairs: &mut Pairs<'_>,
-) -> Result<Verdict, BytesError>
-    requires { (o : Opening) × HasRead pairs.old o [] }
-    ensures answers { (o : Opening) → HasRead pairs.old o [] → EntriesAnswer sys.now pairs.old.names pairs.old.bytes o (quasi_opening (measure_view measure.now)) result }
-    ensures yes { OnYes result (IsConfluent sys.now) }
-    ensures no { OnNo result ⊥ }
-{
-    let judge = NamedMeasure { measure };
-    let mut run = QuasiRun::start(alloc, sys, &judge)?;
+    let mut run = OrthoRun::start(alloc, &prepared)?;
     'entries: for _ in 0..20_001u32 {
         let Some(entry) = pairs.next(alloc)? else {
             run.finish()?;
             return Ok(Verdict::Yes);
         };
-        take_quasi(alloc, &mut run, entry)?;
+        take_ortho(alloc, &mut run, entry)?;
     }
     // No text has more than 20,000 entries.
     unreachable!();
@@ -124,7 +85,17 @@ pub fn judge_quasi(
 {
     let indexed = IndexedSystem::new(alloc, sys)?;
     let prepared = PreparedSystem::new(alloc, indexed)?;
-    judge_quasi_entries(alloc, &prepared, measure, pairs)
+    let judge = NamedMeasure { measure };
+    let mut run = QuasiRun::start(alloc, &prepared, &judge)?;
+    'entries: for _ in 0..20_001u32 {
+        let Some(entry) = pairs.next(alloc)? else {
+            run.finish()?;
+            return Ok(Verdict::Yes);
+        };
+        take_quasi(alloc, &mut run, entry)?;
+    }
+    // No text has more than 20,000 entries.
+    unreachable!();
 }
 
 /// Reads the entries to the end of the text, and judges none.

@@ -21,27 +21,6 @@ use std::alloc::Global;
 use term_core::System;
 pub use validity::CheckError;
 
-// The same, where the system is prepared.
-fn check_prepared(
-    alloc: Global,
-    sys: &PreparedSystem<'_>,
-    pairs: &[PairEntry],
-) -> Result<(), CheckError>
-    requires short { ArePairsShort (map pair_entry_view pairs.now) }
-    ensures judged { OrthoAnswers sys.now (map pair_entry_view pairs.now) result }
-    ensures levels { OnOk result (DoLevelsCommute sys.now) }
-    ensures confluent { OnOk result (IsConfluent sys.now) }
-{
-    let mut run = OrthoRun::start(alloc, sys)?;
-    for entry in pairs {
-        run.take(alloc, entry)?;
-    }
-    match run.finish() {
-        Ok(()) => Ok(()),
-        Err(reason) => Err(CheckError::Rejected(reason)),
-    }
-}
-
 /// Whether entries for the overlaps show that the levels of the system commute, and so that it is confluent: it is
 /// left-linear, of type 3, extended properly oriented and right-stable, and each overlap has an entry, in order, with
 /// valid evidence that it is trivial, infeasible or in conflict (after Suzuki, Middeldorp, Ida 1995).
@@ -53,7 +32,14 @@ pub fn check_ortho(alloc: Global, sys: &System, pairs: &[PairEntry]) -> Result<(
 {
     let indexed = IndexedSystem::new(alloc, sys)?;
     let prepared = PreparedSystem::new(alloc, indexed)?;
-    check_prepared(alloc, &prepared, pairs)
+    let mut run = OrthoRun::start(alloc, &prepared)?;
+    for entry in pairs {
+        run.take(alloc, entry)?;
+    }
+    match run.finish() {
+        Ok(()) => Ok(()),
+        Err(reason) => Err(CheckError::Rejected(reason)),
+    }
 }
 
 /// A system that has a valid certificate is confluent. This is a law of the definitions: nothing is checked here.

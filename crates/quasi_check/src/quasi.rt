@@ -55,27 +55,6 @@ pub(crate) fn check_measure<M: Measure>(
     }
 }
 
-// The same, where the system is prepared.
-fn check_prepared<M: Measure>(
-    alloc: Global,
-    sys: &PreparedSystem<'_>,
-    measure: &M,
-    pairs: &[PairEntry],
-) -> Result<(), CheckError>
-    requires short { ArePairsShort (map pair_entry_view pairs.now) }
-    ensures judged { QuasiAnswers (M.judged measure.now sys.now) sys.now (map pair_entry_view pairs.now) result }
-    ensures confluent { OnOk result (IsConfluent sys.now) }
-{
-    let mut run = QuasiRun::start(alloc, sys, measure)?;
-    for entry in pairs {
-        run.take(alloc, entry)?;
-    }
-    match run.finish() {
-        Ok(()) => Ok(()),
-        Err(reason) => Err(CheckError::Rejected(reason)),
-    }
-}
-
 /// Judges a certificate that a system is confluent, by a measure and the evidence for each overlap (after Avenhaus and
 /// Loria-Saenz 1994). Where the answer is Ok, the system is confluent.
 ///
@@ -96,7 +75,14 @@ pub fn check_quasi<M: Measure>(
 {
     let indexed = IndexedSystem::new(alloc, sys)?;
     let prepared = PreparedSystem::new(alloc, indexed)?;
-    check_prepared(alloc, &prepared, measure, pairs)
+    let mut run = QuasiRun::start(alloc, &prepared, measure)?;
+    for entry in pairs {
+        run.take(alloc, entry)?;
+    }
+    match run.finish() {
+        Ok(()) => Ok(()),
+        Err(reason) => Err(CheckError::Rejected(reason)),
+    }
 }
 
 /// A system that has a valid certificate with a measure is confluent. This is a law of the definitions: nothing is checked here.

@@ -9,7 +9,7 @@ use Rattle.pair_check.proofs.run.walk.Goals as goal
 pub returns-in_err-pass : goal.returns-in_err-pass
 returns-in_err-pass c =
     let (os, held) = c.overlaps.invariant in
-    subst (WalkAnswers c.args.sys.now) (sym (handed_on _ _ c.from_residual-in_err-pass.ensures.1))
+    subst (WalkAnswers c.args.sys.now) (sym (handed_on _ _ c.from_residual.ensures.1))
     (list_refused c.args.sys.now c.overlaps.search os held c.in_err-pass.field-0.0 c.in_err-pass.ensures.answer)
 
 pub overlaps-preserved : goal.overlaps-preserved

@@ -7,4 +7,4 @@ abbrev pub decreases-overlaps : goal.decreases-overlaps
 decreases-overlaps l = length l.search.rest
 
 abbrev pub invariant-overlaps : goal.invariant-overlaps
-invariant-overlaps l = (os : List Overlap) × Gathered l.sys l.search os
+invariant-overlaps l = (os : List Overlap) × Gathered l.fn.sys l.search os

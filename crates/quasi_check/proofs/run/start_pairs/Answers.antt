@@ -1,4 +1,5 @@
-use Rattle.std.proofs.Common.{Ok, Err, sym, subst}
+use Rattle.std.proofs.Common.{Err, sym, subst}
+use Rattle.interpretations.specs.Judgement.{good}
 use Rattle.term_core.proofs.Rules.{handed_on}
 use Rattle.quasi_check.specs.Parts.{MeasureAnswers}
 use Rattle.quasi_check.specs.Runs.{StartAnswers}
@@ -17,4 +18,4 @@ returns-in_err-check_measure g c =
     (measure_rejected Is c.args.sys.now c.in_err-check_measure.field-0.0 c.in_ok-check_rules.ensures (subst (λ s. MeasureAnswers (g.M.Measure.judged c.args.measure.now s) (Err c.in_err-check_measure.field-0.0)) c.system.ensures c.in_err-check_measure.ensures))
 
 pub returns : goal.returns
-returns g c = pairs_started (g.M.Measure.judged c.args.measure.now c.args.sys.now) c.args.sys.now c.start.result c.in_ok-check_rules.ensures (subst (λ s. MeasureAnswers (g.M.Measure.judged c.args.measure.now s) (Ok c.in_ok-check_measure.field-0)) c.system.ensures c.in_ok-check_measure.ensures) c.start.ensures
+returns g c = pairs_started (g.M.Measure.judged c.args.measure.now c.args.sys.now) c.args.sys.now c.start.result c.in_ok-check_rules.ensures (subst (λ s. g.M.Measure.judged c.args.measure.now s good) c.system.ensures c.in_ok-check_measure.ensures) c.start.ensures

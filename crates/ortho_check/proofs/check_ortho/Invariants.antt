@@ -1,10 +1,10 @@
 use Rattle.std.proofs.Common.{◌≡◌, map, take}
 use Rattle.cert_model.specs.CertificateView.{pair_entry_view}
 use Rattle.tallies.specs.Tally.{IsOrthoTally}
-use Rattle.ortho_check.proofs.check_prepared.Given as goal
+use Rattle.ortho_check.proofs.check_ortho.Given as goal
 
 abbrev pub invariant-loop-entry : goal.invariant-loop-entry
 invariant-loop-entry l = record {
-  system : l.run.system ≡ l.sys;
-  tally : IsOrthoTally l.sys (map pair_entry_view (take l.entry-index l.pairs)) l.run.tally;
+  system : l.run.system ≡ l.fn.sys;
+  tally : IsOrthoTally l.fn.sys (map pair_entry_view (take l.entry-index l.pairs)) l.run.tally;
 }

@@ -6,13 +6,13 @@ use Rattle.tallies.specs.Tally.{IsOrthoTally}
 use Rattle.cert_openings.specs.Openings.{ortho_opening}
 use Rattle.cert_check.proofs.Reading.{never_more, next_short, one_taken, all_read}
 use Rattle.cert_check.proofs.Texts.{valid_there, rejected_there, rejected_answer, refused_answer}
-use Rattle.cert_check.proofs.entries.judge_ortho_entries.Goals as goal
+use Rattle.cert_check.proofs.entries.judge_ortho.Goals as goal
 
 pub entries-init : goal.entries-init
 entries-init c = record {
   names = refl;
   bytes = refl;
-  system = c.in_ok-run.ensures.system;
+  system = c.in_ok-run.ensures.system ∙ (c.in_ok-prepared.ensures ∙ c.in_ok-indexed.ensures);
   taken = λ o h. record {
     entries = [];
     read = h;

@@ -6,7 +6,7 @@ use Rattle.cert_check.specs.declared.measures.NamedMeasure.{NamedMeasure}
 use Rattle.cert_openings.specs.Openings.{quasi_opening}
 use Rattle.cert_check.proofs.Reading.{never_more, next_short, one_taken, all_read}
 use Rattle.cert_check.proofs.Texts.{tally_there, valid_there, rejected_there, rejected_answer, refused_answer}
-use Rattle.cert_check.proofs.entries.judge_quasi_entries.Goals as goal
+use Rattle.cert_check.proofs.entries.judge_quasi.Goals as goal
 
 -- the measure's certificate
 abbrev certificate_of : NamedMeasure → MeasureCertificate
@@ -18,13 +18,13 @@ entries-init c =
     record {
       names = refl;
       bytes = refl;
-      system = c.in_ok-run.ensures.system;
+      system = c.in_ok-run.ensures.system ∙ (c.in_ok-prepared.ensures ∙ c.in_ok-indexed.ensures);
       measure = same;
       taken = λ o h. record {
         entries = [];
         read = h;
         counted = refl;
-        tally = tally_there c.in_ok-run.run'.system c.args.sys.now (certificate_of c.in_ok-run.run'.measure) _ [] c.in_ok-run.run'.tally (sym c.in_ok-run.ensures.system) same c.in_ok-run.ensures.tally;
+        tally = tally_there c.in_ok-run.run'.system c.in_ok-prepared.prepared (certificate_of c.in_ok-run.run'.measure) _ [] c.in_ok-run.run'.tally (sym c.in_ok-run.ensures.system) same c.in_ok-run.ensures.tally;
       };
     }
 
