@@ -15,11 +15,11 @@ ghost use Rattle.pair_search.specs.Grown.{IsGrown};
 use cert_model::{Automaton, InfEvidence, PairEvidence, condition};
 use critical_pairs::Overlap;
 use evidence_offers::valid_growth;
-use infeasible::is_same_condition;
+use infeasible::{copied_condition, is_same_condition};
 use prepared_system::PreparedSystem;
 use std::alloc::Global;
 use std::marker::Model;
-use term_core::{Cond, NoMemory, try_clone};
+use term_core::{Cond, NoMemory};
 
 // A condition for which growth was tried, and the automaton that grew where it shows that the condition is never met.
 #[derive(Debug, Drop)]
@@ -63,16 +63,6 @@ fn evidence_by(
     }
 }
 
-// A copy of a condition.
-fn copied(alloc: Global, cond: &Cond) -> Result<Cond, NoMemory>
-    ensures { IfOk result (λ copy. condition_view copy ≡ condition_view cond.now) }
-{
-    Ok(Cond {
-        left: try_clone(alloc, &cond.left)?,
-        right: try_clone(alloc, &cond.right)?,
-    })
-}
-
 impl Grown {
     /// Remembers nothing.
     pub fn new() -> Grown
@@ -101,7 +91,7 @@ impl Grown {
         let automaton = valid_growth(alloc, sys.system(), &overlap.conds, number)?;
         let answer = evidence_by(alloc, number, &automaton)?;
         self.last = Some(Tried {
-            cond: copied(alloc, cond)?,
+            cond: copied_condition(alloc, cond)?,
             automaton,
         });
         Ok(answer)

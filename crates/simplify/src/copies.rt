@@ -4,24 +4,16 @@ ghost use Rattle.rewriting.specs.Systems.{IsSystem};
 ghost use Rattle.term_core.specs.RuleView.{condition_view, rule_view};
 ghost use Rattle.simplify.specs.Rules.{counts};
 
+use infeasible::copied_condition;
 use std::alloc::Global;
 use term_core::{Cond, NoMemory, Rule, System, try_clone};
-
-fn copy_cond(alloc: Global, cond: &Cond) -> Result<Cond, NoMemory>
-    ensures { IfOk result (λ c. condition_view c ≡ condition_view cond.now) }
-{
-    Ok(Cond {
-        left: try_clone(alloc, &cond.left)?,
-        right: try_clone(alloc, &cond.right)?,
-    })
-}
 
 // Appends copies of some conditions.
 fn copy_conds(alloc: Global, conds: &[Cond], out: &mut Vec<Cond>) -> Result<(), NoMemory>
     ensures { OnOk result (map condition_view out.new.items ≡ map condition_view out.old.items ++ map condition_view conds.now) }
 {
     for cond in conds {
-        out.push(copy_cond(alloc, cond)?)?;
+        out.push(copied_condition(alloc, cond)?)?;
     }
     Ok(())
 }

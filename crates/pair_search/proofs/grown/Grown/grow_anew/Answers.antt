@@ -33,4 +33,4 @@ returns-clause-knows c =
     let cond = condition_view c.args.cond.now in
     let a = c.in_ok-automaton.automaton in
     let gives = gives_there c.args.sys.now c.system.result.now c.deref.result.now c.args.overlap.now.conds.items c.args.number cond a c.system.ensures c.deref.ensures.value c.requires.there c.in_ok-automaton.ensures in
-    subst (λ d. GrowthGives c.args.sys.now d (option_map automaton_view a)) (sym c.in_ok-copied.ensures) gives
+    subst (λ d. GrowthGives c.args.sys.now d (option_map automaton_view a)) (sym c.in_ok-copied_condition.ensures) gives
