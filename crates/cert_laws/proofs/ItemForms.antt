@@ -103,11 +103,8 @@ Forms names (i ∷ s) ms = (front : List Mark) × (back : List Mark) × (ms ≡ 
 
 -- the table has the name of a mark's symbol
 abbrev pub IsCovered : Naming → Mark → Type 0
-IsCovered names (closed demand) = Unit {0}
-IsCovered names (fixed bytes) = Unit {0}
-IsCovered names (word bytes demands) = Unit {0}
 IsCovered names (symbol name demands) = (f : ℕ) × (names f ≡ name)
-IsCovered names (behind demand) = Unit {0}
+IsCovered names _ = Unit {0}
 
 abbrev pub AreCovered : Naming → List Mark → Type 0
 AreCovered names [] = Unit {0}

@@ -34,18 +34,13 @@ same_cut (a ∷ u) (b ∷ v) r s e l =
 
 pub openings_same : (o p : Opening) (es fs : List PairEntry) → certificate_for o es ≡ certificate_for p fs → (o ≡ p) × (es ≡ fs)
 openings_same ortho_opening ortho_opening es fs e = (refl, cc)
-openings_same ortho_opening (quasi_opening n) es fs e = absurd cc
-openings_same ortho_opening (simplified_opening ts p) es fs e = absurd cc
-openings_same (quasi_opening m) ortho_opening es fs e = absurd cc
 openings_same (quasi_opening m) (quasi_opening n) es fs e = let same : m ≡ n = cc in (ap quasi_opening same, cc)
-openings_same (quasi_opening m) (simplified_opening ts p) es fs e = absurd cc
-openings_same (simplified_opening ss o) ortho_opening es fs e = absurd cc
-openings_same (simplified_opening ss o) (quasi_opening n) es fs e = absurd cc
 openings_same (simplified_opening ss o) (simplified_opening ts p) es fs e =
     let steps : ss ≡ ts = cc in
     let inner : certificate_for o es ≡ certificate_for p fs = cc in
     let same = openings_same o p es fs inner in
     (ap (λ (x : List Simplification). simplified_opening x o) steps ∙ ap (simplified_opening ts) same.0, same.1)
+openings_same _ _ es fs e = absurd cc
 
 -- ---- what is read, with the last line behind it
 

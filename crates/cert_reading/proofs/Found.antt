@@ -22,14 +22,8 @@ use Rattle.cert_words.specs.Walks.{Walks, tagged, AreFound, HasNoStates, AreWith
 -- ---- names that are walked over are identifiers
 
 named_lead : (a : Lead) (bytes : List ℕ) (ms : List Mark) → is_there a bytes ≡ true → HaveNames ms → HaveNames (mark_of a (take (taken a bytes) bytes) ∷ ms)
-named_lead (text bs items) bytes ms e h = h
-named_lead (check demand b items) bytes ms e h = h
-named_lead (at_once demand items) bytes ms e h = h
-named_lead (keyword bs demands items) bytes ms e h = h
-named_lead (numeral_lead demands items) bytes ms e h = h
-named_lead (position_lead items) bytes ms e h = h
-named_lead (variable_lead demands items) bytes ms e h = h
 named_lead (name_lead demands items) bytes ms e h = (name_is (take (taken (name_lead demands items) bytes) bytes) (found_there (name_lead demands items) bytes e).spelt, h)
+named_lead _ bytes ms e h = h
 
 pub walks_named : (names : NameTable) (ms : List Mark) (l k : Left) → Walks names ms l k → HaveNames ms
 walks_named names [] l k w = tt
@@ -39,11 +33,8 @@ walks_named names (m ∷ ms) l k w = subst (λ (n : Mark). HaveNames (n ∷ ms))
 
 pub found_append : (names : NameTable) (a b : List Mark) → AreFound names (a ++ b) → AreFound names a × AreFound names b
 found_append names [] b h = (tt, h)
-found_append names (fixed bytes ∷ a) b h = found_append names a b h
-found_append names (word bytes demands ∷ a) b h = found_append names a b h
 found_append names (symbol name demands ∷ a) b h = let r = found_append names a b h.1 in ((h.0, r.0), r.1)
-found_append names (behind demand ∷ a) b h = found_append names a b h
-found_append names (closed demand ∷ a) b h = found_append names a b h
+found_append names (_ ∷ a) b h = found_append names a b h
 
 -- ---- terms
 

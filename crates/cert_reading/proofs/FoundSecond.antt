@@ -49,11 +49,8 @@ of_infeasibility all by_caps h = tt
 of_infeasibility all (by_automaton k a) h = (h, tt)
 
 of_evidence : (all : List Automaton) (e : PairEvidence) → EvidenceUses second_version all e → AreUsed all (used_by_evidence e)
-of_evidence all trivial_pair h = tt
 of_evidence all (infeasible_pair e) h = of_infeasibility all e h
-of_evidence all (conflicting_pair a b) h = tt
-of_evidence all (joined_pair d e) h = tt
-of_evidence all (unfeasible_pair k d e) h = tt
+of_evidence all _ h = tt
 
 of_pairs : (all : List Automaton) (ps : List PairEntry) → PairsUse second_version all ps → AreUsed all (used_by_pairs ps)
 of_pairs all [] h = tt

@@ -16,10 +16,8 @@ kind_marks u w given kind (peak_certificate p) e = ap (λ (k : Kind). kind_mark 
 kind_marks u w given kind (simplified_certificate ss c) e = absurd e
 
 pub kind_unsimplified : (kind : Kind) (c : Certificate) → IsOfKind kind c → IsUnsimplified c
-kind_unsimplified kind (ortho_certificate ps) e = tt
-kind_unsimplified kind (quasi_certificate m ps) e = tt
-kind_unsimplified kind (peak_certificate p) e = tt
 kind_unsimplified kind (simplified_certificate ss c) e = absurd e
+kind_unsimplified kind _ e = tt
 
 -- its word asks nothing of shared automata
 pub kind_still : (given : Option Bool) (kind : Kind) → AreStill (kind_mark given kind ∷ [])
@@ -31,7 +29,4 @@ kind_still given Peak = (tt, tt)
 pub first_still : (given : Option Bool) (second : Bool) → AreStill (first_marks given second)
 first_still None true = (tt, tt)
 first_still None false = (tt, tt)
-first_still (Some true) true = (tt, (tt, tt))
-first_still (Some true) false = (tt, (tt, tt))
-first_still (Some false) true = (tt, (tt, tt))
-first_still (Some false) false = (tt, (tt, tt))
+first_still (Some _) _ = (tt, (tt, tt))

@@ -24,12 +24,7 @@ state ts b u w = record { texts = ts; begun = b; used = u; unfolds_to = w }
 abbrev pub IsStill : List Demand → Type 0
 IsStill [] = Unit {0}
 IsStill (shares e ∷ ds) = ⊥
-IsStill (is_symbol name ∷ ds) = IsStill ds
-IsStill (has_arity name n ∷ ds) = IsStill ds
-IsStill (in_range skip least bound n ∷ ds) = IsStill ds
-IsStill (is_few what n ∷ ds) = IsStill ds
-IsStill (is_shallow most n ∷ ds) = IsStill ds
-IsStill (fits_answer told given ∷ ds) = IsStill ds
+IsStill (_ ∷ ds) = IsStill ds
 
 abbrev pub AreStill : List Mark → Type 0
 AreStill [] = Unit {0}
@@ -42,22 +37,12 @@ still_both (m ∷ a) b h k = (h.0, still_both a b h.1 k)
 still_effects : (ds : List Demand) (s : Shared) → IsStill ds → effects ds s ≡ s
 still_effects [] s h = refl
 still_effects (shares e ∷ ds) s h = absurd h
-still_effects (is_symbol name ∷ ds) s h = still_effects ds s h
-still_effects (has_arity name n ∷ ds) s h = still_effects ds s h
-still_effects (in_range skip least bound n ∷ ds) s h = still_effects ds s h
-still_effects (is_few what n ∷ ds) s h = still_effects ds s h
-still_effects (is_shallow most n ∷ ds) s h = still_effects ds s h
-still_effects (fits_answer told given ∷ ds) s h = still_effects ds s h
+still_effects (_ ∷ ds) s h = still_effects ds s h
 
 still_verdict : (ds : List Demand) (s : Shared) (a : ℕ) → IsStill ds → share_verdict s a ds ≡ None
 still_verdict [] s a h = refl
 still_verdict (shares e ∷ ds) s a h = absurd h
-still_verdict (is_symbol name ∷ ds) s a h = still_verdict ds s a h
-still_verdict (has_arity name n ∷ ds) s a h = still_verdict ds s a h
-still_verdict (in_range skip least bound n ∷ ds) s a h = still_verdict ds s a h
-still_verdict (is_few what n ∷ ds) s a h = still_verdict ds s a h
-still_verdict (is_shallow most n ∷ ds) s a h = still_verdict ds s a h
-still_verdict (fits_answer told given ∷ ds) s a h = still_verdict ds s a h
+still_verdict (_ ∷ ds) s a h = still_verdict ds s a h
 
 still_mark : (m : Mark) (ts : List (List ℕ)) (b : List ℕ) (u w : ℕ) → IsStill (demands_of m) → behind_mark m (state ts b u w) ≡ state ts (b ++ mark_text m) u w
 still_mark m ts b u w h = ap (λ (s : Shared). record { texts = s.texts; begun = s.begun ++ mark_text m; used = s.used; unfolds_to = s.unfolds_to }) (still_effects (demands_of m) (state ts b u w) h)

@@ -20,11 +20,8 @@ begins_peak (a ∷ []) = false
 begins_peak (a ∷ b ∷ bytes) = (a == 112) && (b == 101)
 
 abbrev pub is_peak : Mark → Bool
-is_peak (fixed bytes) = false
 is_peak (word bytes demands) = begins_peak bytes
-is_peak (symbol name demands) = false
-is_peak (behind demand) = false
-is_peak (closed demand) = false
+is_peak _ = false
 
 abbrev pub Peakless : List Mark → Type 0
 Peakless [] = Unit {0}

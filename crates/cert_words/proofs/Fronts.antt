@@ -33,10 +33,7 @@ pub all_read : (a : code.Lead) (bytes : List ℕ) → ((b : ℕ) → a ≡ leadi
 all_read (leading.Text w) bytes n h = sym (spelled (w.now) bytes h)
 all_read (leading.Check b) bytes n h = absurd (n b refl)
 all_read (leading.Keyword w) bytes n h = sym (spelled (w.now) bytes h)
-all_read leading.Number bytes n h = refl
-all_read leading.Position bytes n h = refl
-all_read leading.Variable bytes n h = refl
-all_read leading.Name bytes n h = refl
+all_read _ bytes n h = refl
 
 pub is_front : (a : code.Lead) (bytes w behind : List ℕ) (size : ℕ) → ((b : ℕ) → a ≡ leading.Check b → ⊥) → is_word (scan (mode_of (bare a)) bytes).mode ≡ true → size ≡ (scan (mode_of (bare a)) bytes).size → size ≤ length bytes → w ≡ take size bytes → behind ≡ drop size bytes → ends_lead (bare a) behind ≡ true → IsLeadRead (bare a) bytes w behind
 is_front a bytes w behind size n h e le first last ends =

@@ -52,11 +52,8 @@ walks_shorter names (m ∷ ms) l k w =
 
 pub found_then : (names : NameTable) (ms ns : List Mark) → AreFound names ms → AreFound names ns → AreFound names (ms ++ ns)
 found_then names [] ns h k = k
-found_then names (fixed bytes ∷ ms) ns h k = found_then names ms ns h k
-found_then names (word bytes demands ∷ ms) ns h k = found_then names ms ns h k
 found_then names (symbol name demands ∷ ms) ns h k = (h.0, found_then names ms ns h.1 k)
-found_then names (behind demand ∷ ms) ns h k = found_then names ms ns h k
-found_then names (closed demand ∷ ms) ns h k = found_then names ms ns h k
+found_then names (_ ∷ ms) ns h k = found_then names ms ns h k
 
 -- what is known of shared automata but for what was begun
 pub same_begun : (z t : Shared) → with_begun [] z ≡ with_begun [] t → z ≡ with_begun z.begun t
