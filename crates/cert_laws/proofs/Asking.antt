@@ -13,7 +13,6 @@ use Rattle.cert_grammar.specs.Marks.{Naming, CertificateCause, Share, automaton_
 use Rattle.cert_grammar.specs.WordMarks.{numeral, dotted, are_places, places_text, term_marks, arguments_marks, further_marks, steps_marks, step_marks, derivations_marks, derivation_marks}
 use Rattle.cert_grammar.specs.CertificateMarks.{closing, automaton_marks, automata_marks, heading_marks, heads_marks, measure_marks, simplifications_marks, accepting_marks, further_states_marks, states_marks, head_marks, transitions_marks, infeasibility_marks, evidence_marks, pairs_marks, coefficients_marks, measured_marks, entries_marks, redexes_marks, apart_marks, peak_marks, body_marks, certificate_marks}
 
-
 -- a number that is judged stands in a word of this length; the answer and shared automata are asked for where that is allowed
 abbrev pub Asks : Type 0 → (Share → Type 0) → ℕ → Demand → Type 0
 Asks Answer Sharing n (in_range skip least bound k) = skip ≤ n
@@ -33,7 +32,6 @@ pub any : (n : ℕ) → 0 ≤ n
 any n = omega arith
 
 module _ (Answer : Type 0) (Sharing : Share → Type 0) where
-
   abbrev Ask : List Mark → Type 0
   Ask = MarksAsk Answer Sharing
 
@@ -132,7 +130,6 @@ module _ (Answer : Type 0) (Sharing : Share → Type 0) where
 
   -- parts with automata
   module _ (begins : Sharing automaton_begins) (used : (n : ℕ) → Sharing (is_use n)) (light : (n : ℕ) → Sharing (is_light n)) where
-
     pub automaton_asks : (a : Automaton) (x : Naming) → Ask (automaton_marks x a)
     automaton_asks a x = ((begins, tt), behind_word_ask a x)
 
