@@ -116,9 +116,7 @@ one_reading names bytes o p es fs at h k =
     let ds = shared_by names d ++ k.left in
     let mine = marked names bytes o es at h in
     let yours = marked names bytes p fs at k in
-    let place = h.place in
-    let other = k.place in
-    let lengths : length h.rest ≡ length k.rest = omega (arith, place, other) in
+    let lengths : length h.rest ≡ length k.rest = omega (arith, h.place, k.place) in
     let cut = same_cut (front_text names h.version c h.answer bs) (front_text names k.version d k.answer ds) h.rest k.rest
     (sym (h.text ∙ three_parts h.answer (heading_text h.version names bs) (body_text names (uses_with h.version names bs) c) h.rest) ∙ (k.text ∙ three_parts k.answer (heading_text k.version names ds) (body_text names (uses_with k.version names ds) d) k.rest)) lengths in
     let s : Skeleton = record { names = x; uses = uses_with h.version names bs; shared = bs; answer = mine.given; certificate = c; allowed = mine.allowed; named = mine.named } in

@@ -62,9 +62,8 @@ entries_within (e ∷ es) names n le h =
     let parts = split (λ u. measured_marks u n e.head ++ numbers_with e.coefficients) (λ u. entries_marks u (suc n) es) h in
     let line = split (λ u. measured_marks u n e.head) (λ u. numbers_with e.coefficients) parts.0 in
     let k = head_within e.head names n line.0 in
-    let this = k.1 in
     let numbers = coefficients_met e.coefficients names 1 (omega arith) (pass_append names (coefficients_marks 1 e.coefficients) (fixed (codes "\n") ∷ []) line.1.passed).0 in
-    let others = entries_within es names (suc n) (omega (arith, this)) parts.1 in
+    let others = entries_within es names (suc n) (omega (arith, k.1)) parts.1 in
     record {
       are = (k.0, (let q : length e.coefficients ≤ 200 = omega (arith, numbers.0) in q), numbers.1, others.are);
       few = (let q : n + suc (length es) ≤ 25001 = omega (arith, others.few) in q);
@@ -76,8 +75,7 @@ heads_within (a ∷ hs) names n le h =
     let parts = split (λ u. measured_marks u n a ++ (fixed (codes "\n") ∷ [])) (λ u. heads_marks u (suc n) hs) h in
     let line = split (λ u. measured_marks u n a) (λ u. fixed (codes "\n") ∷ []) parts.0 in
     let k = head_within a names n line.0 in
-    let this = k.1 in
-    let others = heads_within hs names (suc n) (omega (arith, this)) parts.1 in
+    let others = heads_within hs names (suc n) (omega (arith, k.1)) parts.1 in
     record { are = (k.0, others.are); few = (let q : n + suc (length hs) ≤ 25001 = omega (arith, others.few) in q) }
 
 measure_within : (m : MeasureCertificate) (names : NameTable) → Along names (λ u. measure_marks u m) → IsMeasure names m
