@@ -180,8 +180,7 @@ second_front c names all given used plain plain_all along body met =
         let ranges = subst (λ (n : ℕ). AllOf (InRange n (number_in names all)) (automata_of c)) size (uses_range (automata_of c) (number_in names all) (texts_of names all) 0 0 numbers) in
         let sum = pick_unfolds (automata_of c) names (number_in names all) all 0 ranges in
         let most = uses_light (map (number_in names all) (automata_of c)) (texts_of names all) 0 0 numbers (omega arith) in
-        let same = ap (unfolded_length names) tells in
-        omega (arith, sum, most, same)
+        omega (arith, sum, most, ap (unfolded_length names) tells)
 
     short : AreShort (by_number (number_in names all))
     short = λ a. let most = place_most (automaton_text names a) (texts_of names all) in let q : place_among (automaton_text names a) (texts_of names all) ≤ largest = omega (arith, most, size, few) in q

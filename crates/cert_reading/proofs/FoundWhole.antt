@@ -130,8 +130,7 @@ module _ (v : Version) (all : List Automaton) (names : NameTable) (are : AreAuto
   pairs_within (x ∷ ps) n le p h =
       let parts = split {names = names} (λ u. pair_line_by u uses n x) (λ u. pairs_marks u uses (suc n) ps) h in
       let line = parts.0.passed in
-      let this = (few_met names marks.pairs n [] line.0).0 in
-      let others = pairs_within ps (suc n) (omega (arith, this)) p.1 parts.1 in
+      let others = pairs_within ps (suc n) (omega (arith, (few_met names marks.pairs n [] line.0).0)) p.1 parts.1 in
       record {
         are = (
           number_met names x.inner [] line.1.1.0,
@@ -148,8 +147,7 @@ module _ (v : Version) (all : List Automaton) (names : NameTable) (are : AreAuto
   redexes_within (x ∷ rs) n le p h =
       let parts = split {names = names} (λ u. redex_line_by u uses n x) (λ u. redexes_marks u uses (suc n) rs) h in
       let line = parts.0.passed in
-      let this = (few_met names marks.redexes n [] line.0).0 in
-      let others = redexes_within rs (suc n) (omega (arith, this)) p.1 parts.1 in
+      let others = redexes_within rs (suc n) (omega (arith, (few_met names marks.redexes n [] line.0).0)) p.1 parts.1 in
       record {
         are = (
           number_met names x.which [] line.1.1.0,

@@ -45,12 +45,11 @@ is_front a bytes w behind size n h e le first last ends =
 pub text_front : (w bytes rest : List ℕ) → bytes ≡ w ++ rest → IsLeadRead (text w []) bytes w rest
 text_front w bytes rest e =
     let back = ap (drop (length w)) e ∙ drop-append_seam w rest in
-    let size = ap length e ∙ length-append w rest in
     record {
       there = ap (is_there (text w [])) e ∙ lead_there (text w []) w rest (record { last = spelling []; goes = spelling_whole w; whole = refl }) refl;
       word = sym (ap (take (length w)) e ∙ take-append_seam w rest);
       rest = sym back;
-      within = omega (arith, size);
+      within = omega (arith, ap length e ∙ length-append w rest);
     }
 
 pub no_text : (w bytes : List ℕ) → ((rest : List ℕ) → bytes ≡ w ++ rest → ⊥) → is_there (text w []) bytes ≡ false

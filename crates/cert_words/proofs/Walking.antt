@@ -46,9 +46,8 @@ pub walks_shorter : (names : NameTable) (ms : List Mark) (l k : Left) → Walks 
 walks_shorter names [] l k w = let e : length k.bytes ≡ length l.bytes = ap (λ (x : Left). length x.bytes) (sym w) in omega (arith, e)
 walks_shorter names (m ∷ ms) l k w =
     let j : Left = w.0 in
-    let rest = walks_shorter names ms j k w.2 in
     let one : length j.bytes ≡ length l.bytes - taken w.1.lead l.bytes = ap (λ (x : Left). length x.bytes) (goes_where names l j m w.1) ∙ length-drop (taken w.1.lead l.bytes) l.bytes in
-    omega (arith, rest, one)
+    omega (arith, walks_shorter names ms j k w.2, one)
 
 pub found_then : (names : NameTable) (ms ns : List Mark) → AreFound names ms → AreFound names ns → AreFound names (ms ++ ns)
 found_then names [] ns h k = k

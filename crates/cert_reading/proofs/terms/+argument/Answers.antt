@@ -112,9 +112,7 @@ argument-returns-then-closed_or-clause-counted t c = λ none.
     let last =
     then_reads (c.closed_or.ensures.comma c.if-closed_or.true names f k (term_closed next name k (any_frame ∷ [])) (next_argument next any_frame [] ∷ []) (symbol_end next any_frame [] ∷ []) refl met)
     (c.text-then-closed_or.ensures.read names (next_argument next any_frame []) (node next (with_next any_frame ∷ []) ∷ []) refl) in
-    let all = c.arguments-args.ensures.counted (open_before last none) in
-    let size_is = ap size (view-Fun f args) in
-    omega (arith, all, size_is)
+    omega (arith, c.arguments-args.ensures.counted (open_before last none), ap size (view-Fun f args))
 
 pub argument-returns-else-closed_or-clause-close : goal.argument-returns-else-closed_or-clause-close
 argument-returns-else-closed_or-clause-close t c = λ q g fs e.
@@ -159,9 +157,7 @@ argument-returns-else-closed_or-clause-counted t c = λ none.
     let last =
     then_reads (c.closed_or.ensures.close c.if-closed_or.false names f k (term_closed next name k (any_frame ∷ [])) (next_argument next any_frame [] ∷ []) (symbol_end next any_frame [] ∷ []) refl met)
     (c.text-in-Open.ensures.read names (symbol_end next any_frame []) (term_closed next any_frame.name any_frame.argument [] ∷ []) refl) in
-    let all = c.arguments-args.ensures.counted (open_before last none) in
-    let size_is = ap size (view-Fun f args) in
-    omega (arith, all, size_is)
+    omega (arith, c.arguments-args.ensures.counted (open_before last none), ap size (view-Fun f args))
 
 pub arguments-arguments-preserved : goal.arguments-arguments-preserved
 arguments-arguments-preserved t c =
@@ -194,11 +190,8 @@ arguments-arguments-preserved t c =
           (then_reads (c.arguments.invariant.going c.arguments-test.true name fs e)
           (then_nothing (c.argument-arg.ensures.close q (record { name = name; argument = suc k }) fs e) (c.put.ensures.read names c.args.end (term_closed next name (suc k) fs ∷ []))));
       counted = λ none.
-          let one = c.argument-arg.ensures.counted (put_none none) in
-          let old = before none in
-          let all = size_push (map view items) (view arg) in
           let same = ap (λ (ts : List Term). size_all (terms_of ts)) (seen none) in
-          omega (arith, one, old, all, same);
+          omega (arith, c.argument-arg.ensures.counted (put_none none), before none, size_push (map view items) (view arg), same);
       some = λ none q. let l = longer none in omega (arith, l);
       low = (let a = c.arguments.invariant.low in let b = c.argument-arg.ensures.low in omega (arith, a, b));
       high = c.argument-arg.ensures.many;

@@ -49,9 +49,8 @@ returns-else-not-opened c =
     then_reads (c.checked.ensures names f k (term_closed c.arguments-args.result.1 name k []) (between line ∷ []) refl met)
     (c.text-in-Symbol.ensures.read names (between line) [] refl) in
     as_marks (λ none u.
-    let some = c.arguments-args.ensures.some (open_before last none) in
     let len = length-map args.items view in
-    symbol_closed u 1 1 f k (map view args.items) (fixed (codes "\n")) (omega (arith, some, len)) (sym len)
+    symbol_closed u 1 1 f k (map view args.items) (fixed (codes "\n")) (omega (arith, c.arguments-args.ensures.some (open_before last none), len)) (sym len)
     ∙ ap (λ (x : Term). term_marks u 1 1 x ++ (fixed (codes "\n") ∷ [])) (sym (view-Fun f args)))
     (then_reads (c.in-Symbol.ensures.read (node 1 []) (λ w. name_behind 2 w [] ∷ []) (term_behind 2 [] ∷ []) refl)
     (then_reads (c.opened.ensures.opened c.if-not-opened.false names f 0 (name_behind 2 name []) (node 2 (record { name = name; argument = 1 } ∷ []) ∷ []) (between line ∷ []) refl)
