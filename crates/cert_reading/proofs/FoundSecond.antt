@@ -1,5 +1,5 @@
 -- A certificate that is read along its marks is that of its text, in either version.
-use Rattle.std.proofs.Common.{◌≡◌, ◌⊎◌, inl, inr, ◌≤◌, ℕ, suc, Bool, true, false, List, [], ◌∷◌, ◌++◌, length, map, drop, Option, Some, None, codes, refl, sym, ap, ◌∙◌, subst, arith}
+use Rattle.std.proofs.Common.{◌≡◌, ◌⊎◌, inl, inr, ◌≤◌, ℕ, zero, suc, Bool, true, false, List, [], ◌∷◌, ◌++◌, length, map, drop, Option, Some, None, codes, refl, sym, ap, ◌∙◌, subst, arith}
 use Rattle.std.proofs.lemmas.List.{append-nil}
 use Rattle.certificates.specs.Evidence.{Automaton, InfeasibilityEvidence, by_caps, by_automaton, PairEvidence, trivial_pair, infeasible_pair, conflicting_pair, joined_pair, unfeasible_pair}
 use Rattle.certificates.specs.Certificates.{PairEntry, Redex, Apartness, by_normal_forms, by_rigid_caps, Simplification, dropped, inlined, Certificate, ortho_certificate, quasi_certificate, peak_certificate, simplified_certificate}
@@ -42,13 +42,15 @@ marked_size : (x : Naming) (bs : List Automaton) → length (marked_texts x bs) 
 marked_size x [] = refl
 marked_size x (b ∷ bs) = ap suc (marked_size x bs)
 
-all_dropped : (all : List Automaton) → drop (length all) all ≡ []
-all_dropped [] = refl
-all_dropped (a ∷ all) = all_dropped all
+pub drop_whole : {A : Type 0} (a : List A) (n : ℕ) → n ≡ length a → drop n a ≡ []
+drop_whole (x ∷ a) zero e = absurd cc
+drop_whole (x ∷ a) (suc n) e = drop_whole a n (let q : suc n ≡ suc (length a) = e in omega arith)
+drop_whole [] zero e = refl
+drop_whole [] (suc n) e = refl
 
 -- every shared automaton is used
 all_used : (names : NameTable) (c : Certificate) (all : List Automaton) → shared_by names c ++ drop (length all) all ≡ shared_by names c
-all_used names c all = ap (λ (l : List Automaton). shared_by names c ++ l) (all_dropped all) ∙ append-nil (shared_by names c)
+all_used names c all = ap (λ (l : List Automaton). shared_by names c ++ l) (drop_whole all (length all) refl) ∙ append-nil (shared_by names c)
 
 second_text : (c : Certificate) (names : NameTable) (all : List Automaton) (given : Option Bool) (bytes : List ℕ) → Front second_version names all c (drop (length all) all) → Pass names (body_marks (name_of names) (by_number (number_in names all)) given c)
     → bytes ≡ marks_text (certificate_marks (name_of names) (by_number (number_in names all)) all given c) → (bytes ≡ certificate_text second_version names c) ⊎ (bytes ≡ answer_line c ++ certificate_text second_version names c)

@@ -17,9 +17,8 @@ use Rattle.cert_text.specs.ReadingView.{read_marks}
 -- ---- as many marks
 
 infeasibility_long : (e : InfeasibilityEvidence) (x : Naming) (u w : Uses) → version_of u ≡ version_of w → length (infeasibility_marks x u e) ≡ length (infeasibility_marks x w e)
-infeasibility_long (by_automaton k a) x in_full (by_number h) v = absurd cc
-infeasibility_long (by_automaton k a) x (by_number f) in_full v = absurd cc
 infeasibility_long _ x _ _ v = refl
+infeasibility_long (by_automaton k a) x _ _ v = absurd cc
 
 evidence_long : (e : PairEvidence) (x : Naming) (u w : Uses) → version_of u ≡ version_of w → length (evidence_marks x u e) ≡ length (evidence_marks x w e)
 evidence_long (infeasible_pair e) x u w v = infeasibility_long e x u w v
