@@ -28,4 +28,6 @@ pub first_still : (given : Option Bool) (second : Bool) → AreStill (first_mark
 first_still None true = (tt, tt)
 first_still None false = (tt, tt)
 first_still (Some true) true = (tt, (tt, tt))
-first_still (Some _) _ = (tt, (tt, tt))
+first_still (Some true) false = (tt, (tt, tt))
+first_still (Some false) true = (tt, (tt, tt))
+first_still (Some false) false = (tt, (tt, tt))
