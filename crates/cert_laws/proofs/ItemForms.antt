@@ -15,7 +15,7 @@ use Rattle.cert_grammar.specs.Marks.{Naming, numbers, steps, states, transitions
 use Rattle.cert_grammar.specs.WordMarks.{numeral, number, number_for, position, are_places, term_marks, arguments_marks, further_marks, steps_marks, derivations_marks, derivation_marks}
 use Rattle.cert_grammar.specs.CertificateMarks.{closing, use_mark, automata_marks, heading_marks, heads_marks, measure_marks, simplifications_marks, state, accepting_marks, further_states_marks, states_marks, transitions_marks, automaton_marks, infeasibility_marks, evidence_marks, pairs_marks, coefficients_marks, entries_marks, redexes_marks, apart_marks, peak_marks, body_marks, certificate_marks}
 use Rattle.cert_grammar.specs.Scans.{number_begins, place_begins, value, places}
-use Rattle.cert_grammar.specs.Items.{Frame, Between, line, Item, opening, heading, shared_line, shared_count, automata_left, automaton_end, simplified, simplification_count, simplifications_left, body, between, any_number, any_position, pairs_from, entries_from, heads_from, redexes_from, last_line, measure, head_name, measured_name, measured_condition, coefficients_behind, coefficient, evidence, infeasibility, shared_use, states_line, state_count, accepting_line, accepting, accepted_state, transition_count, transitions_left, target, states_behind, argument_state, further_states, head_closed, derivations_left, nesting_count, steps_left, condition_count, start_line, node, name_behind, term_behind, term_closed, next_argument, symbol_end, apart, Lead, between_text, is_short, derivations, steps_of, transitions_of, simplifications_of, behind_automata}
+use Rattle.cert_grammar.specs.Items.{Frame, Between, Item, opening, heading, shared_line, shared_count, automata_left, automaton_end, simplified, simplification_count, simplifications_left, body, between, any_number, any_position, pairs_from, entries_from, heads_from, redexes_from, last_line, measure, head_name, measured_name, measured_condition, coefficients_behind, coefficient, evidence, infeasibility, shared_use, states_line, state_count, accepting_line, accepting, accepted_state, transition_count, transitions_left, target, states_behind, argument_state, further_states, head_closed, derivations_left, nesting_count, steps_left, condition_count, start_line, node, name_behind, term_behind, term_closed, next_argument, symbol_end, apart, Lead, between_text, is_short, derivations, steps_of, transitions_of, simplifications_of, behind_automata}
 use Rattle.cert_grammar.specs.FirstRefusal.{mode_of, mark_of, items_of}
 use Rattle.cert_grammar.proofs.ScanLaws.{IsWordOf}
 use Rattle.cert_grammar.proofs.ScanWords.{number_is, place_is}
@@ -103,11 +103,8 @@ Forms names (i ∷ s) ms = (front : List Mark) × (back : List Mark) × (ms ≡ 
 
 -- the table has the name of a mark's symbol
 abbrev pub IsCovered : Naming → Mark → Type 0
-IsCovered names (closed demand) = Unit {0}
-IsCovered names (fixed bytes) = Unit {0}
-IsCovered names (word bytes demands) = Unit {0}
 IsCovered names (symbol name demands) = (f : ℕ) × (names f ≡ name)
-IsCovered names (behind demand) = Unit {0}
+IsCovered names _ = Unit {0}
 
 abbrev pub AreCovered : Naming → List Mark → Type 0
 AreCovered names [] = Unit {0}

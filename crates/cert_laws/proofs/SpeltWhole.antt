@@ -52,11 +52,10 @@ spelt_transitions (t ∷ ts) names bound few h =
 pub spelt_automaton : (a : Automaton) (names : NameTable) → IsAutomaton names a → Spells names (automaton_marks (name_of names) a) (automaton_text names a)
 spelt_automaton a names h =
     let few = h.few in
-    let long = h.number in
     put_word names (codes "states") (codes "states") (shares automaton_begins ∷ []) _ _ refl refl (put_fixed names (codes " ") _ _ (put_word names (numeral a.states) (decimal a.states) (in_range 0 1 (suc largest) a.states ∷ is_few Counted.states a.states ∷ []) _ _ (numeral_fits a.states (omega arith))
     (pass_range names 0 1 (suc largest) a.states (is_few Counted.states a.states ∷ []) h.some (omega arith) (pass_few names Counted.states a.states [] few refl))
     (put_fixed names (codes "\naccepting") _ _ (put_both names (accepting_marks a.states a.accepting) _ (numbers_text a.accepting) _ (spelt_accepting a.accepting names a.states few h.accepting)
-    (put_fixed names (codes "\ntransitions ") _ _ (put_count names Counted.transitions (length a.transitions) _ _ (omega arith) long (put_fixed names (codes "\n") _ _ (spelt_transitions a.transitions names a.states few h.transitions))))))))
+    (put_fixed names (codes "\ntransitions ") _ _ (put_count names Counted.transitions (length a.transitions) _ _ (omega arith) h.number (put_fixed names (codes "\n") _ _ (spelt_transitions a.transitions names a.states few h.transitions))))))))
 
 -- numbers of automata are in range
 abbrev pub AreShort : Uses → Type 0

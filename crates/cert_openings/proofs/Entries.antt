@@ -125,8 +125,6 @@ entry_is_taken names bytes o es at p then rest h l k e t =
     let one = pairs_text names u (p ∷ []) in
     let body : body_text names u d ++ rest ≡ body_text names u c ++ h.rest =
     ap (λ (w : List ℕ). w ++ rest) (body_more o es p names u) ∙ append_assoc (body_text names u c) one rest ∙ ap (λ (w : List ℕ). body_text names u c ++ w) (sym e) in
-    let long = ap length e ∙ length-append one rest in
-    let place = h.place in
     record {
       read = record {
         version = v;
@@ -140,7 +138,7 @@ entry_is_taken names bytes o es at p then rest h l k e t =
         text = h.text ∙ ap (λ (w : List ℕ). h.answer ++ (heading ++ w)) (sym body)
             ∙ ap (λ (x : Uses). h.answer ++ (heading ++ (body_text names x d ++ rest))) (sym (uses_more v o es p names h.left then t))
             ∙ ap (λ (w : List ℕ). h.answer ++ (w ++ (body_text names (uses_with v names (shared_by names d ++ then)) d ++ rest))) (sym (heading_more v o es p names h.left then t));
-        place = omega (arith, long, place);
+        place = omega (arith, ap length e ∙ length-append one rest, h.place);
       };
       is_version = refl;
       is_left = refl;

@@ -34,18 +34,13 @@ same_cut (a ∷ u) (b ∷ v) r s e l =
 
 pub openings_same : (o p : Opening) (es fs : List PairEntry) → certificate_for o es ≡ certificate_for p fs → (o ≡ p) × (es ≡ fs)
 openings_same ortho_opening ortho_opening es fs e = (refl, cc)
-openings_same ortho_opening (quasi_opening n) es fs e = absurd cc
-openings_same ortho_opening (simplified_opening ts p) es fs e = absurd cc
-openings_same (quasi_opening m) ortho_opening es fs e = absurd cc
 openings_same (quasi_opening m) (quasi_opening n) es fs e = let same : m ≡ n = cc in (ap quasi_opening same, cc)
-openings_same (quasi_opening m) (simplified_opening ts p) es fs e = absurd cc
-openings_same (simplified_opening ss o) ortho_opening es fs e = absurd cc
-openings_same (simplified_opening ss o) (quasi_opening n) es fs e = absurd cc
 openings_same (simplified_opening ss o) (simplified_opening ts p) es fs e =
     let steps : ss ≡ ts = cc in
     let inner : certificate_for o es ≡ certificate_for p fs = cc in
     let same = openings_same o p es fs inner in
     (ap (λ (x : List Simplification). simplified_opening x o) steps ∙ ap (simplified_opening ts) same.0, same.1)
+openings_same _ _ es fs e = absurd cc
 
 -- ---- what is read, with the last line behind it
 
@@ -121,9 +116,7 @@ one_reading names bytes o p es fs at h k =
     let ds = shared_by names d ++ k.left in
     let mine = marked names bytes o es at h in
     let yours = marked names bytes p fs at k in
-    let place = h.place in
-    let other = k.place in
-    let lengths : length h.rest ≡ length k.rest = omega (arith, place, other) in
+    let lengths : length h.rest ≡ length k.rest = omega (arith, h.place, k.place) in
     let cut = same_cut (front_text names h.version c h.answer bs) (front_text names k.version d k.answer ds) h.rest k.rest
     (sym (h.text ∙ three_parts h.answer (heading_text h.version names bs) (body_text names (uses_with h.version names bs) c) h.rest) ∙ (k.text ∙ three_parts k.answer (heading_text k.version names ds) (body_text names (uses_with k.version names ds) d) k.rest)) lengths in
     let s : Skeleton = record { names = x; uses = uses_with h.version names bs; shared = bs; answer = mine.given; certificate = c; allowed = mine.allowed; named = mine.named } in

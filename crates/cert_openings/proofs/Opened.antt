@@ -63,11 +63,10 @@ uses_with_left second_version names c left h =
     let size = texts_length names all in
     let longer = length-append shared left in
     let same = numbers_more used names shared left r.each in
-    let sum = unfolds_to used names all 0 (among_all used names shared left r.each) in
     let light : unfolded_length names used ≤ 67108864 = h.3 in
     uses_pass (map (number_in names all) used) (texts_of names all) 0 0
     (subst (InOrder (length (texts_of names all)) 0) (sym same) (order_more (map (number_in names shared) used) (length shared) (length (texts_of names all)) 0 (omega (arith, size, longer)) r.order))
-    (omega (arith, sum, light))
+    (omega (arith, unfolds_to used names all 0 (among_all used names shared left r.each), light))
 
 -- ---- shared automata of the opening's marks
 
@@ -115,9 +114,8 @@ short_with first_version names c left h = tt
 short_with second_version names c left h = λ a.
     let all = shared_by names c ++ left in
     let most = place_most (automaton_text names a) (texts_of names all) in
-    let size = texts_length names all in
     let few : length all ≤ 1000 = h.0 in
-    let q : place_among (automaton_text names a) (texts_of names all) ≤ largest = omega (arith, most, size, few) in
+    let q : place_among (automaton_text names a) (texts_of names all) ≤ largest = omega (arith, most, texts_length names all, few) in
     q
 
 pub heading_with : (v : Version) (names : NameTable) (c : Certificate) (left : List Automaton) → AreLeft v names c left → HasHeading names (uses_with v names (shared_by names c ++ left)) (shared_by names c ++ left)
@@ -155,7 +153,6 @@ gone names bytes o es end h =
     let text : bytes ≡ marks_text ms ++ h.rest =
     h.text ∙ ap (λ (w : Version). h.answer ++ (heading_text w names bs ++ (body_text names u c ++ h.rest))) (sym version)
     ∙ three_parts h.answer (heading_text (version_of u) names bs) (body_text names u c) h.rest ∙ ap (λ (w : List ℕ). w ++ h.rest) (sym spells.text) in
-    let long = ap length text ∙ length-append (marks_text ms) h.rest in
     record {
       uses = u;
       shared = bs;
@@ -165,7 +162,7 @@ gone names bytes o es end h =
       pass_shared = front_pass c names u bs g.0 (heading_with v names c h.left h.are_left) (new_with v names c h.left h.are_left) (uses_with_left v names c h.left h.are_left);
       rest = h.rest;
       text = text;
-      place = (let place = h.place in omega (arith, long, place));
+      place = (let place = h.place in omega (arith, ap length text ∙ length-append (marks_text ms) h.rest, place));
     }
 
 pub gone_rest : (names : NameTable) (bytes : List ℕ) (o : Opening) (es : List PairEntry) (end : ℕ) → (h : IsRead names bytes o es end) → (gone names bytes o es end h).rest ≡ h.rest

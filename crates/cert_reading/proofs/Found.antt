@@ -22,14 +22,8 @@ use Rattle.cert_words.specs.Walks.{Walks, tagged, AreFound, HasNoStates, AreWith
 -- ---- names that are walked over are identifiers
 
 named_lead : (a : Lead) (bytes : List ℕ) (ms : List Mark) → is_there a bytes ≡ true → HaveNames ms → HaveNames (mark_of a (take (taken a bytes) bytes) ∷ ms)
-named_lead (text bs items) bytes ms e h = h
-named_lead (check demand b items) bytes ms e h = h
-named_lead (at_once demand items) bytes ms e h = h
-named_lead (keyword bs demands items) bytes ms e h = h
-named_lead (numeral_lead demands items) bytes ms e h = h
-named_lead (position_lead items) bytes ms e h = h
-named_lead (variable_lead demands items) bytes ms e h = h
 named_lead (name_lead demands items) bytes ms e h = (name_is (take (taken (name_lead demands items) bytes) bytes) (found_there (name_lead demands items) bytes e).spelt, h)
+named_lead _ bytes ms e h = h
 
 pub walks_named : (names : NameTable) (ms : List Mark) (l k : Left) → Walks names ms l k → HaveNames ms
 walks_named names [] l k w = tt
@@ -39,11 +33,8 @@ walks_named names (m ∷ ms) l k w = subst (λ (n : Mark). HaveNames (n ∷ ms))
 
 pub found_append : (names : NameTable) (a b : List Mark) → AreFound names (a ++ b) → AreFound names a × AreFound names b
 found_append names [] b h = (tt, h)
-found_append names (fixed bytes ∷ a) b h = found_append names a b h
-found_append names (word bytes demands ∷ a) b h = found_append names a b h
 found_append names (symbol name demands ∷ a) b h = let r = found_append names a b h.1 in ((h.0, r.0), r.1)
-found_append names (behind demand ∷ a) b h = found_append names a b h
-found_append names (closed demand ∷ a) b h = found_append names a b h
+found_append names (_ ∷ a) b h = found_append names a b h
 
 -- ---- terms
 
@@ -62,49 +53,34 @@ mutual
   term_within (var x) names level n i h f =
       let r = range_met names 1 0 (suc largest) x (is_node level n) h.0 in
       let s = node_passed names level n r.2 in
-      let most = r.1 in
-      let nodes = s.0 in
-      let deep = s.1 in
-      record { spelt = (let q : x ≤ largest = omega arith in q); few = (let q : n + 1 ≤ 10001 = omega arith in q); low = (let q : level + 1 ≤ 401 = omega arith in q) }
+      record { spelt = (let q : x ≤ largest = omega (arith, s.1, s.0, r.1) in q); few = (let q : n + 1 ≤ 10001 = omega (arith, s.1, s.0, r.1) in q); low = (let q : level + 1 ≤ 401 = omega (arith, s.1, s.0, r.1) in q) }
   term_within (app g ts) names level n i h f =
       let name = name_of names g in
       let k = symbol_met names name (is_node level n) h.0 in
       let s = node_passed names level n k.others in
-      let nodes = s.0 in
-      let deep = s.1 in
       let parts = pass_append names (arguments_marks (name_of names) (suc level) (suc n) ts) (behind (has_arity name (count ts)) ∷ []) h.1 in
       let inner = have_append (arguments_marks (name_of names) (suc level) (suc n) ts) (behind (has_arity name (count ts)) ∷ []) i.1 in
       let known = found_append names (arguments_marks tagged (suc level) (suc n) ts) (behind (has_arity (tagged g) (count ts)) ∷ []) f.1 in
-      let others = arguments_within ts names (suc level) (suc n) inner.0 parts.0 known.0 (omega arith) (omega arith) in
-      let few = others.few in
-      let low = others.low in
+      let others = arguments_within ts names (suc level) (suc n) inner.0 parts.0 known.0 (omega (arith, s.1, s.0)) (omega (arith, s.1, s.0)) in
       record {
         spelt = ((name, record { named = found_is_named names name g f.0; identifier = i.0; found = f.0; arity = arity_met names name (count ts) g f.0 parts.1.0 }), others.spelt);
-        few = (let q : n + suc (size_all ts) ≤ 10001 = omega arith in q);
-        low = (let q : level + suc (depth_all ts) ≤ 401 = omega arith in q);
+        few = (let q : n + suc (size_all ts) ≤ 10001 = omega (arith, others.low, others.few, s.1, s.0) in q);
+        low = (let q : level + suc (depth_all ts) ≤ 401 = omega (arith, others.low, others.few, s.1, s.0) in q);
       }
 
   pub arguments_within : (ts : Terms) (names : NameTable) (level n : ℕ) → HaveNames (arguments_marks (name_of names) level n ts) → Pass names (arguments_marks (name_of names) level n ts) → AreFound names (arguments_marks tagged level n ts) → n ≤ 10001 → level ≤ 401 → TermsWithin names level n ts
   arguments_within nil names level n i h f p q = record { spelt = tt; few = omega arith; low = omega arith }
   arguments_within (cons t ts) names level n i h f p q =
       let first = term_within t names level n (have_append (term_marks (name_of names) level n t) (further_marks (name_of names) level (n + size t) ts) i).0 (pass_append names (term_marks (name_of names) level n t) (further_marks (name_of names) level (n + size t) ts) h.1).0 (found_append names (term_marks tagged level n t) (further_marks tagged level (n + size t) ts) f).0 in
-      let few = first.few in
-      let low = first.low in
-      let others = further_within ts names level (n + size t) (have_append (term_marks (name_of names) level n t) (further_marks (name_of names) level (n + size t) ts) i).1 (pass_append names (term_marks (name_of names) level n t) (further_marks (name_of names) level (n + size t) ts) h.1).1 (found_append names (term_marks tagged level n t) (further_marks tagged level (n + size t) ts) f).1 (omega arith) q in
-      let all_few = others.few in
-      let all_low = others.low in
-      record { spelt = (first.spelt, others.spelt); few = (let r : n + (size t + size_all ts) ≤ 10001 = omega arith in r); low = (let r : level + max (depth t) (depth_all ts) ≤ 401 = omega arith in r) }
+      let others = further_within ts names level (n + size t) (have_append (term_marks (name_of names) level n t) (further_marks (name_of names) level (n + size t) ts) i).1 (pass_append names (term_marks (name_of names) level n t) (further_marks (name_of names) level (n + size t) ts) h.1).1 (found_append names (term_marks tagged level n t) (further_marks tagged level (n + size t) ts) f).1 (omega (arith, first.low, first.few)) q in
+      record { spelt = (first.spelt, others.spelt); few = (let r : n + (size t + size_all ts) ≤ 10001 = omega (arith, others.low, others.few, first.low, first.few) in r); low = (let r : level + max (depth t) (depth_all ts) ≤ 401 = omega (arith, others.low, others.few, first.low, first.few) in r) }
 
   pub further_within : (ts : Terms) (names : NameTable) (level n : ℕ) → HaveNames (further_marks (name_of names) level n ts) → Pass names (further_marks (name_of names) level n ts) → AreFound names (further_marks tagged level n ts) → n ≤ 10001 → level ≤ 401 → TermsWithin names level n ts
   further_within nil names level n i h f p q = record { spelt = tt; few = omega arith; low = omega arith }
   further_within (cons t ts) names level n i h f p q =
       let first = term_within t names level n (have_append (term_marks (name_of names) level n t) (further_marks (name_of names) level (n + size t) ts) i).0 (pass_append names (term_marks (name_of names) level n t) (further_marks (name_of names) level (n + size t) ts) h.1).0 (found_append names (term_marks tagged level n t) (further_marks tagged level (n + size t) ts) f).0 in
-      let few = first.few in
-      let low = first.low in
-      let others = further_within ts names level (n + size t) (have_append (term_marks (name_of names) level n t) (further_marks (name_of names) level (n + size t) ts) i).1 (pass_append names (term_marks (name_of names) level n t) (further_marks (name_of names) level (n + size t) ts) h.1).1 (found_append names (term_marks tagged level n t) (further_marks tagged level (n + size t) ts) f).1 (omega arith) q in
-      let all_few = others.few in
-      let all_low = others.low in
-      record { spelt = (first.spelt, others.spelt); few = (let r : n + (size t + size_all ts) ≤ 10001 = omega arith in r); low = (let r : level + max (depth t) (depth_all ts) ≤ 401 = omega arith in r) }
+      let others = further_within ts names level (n + size t) (have_append (term_marks (name_of names) level n t) (further_marks (name_of names) level (n + size t) ts) i).1 (pass_append names (term_marks (name_of names) level n t) (further_marks (name_of names) level (n + size t) ts) h.1).1 (found_append names (term_marks tagged level n t) (further_marks tagged level (n + size t) ts) f).1 (omega (arith, first.low, first.few)) q in
+      record { spelt = (first.spelt, others.spelt); few = (let r : n + (size t + size_all ts) ≤ 10001 = omega (arith, others.low, others.few, first.low, first.few) in r); low = (let r : level + max (depth t) (depth_all ts) ≤ 401 = omega (arith, others.low, others.few, first.low, first.few) in r) }
 
 -- ---- automata
 

@@ -4,10 +4,11 @@ use Rattle.std.proofs.Common.{◌≡◌, ◌⊎◌, inl, inr, ℕ, zero, suc, �
 use Rattle.std.proofs.lemmas.List.{drop_at}
 use Rattle.general_lemmas.proofs.Lists.{three_parts}
 use Rattle.certificates.specs.Evidence.{Automaton}
-use Rattle.certificates.specs.Certificates.{PairEntry, Certificate}
+use Rattle.certificates.specs.Evidence.{InfeasibilityEvidence, by_caps, by_automaton, PairEvidence, infeasible_pair}
+use Rattle.certificates.specs.Certificates.{PairEntry, Redex, Apartness, by_normal_forms, by_rigid_caps, Simplification, dropped, inlined, Certificate, ortho_certificate, quasi_certificate, peak_certificate, simplified_certificate}
 use Rattle.cops_names.specs.NameTable.{NameTable}
 use Rattle.cert_grammar.specs.Words.{largest, name_of}
-use Rattle.cert_grammar.specs.Versions.{Version, first_version, second_version, Uses, in_full, by_number, version_of, automata_of}
+use Rattle.cert_grammar.specs.Versions.{Version, first_version, second_version, Uses, in_full, by_number, version_of, used_by, used_by_evidence, used_by_pairs, used_by_redexes, used_by_apart, used_by_steps, automata_of}
 use Rattle.cert_grammar.specs.EvidenceText.{automaton_text}
 use Rattle.cert_grammar.specs.SharedText.{texts_of, with_new, shared_by, place_among, number_in, unfolded_length, AllNew, AreAutomata}
 use Rattle.cert_grammar.specs.CertificateText.{heading_text, body_text, IsWithin}
@@ -29,17 +30,71 @@ use Rattle.cert_openings.specs.Openings.{Opening, certificate_for, uses_with, Ar
 use Rattle.cert_openings.specs.Laws.{IsReadTo}
 use Rattle.cert_openings.proofs.Opened.{front_marks, same_version, told_is}
 use Rattle.cert_reading.specs.Shared.{ArePlainAutomata}
-use Rattle.cert_reading.specs.Plain.{IsPlainBy}
+use Rattle.cert_reading.specs.Plain.{IsUsed, HasUsed, EvidenceUses, PairsUse, RedexesUse, ApartUses, StepsUse, IsPlainBy}
 use Rattle.cert_reading.specs.Whole.{CanShare}
-use Rattle.cert_reading.proofs.FoundWhole.{Along, split, automata_within, body_within, plain_version, answered}
-use Rattle.cert_reading.proofs.FoundSecond.{of_certificate, told_by_number}
+use Rattle.cert_reading.proofs.FoundWhole.{Along, split, automata_within, at_place, body_within, plain_version, answered}
+use Rattle.cert_reading.proofs.UseReads.{number_there}
+
+-- ---- all that is used stands among the shared automata
+
+abbrev pub AreUsed : List Automaton → List Automaton → Type 0
+AreUsed all [] = Unit {0}
+AreUsed all (a ∷ used) = IsUsed second_version all a × AreUsed all used
+
+used_both : (all a b : List Automaton) → AreUsed all a → AreUsed all b → AreUsed all (a ++ b)
+used_both all [] b h k = k
+used_both all (x ∷ a) b h k = (h.0, used_both all a b h.1 k)
+
+of_infeasibility : (all : List Automaton) (e : InfeasibilityEvidence) → HasUsed second_version all e → AreUsed all (used_by e)
+of_infeasibility all by_caps h = tt
+of_infeasibility all (by_automaton k a) h = (h, tt)
+
+of_evidence : (all : List Automaton) (e : PairEvidence) → EvidenceUses second_version all e → AreUsed all (used_by_evidence e)
+of_evidence all (infeasible_pair e) h = of_infeasibility all e h
+of_evidence all _ h = tt
+
+of_pairs : (all : List Automaton) (ps : List PairEntry) → PairsUse second_version all ps → AreUsed all (used_by_pairs ps)
+of_pairs all [] h = tt
+of_pairs all (p ∷ ps) h = used_both all (used_by_evidence p.evidence) (used_by_pairs ps) (of_evidence all p.evidence h.0) (of_pairs all ps h.1)
+
+of_redexes : (all : List Automaton) (rs : List Redex) → RedexesUse second_version all rs → AreUsed all (used_by_redexes rs)
+of_redexes all [] h = tt
+of_redexes all (r ∷ rs) h = used_both all (used_by r.evidence) (used_by_redexes rs) (of_infeasibility all r.evidence h.0) (of_redexes all rs h.1)
+
+of_apart : (all : List Automaton) (a : Apartness) → ApartUses second_version all a → AreUsed all (used_by_apart a)
+of_apart all (by_normal_forms rs) h = of_redexes all rs h
+of_apart all by_rigid_caps h = tt
+
+of_steps : (all : List Automaton) (ss : List Simplification) → StepsUse second_version all ss → AreUsed all (used_by_steps ss)
+of_steps all [] h = tt
+of_steps all (dropped r e ∷ ss) h = used_both all (used_by e) (used_by_steps ss) (of_infeasibility all e h.0) (of_steps all ss h.1)
+of_steps all (inlined r k ∷ ss) h = of_steps all ss h
+
+pub of_certificate : (all : List Automaton) (c : Certificate) → IsPlainBy second_version all c → AreUsed all (automata_of c)
+of_certificate all (ortho_certificate ps) h = of_pairs all ps h
+of_certificate all (quasi_certificate m ps) h = of_pairs all ps h.1
+of_certificate all (peak_certificate p) h = of_apart all p.apart h
+of_certificate all (simplified_certificate ss c) h = used_both all (used_by_steps ss) (automata_of c) (of_steps all ss h.1) (of_certificate all c h.2)
+
+-- and its number tells it
+pub told_by_number : (names : NameTable) (all used : List Automaton) → AllNew [] (texts_of names all) → AreUsed all used → map (pick all) (map (number_in names all) used) ≡ used
+told_by_number names all [] new h = refl
+told_by_number names all (a ∷ used) new h =
+    let n = h.0.0 in
+    let low = h.0.1 in
+    let high = h.0.2 in
+    let stands = h.0.3 in
+    let number : number_in names all a ≡ n = number_there names all a n (record { new = new; low = low; high = high }) stands in
+    let first : pick all (number_in names all a) ≡ a = ap (pick all) number ∙ at_place all a n low high stands in
+    let rest = told_by_number names all used new h.1 in
+    cc
 
 -- ---- what shared automata meet, and how far uses have come
 
-record FrontMet (x : Naming) (f : Automaton → ℕ) (bs : List Automaton) (c : Certificate) (used : ℕ) : Type 0 where
-  new : AllNew [] (marked_texts x bs)
-  uses : PassUses (marked_texts x bs) 0 0 (map f (automata_of c))
-  most : greatest 0 (map f (automata_of c)) ≡ used
+pub record FrontMet (x : Naming) (f : Automaton → ℕ) (bs : List Automaton) (c : Certificate) (used : ℕ) : Type 0 where
+  pub new : AllNew [] (marked_texts x bs)
+  pub uses : PassUses (marked_texts x bs) 0 0 (map f (automata_of c))
+  pub most : greatest 0 (map f (automata_of c)) ≡ used
 
 abbrev lines : List Automaton → List Mark
 lines bs = fixed (codes "concon 2\n") ∷ fixed (codes "shared ") ∷ number_for marks.shared_automata (length bs) ∷ fixed (codes "\n") ∷ []
@@ -66,16 +121,16 @@ front_met x f bs given c b used h e =
 
 -- ---- the automata that are left, and how uses are written
 
-record Front (v : Version) (names : NameTable) (all : List Automaton) (c : Certificate) (left : List Automaton) : Type 0 where
-  within : IsWithin names c
-  short : AreShort (uses_with v names all)
-  heading : HasHeading names (uses_with v names all) all
-  are_left : AreLeft v names c left
-  texts : (heading_text v names all ≡ heading_text v names (shared_by names c ++ left)) × (body_text names (uses_with v names all) c ≡ body_text names (uses_with v names (shared_by names c ++ left)) c)
+pub record Front (v : Version) (names : NameTable) (all : List Automaton) (c : Certificate) (left : List Automaton) : Type 0 where
+  pub within : IsWithin names c
+  pub short : AreShort (uses_with v names all)
+  pub heading : HasHeading names (uses_with v names all) all
+  pub are_left : AreLeft v names c left
+  pub texts : (heading_text v names all ≡ heading_text v names (shared_by names c ++ left)) × (body_text names (uses_with v names all) c ≡ body_text names (uses_with v names (shared_by names c ++ left)) c)
 
-second_front : (c : Certificate) (names : NameTable) (all : List Automaton) (given : Option Bool) (used : ℕ) → IsPlainBy second_version all c → ArePlainAutomata all
-    → Along names (λ u. heading_marks u (by_number (number_in names all)) all ++ body_marks u (by_number (number_in names all)) given c) → FrontMet (name_of names) (number_in names all) all c used → Front second_version names all c (drop used all)
-second_front c names all given used plain plain_all along met =
+pub second_front : (c : Certificate) (names : NameTable) (all : List Automaton) (given : Option Bool) (used : ℕ) → IsPlainBy second_version all c → ArePlainAutomata all
+    → Along names (λ u. heading_marks u (by_number (number_in names all)) all) → Along names (λ u. body_marks u (by_number (number_in names all)) given c) → FrontMet (name_of names) (number_in names all) all c used → Front second_version names all c (drop used all)
+second_front c names all given used plain plain_all along body met =
     record { within = within; short = short; heading = (few, are); are_left = (subst (λ (l : List Automaton). length l ≤ 1000) (sym whole) few, subst (λ (l : List Automaton). AllNew [] (texts_of names l)) (sym whole) new, subst (AreAutomata names) (sym whole) are, light); texts = (ap (heading_text second_version names) (sym whole), ap (λ (l : List Automaton). body_text names (by_number (number_in names l)) c) (sym whole)) }
   where
     number : Automaton → ℕ
@@ -84,14 +139,11 @@ second_front c names all given used plain plain_all along met =
     few : length all ≤ 1000
     few = (few_met names marks.shared_automata (length all) [] (range_met names 0 0 (suc largest) (length all) (is_few marks.shared_automata (length all) ∷ []) along.passed.1.1.0).2).0
 
-    parts : Along names (λ u. automata_marks u all) × Along names (λ u. body_marks u (by_number (number_in names all)) given c)
-    parts = split {names = names} (λ u. automata_marks u all) (λ u. body_marks u (by_number (number_in names all)) given c) (record { named = along.named; passed = along.passed.1.1.1.1; found = along.found })
-
     are : AreAutomata names all
-    are = automata_within all names plain_all parts.0
+    are = automata_within all names plain_all (record { named = along.named; passed = along.passed.1.1.1.1; found = along.found })
 
     within : IsWithin names c
-    within = body_within second_version all names are c given plain parts.1
+    within = body_within second_version all names are c given plain body
 
     texts : marked_texts (name_of names) all ≡ texts_of names all
     texts = marked_are all names are
@@ -128,8 +180,7 @@ second_front c names all given used plain plain_all along met =
         let ranges = subst (λ (n : ℕ). AllOf (InRange n (number_in names all)) (automata_of c)) size (uses_range (automata_of c) (number_in names all) (texts_of names all) 0 0 numbers) in
         let sum = pick_unfolds (automata_of c) names (number_in names all) all 0 ranges in
         let most = uses_light (map (number_in names all) (automata_of c)) (texts_of names all) 0 0 numbers (omega arith) in
-        let same = ap (unfolded_length names) tells in
-        omega (arith, sum, most, same)
+        omega (arith, sum, most, ap (unfolded_length names) tells)
 
     short : AreShort (by_number (number_in names all))
     short = λ a. let most = place_most (automaton_text names a) (texts_of names all) in let q : place_among (automaton_text names a) (texts_of names all) ≤ largest = omega (arith, most, size, few) in q
@@ -168,22 +219,22 @@ front_text names u all given c s k sure w p = by given refl
 -- ---- what is read
 
 -- behind the answer, which asks nothing of shared automata
-behind_answer : (given : Option Bool) (ms : List Mark) (used : ℕ) → PassShares nothing_shared (answer_marks given ++ ms) → (behind_marks (answer_marks given ++ ms) nothing_shared).used ≡ used → (b : List ℕ) × (PassShares (state [] b 0 0) ms × ((behind_marks ms (state [] b 0 0)).used ≡ used))
+pub behind_answer : (given : Option Bool) (ms : List Mark) (used : ℕ) → PassShares nothing_shared (answer_marks given ++ ms) → (behind_marks (answer_marks given ++ ms) nothing_shared).used ≡ used → (b : List ℕ) × (PassShares (state [] b 0 0) ms × ((behind_marks ms (state [] b 0 0)).used ≡ used))
 behind_answer None ms used h e = ([], (h, e))
 behind_answer (Some true) ms used h e = (codes "YES\n", (h.1, e))
 behind_answer (Some false) ms used h e = (codes "NO\n", (h.1, e))
 
-body_along : {names : NameTable} (given : Option Bool) (f : Naming → List Mark) → Along names (λ u. answer_marks given ++ f u) → Along names f
-body_along None f a = record { named = a.named; passed = a.passed; found = a.found }
-body_along (Some true) f a = record { named = a.named; passed = a.passed.1; found = a.found }
-body_along (Some false) f a = record { named = a.named; passed = a.passed.1; found = a.found }
+pub body_along : {names : NameTable} (given : Option Bool) (f : Naming → List Mark) → Along names (λ u. answer_marks given ++ f u) → Along names f
+body_along {names} given f a = (split {names = names} (λ u. answer_marks given) f a).1
 
 front_of : (v : Version) (c : Certificate) (names : NameTable) (all : List Automaton) (given : Option Bool) (used : ℕ) → CanShare v all → IsPlainBy v all c → ArePlainAutomata all
     → Along names (λ u. heading_marks u (uses_with v names all) all ++ body_marks u (uses_with v names all) given c)
     → (b : List ℕ) → PassShares (state [] b 0 0) (heading_marks (name_of names) (uses_with v names all) all ++ body_marks (name_of names) (uses_with v names all) given c)
     → (behind_marks (heading_marks (name_of names) (uses_with v names all) all ++ body_marks (name_of names) (uses_with v names all) given c) (state [] b 0 0)).used ≡ used → Front v names all c (drop used all)
 front_of first_version c names all given used none p q a b h e = first_front c names all given used none p a
-front_of second_version c names all given used share p q a b h e = second_front c names all given used p q a (front_met (name_of names) (number_in names all) all given c b used h e)
+front_of second_version c names all given used share p q a b h e =
+    let parts = split {names = names} (λ u. heading_marks u (uses_with second_version names all) all) (λ u. body_marks u (uses_with second_version names all) given c) a in
+    second_front c names all given used p q parts.0 parts.1 (front_met (name_of names) (number_in names all) all given c b used h e)
 
 pub front_found : (v : Version) (all : List Automaton) (names : NameTable) (bytes left : List ℕ) (given : Option Bool) (o : Opening) (es : List PairEntry) (at used : ℕ) → CanShare v all → IsPlainBy v all (certificate_for o es) → ArePlainAutomata all
     → Along names (λ u. front_marks u (uses_with v names all) all given (certificate_for o es)) → PassShares nothing_shared (front_marks (name_of names) (uses_with v names all) all given (certificate_for o es))

@@ -1,5 +1,5 @@
 -- A certificate that passes along its marks, with symbols that are found, is within the limits, and the marks spell its text.
-use Rattle.std.proofs.Common.{◌≡◌, inl, inr, ◌≤◌, ◌+◌, ◌-◌, ℕ, suc, Bool, true, false, List, [], ◌∷◌, ◌++◌, length, slice_get, Option, Some, None, codes, refl, sym, ap, ◌∙◌, subst, arith}
+use Rattle.std.proofs.Common.{◌≡◌, ◌⊎◌, inl, inr, ◌≤◌, ◌+◌, ◌-◌, ℕ, suc, Bool, true, false, List, [], ◌∷◌, ◌++◌, length, slice_get, Option, Some, None, codes, refl, sym, ap, ◌∙◌, subst, arith}
 use Rattle.rewriting.specs.Unraveling.{Head, file, auxiliary}
 use Rattle.certificates.specs.Evidence.{Automaton, InfeasibilityEvidence, by_caps, by_automaton, PairEvidence, trivial_pair, infeasible_pair, conflicting_pair, joined_pair, unfeasible_pair}
 use Rattle.certificates.specs.Certificates.{PairEntry, LinearEntry, MeasureCertificate, linear_measure, precedence_measure, Redex, Apartness, by_normal_forms, by_rigid_caps, Simplification, dropped, inlined, Certificate, ortho_certificate, quasi_certificate, peak_certificate, simplified_certificate}
@@ -8,18 +8,18 @@ use Rattle.cert_grammar.specs.Words.{largest, name_of}
 use Rattle.cert_grammar.specs.Versions.{Version, first_version, second_version, Uses, in_full, IsOfVersion}
 use Rattle.cert_grammar.specs.EvidenceText.{IsAutomaton, IsInfeasibility, IsEvidence, ArePairs}
 use Rattle.cert_grammar.specs.SharedText.{AreAutomata}
-use Rattle.cert_grammar.specs.CertificateText.{IsMeasured, AreEntries, AreHeads, IsMeasure, AreRedexEntries, IsApart, AreSimplifications, IsWithin, IsVersionText}
+use Rattle.cert_grammar.specs.CertificateText.{IsMeasured, AreEntries, AreHeads, IsMeasure, AreRedexEntries, IsApart, AreSimplifications, IsWithin, IsVersionText, answer_line, certificate_text}
 use Rattle.cert_grammar.specs.Marks as marks
 use Rattle.cert_grammar.specs.Marks.{Naming, is_few, fits_answer, is_answer, Mark, fixed, marks_text, automaton_ends, shares, closed}
 use Rattle.cert_grammar.specs.WordMarks.{number, term_marks, derivation_marks}
-use Rattle.cert_grammar.specs.CertificateMarks.{use_marks, automaton_marks, automata_marks, infeasibility_marks, evidence_marks, pairs_marks, redexes_marks, apart_marks, simplifications_marks, body_marks, coefficients_marks, measured_marks, entries_marks, heads_marks, measure_marks, closing, certificate_marks}
+use Rattle.cert_grammar.specs.CertificateMarks.{use_marks, automaton_marks, automata_marks, infeasibility_marks, evidence_marks, pairs_marks, redexes_marks, apart_marks, simplifications_marks, body_marks, coefficients_marks, measured_marks, entries_marks, heads_marks, measure_marks, answer_marks, heading_marks, closing, certificate_marks}
 use Rattle.cert_grammar.specs.Refusals.{HaveNames, Pass}
 use Rattle.cert_grammar.proofs.Names.{found_is_named}
 use Rattle.cert_laws.proofs.Along.{have_append}
 use Rattle.cert_laws.proofs.PassTerms.{first_met, range_met, few_met, number_met, places_met, pass_append}
 use Rattle.cert_laws.proofs.PassSteps.{derivation_met}
 use Rattle.cert_laws.proofs.SpeltWhole.{answer_of, spelt_alone, spelt_answered}
-use Rattle.cert_laws.proofs.PassWhole.{coefficients_met}
+use Rattle.cert_laws.proofs.PassWhole.{coefficients_met, told_is}
 use Rattle.cert_sharing.proofs.FirstUses.{pick}
 use Rattle.cert_sharing.proofs.PassShares.{pick_is}
 use Rattle.cert_openings.specs.Openings.{uses_with}
@@ -62,14 +62,11 @@ entries_within (e ∷ es) names n le h =
     let parts = split (λ u. measured_marks u n e.head ++ numbers_with e.coefficients) (λ u. entries_marks u (suc n) es) h in
     let line = split (λ u. measured_marks u n e.head) (λ u. numbers_with e.coefficients) parts.0 in
     let k = head_within e.head names n line.0 in
-    let this = k.1 in
     let numbers = coefficients_met e.coefficients names 1 (omega arith) (pass_append names (coefficients_marks 1 e.coefficients) (fixed (codes "\n") ∷ []) line.1.passed).0 in
-    let others = entries_within es names (suc n) (omega (arith, this)) parts.1 in
-    let few = others.few in
-    let short = numbers.0 in
+    let others = entries_within es names (suc n) (omega (arith, k.1)) parts.1 in
     record {
-      are = (k.0, (let q : length e.coefficients ≤ 200 = omega (arith, short) in q), numbers.1, others.are);
-      few = (let q : n + suc (length es) ≤ 25001 = omega (arith, few) in q);
+      are = (k.0, (let q : length e.coefficients ≤ 200 = omega (arith, numbers.0) in q), numbers.1, others.are);
+      few = (let q : n + suc (length es) ≤ 25001 = omega (arith, others.few) in q);
     }
 
 heads_within : (hs : List Head) (names : NameTable) (n : ℕ) → n ≤ 25001 → Along names (λ u. heads_marks u n hs) → Counted 25000 n (length hs) (AreHeads names hs)
@@ -78,20 +75,16 @@ heads_within (a ∷ hs) names n le h =
     let parts = split (λ u. measured_marks u n a ++ (fixed (codes "\n") ∷ [])) (λ u. heads_marks u (suc n) hs) h in
     let line = split (λ u. measured_marks u n a) (λ u. fixed (codes "\n") ∷ []) parts.0 in
     let k = head_within a names n line.0 in
-    let this = k.1 in
-    let others = heads_within hs names (suc n) (omega (arith, this)) parts.1 in
-    let few = others.few in
-    record { are = (k.0, others.are); few = (let q : n + suc (length hs) ≤ 25001 = omega (arith, few) in q) }
+    let others = heads_within hs names (suc n) (omega (arith, k.1)) parts.1 in
+    record { are = (k.0, others.are); few = (let q : n + suc (length hs) ≤ 25001 = omega (arith, others.few) in q) }
 
 measure_within : (m : MeasureCertificate) (names : NameTable) → Along names (λ u. measure_marks u m) → IsMeasure names m
 measure_within (linear_measure es) names h =
     let k = entries_within es names 1 (omega arith) (record { named = h.named; passed = h.passed.1; found = h.found }) in
-    let few = k.few in
-    ((let q : length es ≤ 25000 = omega (arith, few) in q), k.are)
+    ((let q : length es ≤ 25000 = omega (arith, k.few) in q), k.are)
 measure_within (precedence_measure hs) names h =
     let k = heads_within hs names 1 (omega arith) (record { named = h.named; passed = h.passed.1; found = h.found }) in
-    let few = k.few in
-    ((let q : length hs ≤ 25000 = omega (arith, few) in q), k.are)
+    ((let q : length hs ≤ 25000 = omega (arith, k.few) in q), k.are)
 
 -- ---- shared automata
 
@@ -137,9 +130,7 @@ module _ (v : Version) (all : List Automaton) (names : NameTable) (are : AreAuto
   pairs_within (x ∷ ps) n le p h =
       let parts = split {names = names} (λ u. pair_line_by u uses n x) (λ u. pairs_marks u uses (suc n) ps) h in
       let line = parts.0.passed in
-      let this = (few_met names marks.pairs n [] line.0).0 in
-      let others = pairs_within ps (suc n) (omega (arith, this)) p.1 parts.1 in
-      let few = others.few in
+      let others = pairs_within ps (suc n) (omega (arith, (few_met names marks.pairs n [] line.0).0)) p.1 parts.1 in
       record {
         are = (
           number_met names x.inner [] line.1.1.0,
@@ -148,7 +139,7 @@ module _ (v : Version) (all : List Automaton) (names : NameTable) (are : AreAuto
           evidence_within x.evidence p.0 (record { named = parts.0.named; passed = line.1.1.1.1.1.1.1.1; found = parts.0.found }),
           others.are,
         );
-        few = (let q : n + suc (length ps) ≤ 20001 = omega (arith, few) in q);
+        few = (let q : n + suc (length ps) ≤ 20001 = omega (arith, others.few) in q);
       }
 
   redexes_within : (rs : List Redex) (n : ℕ) → n ≤ 20001 → RedexesUse v all rs → Along names (λ u. redexes_marks u uses n rs) → Counted 20000 n (length rs) (AreRedexEntries names rs)
@@ -156,9 +147,7 @@ module _ (v : Version) (all : List Automaton) (names : NameTable) (are : AreAuto
   redexes_within (x ∷ rs) n le p h =
       let parts = split {names = names} (λ u. redex_line_by u uses n x) (λ u. redexes_marks u uses (suc n) rs) h in
       let line = parts.0.passed in
-      let this = (few_met names marks.redexes n [] line.0).0 in
-      let others = redexes_within rs (suc n) (omega (arith, this)) p.1 parts.1 in
-      let few = others.few in
+      let others = redexes_within rs (suc n) (omega (arith, (few_met names marks.redexes n [] line.0).0)) p.1 parts.1 in
       record {
         are = (
           number_met names x.which [] line.1.1.0,
@@ -167,14 +156,13 @@ module _ (v : Version) (all : List Automaton) (names : NameTable) (are : AreAuto
           infeasibility_within x.evidence p.0 (record { named = parts.0.named; passed = line.1.1.1.1.1.1.1.1; found = parts.0.found }),
           others.are,
         );
-        few = (let q : n + suc (length rs) ≤ 20001 = omega (arith, few) in q);
+        few = (let q : n + suc (length rs) ≤ 20001 = omega (arith, others.few) in q);
       }
 
   apart_within : (a : Apartness) → ApartUses v all a → Along names (λ u. apart_marks u uses a) → IsApart names a
   apart_within (by_normal_forms rs) p h =
       let k = redexes_within rs 1 (omega arith) p (record { named = h.named; passed = h.passed.1; found = h.found }) in
-      let few = k.few in
-      ((let q : length rs ≤ 20000 = omega (arith, few) in q), k.are)
+      ((let q : length rs ≤ 20000 = omega (arith, k.few) in q), k.are)
   apart_within by_rigid_caps p h = tt
 
   steps_within : (ss : List Simplification) → StepsUse v all ss → Along names (λ u. simplifications_marks u uses ss) → AreSimplifications names ss
@@ -187,21 +175,17 @@ module _ (v : Version) (all : List Automaton) (names : NameTable) (are : AreAuto
   pub body_within : (c : Certificate) (given : Option Bool) → IsPlainBy v all c → Along names (λ u. body_marks u uses given c) → IsWithin names c
   body_within (ortho_certificate ps) given p h =
       let k = pairs_within ps 1 (omega arith) p (record { named = h.named; passed = h.passed.1.1; found = h.found }) in
-      let few = k.few in
-      ((let q : length ps ≤ 20000 = omega (arith, few) in q), k.are)
+      ((let q : length ps ≤ 20000 = omega (arith, k.few) in q), k.are)
   body_within (quasi_certificate m ps) given p h =
       let parts = split {names = names} (λ u. measure_marks u m) (λ u. pairs_marks u uses 1 ps) (record { named = h.named; passed = h.passed.1.1; found = h.found }) in
       let k = pairs_within ps 1 (omega arith) p.1 parts.1 in
-      let few = k.few in
-      (measure_within m names parts.0, (let q : length ps ≤ 20000 = omega (arith, few) in q), k.are)
+      (measure_within m names parts.0, (let q : length ps ≤ 20000 = omega (arith, k.few) in q), k.are)
   body_within (peak_certificate x) given p h =
       let a = split {names = names} (λ u. term_marks u 1 1 x.start) (λ u. fixed (codes "\n") ∷ (derivation_marks x.first ++ (derivation_marks x.second ++ apart_marks u uses x.apart))) (record { named = h.named; passed = h.passed.1.1.1; found = h.found }) in
       let b = split {names = names} (λ u. derivation_marks x.first) (λ u. derivation_marks x.second ++ apart_marks u uses x.apart) (record { named = a.1.named; passed = a.1.passed.1; found = a.1.found }) in
       let d = split {names = names} (λ u. derivation_marks x.second) (λ u. apart_marks u uses x.apart) b.1 in
       let t = term_within x.start names 1 1 a.0.named a.0.passed a.0.found in
-      let few = t.few in
-      let low = t.low in
-      (t.spelt, record { nodes = omega (arith, few, low); levels = omega (arith, few, low) }, derivation_met x.first names b.0.passed, derivation_met x.second names d.0.passed, apart_within x.apart p d.1)
+      (t.spelt, record { nodes = omega (arith, t.few, t.low); levels = omega (arith, t.few, t.low) }, derivation_met x.first names b.0.passed, derivation_met x.second names d.0.passed, apart_within x.apart p d.1)
   body_within (simplified_certificate ss c) given p h =
       let n = length ss in
       let bounds = range_met names 0 1 (suc largest) n (is_few marks.simplifications n ∷ []) h.passed.1.0 in
@@ -218,21 +202,9 @@ plain_version v all (simplified_certificate ss c) p = p.0
 
 -- the answer before it is the one that it is for
 pub answered : (c : Certificate) (names : NameTable) (w : Uses) (given : Bool) → Pass names (body_marks (name_of names) w (Some given) c) → given ≡ answer_of c
-answered (ortho_certificate ps) names w given h = by given (first_met names (fits_answer true (Some given)) [] h.0).0
-  where
-    by : (g : Bool) → is_answer true (Some g) ≡ true → g ≡ true
-    by true e = refl
-    by false e = absurd cc
-answered (quasi_certificate m ps) names w given h = by given (first_met names (fits_answer true (Some given)) [] h.0).0
-  where
-    by : (g : Bool) → is_answer true (Some g) ≡ true → g ≡ true
-    by true e = refl
-    by false e = absurd cc
-answered (peak_certificate x) names w given h = by given (first_met names (fits_answer false (Some given)) [] h.0).0
-  where
-    by : (g : Bool) → is_answer false (Some g) ≡ true → g ≡ false
-    by true e = absurd cc
-    by false e = refl
+answered (ortho_certificate ps) names w given h = sym (told_is true given (first_met names (fits_answer true (Some given)) [] h.0).0)
+answered (quasi_certificate m ps) names w given h = sym (told_is true given (first_met names (fits_answer true (Some given)) [] h.0).0)
+answered (peak_certificate x) names w given h = sym (told_is false given (first_met names (fits_answer false (Some given)) [] h.0).0)
 answered (simplified_certificate ss c) names w given h = answered c names w given (pass_append names (simplifications_marks (name_of names) w ss) (body_marks (name_of names) w (Some given) c) h.1.1.1).1
 
 -- ---- in the first version
@@ -240,23 +212,13 @@ answered (simplified_certificate ss c) names w given h = answered c names w give
 -- what passes along the marks of this certificate is its text
 pub certificate_found : (c : Certificate) (names : NameTable) (given : Option Bool) (bytes : List ℕ) → IsPlain c → HaveNames (certificate_marks (name_of names) in_full [] given c) → Pass names (certificate_marks (name_of names) in_full [] given c) → AreFound names (certificate_marks tagged in_full [] given c)
     → bytes ≡ marks_text (certificate_marks (name_of names) in_full [] given c) → IsVersionText first_version names bytes c
-certificate_found c names given bytes p n h f e = by given n h f e
+certificate_found c names given bytes p n h f e =
+    let whole : Along names (λ u. answer_marks given ++ (heading_marks u in_full [] ++ (body_marks u in_full given c ++ closing))) = record { named = n; passed = h; found = f } in
+    let rest = (split {names = names} (λ u. answer_marks given) (λ u. heading_marks u in_full [] ++ (body_marks u in_full given c ++ closing)) whole).1 in
+    let body = (split {names = names} (λ u. body_marks u in_full given c) (λ u. closing) (record { named = rest.named; passed = rest.passed.1; found = rest.found })).0 in
+    let within = body_within first_version [] names tt c given p body in
+    record { spelt = (plain_version first_version [] c p, within, tt); text = by given within body.passed e }
   where
-    spelt : (g : Option Bool) → Along names (λ u. body_marks u in_full g c) → IsWithin names c
-    spelt g a = body_within first_version [] names tt c g p a
-
-    said : IsOfVersion first_version c
-    said = plain_version first_version [] c p
-
-    by : (g : Option Bool) → HaveNames (certificate_marks (name_of names) in_full [] g c) → Pass names (certificate_marks (name_of names) in_full [] g c) → AreFound names (certificate_marks tagged in_full [] g c) → bytes ≡ marks_text (certificate_marks (name_of names) in_full [] g c) → IsVersionText first_version names bytes c
-    by None n h f e =
-        let s = spelt None (split (λ u. body_marks u in_full None c) (λ u. closing) (record { named = n; passed = h.1; found = f })).0 in
-        record { spelt = (said, s, tt); text = inl (e ∙ (spelt_alone c names in_full [] tt tt s).text) }
-    by (Some true) n h f e =
-        let a = (split {names = names} (λ u. body_marks u in_full (Some true) c) (λ u. closing) (record { named = n; passed = h.1.1; found = f })).0 in
-        let s = spelt (Some true) a in
-        record { spelt = (said, s, tt); text = inr (e ∙ ap (λ (b : Bool). marks_text (certificate_marks (name_of names) in_full [] (Some b) c)) (answered c names in_full true a.passed) ∙ (spelt_answered c names in_full [] tt tt s).text) }
-    by (Some false) n h f e =
-        let a = (split {names = names} (λ u. body_marks u in_full (Some false) c) (λ u. closing) (record { named = n; passed = h.1.1; found = f })).0 in
-        let s = spelt (Some false) a in
-        record { spelt = (said, s, tt); text = inr (e ∙ ap (λ (b : Bool). marks_text (certificate_marks (name_of names) in_full [] (Some b) c)) (answered c names in_full false a.passed) ∙ (spelt_answered c names in_full [] tt tt s).text) }
+    by : (g : Option Bool) → IsWithin names c → Pass names (body_marks (name_of names) in_full g c) → bytes ≡ marks_text (certificate_marks (name_of names) in_full [] g c) → (bytes ≡ certificate_text first_version names c) ⊎ (bytes ≡ answer_line c ++ certificate_text first_version names c)
+    by None k w e = inl (e ∙ (spelt_alone c names in_full [] tt tt k).text)
+    by (Some b) k w e = inr (e ∙ ap (λ (b : Bool). marks_text (certificate_marks (name_of names) in_full [] (Some b) c)) (answered c names in_full b w) ∙ (spelt_answered c names in_full [] tt tt k).text)

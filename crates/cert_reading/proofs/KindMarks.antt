@@ -10,16 +10,12 @@ use Rattle.cert_reading.specs.declared.headings.Kind.TheVariants.{Ortho, Quasi, 
 use Rattle.cert_reading.specs.Headings.{first_marks, kind_mark, behind_kind, IsOfKind}
 
 pub kind_marks : (u : Naming) (w : Uses) (given : Option Bool) (kind : Kind) (c : Certificate) → IsOfKind kind c → kind_mark given kind ∷ fixed (codes "\n") ∷ behind_kind u w c ≡ body_marks u w given c
-kind_marks u w given kind (ortho_certificate ps) e = ap (λ (k : Kind). kind_mark given k ∷ fixed (codes "\n") ∷ behind_kind u w (ortho_certificate ps)) e
-kind_marks u w given kind (quasi_certificate m ps) e = ap (λ (k : Kind). kind_mark given k ∷ fixed (codes "\n") ∷ behind_kind u w (quasi_certificate m ps)) e
-kind_marks u w given kind (peak_certificate p) e = ap (λ (k : Kind). kind_mark given k ∷ fixed (codes "\n") ∷ behind_kind u w (peak_certificate p)) e
 kind_marks u w given kind (simplified_certificate ss c) e = absurd e
+kind_marks u w given kind c e = ap (λ (k : Kind). kind_mark given k ∷ fixed (codes "\n") ∷ behind_kind u w c) e
 
 pub kind_unsimplified : (kind : Kind) (c : Certificate) → IsOfKind kind c → IsUnsimplified c
-kind_unsimplified kind (ortho_certificate ps) e = tt
-kind_unsimplified kind (quasi_certificate m ps) e = tt
-kind_unsimplified kind (peak_certificate p) e = tt
 kind_unsimplified kind (simplified_certificate ss c) e = absurd e
+kind_unsimplified kind _ e = tt
 
 -- its word asks nothing of shared automata
 pub kind_still : (given : Option Bool) (kind : Kind) → AreStill (kind_mark given kind ∷ [])

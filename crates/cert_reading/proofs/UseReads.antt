@@ -66,10 +66,7 @@ use_facts {names} {end} {from} {to} {s} {t} all n h none x =
     let known = h (open_before x none) in
     let r = read_run none x in
     let passes = (line_counts n).into s.shares.texts [] s.shares.used s.shares.unfolds_to (r.shares known.0 []).0 in
-    let size = texts_length names all in
-    let long = ap length known.1.1 in
-    let high = passes.1 in
-    record { new = known.1.0; low = passes.0; high = omega (arith, size, long, high) }
+    record { new = known.1.0; low = passes.0; high = omega (arith, texts_length names all, ap length known.1.1, passes.1) }
 
 -- the automaton at its number's place has that number
 pub number_there : (names : NameTable) (all : List Automaton) (a : Automaton) (n : ℕ) → UseFacts names all n → slice_get all (n - 1) ≡ Some a → number_in names all a ≡ n

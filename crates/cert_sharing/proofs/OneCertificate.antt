@@ -84,11 +84,9 @@ same_evidence (unfeasible_pair m a b) (unfeasible_pair n c d) names u w P Q k l 
     let first = number_same m n _ _ x in
     let r = two_derivations a b c d k l (tail_same _ _ _ _ (tail_same _ _ _ _ x)) in
     (ap (λ (z : ℕ). unfeasible_pair z a b) first ∙ ap (λ (z : Derivation). unfeasible_pair n z b) r.0 ∙ ap (λ (z : Derivation). unfeasible_pair n c z) r.1, r.2)
-same_evidence (infeasible_pair by_caps) f names u w P Q k l s h i e = absurd (clash _ _ _ _ refl e)
-same_evidence (infeasible_pair (by_automaton j a)) f names u w P Q k l s h i e = absurd (clash _ _ _ _ refl e)
-same_evidence g (infeasible_pair by_caps) names u w P Q k l s h i e = absurd (clash _ _ _ _ refl e)
-same_evidence g (infeasible_pair (by_automaton j a)) names u w P Q k l s h i e = absurd (clash _ _ _ _ refl e)
-same_evidence g f names u w P Q k l s h i e = absurd (clash _ _ _ _ refl e)
+same_evidence (infeasible_pair by_caps) _ names u w P Q k l s h i e = absurd (clash _ _ _ _ refl e)
+same_evidence _ (infeasible_pair by_caps) names u w P Q k l s h i e = absurd (clash _ _ _ _ refl e)
+same_evidence _ _ names u w P Q k l s h i e = absurd (clash _ _ _ _ refl e)
 
 same_pair : (p q : PairEntry) → p.inner ≡ q.inner → p.position ≡ q.position → p.outer ≡ q.outer → p.evidence ≡ q.evidence → p ≡ q
 same_pair p q a b c d =
@@ -277,18 +275,7 @@ same_bodies (simplified_certificate ss c) (simplified_certificate ts d) names u 
     let yours = all_of Q (used_by_steps ts) (automata_of d) i in
     let steps = same_steps ss ts names u w P Q _ _ s size mine.0 yours.0 (regroup (simplifications_marks x u ss) (body_marks x u given c) closing (simplifications_marks x w ts) (body_marks x w given d) closing lines) in
     ap (λ (z : List Simplification). simplified_certificate z c) steps.0 ∙ ap (simplified_certificate ts) (same_bodies c d names u w P Q given s a.3 b.3 mine.1 yours.1 steps.1)
-same_bodies (ortho_certificate ps) (quasi_certificate m qs) names u w P Q given s a b h i e = absurd (clash _ _ _ _ refl e)
-same_bodies (ortho_certificate ps) (peak_certificate q) names u w P Q given s a b h i e = absurd (clash _ _ _ _ refl e)
-same_bodies (ortho_certificate ps) (simplified_certificate ts d) names u w P Q given s a b h i e = absurd (clash _ _ _ _ refl e)
-same_bodies (quasi_certificate m ps) (ortho_certificate qs) names u w P Q given s a b h i e = absurd (clash _ _ _ _ refl e)
-same_bodies (quasi_certificate m ps) (peak_certificate q) names u w P Q given s a b h i e = absurd (clash _ _ _ _ refl e)
-same_bodies (quasi_certificate m ps) (simplified_certificate ts d) names u w P Q given s a b h i e = absurd (clash _ _ _ _ refl e)
-same_bodies (peak_certificate p) (ortho_certificate qs) names u w P Q given s a b h i e = absurd (clash _ _ _ _ refl e)
-same_bodies (peak_certificate p) (quasi_certificate m qs) names u w P Q given s a b h i e = absurd (clash _ _ _ _ refl e)
-same_bodies (peak_certificate p) (simplified_certificate ts d) names u w P Q given s a b h i e = absurd (clash _ _ _ _ refl e)
-same_bodies (simplified_certificate ss c) (ortho_certificate qs) names u w P Q given s a b h i e = absurd (clash _ _ _ _ refl e)
-same_bodies (simplified_certificate ss c) (quasi_certificate m qs) names u w P Q given s a b h i e = absurd (clash _ _ _ _ refl e)
-same_bodies (simplified_certificate ss c) (peak_certificate q) names u w P Q given s a b h i e = absurd (clash _ _ _ _ refl e)
+same_bodies _ _ names u w P Q given s a b h i e = absurd (clash _ _ _ _ refl e)
 
 -- ---- answers and headings
 

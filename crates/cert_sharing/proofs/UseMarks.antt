@@ -14,6 +14,7 @@ use Rattle.cert_grammar.specs.WordMarks.{numeral, are_places, number, number_for
 use Rattle.cert_grammar.specs.CertificateMarks.{use_mark, accepting_marks, further_states_marks, states_marks, head_marks, transitions_marks, automaton_marks, automata_marks, infeasibility_marks, evidence_marks, pairs_marks, coefficients_marks, measured_marks, entries_marks, heads_marks, measure_marks, redexes_marks, apart_marks, simplifications_marks, body_marks}
 use Rattle.cert_grammar.specs.SharedText.{is_among, AllNew}
 use Rattle.cert_grammar.specs.Sharing.{Shared, text_at, holds, first_of, share_verdict, effects, behind_mark, behind_marks, PassShares}
+use Rattle.cert_laws.proofs.Asking.{AllAsk, MarksAsk, term_asks, derivation_asks, measure_asks, behind_word_ask}
 use Rattle.cert_sharing.proofs.FirstUses.{greatest}
 
 abbrev pub state : List (List ℕ) → List ℕ → ℕ → ℕ → Shared
@@ -24,12 +25,7 @@ state ts b u w = record { texts = ts; begun = b; used = u; unfolds_to = w }
 abbrev pub IsStill : List Demand → Type 0
 IsStill [] = Unit {0}
 IsStill (shares e ∷ ds) = ⊥
-IsStill (is_symbol name ∷ ds) = IsStill ds
-IsStill (has_arity name n ∷ ds) = IsStill ds
-IsStill (in_range skip least bound n ∷ ds) = IsStill ds
-IsStill (is_few what n ∷ ds) = IsStill ds
-IsStill (is_shallow most n ∷ ds) = IsStill ds
-IsStill (fits_answer told given ∷ ds) = IsStill ds
+IsStill (_ ∷ ds) = IsStill ds
 
 abbrev pub AreStill : List Mark → Type 0
 AreStill [] = Unit {0}
@@ -42,22 +38,12 @@ still_both (m ∷ a) b h k = (h.0, still_both a b h.1 k)
 still_effects : (ds : List Demand) (s : Shared) → IsStill ds → effects ds s ≡ s
 still_effects [] s h = refl
 still_effects (shares e ∷ ds) s h = absurd h
-still_effects (is_symbol name ∷ ds) s h = still_effects ds s h
-still_effects (has_arity name n ∷ ds) s h = still_effects ds s h
-still_effects (in_range skip least bound n ∷ ds) s h = still_effects ds s h
-still_effects (is_few what n ∷ ds) s h = still_effects ds s h
-still_effects (is_shallow most n ∷ ds) s h = still_effects ds s h
-still_effects (fits_answer told given ∷ ds) s h = still_effects ds s h
+still_effects (_ ∷ ds) s h = still_effects ds s h
 
 still_verdict : (ds : List Demand) (s : Shared) (a : ℕ) → IsStill ds → share_verdict s a ds ≡ None
 still_verdict [] s a h = refl
 still_verdict (shares e ∷ ds) s a h = absurd h
-still_verdict (is_symbol name ∷ ds) s a h = still_verdict ds s a h
-still_verdict (has_arity name n ∷ ds) s a h = still_verdict ds s a h
-still_verdict (in_range skip least bound n ∷ ds) s a h = still_verdict ds s a h
-still_verdict (is_few what n ∷ ds) s a h = still_verdict ds s a h
-still_verdict (is_shallow most n ∷ ds) s a h = still_verdict ds s a h
-still_verdict (fits_answer told given ∷ ds) s a h = still_verdict ds s a h
+still_verdict (_ ∷ ds) s a h = still_verdict ds s a h
 
 still_mark : (m : Mark) (ts : List (List ℕ)) (b : List ℕ) (u w : ℕ) → IsStill (demands_of m) → behind_mark m (state ts b u w) ≡ state ts (b ++ mark_text m) u w
 still_mark m ts b u w h = ap (λ (s : Shared). record { texts = s.texts; begun = s.begun ++ mark_text m; used = s.used; unfolds_to = s.unfolds_to }) (still_effects (demands_of m) (state ts b u w) h)
@@ -74,78 +60,27 @@ still_pass (m ∷ ms) s h = (still_verdict (demands_of m) s 0 h.0, still_pass ms
 
 -- ---- parts that are still
 
+still_demands : (n : ℕ) (ds : List Demand) → AllAsk (Unit {0}) (λ e. ⊥) n ds → IsStill ds
+still_demands n [] h = tt
+still_demands n (shares e ∷ ds) h = h.0
+still_demands n (_ ∷ ds) h = still_demands n ds h.1
+
+still : (ms : List Mark) → MarksAsk (Unit {0}) (λ e. ⊥) ms → AreStill ms
+still [] h = tt
+still (m ∷ ms) h = (still_demands (length (mark_text m)) (demands_of m) h.0, still ms h.1)
+
 pub places_still : (p : Position) (skip : ℕ) → IsStill (are_places skip p)
 places_still [] skip = tt
 places_still (k ∷ p) skip = places_still p (skip + length (numeral k) + 1)
 
-mutual
-  pub term_still : (t : Term) (x : Naming) (level n : ℕ) → AreStill (term_marks x level n t)
-  term_still (var a) x level n = (tt, tt)
-  term_still (app f ts) x level n = (tt, still_both (arguments_marks x (suc level) (suc n) ts) _ (arguments_still ts x (suc level) (suc n)) (tt, tt))
-
-  arguments_still : (ts : Terms) (x : Naming) (level n : ℕ) → AreStill (arguments_marks x level n ts)
-  arguments_still nil x level n = tt
-  arguments_still (cons t ts) x level n = (tt, still_both (term_marks x level n t) _ (term_still t x level n) (further_still ts x level (n + size t)))
-
-  further_still : (ts : Terms) (x : Naming) (level n : ℕ) → AreStill (further_marks x level n ts)
-  further_still nil x level n = (tt, tt)
-  further_still (cons t ts) x level n = (tt, still_both (term_marks x level n t) _ (term_still t x level n) (further_still ts x level (n + size t)))
-
-mutual
-  steps_still : (d : Derivation) (level : ℕ) → AreStill (steps_marks level d)
-  steps_still no_steps level = tt
-  steps_still (first_step s d) level = still_both (step_marks level s) _ (step_still s level) (steps_still d level)
-
-  step_still : (s : Step) (level : ℕ) → AreStill (step_marks level s)
-  step_still (by_rule rule p ds) level = (tt, (tt, (tt, (places_still p 0, (tt, (tt, (tt, derivations_still ds (suc level))))))))
-  step_still (by_hypothesis k p) level = (tt, (tt, (tt, (places_still p 0, (tt, tt)))))
-
-  derivations_still : (ds : Derivations) (level : ℕ) → AreStill (derivations_marks level ds)
-  derivations_still no_derivations level = tt
-  derivations_still (first_derivation d ds) level = (tt, (tt, (tt, (tt, still_both (steps_marks level d) _ (steps_still d level) (derivations_still ds level)))))
+pub term_still : (t : Term) (x : Naming) (level n : ℕ) → AreStill (term_marks x level n t)
+term_still t x level n = still (term_marks x level n t) (term_asks (Unit {0}) (λ e. ⊥) t x level n)
 
 pub derivation_still : (d : Derivation) → AreStill (derivation_marks d)
-derivation_still d = (tt, (tt, (tt, (tt, steps_still d 1))))
-
-accepting_still : (qs : List ℕ) (bound : ℕ) → AreStill (accepting_marks bound qs)
-accepting_still [] bound = tt
-accepting_still (q ∷ qs) bound = (tt, (tt, accepting_still qs bound))
-
-further_states_still : (qs : List ℕ) (bound : ℕ) → AreStill (further_states_marks bound qs)
-further_states_still [] bound = (tt, tt)
-further_states_still (q ∷ qs) bound = (tt, (tt, further_states_still qs bound))
-
-states_still : (qs : List ℕ) (bound : ℕ) → AreStill (states_marks bound qs)
-states_still [] bound = tt
-states_still (q ∷ qs) bound = (tt, (tt, further_states_still qs bound))
-
-head_still : (f : Option ℕ) (x : Naming) (bound : ℕ) (qs : List ℕ) → AreStill (head_marks x bound f qs)
-head_still None x bound qs = (tt, tt)
-head_still (Some f) x bound qs = (tt, still_both (states_marks bound qs) _ (states_still qs bound) (tt, tt))
-
-transitions_still : (ts : List Transition) (x : Naming) (bound : ℕ) → AreStill (transitions_marks x bound ts)
-transitions_still [] x bound = tt
-transitions_still (t ∷ ts) x bound = still_both (head_marks x bound t.symbol t.arguments ++ _) (transitions_marks x bound ts) (still_both (head_marks x bound t.symbol t.arguments) _ (head_still t.symbol x bound t.arguments) (tt, (tt, (tt, tt)))) (transitions_still ts x bound)
-
-coefficients_still : (ks : List ℕ) (n : ℕ) → AreStill (coefficients_marks n ks)
-coefficients_still [] n = tt
-coefficients_still (k ∷ ks) n = (tt, (tt, coefficients_still ks (suc n)))
-
-measured_still : (a : Head) (x : Naming) (n : ℕ) → AreStill (measured_marks x n a)
-measured_still (file f) x n = (tt, (tt, (tt, tt)))
-measured_still (auxiliary r c) x n = (tt, (tt, (tt, (tt, (tt, tt)))))
-
-entries_still : (es : List LinearEntry) (x : Naming) (n : ℕ) → AreStill (entries_marks x n es)
-entries_still [] x n = tt
-entries_still (e ∷ es) x n = still_both (measured_marks x n e.head ++ _) (entries_marks x (suc n) es) (still_both (measured_marks x n e.head) _ (measured_still e.head x n) (still_both (coefficients_marks 1 e.coefficients) _ (coefficients_still e.coefficients 1) (tt, tt))) (entries_still es x (suc n))
-
-heads_still : (hs : List Head) (x : Naming) (n : ℕ) → AreStill (heads_marks x n hs)
-heads_still [] x n = tt
-heads_still (h ∷ hs) x n = still_both (measured_marks x n h ++ _) (heads_marks x (suc n) hs) (still_both (measured_marks x n h) _ (measured_still h x n) (tt, tt)) (heads_still hs x (suc n))
+derivation_still d = still (derivation_marks d) (derivation_asks (Unit {0}) (λ e. ⊥) d)
 
 pub measure_still : (m : MeasureCertificate) (x : Naming) → AreStill (measure_marks x m)
-measure_still (linear_measure es) x = (tt, entries_still es x 1)
-measure_still (precedence_measure hs) x = (tt, heads_still hs x 1)
+measure_still m x = still (measure_marks x m) (measure_asks (Unit {0}) (λ e. ⊥) m x)
 
 -- the marks of an automaton behind its first word
 abbrev pub behind_states : Naming → Automaton → List Mark
@@ -155,7 +90,7 @@ behind_states x a =
     ++ (fixed (codes "\ntransitions ") ∷ number_for Counted.transitions (length a.transitions) ∷ fixed (codes "\n") ∷ transitions_marks x a.states a.transitions))
 
 pub behind_states_still : (a : Automaton) (x : Naming) → AreStill (behind_states x a)
-behind_states_still a x = (tt, (tt, (tt, still_both (accepting_marks a.states a.accepting) _ (accepting_still a.accepting a.states) (tt, (tt, (tt, transitions_still a.transitions x a.states))))))
+behind_states_still a x = still (behind_states x a) (behind_word_ask (Unit {0}) (λ e. ⊥) a x)
 
 -- ---- lists of marks
 

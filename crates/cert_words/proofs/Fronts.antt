@@ -33,10 +33,7 @@ pub all_read : (a : code.Lead) (bytes : List ℕ) → ((b : ℕ) → a ≡ leadi
 all_read (leading.Text w) bytes n h = sym (spelled (w.now) bytes h)
 all_read (leading.Check b) bytes n h = absurd (n b refl)
 all_read (leading.Keyword w) bytes n h = sym (spelled (w.now) bytes h)
-all_read leading.Number bytes n h = refl
-all_read leading.Position bytes n h = refl
-all_read leading.Variable bytes n h = refl
-all_read leading.Name bytes n h = refl
+all_read _ bytes n h = refl
 
 pub is_front : (a : code.Lead) (bytes w behind : List ℕ) (size : ℕ) → ((b : ℕ) → a ≡ leading.Check b → ⊥) → is_word (scan (mode_of (bare a)) bytes).mode ≡ true → size ≡ (scan (mode_of (bare a)) bytes).size → size ≤ length bytes → w ≡ take size bytes → behind ≡ drop size bytes → ends_lead (bare a) behind ≡ true → IsLeadRead (bare a) bytes w behind
 is_front a bytes w behind size n h e le first last ends =
@@ -48,12 +45,11 @@ is_front a bytes w behind size n h e le first last ends =
 pub text_front : (w bytes rest : List ℕ) → bytes ≡ w ++ rest → IsLeadRead (text w []) bytes w rest
 text_front w bytes rest e =
     let back = ap (drop (length w)) e ∙ drop-append_seam w rest in
-    let size = ap length e ∙ length-append w rest in
     record {
       there = ap (is_there (text w [])) e ∙ lead_there (text w []) w rest (record { last = spelling []; goes = spelling_whole w; whole = refl }) refl;
       word = sym (ap (take (length w)) e ∙ take-append_seam w rest);
       rest = sym back;
-      within = omega (arith, size);
+      within = omega (arith, ap length e ∙ length-append w rest);
     }
 
 pub no_text : (w bytes : List ℕ) → ((rest : List ℕ) → bytes ≡ w ++ rest → ⊥) → is_there (text w []) bytes ≡ false

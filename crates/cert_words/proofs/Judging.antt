@@ -22,6 +22,4 @@ one_digit digits at n h e = rw add-one (sym (ap (value_from n) (drop-cons digits
 
 pub value_passes : (digits : List ℕ) (at n : ℕ) → ValueOn digits at n → at < length digits → largest < 10 * n + (get_or digits at 0 - 48) → largest < value digits
 value_passes digits at n v h gt =
-    let e = one_digit digits at n h v.value in
-    let g = grows (drop (at + 1) digits) (10 * n + (get_or digits at 0 - 48)) in
-    omega (arith, e, g)
+    omega (arith, one_digit digits at n h v.value, grows (drop (at + 1) digits) (10 * n + (get_or digits at 0 - 48)))

@@ -53,8 +53,7 @@ module _ (names : NameTable) (end : ℕ) (bytes : List ℕ) (s : Shared) (i : It
   one_walk a w rest f met le items =
       let l = left_at end (i ∷ items) bytes in
       let size : length rest ≡ length bytes - taken a bytes = ap length f.rest ∙ length-drop (taken a bytes) bytes in
-      let within = f.within in
-      let place : l.at + taken a bytes ≡ end - length rest = omega (arith, size, within, le) in
+      let place : l.at + taken a bytes ≡ end - length rest = omega (arith, size, f.within, le) in
       let there : behind_lead l a items ≡ left_at end (items_of a w ++ items) rest = same_left _ _ _ _ _ _ place (ap (λ (k : List ℕ). items_of a k ++ items) (sym f.word)) (sym f.rest) in (
         left_at end (items_of a w ++ items) rest,
         record {
@@ -212,9 +211,8 @@ module _ (names : NameTable) (end : ℕ) (bytes : List ℕ) (s : Shared) (i : It
       → Run names end (i ∷ []) (λ u. word (codes "|" ++ numeral x) (in_range 1 0 (suc largest) x ∷ ds) ∷ []) new bytes rest s s
   variable_run ds [] rest new x f h e met still = absurd e
   variable_run ds (b ∷ v) rest new x f h e met still =
-      let value_is = e.0 in
       subst (λ (k : ℕ). Run names end (i ∷ []) (λ u. word (codes "|" ++ numeral k) (in_range 1 0 (suc largest) k ∷ ds) ∷ []) new bytes rest s s) (sym e.0)
-      (still_step names end bytes s i (variable_lead ds new) (b ∷ v) rest (record { first = f; word = h.word; rest = h.rest; within = h.within }) (rw (low_bar (value v) (let le = e.1 in omega (arith, le, value_is))) met) still (λ u. word (codes "|" ++ numeral (value v)) (in_range 1 0 (suc largest) (value v) ∷ ds) ∷ [])
+      (still_step names end bytes s i (variable_lead ds new) (b ∷ v) rest (record { first = f; word = h.word; rest = h.rest; within = h.within }) (rw (low_bar (value v) (let le = e.1 in omega (arith, le, e.0))) met) still (λ u. word (codes "|" ++ numeral (value v)) (in_range 1 0 (suc largest) (value v) ∷ ds) ∷ [])
       (ap (λ (w : List ℕ). word w (in_range 1 0 (suc largest) (value v) ∷ ds) ∷ []) (sym (bar_spelt (b ∷ v) rest h))) tt)
 
   pub variable_bad : (ds : List Demand) (v rest : List ℕ) (new : List Item) → first_there (leads i) bytes ≡ Some (variable_lead ds new) → IsLeadRead (variable_lead [] []) bytes v rest → IsBarNumber v None → IsStuckAt names end i bytes s (Some (bad_number, (end - length bytes) + 1))
@@ -225,9 +223,7 @@ module _ (names : NameTable) (end : ℕ) (bytes : List ℕ) (s : Shared) (i : It
   variable_stop ds v rest new x None f h e m = tt
   variable_stop ds [] rest new x (Some y) f h e m = absurd e
   variable_stop ds (b ∷ v) rest new x (Some y) f h e m =
-      let value_is = e.0 in
-      let le = e.1 in
-      one_stop names end bytes s i (variable_lead ds new) (b ∷ v) rest y (record { first = f; word = h.word; rest = h.rest; within = h.within }) (rw (low_bar (value v) (omega (arith, le, value_is))) m)
+      one_stop names end bytes s i (variable_lead ds new) (b ∷ v) rest y (record { first = f; word = h.word; rest = h.rest; within = h.within }) (rw (low_bar (value v) (omega (arith, e.1, e.0))) m)
 
 pub spelt_place : (bytes v rest : List ℕ) → IsLeadRead (position_lead []) bytes v rest → v ≡ places_text (places v)
 spelt_place bytes v rest h = place_is v (word_of_lead place_begins bytes v _ h.there h.word)
@@ -267,8 +263,7 @@ out_of_range names place least bound n q ds e h = let z : place + 0 ≡ q = omeg
 
 pub too_many_there : (names : NameTable) (place least n v q most : ℕ) (what seen : Counted) → q ≡ place → (n ≡ v) × ((nat_le least v && nat_lt v (suc largest)) ≡ true) → most ≡ limit what → most < n → counted_as what ≡ seen → verdict names place (in_range 0 least (suc largest) v ∷ is_few what v ∷ []) ≡ Some (too_many seen, q)
 too_many_there names place least n v q most what seen e h m lt same =
-    let n_is = h.0 in
-    rw (h.1, lt-leb v (limit what) (omega (arith, m, lt, n_is))) (ap (λ (k : ℕ). Some (too_many (counted_as what), k)) (sym e) ∙ ap (λ (c : Counted). Some (too_many c, q)) same)
+    rw (h.1, lt-leb v (limit what) (omega (arith, m, lt, h.0))) (ap (λ (k : ℕ). Some (too_many (counted_as what), k)) (sym e) ∙ ap (λ (c : Counted). Some (too_many c, q)) same)
 
 pub few_there : (names : NameTable) (place least n v most : ℕ) (what : Counted) → (n ≡ v) × ((nat_le least v && nat_lt v (suc largest)) ≡ true) → most ≡ limit what → n ≤ most → verdict names place (in_range 0 least (suc largest) v ∷ is_few what v ∷ []) ≡ None
 few_there names place least n v most what h m le = let n_is = h.0 in rw (h.1, le-leb v (limit what) (omega (arith, m, le, n_is))) refl

@@ -46,17 +46,13 @@ pub walks_shorter : (names : NameTable) (ms : List Mark) (l k : Left) → Walks 
 walks_shorter names [] l k w = let e : length k.bytes ≡ length l.bytes = ap (λ (x : Left). length x.bytes) (sym w) in omega (arith, e)
 walks_shorter names (m ∷ ms) l k w =
     let j : Left = w.0 in
-    let rest = walks_shorter names ms j k w.2 in
     let one : length j.bytes ≡ length l.bytes - taken w.1.lead l.bytes = ap (λ (x : Left). length x.bytes) (goes_where names l j m w.1) ∙ length-drop (taken w.1.lead l.bytes) l.bytes in
-    omega (arith, rest, one)
+    omega (arith, walks_shorter names ms j k w.2, one)
 
 pub found_then : (names : NameTable) (ms ns : List Mark) → AreFound names ms → AreFound names ns → AreFound names (ms ++ ns)
 found_then names [] ns h k = k
-found_then names (fixed bytes ∷ ms) ns h k = found_then names ms ns h k
-found_then names (word bytes demands ∷ ms) ns h k = found_then names ms ns h k
 found_then names (symbol name demands ∷ ms) ns h k = (h.0, found_then names ms ns h.1 k)
-found_then names (behind demand ∷ ms) ns h k = found_then names ms ns h k
-found_then names (closed demand ∷ ms) ns h k = found_then names ms ns h k
+found_then names (_ ∷ ms) ns h k = found_then names ms ns h k
 
 -- what is known of shared automata but for what was begun
 pub same_begun : (z t : Shared) → with_begun [] z ≡ with_begun [] t → z ≡ with_begun z.begun t

@@ -19,10 +19,9 @@ returns-then-is_some-clause-read c =
 
 pub transitions-preserved : goal.transitions-preserved
 transitions-preserved c =
-    let names = c.args.names.now in
     let b = c.args.states in
     let k = c.args.count - (c.transitions.counter + 1) in
-    let there = then_nothing (c.transition-next.ensures.read k) (c.put.ensures.read names c.args.end (transitions_of b k)) in
+    let there = then_nothing (c.transition-next.ensures.read k) (c.put.ensures.read c.args.names.now c.args.end (transitions_of b k)) in
     let before = as_reads (λ none. (transitions_next b c.args.count c.transitions.counter c.transitions-test.true, λ u. refl)) c.transitions.invariant.read in
     let items = c.transitions.transitions.items in
     let next = c.transition-next.result in

@@ -19,14 +19,13 @@ derivation-returns-then-is_some t c = λ names more.
 pub derivation-returns : goal.derivation-returns
 derivation-returns t c = λ names more.
     let level = c.args.level in
-    let n = c.counted-count.result in
     let d = derivation_view c.steps.result in
     let rest = derivations level more in
     as_marks (λ none u. ap (λ (k : ℕ). steps_mark level k ++ steps_marks level d) (sym (c.steps.ensures.counted none)))
     (then_reads (c.nested.ensures.read names (derivations_left level more) (between space ∷ nesting_count level ∷ rest) refl)
     (then_reads (framed (nesting_count level ∷ rest) (c.text.ensures.read names (between space) [] refl))
     (then_reads (framed rest (c.counted-count.ensures.read names (nesting_count level) (λ k. between line ∷ steps_of level k) refl))
-    (then_reads (framed rest (framed (steps_of level n) (c.text-2.ensures.read names (between line) [] refl))) (framed rest (c.steps.ensures.read names))))))
+    (then_reads (framed rest (framed (steps_of level c.counted-count.result) (c.text-2.ensures.read names (between line) [] refl))) (framed rest (c.steps.ensures.read names))))))
 
 pub derivations-returns-then-is_some-clause-read : goal.derivations-returns-then-is_some-clause-read
 derivations-returns-then-is_some-clause-read t c = λ names.

@@ -9,10 +9,8 @@ use Rattle.cert_reading.proofs.measures.coefficients.Goals as goal
 pub numbers-preserved : goal.numbers-preserved
 numbers-preserved c = λ names.
     let ks = c.numbers.coeffs.items in
-    let ok = c.numbers.coeffs.ok.0 in
-    let len = c.len.ensures in
     let n = c.len.result + 1 in
-    let is : suc (length ks) ≡ n = omega (arith, ok, len) in
+    let is : suc (length ks) ≡ n = omega (arith, c.numbers.coeffs.ok.0, c.len.ensures) in
     as_reads (λ none.
     let grown = c.put.ensures.grown none in
     let long = ap length grown ∙ length_push ks c.numbered-next.result in (

@@ -12,39 +12,30 @@ use Rattle.cert_reading.proofs.measures.entries.Goals as goal
 
 pub returns-then-is_some-clause-read : goal.returns-then-is_some-clause-read
 returns-then-is_some-clause-read c = λ v.
-    let names = c.args.names.now in
-    let ok = c.entries.entries.ok.0 in
-    let len = c.len.ensures in
     let n = c.len.result + 1 in
-    let is : suc (length c.entries.entries.items) ≡ n = omega (arith, ok, len) in
+    let is : suc (length c.entries.entries.items) ≡ n = omega (arith, c.entries.entries.ok.0, c.len.ensures) in
     let e = some_now _ _ c.is_some.ensures c.if-is_some.true in
     let low = entries_from v (suc n) in
-    let step = then_nothing_where (c.in-Some.ensures.entry v) (low_where low (low_unopened v low (entry_at v n).later) (c.put.ensures.read names c.args.end [])) in
+    let step = then_nothing_where (c.in-Some.ensures.entry v) (low_where low (low_unopened v low (entry_at v n).later) (c.put.ensures.read c.args.names.now c.args.end [])) in
     already_where e.0 e.1 (then_where (as_where (λ none. (ap (λ (j : ℕ). entries_from v j ∷ []) is, λ u. refl)) (c.entries.invariant v)) step)
 
 pub entries-smaller : goal.entries-smaller
 entries-smaller c =
-    let names = c.args.names.now in
-    let ok = c.entries.entries.ok.0 in
-    let len = c.len.ensures in
     let n = c.len.result + 1 in
     let none = none_now _ _ c.is_some.ensures c.if-is_some.false in
-    let few = c.in-Some.ensures.few (open_before (c.put.ensures.read names c.args.end []) none) in
+    let few = c.in-Some.ensures.few (open_before (c.put.ensures.read c.args.names.now c.args.end []) none) in
     let long = ap length (c.put.ensures.grown none) ∙ length_push c.entries.entries.items c.in-Some.next in
-    omega (arith, ok, len, few, long)
+    omega (arith, c.entries.entries.ok.0, c.len.ensures, few, long)
 
 pub entries-preserved : goal.entries-preserved
 entries-preserved c = λ v.
-    let names = c.args.names.now in
     let items = c.entries.entries.items in
     let next = c.in-Some.next in
-    let ok = c.entries.entries.ok.0 in
-    let len = c.len.ensures in
     let n = c.len.result + 1 in
-    let is : suc (length items) ≡ n = omega (arith, ok, len) in
+    let is : suc (length items) ≡ n = omega (arith, c.entries.entries.ok.0, c.len.ensures) in
     let before = as_where (λ none. (ap (λ (j : ℕ). entries_from v j ∷ []) is, λ u. refl)) (c.entries.invariant v) in
     let low = entries_from v (suc n) in
-    let step = then_nothing_where (c.in-Some.ensures.entry v) (low_where low (low_unopened v low (entry_at v n).later) (c.put.ensures.read names c.args.end [])) in
+    let step = then_nothing_where (c.in-Some.ensures.entry v) (low_where low (low_unopened v low (entry_at v n).later) (c.put.ensures.read c.args.names.now c.args.end [])) in
     as_where (λ none.
     let grown = c.put.ensures.grown none in
     let long = ap length grown ∙ length_push items next in (
@@ -55,9 +46,7 @@ entries-preserved c = λ v.
 
 pub returns-clause-read : goal.returns-clause-read
 returns-clause-read c = λ v.
-    let ok = c.entries.entries.ok.0 in
-    let len = c.len.ensures in
     let n = c.len.result + 1 in
-    let is : suc (length c.entries.entries.items) ≡ n = omega (arith, ok, len) in
+    let is : suc (length c.entries.entries.items) ≡ n = omega (arith, c.entries.entries.ok.0, c.len.ensures) in
     let same : n ≡ suc (length (map linear_entry_view c.entries.entries.items)) = omega (arith, is, length-map c.entries.entries.items linear_entry_view) in
     as_where (λ none. (ap (λ (j : ℕ). entries_from v j ∷ []) same, λ u. append-nil _)) (then_where (as_where (λ none. (ap (λ (j : ℕ). entries_from v j ∷ []) is, λ u. refl)) (c.entries.invariant v)) (c.in_default.ensures.none v))

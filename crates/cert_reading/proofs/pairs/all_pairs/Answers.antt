@@ -14,27 +14,21 @@ use Rattle.cert_reading.proofs.pairs.all_pairs.Goals as goal
 
 pub returns-then-is_some-clause-read : goal.returns-then-is_some-clause-read
 returns-then-is_some-clause-read c =
-    let names = c.args.names.now in
     let v = version_by c.args.uses in
-    let ok = c.pairs.pairs.ok.0 in
-    let len = c.len.ensures in
     let n = c.len.result + 1 in
-    let is : suc (length c.pairs.pairs.items) ≡ n = omega (arith, ok, len) in
+    let is : suc (length c.pairs.pairs.items) ≡ n = omega (arith, c.pairs.pairs.ok.0, c.len.ensures) in
     let e = some_now _ _ c.is_some.ensures c.if-is_some.true in
-    let step = then_nothing_where (anywhere c.in-Some.ensures.pair) (reads_anywhere (c.put.ensures.read names c.args.end (pairs_from v (suc n) ∷ []))) in
+    let step = then_nothing_where (anywhere c.in-Some.ensures.pair) (reads_anywhere (c.put.ensures.read c.args.names.now c.args.end (pairs_from v (suc n) ∷ []))) in
     already_where e.0 e.1 (then_where (as_where (λ none. (ap (λ (j : ℕ). pairs_from v j ∷ []) is, λ u. refl)) c.pairs.invariant.read) step)
 
 pub pairs-smaller : goal.pairs-smaller
 pairs-smaller c =
-    let names = c.args.names.now in
     let v = version_by c.args.uses in
-    let ok = c.pairs.pairs.ok.0 in
-    let len = c.len.ensures in
     let n = c.len.result + 1 in
     let none = none_now _ _ c.is_some.ensures c.if-is_some.false in
-    let few = c.in-Some.ensures.few (open_before_where {P = Anywhere} (reads_anywhere (c.put.ensures.read names c.args.end (pairs_from v (suc n) ∷ []))) none) in
+    let few = c.in-Some.ensures.few (open_before_where {P = Anywhere} (reads_anywhere (c.put.ensures.read c.args.names.now c.args.end (pairs_from v (suc n) ∷ []))) none) in
     let long = ap length (c.put.ensures.grown none) ∙ length_push c.pairs.pairs.items c.in-Some.next in
-    omega (arith, ok, len, few, long)
+    omega (arith, c.pairs.pairs.ok.0, c.len.ensures, few, long)
 
 pub pairs-preserved : goal.pairs-preserved
 pairs-preserved c =
@@ -42,10 +36,8 @@ pairs-preserved c =
     let v = version_by c.args.uses in
     let items = c.pairs.pairs.items in
     let next = c.in-Some.next in
-    let ok = c.pairs.pairs.ok.0 in
-    let len = c.len.ensures in
     let n = c.len.result + 1 in
-    let is : suc (length items) ≡ n = omega (arith, ok, len) in
+    let is : suc (length items) ≡ n = omega (arith, c.pairs.pairs.ok.0, c.len.ensures) in
     let before = as_where (λ none. (ap (λ (j : ℕ). pairs_from v j ∷ []) is, λ u. refl)) c.pairs.invariant.read in
     let step = then_nothing_where (anywhere c.in-Some.ensures.pair) (reads_anywhere (c.put.ensures.read names c.args.end (pairs_from v (suc n) ∷ []))) in
     record {
@@ -65,10 +57,8 @@ pairs-preserved c =
 pub returns-clause-read : goal.returns-clause-read
 returns-clause-read c =
     let v = version_by c.args.uses in
-    let ok = c.pairs.pairs.ok.0 in
-    let len = c.len.ensures in
     let n = c.len.result + 1 in
-    let is : suc (length c.pairs.pairs.items) ≡ n = omega (arith, ok, len) in
+    let is : suc (length c.pairs.pairs.items) ≡ n = omega (arith, c.pairs.pairs.ok.0, c.len.ensures) in
     then_where (as_where (λ none. (ap (λ (j : ℕ). pairs_from v j ∷ []) is, λ u. refl)) c.pairs.invariant.read) (anywhere c.in_default.ensures.last)
 
 pub next_pair-requires : goal.next_pair-requires

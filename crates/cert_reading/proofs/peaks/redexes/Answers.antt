@@ -13,27 +13,21 @@ use Rattle.cert_reading.proofs.peaks.redexes.Goals as goal
 
 pub returns-then-is_some-clause-read : goal.returns-then-is_some-clause-read
 returns-then-is_some-clause-read c =
-    let names = c.args.names.now in
     let v = version_by c.args.uses in
-    let ok = c.redexes.redexes.ok.0 in
-    let len = c.len.ensures in
     let n = c.len.result + 1 in
-    let is : suc (length c.redexes.redexes.items) ≡ n = omega (arith, ok, len) in
+    let is : suc (length c.redexes.redexes.items) ≡ n = omega (arith, c.redexes.redexes.ok.0, c.len.ensures) in
     let e = some_now _ _ c.is_some.ensures c.if-is_some.true in
-    let step = then_nothing c.in-Some.ensures.redex (c.put.ensures.read names c.args.end (redexes_from v (suc n) ∷ [])) in
+    let step = then_nothing c.in-Some.ensures.redex (c.put.ensures.read c.args.names.now c.args.end (redexes_from v (suc n) ∷ [])) in
     already e.0 e.1 (then_reads (as_reads (λ none. (ap (λ (j : ℕ). redexes_from v j ∷ []) is, λ u. refl)) c.redexes.invariant.read) step)
 
 pub redexes-smaller : goal.redexes-smaller
 redexes-smaller c =
-    let names = c.args.names.now in
     let v = version_by c.args.uses in
-    let ok = c.redexes.redexes.ok.0 in
-    let len = c.len.ensures in
     let n = c.len.result + 1 in
     let none = none_now _ _ c.is_some.ensures c.if-is_some.false in
-    let few = c.in-Some.ensures.few (open_before (c.put.ensures.read names c.args.end (redexes_from v (suc n) ∷ [])) none) in
+    let few = c.in-Some.ensures.few (open_before (c.put.ensures.read c.args.names.now c.args.end (redexes_from v (suc n) ∷ [])) none) in
     let long = ap length (c.put.ensures.grown none) ∙ length_push c.redexes.redexes.items c.in-Some.next in
-    omega (arith, ok, len, few, long)
+    omega (arith, c.redexes.redexes.ok.0, c.len.ensures, few, long)
 
 pub redexes-preserved : goal.redexes-preserved
 redexes-preserved c =
@@ -41,10 +35,8 @@ redexes-preserved c =
     let v = version_by c.args.uses in
     let items = c.redexes.redexes.items in
     let next = c.in-Some.next in
-    let ok = c.redexes.redexes.ok.0 in
-    let len = c.len.ensures in
     let n = c.len.result + 1 in
-    let is : suc (length items) ≡ n = omega (arith, ok, len) in
+    let is : suc (length items) ≡ n = omega (arith, c.redexes.redexes.ok.0, c.len.ensures) in
     let before = as_reads (λ none. (ap (λ (j : ℕ). redexes_from v j ∷ []) is, λ u. refl)) c.redexes.invariant.read in
     let step = then_nothing c.in-Some.ensures.redex (c.put.ensures.read names c.args.end (redexes_from v (suc n) ∷ [])) in
     record {
@@ -64,10 +56,8 @@ redexes-preserved c =
 pub returns-clause-read : goal.returns-clause-read
 returns-clause-read c =
     let v = version_by c.args.uses in
-    let ok = c.redexes.redexes.ok.0 in
-    let len = c.len.ensures in
     let n = c.len.result + 1 in
-    let is : suc (length c.redexes.redexes.items) ≡ n = omega (arith, ok, len) in
+    let is : suc (length c.redexes.redexes.items) ≡ n = omega (arith, c.redexes.redexes.ok.0, c.len.ensures) in
     then_reads (as_reads (λ none. (ap (λ (j : ℕ). redexes_from v j ∷ []) is, λ u. refl)) c.redexes.invariant.read) (c.in_default.ensures.last)
 
 pub next_redex-requires : goal.next_redex-requires

@@ -31,9 +31,8 @@ automata-preserved c =
           (then_where (as_where (λ none. (automata_next given c.args.count c.automata.counter c.automata-test.true, λ u. refl)) (c.automata.invariant.read given))
           (then_nothing_where (c.shared_automaton-next.ensures.read k given) (low_where (behind_automata k given) (above_automata k given) (c.put.ensures.read names c.args.end []))));
       counted = λ none.
-          let e = c.automata.invariant.counted (before none) in
           let n = ap length (c.put.ensures.grown none) ∙ length_push items next in
-          omega (arith, e, n, length-map c.put.new.list.items automaton_view, length-map items automaton_view);
+          omega (arith, c.automata.invariant.counted (before none), n, length-map c.put.new.list.items automaton_view, length-map items automaton_view);
       plain = λ none. plain_automata automaton_view items c.put.new.list.items next (c.put.ensures.grown none) (c.automata.invariant.plain (before none)) (c.shared_automaton-next.ensures.plain (open_before (c.put.ensures.read names c.args.end []) none));
     }
 

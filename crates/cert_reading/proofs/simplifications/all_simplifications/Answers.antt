@@ -38,9 +38,8 @@ steps-preserved c =
           (then_reads (as_reads (λ none. (steps_next c.args.count c.steps.counter c.steps-test.true, λ u. refl)) c.steps.invariant.read)
           (then_nothing (c.simplification-next.ensures.read k) (c.put.ensures.read names c.args.end (simplifications_of k))));
       counted = λ none.
-          let e = c.steps.invariant.counted (before none) in
           let n = ap length (c.put.ensures.grown none) ∙ length_push items next in
-          omega (arith, e, n, length-map c.put.new.list.items simp_view, length-map items simp_view);
+          omega (arith, c.steps.invariant.counted (before none), n, length-map c.put.new.list.items simp_view, length-map items simp_view);
       plain = λ none. plain_steps second_version all simp_view items c.put.new.list.items next (c.put.ensures.grown none) (c.steps.invariant.plain (before none)) (c.simplification-next.ensures.plain (open_before (c.put.ensures.read names c.args.end []) none));
       known = known_behind second_version all (c.put.ensures.read names c.args.end []) [] (counts_still [] tt) c.simplification-next.ensures.known;
     }

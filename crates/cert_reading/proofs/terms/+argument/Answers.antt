@@ -79,9 +79,7 @@ argument-returns-then-closed_or-clause-comma t c = λ q g fs e.
     let args = c.arguments-args.result.0 in
     let next = c.arguments-args.result.1 in
     let k = length args.items in
-    let ok = args.ok.0 in
-    let counted = c.len.ensures in
-    let many : c.len.result ≡ k = omega (arith, ok, counted) in
+    let many : c.len.result ≡ k = omega (arith, args.ok.0, c.len.ensures) in
     let met = arity_met names f k c.has_so_many-in-Open.result found (c.has_so_many-in-Open.ensures ∙ ap (λ (m : ℕ). is_number m (arity_at names f)) many) in
     let deeper : suc (suc (length (g ∷ fs))) ≡ c.args.depth + 1 = omega (arith, e) in
     let inside =
@@ -109,16 +107,12 @@ argument-returns-then-closed_or-clause-counted t c = λ none.
     let args = c.arguments-args.result.0 in
     let next = c.arguments-args.result.1 in
     let k = length args.items in
-    let ok = args.ok.0 in
-    let counted = c.len.ensures in
-    let many : c.len.result ≡ k = omega (arith, ok, counted) in
+    let many : c.len.result ≡ k = omega (arith, args.ok.0, c.len.ensures) in
     let met = arity_met names f k c.has_so_many-in-Open.result found (c.has_so_many-in-Open.ensures ∙ ap (λ (m : ℕ). is_number m (arity_at names f)) many) in
     let last =
     then_reads (c.closed_or.ensures.comma c.if-closed_or.true names f k (term_closed next name k (any_frame ∷ [])) (next_argument next any_frame [] ∷ []) (symbol_end next any_frame [] ∷ []) refl met)
     (c.text-then-closed_or.ensures.read names (next_argument next any_frame []) (node next (with_next any_frame ∷ []) ∷ []) refl) in
-    let all = c.arguments-args.ensures.counted (open_before last none) in
-    let size_is = ap size (view-Fun f args) in
-    omega (arith, all, size_is)
+    omega (arith, c.arguments-args.ensures.counted (open_before last none), ap size (view-Fun f args))
 
 pub argument-returns-else-closed_or-clause-close : goal.argument-returns-else-closed_or-clause-close
 argument-returns-else-closed_or-clause-close t c = λ q g fs e.
@@ -130,9 +124,7 @@ argument-returns-else-closed_or-clause-close t c = λ q g fs e.
     let args = c.arguments-args.result.0 in
     let next = c.arguments-args.result.1 in
     let k = length args.items in
-    let ok = args.ok.0 in
-    let counted = c.len.ensures in
-    let many : c.len.result ≡ k = omega (arith, ok, counted) in
+    let many : c.len.result ≡ k = omega (arith, args.ok.0, c.len.ensures) in
     let met = arity_met names f k c.has_so_many-in-Open.result found (c.has_so_many-in-Open.ensures ∙ ap (λ (m : ℕ). is_number m (arity_at names f)) many) in
     let deeper : suc (suc (length (g ∷ fs))) ≡ c.args.depth + 1 = omega (arith, e) in
     let inside =
@@ -160,16 +152,12 @@ argument-returns-else-closed_or-clause-counted t c = λ none.
     let args = c.arguments-args.result.0 in
     let next = c.arguments-args.result.1 in
     let k = length args.items in
-    let ok = args.ok.0 in
-    let counted = c.len.ensures in
-    let many : c.len.result ≡ k = omega (arith, ok, counted) in
+    let many : c.len.result ≡ k = omega (arith, args.ok.0, c.len.ensures) in
     let met = arity_met names f k c.has_so_many-in-Open.result found (c.has_so_many-in-Open.ensures ∙ ap (λ (m : ℕ). is_number m (arity_at names f)) many) in
     let last =
     then_reads (c.closed_or.ensures.close c.if-closed_or.false names f k (term_closed next name k (any_frame ∷ [])) (next_argument next any_frame [] ∷ []) (symbol_end next any_frame [] ∷ []) refl met)
     (c.text-in-Open.ensures.read names (symbol_end next any_frame []) (term_closed next any_frame.name any_frame.argument [] ∷ []) refl) in
-    let all = c.arguments-args.ensures.counted (open_before last none) in
-    let size_is = ap size (view-Fun f args) in
-    omega (arith, all, size_is)
+    omega (arith, c.arguments-args.ensures.counted (open_before last none), ap size (view-Fun f args))
 
 pub arguments-arguments-preserved : goal.arguments-arguments-preserved
 arguments-arguments-preserved t c =
@@ -202,11 +190,8 @@ arguments-arguments-preserved t c =
           (then_reads (c.arguments.invariant.going c.arguments-test.true name fs e)
           (then_nothing (c.argument-arg.ensures.close q (record { name = name; argument = suc k }) fs e) (c.put.ensures.read names c.args.end (term_closed next name (suc k) fs ∷ []))));
       counted = λ none.
-          let one = c.argument-arg.ensures.counted (put_none none) in
-          let old = before none in
-          let all = size_push (map view items) (view arg) in
           let same = ap (λ (ts : List Term). size_all (terms_of ts)) (seen none) in
-          omega (arith, one, old, all, same);
+          omega (arith, c.argument-arg.ensures.counted (put_none none), before none, size_push (map view items) (view arg), same);
       some = λ none q. let l = longer none in omega (arith, l);
       low = (let a = c.arguments.invariant.low in let b = c.argument-arg.ensures.low in omega (arith, a, b));
       high = c.argument-arg.ensures.many;

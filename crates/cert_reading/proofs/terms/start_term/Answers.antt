@@ -42,19 +42,15 @@ returns-else-not-opened c =
     let name = name_of names f in
     let found = c.in-Symbol.ensures.found (none_now _ _ c.is_some.ensures c.if-is_some.false) in
     let args = c.arguments-args.result.0 in
-    let next = c.arguments-args.result.1 in
     let k = length args.items in
-    let ok = args.ok.0 in
-    let counted = c.len.ensures in
-    let many : c.len.result ≡ k = omega (arith, ok, counted) in
+    let many : c.len.result ≡ k = omega (arith, args.ok.0, c.len.ensures) in
     let met = arity_met names f k c.has_so_many-in-Symbol.result found (c.has_so_many-in-Symbol.ensures ∙ ap (λ (m : ℕ). is_number m (arity_at names f)) many) in
     let last =
-    then_reads (c.checked.ensures names f k (term_closed next name k []) (between line ∷ []) refl met)
+    then_reads (c.checked.ensures names f k (term_closed c.arguments-args.result.1 name k []) (between line ∷ []) refl met)
     (c.text-in-Symbol.ensures.read names (between line) [] refl) in
     as_marks (λ none u.
-    let some = c.arguments-args.ensures.some (open_before last none) in
     let len = length-map args.items view in
-    symbol_closed u 1 1 f k (map view args.items) (fixed (codes "\n")) (omega (arith, some, len)) (sym len)
+    symbol_closed u 1 1 f k (map view args.items) (fixed (codes "\n")) (omega (arith, c.arguments-args.ensures.some (open_before last none), len)) (sym len)
     ∙ ap (λ (x : Term). term_marks u 1 1 x ++ (fixed (codes "\n") ∷ [])) (sym (view-Fun f args)))
     (then_reads (c.in-Symbol.ensures.read (node 1 []) (λ w. name_behind 2 w [] ∷ []) (term_behind 2 [] ∷ []) refl)
     (then_reads (c.opened.ensures.opened c.if-not-opened.false names f 0 (name_behind 2 name []) (node 2 (record { name = name; argument = 1 } ∷ []) ∷ []) (between line ∷ []) refl)

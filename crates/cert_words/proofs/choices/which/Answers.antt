@@ -14,7 +14,5 @@ texts-preserved c =
 
 pub returns : goal.returns
 returns c =
-    let low = c.texts-test.false in
-    let high = c.texts.auto.place-end in
-    let e : c.texts.place ≡ length c.args.texts.now = omega (arith, low, high) in
+    let e : c.texts.place ≡ length c.args.texts.now = omega (arith, c.texts-test.false, c.texts.auto.place-end) in
     subst (λ (k : ℕ). Missed c.args.left.now k (map bare c.args.texts.now)) e c.texts.invariant
