@@ -10,7 +10,8 @@ use Rattle.term_core.specs.declared.terms.Term.{Term}
 use Rattle.term_core.specs.declared.terms.Term.TheVariants.{Fun}
 use Rattle.term_core.proofs.Views.{view-Fun}
 use Rattle.reach.specs.Keys.{cells, all_cells}
-use Rattle.reach.proofs.Cells.{on_ok, counted}
+use Rattle.term_core.proofs.Over.{count-views}
+use Rattle.reach.proofs.Cells.{on_ok}
 
 -- a variable has its value
 pub value_is : (b : Bindings) (x : ℕ) (u : math.Term) → get b x ≡ Some u → values_of b x ≡ u
@@ -36,7 +37,7 @@ module _ (b : Bindings) (t : Term) (f : ℕ) (v : Vec Term Global) (is : t ≡ F
       → OnOk r (new ≡ one ++ all_cells (apply_all (values_of b) (views v.items))) → OnOk r (new ≡ old ++ cells (apply (values_of b) (view t)))
   symbol_cells old one new n r many e h =
       let ts = apply_all (values_of b) (views v.items) in
-      let c = counted v.items in
+      let c = count-views v.items in
       let same = as_many b (views v.items) in
       let head : 65536 * f + count ts + 1 ≡ 65536 * f + n + 1 = omega (arith, many, c, same) in
       let all : cells (apply (values_of b) (view t)) ≡ (65536 * f + n + 1) ∷ all_cells ts = ap cells whole ∙ ap (λ z. z ∷ all_cells ts) head in

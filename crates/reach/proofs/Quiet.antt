@@ -1,5 +1,5 @@
 -- Steps of a term ask for no list where no rule with the root of a part has conditions.
-use Rattle.std.proofs.Common.{◌≡◌, ℕ, zero, suc, ◌+◌, ◌≤◌, true, nat_eq, eqb-true, vec_len, List, [], ◌∷◌, if◌then◌else◌, length, map, option_to_list, Option, None, Some, option_and_then, Vec, Global, refl, sym, ap, ◌∙◌, subst, arith}
+use Rattle.std.proofs.Common.{◌≡◌, ℕ, zero, suc, ◌≤◌, true, nat_eq, eqb-true, vec_len, List, [], ◌∷◌, if◌then◌else◌, length, map, option_to_list, Option, None, Some, option_and_then, Vec, Global, refl, sym, ap, ◌∙◌, subst, arith}
 use Rattle.std.specs.FinMap.{empty}
 use Rattle.rewriting.specs.Terms as math
 use Rattle.rewriting.specs.Terms.{Terms, var, app, nil, cons}
@@ -7,15 +7,14 @@ use Rattle.rewriting.specs.Positions.{Position, positions, subterm, argument, ar
 use Rattle.rewriting.specs.Rules.{Condition, Rule, System, rule_at}
 use Rattle.rewriting.specs.Systems.{IsSystem}
 use Rattle.rewriting.specs.Tests.{match_onto, is_same}
-use Rattle.cc_count.specs.Counts.{Counts, Spends}
+use Rattle.cc_count.specs.Counts.{Counts}
 use Rattle.cc_count.proofs.Spending.{spends_same}
 use Rattle.rule_index.specs.Roots.{rules_at}
 use Rattle.reach_lists.specs.Laws.{EachOf}
 use Rattle.reach_lists.specs.Sites.{Site, rule_site, hypothesis_site, rule_sites, hypothesis_sites, sites_of_part, sites_at, sites}
 use Rattle.reach_lists.specs.Solutions as lists
-use Rattle.reach_lists.specs.Lists.{total, with_terms, condition_list, condition_cost, successors, asked_from, asked_at, unconditional}
+use Rattle.reach_lists.specs.Lists.{total, condition_list, condition_cost, successors, asked_from, asked_at, unconditional}
 use Rattle.reach_lists.proofs.Each.{each_append, each_map, each_any, each_flat_map, each_of_option, each_if}
-use Rattle.reach_lists.proofs.Equations.{no_cost}
 use Rattle.term_core.specs.RuleView.{rule_view, condition_view}
 use Rattle.term_core.specs.View.{view, views}
 use Rattle.term_core.specs.declared.systems.Cond.{Cond}
@@ -23,12 +22,12 @@ use Rattle.term_core.specs.declared.systems.Rule as program
 use Rattle.term_core.specs.declared.terms.Term.{Term}
 use Rattle.term_core.specs.declared.terms.Term.TheVariants.{Fun}
 use Rattle.term_core.proofs.Views.{view-Fun}
-use Rattle.reach.specs.Offers.{added}
+use Rattle.reach.specs.Offers.{TakesNone}
 use Rattle.reach.specs.Quiet.{IsWithoutConditions, IsBare, IsQuiet, AreQuiet}
 use Rattle.reach.specs.Walks.{maybe_rule}
 use Rattle.reach.proofs.Idle.{none_of_each}
 use Rattle.reach.proofs.Offered.{nothing_when_full}
-use Rattle.reach.proofs.Searching.{no_prices}
+use Rattle.reach.proofs.Following.{zero_price}
 use Rattle.reach.proofs.Walks.{rules_found}
 
 -- a rule without conditions
@@ -110,10 +109,10 @@ module _ (sys : System) (hyps : List Condition) (depth : ℕ) where
   quiet_free t s h = ap (total price) (quiet_asks sys hyps (condition_list sys hyps depth) s t h)
 
   pub shallow_free : (t : math.Term) → depth ≡ 0 → total price (asked t) ≡ 0
-  shallow_free t e = no_prices price (λ t. ap (λ d. condition_cost sys hyps d t) e ∙ no_cost sys hyps t) (asked t)
+  shallow_free t e = zero_price sys hyps depth (asked t) e
 
   pub over_offered : (u : lists.Reached) (l : List lists.Reached) (a : Counts) → 2000 ≤ length l → total price (asked u.term) ≡ 0
-      → (l ≡ with_terms l (successors sys hyps (condition_list sys hyps depth) u)) × Spends a (added l (successors sys hyps (condition_list sys hyps depth) u) + total price (asked u.term)) a
+      → TakesNone l (successors sys hyps (condition_list sys hyps depth) u) (total price (asked u.term)) a
   over_offered u l a full free =
       let h = nothing_when_full l (successors sys hyps (condition_list sys hyps depth) u) a full in
       (h.0, spends_same a a _ _ (omega (arith, free)) h.1)

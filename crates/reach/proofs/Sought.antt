@@ -1,13 +1,13 @@
 -- The first of solutions that are followed, part by part.
-use Rattle.std.proofs.Common.{◌≡◌, ℕ, ◌+◌, ◌-◌, ◌≤◌, List, [], ◌∷◌, ◌++◌, flat_map, option_to_list, Option, None, Some, Result, Ok, Err, OnOk, refl, sym, ap, ap₂, ◌∙◌, arith}
+use Rattle.std.proofs.Common.{◌≡◌, ℕ, ◌+◌, ◌-◌, ◌≤◌, List, [], ◌∷◌, ◌++◌, flat_map, Option, None, Some, Result, Ok, Err, OnOk, refl, sym, ap, ap₂, ◌∙◌, arith}
 use Rattle.rewriting.specs.Terms as math
-use Rattle.rewriting.specs.Rules.{Condition, System}
+use Rattle.rewriting.specs.Rules.{Condition}
 use Rattle.cc_count.specs.Counts.{Counts, Spends}
 use Rattle.cc_count.proofs.Spending.{spends_none, spends_same}
 use Rattle.rewriting.specs.Substitutions.{Bindings}
 use Rattle.origins.specs.declared.Origin.{Origin}
-use Rattle.reach_lists.specs.Solutions.{Reached, Solution, extensions, starts, extended, solutions, asked}
-use Rattle.reach_lists.specs.Lists.{total, condition_list, condition_cost, reach_list, reach_cost, unconditional}
+use Rattle.reach_lists.specs.Solutions.{Reached, Solution, starts, solutions, asked}
+use Rattle.reach_lists.specs.Lists.{total, reach_list, reach_cost, unconditional}
 use Rattle.solution_paths.specs.Paths.{followed, asked_on_paths}
 use Rattle.solution_paths.proofs.Totals.{total-append}
 use Rattle.solution_paths.proofs.Following.{are_followed, cost_the_same}
@@ -15,13 +15,14 @@ use Rattle.reach.specs.declared.listed.ReachStop.{ReachStop}
 use Rattle.flatterm.specs.Work.{HasRisen}
 use Rattle.flatterm.proofs.Rising.{risen_on}
 use Rattle.reach.proofs.Counted.{risen_less}
+use Rattle.reach.specs.declared.sites.Search.{Search}
 use Rattle.reach.specs.Costs.{Costs}
+use Rattle.reach.specs.Follows.{behind, asked_behind}
+use Rattle.reach.specs.Ready.{hyps_of, inner, price}
 use Rattle.reach.specs.SolutionView.{first_of, or_first}
-use Rattle.reach.proofs.Offered.{costs_to}
 use Rattle.reach.proofs.Paths.{solved}
 use Rattle.reach.proofs.Paying.{paying_begins, paying_goes_on, last_part}
-use Rattle.reach.proofs.Following.{none_at_zero, zero_price, whole_cost, found_one_by_one}
-use Rattle.reach.proofs.Stopping.{start_extensions}
+use Rattle.reach.proofs.Following.{zero_followed, zero_price, all_behind, price_behind}
 
 or_first-append : (o : Option Solution) (xs ys : List Solution) → or_first o (xs ++ ys) ≡ or_first (or_first o xs) ys
 or_first-append (Some s) xs ys = refl
@@ -52,52 +53,24 @@ pub later_risen : (r : Result (Unit {0}) ReachStop) (a b c : ℕ) → HasRisen a
 later_risen (Ok x) a b c h k = risen_later a b c h k
 later_risen (Err e) a b c h k = k
 
--- the same conditions
-pub same_sought : (inner : math.Term → List Reached) (price : math.Term → ℕ) (cs ds : List Condition) (s : Solution) (o n : Option Solution) (a b : Counts) (r : Result (Unit {0}) ReachStop) → ds ≡ cs
-    → Costs (λ _. n ≡ or_first o (followed inner cs s)) (total price (asked_on_paths inner cs s)) a b r → Costs (λ _. n ≡ or_first o (followed inner ds s)) (total price (asked_on_paths inner ds s)) a b r
-same_sought inner price cs ds s o n a b r e h =
-    costs_to (λ _. n ≡ or_first o (followed inner cs s)) (λ _. n ≡ or_first o (followed inner ds s)) (total price (asked_on_paths inner cs s)) (total price (asked_on_paths inner ds s)) a b r
-    (ap (λ z. total price (asked_on_paths inner z s)) e) (λ _ k. k ∙ ap (λ z. or_first o (followed inner z s)) (sym e)) h
-
 -- at depth 0 nothing is found, and nothing is paid
-pub zero_sought : (sys : System) (hyps : List Condition) (depth : ℕ) (cs : List Condition) (c : Condition) (rest : List Condition) (s : Solution) (o : Option Solution) (a : Counts) → depth ≡ 0 → cs ≡ c ∷ rest
-    → (o ≡ or_first o (followed (condition_list sys hyps depth) cs s)) × Spends a (total (condition_cost sys hyps depth) (asked_on_paths (condition_list sys hyps depth) cs s)) a
-zero_sought sys hyps depth cs c rest s o a e split =
-    let inner = condition_list sys hyps depth in
-    let none : followed inner cs s ≡ [] =
-    ap (λ z. followed inner z s) split ∙ ap (flat_map (followed inner rest)) (none_at_zero sys hyps depth (λ _. []) cs c rest s e split) in
-    let free = zero_price sys hyps depth (λ _. []) cs c rest s e split in
+pub zero_sought : (self : Search) (cs : List Condition) (c : Condition) (rest : List Condition) (s : Solution) (o : Option Solution) (a : Counts) → self.depth ≡ 0 → cs ≡ c ∷ rest
+    → (o ≡ or_first o (followed (inner self) cs s)) × Spends a (total (price self) (asked_on_paths (inner self) cs s)) a
+zero_sought self cs c rest s o a e split =
+    let none = zero_followed self.sys.now (hyps_of self) self.depth cs c rest s e split in
+    let free = zero_price self.sys.now (hyps_of self) self.depth (asked_on_paths (inner self) cs s) e in
     (none_more o ∙ ap (or_first o) (sym none), spends_same a a 0 _ (omega (arith, free)) (spends_none a))
 
 -- the list for one condition, and what its terms go on to
-module _ (sys : System) (hyps : List Condition) (depth : ℕ) (c : Condition) (cs : List Condition) (s : Solution) (t : math.Term) (deep : depth ≡ 0 → ⊥) (start : t ∷ [] ≡ starts c s) where
-  abbrev inner : math.Term → List Reached
-  inner = condition_list sys hyps depth
-
-  abbrev price : math.Term → ℕ
-  price = condition_cost sys hyps depth
-
-  pub list_price : reach_cost sys hyps 5 (depth - 1) t ≤ total price (asked_on_paths inner (c ∷ cs) s)
-  list_price = let e = whole_cost sys hyps depth (λ _. []) c cs s t deep start in omega (arith, e)
-
+module _ (self : Search) (c : Condition) (cs : List Condition) (s : Solution) (t : math.Term) (deep : self.depth ≡ 0 → ⊥) (start : t ∷ [] ≡ starts c s) where
   pub condition_sought : (o n : Option Solution) (ws : List Reached) (a b d : Counts) (r : Result (Unit {0}) ReachStop)
-      → ws ≡ reach_list sys hyps 5 (depth - 1) t → Spends a (reach_cost sys hyps 5 (depth - 1) t) b
-      → Costs (λ _. n ≡ or_first o (flat_map (λ w. flat_map (followed inner cs) (option_to_list (extended c s w))) ws))
-      (total price (flat_map (λ w. flat_map (asked_on_paths inner cs) (option_to_list (extended c s w))) ws)) b d r
-      → Costs (λ _. n ≡ or_first o (followed inner (c ∷ cs) s)) (total price (asked_on_paths inner (c ∷ cs) s)) a d r
+      → ws ≡ reach_list self.sys.now (hyps_of self) 5 (self.depth - 1) t → Spends a (reach_cost self.sys.now (hyps_of self) 5 (self.depth - 1) t) b
+      → Costs (λ _. n ≡ or_first o (flat_map (behind self c cs s) ws)) (total (price self) (flat_map (asked_behind self c cs s) ws)) b d r
+      → Costs (λ _. n ≡ or_first o (followed (inner self) (c ∷ cs) s)) (total (price self) (asked_on_paths (inner self) (c ∷ cs) s)) a d r
   condition_sought o n ws a b d r is paid h =
-      let found = start_extensions sys hyps depth c s t deep start ws is in
-      let solved : flat_map (λ w. flat_map (followed inner cs) (option_to_list (extended c s w))) ws ≡ followed inner (c ∷ cs) s =
-      found_one_by_one (followed inner cs) (extended c s) ws ∙ ap (flat_map (followed inner cs)) found in
-      let asked : flat_map (λ w. flat_map (asked_on_paths inner cs) (option_to_list (extended c s w))) ws ≡ flat_map (asked_on_paths inner cs) (extensions inner c s) =
-      found_one_by_one (asked_on_paths inner cs) (extended c s) ws ∙ ap (flat_map (asked_on_paths inner cs)) found in
-      let made = ap (total price) asked in
-      let e = whole_cost sys hyps depth (λ _. []) c cs s t deep start in
-      last_part (λ _. n ≡ or_first o (flat_map (λ w. flat_map (followed inner cs) (option_to_list (extended c s w))) ws)) (λ _. n ≡ or_first o (followed inner (c ∷ cs) s))
-      (total price (asked_on_paths inner (c ∷ cs) s)) a b d
-      (total price (flat_map (λ w. flat_map (asked_on_paths inner cs) (option_to_list (extended c s w))) ws)) r
-      (paying_goes_on _ a a b (reach_cost sys hyps 5 (depth - 1) t) _ _ (omega (arith, made, e)) (paying_begins _ a) paid)
-      (λ x k. k ∙ ap (or_first o) solved) h
+      let e = price_behind self c cs s t deep start ws is in
+      last_part (λ _. n ≡ or_first o (flat_map (behind self c cs s) ws)) (λ _. n ≡ or_first o (followed (inner self) (c ∷ cs) s)) _ a b d _ r
+      (paying_goes_on _ a a b _ _ _ (omega (arith, e)) (paying_begins _ a) paid) (λ x k. k ∙ ap (or_first o) (all_behind self c cs s t deep start ws is)) h
 
 -- a path that begins
 pub begun : (v w : Bindings) (os : List Origin) → v ≡ w → os ≡ [] → solved v os ≡ unconditional w

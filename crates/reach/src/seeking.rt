@@ -1,22 +1,21 @@
 //! The first solution of conditions: each path is followed to its end, since all lists are paid, and the first that meets all conditions is kept.
-ghost use Rattle.std.specs.Prelude.{◌≡◌, ◌<◌, ◌∷◌, [], IfOk, OnOk, option_map, option_to_list, flat_map, map};
+ghost use Rattle.std.specs.Prelude.{◌≡◌, ◌<◌, ◌∷◌, [], OnOk, option_map, map};
 ghost use Rattle.rewriting.specs.Terms as math;
 ghost use Rattle.certificates.specs.Sizes.{DoConditionsFit};
 ghost use Rattle.reach_lists.specs.Lists.{total, condition_list, condition_cost, unconditional};
 ghost use Rattle.reach_lists.specs.Solutions as lists;
-ghost use Rattle.solution_paths.specs.Paths.{followed, asked_on_paths};
 ghost use Rattle.flatterm.specs.Work.{HasRisen};
 ghost use Rattle.term_core.specs.View.{view};
 ghost use Rattle.term_core.specs.RuleView.{condition_view};
 ghost use Rattle.reach.specs.Costs.{Costs};
 ghost use Rattle.reach.specs.EntryView.{entry_view, table_view};
-ghost use Rattle.reach.specs.KeptView.{AreKept};
 ghost use Rattle.reach.specs.PathView.{path_view, IsSamePath};
-ghost use Rattle.reach.specs.Ready.{IsReady};
+ghost use Rattle.reach.specs.Ready.{IsReady, HasKept, inner, price};
+ghost use Rattle.reach.specs.Seeks.{Seeks, SeeksAll, SeeksOne};
 ghost use Rattle.reach.specs.SolutionView.{solution_view, first_of, IsSought};
 
-use crate::kept::Kept;
 use crate::listed::{Entry, ReachStop};
+use crate::means::Means;
 use crate::sites::{Search, have_conditions};
 use crate::solutions::{Path, start_of};
 use cc_count::Budget;
@@ -53,101 +52,76 @@ impl<'a> Search<'a> {
     #[cycle(seek)]
     fn seek(
         &self,
-        alloc: Global,
+        means: &mut Means,
         conds: &[Cond],
         path: &mut Path,
         first: &mut Option<Solution>,
-        depth: u32,
-        kept: &mut Kept,
-        budget: &mut Budget,
-        work: &mut Work,
     ) -> Result<(), ReachStop>
-        requires ready { IsReady self.now.sys.now self.now.rules.now self.now.hyps.now self.now.idle }
-        requires store { AreKept self.now.sys.now (map condition_view self.now.hyps.now) kept.old.lists.entries }
+        requires ready { IsReady self.now }
+        requires store { HasKept self.now means.old }
         requires fit { DoConditionsFit (map condition_view conds.now) }
-        ensures found { Costs (λ _. IsSought first.old first.new (followed (condition_list self.now.sys.now (map condition_view self.now.hyps.now) depth) (map condition_view conds.now) (path_view path.old))) (total (condition_cost self.now.sys.now (map condition_view self.now.hyps.now) depth) (asked_on_paths (condition_list self.now.sys.now (map condition_view self.now.hyps.now) depth) (map condition_view conds.now) (path_view path.old))) budget.old budget.new result }
+        ensures found { Seeks self.now (map condition_view conds.now) (path_view path.old) first.old first.new means.old.budget means.new.budget result }
         ensures restored { OnOk result (IsSamePath path.old path.new) }
-        ensures never_less { OnOk result (HasRisen work.old 0 work.new) }
-        ensures keeps { OnOk result (AreKept self.now.sys.now (map condition_view self.now.hyps.now) kept.new.lists.entries) }
+        ensures never_less { OnOk result (HasRisen means.old.work 0 means.new.work) }
+        ensures keeps { OnOk result (HasKept self.now means.new) }
     {
         let [cond, later @ ..] = conds else {
-            return Ok(keep_first(alloc, path, first)?);
+            return Ok(keep_first(means.alloc, path, first)?);
         };
-        if depth == 0 {
+        if self.depth == 0 {
             return Ok(());
         }
-        self.seek_condition(alloc, cond, later, path, first, depth, kept, budget, work)
+        self.seek_condition(means, cond, later, path, first)
     }
 
     // The same, where a condition is to be met first.
     #[cycle(seek)]
     fn seek_condition(
         &self,
-        alloc: Global,
+        means: &mut Means,
         cond: &Cond,
         later: &[Cond],
         path: &mut Path,
         first: &mut Option<Solution>,
-        depth: u32,
-        kept: &mut Kept,
-        budget: &mut Budget,
-        work: &mut Work,
     ) -> Result<(), ReachStop>
-        requires ready { IsReady self.now.sys.now self.now.rules.now self.now.hyps.now self.now.idle }
-        requires store { AreKept self.now.sys.now (map condition_view self.now.hyps.now) kept.old.lists.entries }
+        requires ready { IsReady self.now }
+        requires store { HasKept self.now means.old }
         requires left { math.Fits (view cond.now.left) }
         requires fit { DoConditionsFit (map condition_view later.now) }
-        requires deep { 0 < depth }
-        ensures found { Costs (λ _. IsSought first.old first.new (followed (condition_list self.now.sys.now (map condition_view self.now.hyps.now) depth) (condition_view cond.now ∷ map condition_view later.now) (path_view path.old))) (total (condition_cost self.now.sys.now (map condition_view self.now.hyps.now) depth) (asked_on_paths (condition_list self.now.sys.now (map condition_view self.now.hyps.now) depth) (condition_view cond.now ∷ map condition_view later.now) (path_view path.old))) budget.old budget.new result }
+        requires deep { 0 < self.now.depth }
+        ensures found { Seeks self.now (condition_view cond.now ∷ map condition_view later.now) (path_view path.old) first.old first.new means.old.budget means.new.budget result }
         ensures restored { OnOk result (IsSamePath path.old path.new) }
-        ensures never_less { OnOk result (HasRisen work.old 0 work.new) }
-        ensures keeps { OnOk result (AreKept self.now.sys.now (map condition_view self.now.hyps.now) kept.new.lists.entries) }
+        ensures never_less { OnOk result (HasRisen means.old.work 0 means.new.work) }
+        ensures keeps { OnOk result (HasKept self.now means.new) }
     {
-        let Some(start) = start_of(alloc, cond, path)? else {
+        let Some(start) = start_of(means.alloc, cond, path)? else {
             return Ok(());
         };
-        let inner = self.list_for(alloc, start, depth - 1, kept, budget, work)?;
-        self.seek_entries(
-            alloc,
-            cond,
-            later,
-            path,
-            first,
-            &inner.entries,
-            depth,
-            kept,
-            budget,
-            work,
-        )
+        let inner = self.list_for(means, start)?;
+        self.seek_entries(means, cond, later, path, first, &inner.entries)
     }
 
     // The same, where the condition is met by the terms of its list.
     #[cycle(seek)]
     fn seek_entries(
         &self,
-        alloc: Global,
+        means: &mut Means,
         cond: &Cond,
         later: &[Cond],
         path: &mut Path,
         first: &mut Option<Solution>,
         entries: &[Entry],
-        depth: u32,
-        kept: &mut Kept,
-        budget: &mut Budget,
-        work: &mut Work,
     ) -> Result<(), ReachStop>
-        requires ready { IsReady self.now.sys.now self.now.rules.now self.now.hyps.now self.now.idle }
-        requires store { AreKept self.now.sys.now (map condition_view self.now.hyps.now) kept.old.lists.entries }
+        requires ready { IsReady self.now }
+        requires store { HasKept self.now means.old }
         requires fit { DoConditionsFit (map condition_view later.now) }
-        ensures found { Costs (λ _. IsSought first.old first.new (flat_map (λ w. flat_map (followed (condition_list self.now.sys.now (map condition_view self.now.hyps.now) depth) (map condition_view later.now)) (option_to_list (lists.extended (condition_view cond.now) (path_view path.old) w))) (table_view entries.now))) (total (condition_cost self.now.sys.now (map condition_view self.now.hyps.now) depth) (flat_map (λ w. flat_map (asked_on_paths (condition_list self.now.sys.now (map condition_view self.now.hyps.now) depth) (map condition_view later.now)) (option_to_list (lists.extended (condition_view cond.now) (path_view path.old) w))) (table_view entries.now))) budget.old budget.new result }
+        ensures found { SeeksAll self.now (condition_view cond.now) (map condition_view later.now) (path_view path.old) (table_view entries.now) first.old first.new means.old.budget means.new.budget result }
         ensures restored { OnOk result (IsSamePath path.old path.new) }
-        ensures never_less { OnOk result (HasRisen work.old 0 work.new) }
-        ensures keeps { OnOk result (AreKept self.now.sys.now (map condition_view self.now.hyps.now) kept.new.lists.entries) }
+        ensures never_less { OnOk result (HasRisen means.old.work 0 means.new.work) }
+        ensures keeps { OnOk result (HasKept self.now means.new) }
     {
         'entries: for w in entries {
-            self.seek_entry(
-                alloc, cond, later, path, first, w, depth, kept, budget, work,
-            )?;
+            self.seek_entry(means, cond, later, path, first, w)?;
         }
         Ok(())
     }
@@ -156,32 +130,51 @@ impl<'a> Search<'a> {
     #[cycle(seek)]
     fn seek_entry(
         &self,
-        alloc: Global,
+        means: &mut Means,
         cond: &Cond,
         later: &[Cond],
         path: &mut Path,
         first: &mut Option<Solution>,
         w: &Entry,
-        depth: u32,
-        kept: &mut Kept,
-        budget: &mut Budget,
-        work: &mut Work,
     ) -> Result<(), ReachStop>
-        requires ready { IsReady self.now.sys.now self.now.rules.now self.now.hyps.now self.now.idle }
-        requires store { AreKept self.now.sys.now (map condition_view self.now.hyps.now) kept.old.lists.entries }
+        requires ready { IsReady self.now }
+        requires store { HasKept self.now means.old }
         requires fit { DoConditionsFit (map condition_view later.now) }
-        ensures found { Costs (λ _. IsSought first.old first.new (flat_map (followed (condition_list self.now.sys.now (map condition_view self.now.hyps.now) depth) (map condition_view later.now)) (option_to_list (lists.extended (condition_view cond.now) (path_view path.old) (entry_view w.now))))) (total (condition_cost self.now.sys.now (map condition_view self.now.hyps.now) depth) (flat_map (asked_on_paths (condition_list self.now.sys.now (map condition_view self.now.hyps.now) depth) (map condition_view later.now)) (option_to_list (lists.extended (condition_view cond.now) (path_view path.old) (entry_view w.now))))) budget.old budget.new result }
+        ensures found { SeeksOne self.now (condition_view cond.now) (map condition_view later.now) (path_view path.old) (entry_view w.now) first.old first.new means.old.budget means.new.budget result }
         ensures restored { OnOk result (IsSamePath path.old path.new) }
-        ensures never_less { OnOk result (HasRisen work.old 0 work.new) }
-        ensures keeps { OnOk result (AreKept self.now.sys.now (map condition_view self.now.hyps.now) kept.new.lists.entries) }
+        ensures never_less { OnOk result (HasRisen means.old.work 0 means.new.work) }
+        ensures keeps { OnOk result (HasKept self.now means.new) }
     {
         let (bound, met) = (path.trail.len(), path.by.len());
-        if !path.enter(alloc, cond, w)? {
+        if !path.enter(means.alloc, cond, w)? {
             return Ok(());
         }
-        self.seek(alloc, later, path, first, depth, kept, budget, work)?;
+        self.seek(means, later, path, first)?;
         path.leave(bound, met);
         Ok(())
+    }
+
+    // The first solution that extends some values.
+    fn first(
+        &self,
+        means: &mut Means,
+        conds: &[Cond],
+        values: &Subst,
+    ) -> Result<Option<Solution>, ReachStop>
+        requires ready { IsReady self.now }
+        requires store { HasKept self.now means.old }
+        requires fit { DoConditionsFit (map condition_view conds.now) }
+        ensures found { Costs (λ o. option_map solution_view o ≡ first_of (lists.solutions (inner self.now) (map condition_view conds.now) (unconditional values.now ∷ []))) (total (price self.now) (lists.asked (inner self.now) (map condition_view conds.now) (unconditional values.now ∷ []))) means.old.budget means.new.budget result }
+        ensures never_less { OnOk result (HasRisen means.old.work 0 means.new.work) }
+    {
+        let mut path = Path {
+            values: values.try_clone(means.alloc)?,
+            trail: Vec::new(means.alloc),
+            by: Vec::new(means.alloc),
+        };
+        let mut first = None;
+        self.seek(means, conds, &mut path, &mut first)?;
+        Ok(first)
     }
 }
 
@@ -207,16 +200,10 @@ pub fn first_solution(
         rules,
         hyps: &[],
         idle: have_conditions(rules),
+        depth: cond_depth,
     };
-    let mut path = Path {
-        values: values.try_clone(alloc)?,
-        trail: Vec::new(alloc),
-        by: Vec::new(alloc),
-    };
-    let mut kept = Kept::new(alloc);
-    let mut first = None;
-    search.seek(
-        alloc, conds, &mut path, &mut first, cond_depth, &mut kept, budget, work,
-    )?;
-    Ok(first)
+    let mut means = Means::take(alloc, budget, work);
+    let found = search.first(&mut means, conds, values);
+    means.give_back(budget, work);
+    found
 }

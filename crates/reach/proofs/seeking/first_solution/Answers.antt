@@ -1,31 +1,23 @@
-use Rattle.std.proofs.Common.{[], map, sym, ◌∙◌}
-use Rattle.cc_count.proofs.Spending.{spends_same}
-use Rattle.reach_lists.specs.Lists.{condition_list, condition_cost}
+use Rattle.std.proofs.Common.{◌≡◌, [], ◌∷◌, option_map, OnOk, map, sym, subst₂}
+use Rattle.flatterm.specs.Work.{HasRisen}
+use Rattle.reach_lists.specs.Lists.{condition_list, condition_cost, total, unconditional}
+use Rattle.reach_lists.specs.Solutions as lists
 use Rattle.term_core.specs.RuleView.{condition_view}
-use Rattle.reach.specs.PathView.{path_view}
-use Rattle.reach.specs.declared.solutions.Path.{Path}
-use Rattle.reach.proofs.Paying.{paying_begins}
-use Rattle.reach.proofs.Sought.{begun, first_sought, all_price, first_part}
-use Rattle.reach.proofs.Stopping.{err_part}
+use Rattle.reach.specs.Costs.{Costs}
+use Rattle.reach.specs.SolutionView.{solution_view, first_of}
 use Rattle.reach.proofs.seeking.first_solution.Goals as goal
 
-pub seek-requires-clause-store : goal.seek-requires-clause-store
-seek-requires-clause-store c = c.new-kept.ensures c.args.sys.now []
-
-pub returns-in_err-seek-clause-found : goal.returns-in_err-seek-clause-found
-returns-in_err-seek-clause-found c =
-    let inner = condition_list c.args.sys.now [] c.args.cond_depth in
-    let path : Path = record { values = c.in_ok-try_clone.field-0; trail = c.new.result; by = c.new-2.result } in
-    let start = begun c.in_ok-try_clone.field-0 c.args.values.now c.new-2.result.items c.in_ok-try_clone.ensures c.new-2.ensures.items in
-    err_part _ _ _ _ _ _ _ _ _ (first_part inner (map condition_view c.args.conds.now) (path_view path) c.args.values.now start (condition_cost c.args.sys.now [] c.args.cond_depth))
-    (paying_begins _ c.args.budget.now) c.from_residual-in_err-seek.ensures.0 c.from_residual-in_err-seek.ensures.1 c.in_err-seek.ensures.found
+pub first-found-requires-clause-store : goal.first-found-requires-clause-store
+first-found-requires-clause-store c = c.take-means.ensures.kept c.args.sys.now []
 
 pub returns-clause-found : goal.returns-clause-found
 returns-clause-found c =
     let inner = condition_list c.args.sys.now [] c.args.cond_depth in
-    let path : Path = record { values = c.in_ok-try_clone.field-0; trail = c.new.result; by = c.new-2.result } in
-    let start = begun c.in_ok-try_clone.field-0 c.args.values.now c.new-2.result.items c.in_ok-try_clone.ensures c.new-2.ensures.items in
-    let price = all_price inner (map condition_view c.args.conds.now) (path_view path) c.args.values.now start (condition_cost c.args.sys.now [] c.args.cond_depth) in (
-      c.in_ok-seek.ensures.found.0 ∙ first_sought inner (map condition_view c.args.conds.now) (path_view path) c.args.values.now start,
-      spends_same c.args.budget.now c.seek.new.budget _ _ (sym price) c.in_ok-seek.ensures.found.1,
-    )
+    let cs = map condition_view c.args.conds.now in
+    let s = unconditional c.args.values.now ∷ [] in
+    let cost = total (condition_cost c.args.sys.now [] c.args.cond_depth) (lists.asked inner cs s) in
+    subst₂ (λ a b. Costs (λ o. option_map solution_view o ≡ first_of (lists.solutions inner cs s)) cost a b c.first-found.result)
+    c.take-means.ensures.budget (sym c.give_back.ensures.budget) c.first-found.ensures.found
+
+pub returns-clause-never_less : goal.returns-clause-never_less
+returns-clause-never_less c = subst₂ (λ a b. OnOk c.first-found.result (HasRisen a 0 b)) c.take-means.ensures.work (sym c.give_back.ensures.work) c.first-found.ensures.never_less

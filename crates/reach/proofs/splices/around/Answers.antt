@@ -9,38 +9,38 @@ use Rattle.reach.proofs.splices.around.Goals as goal
 pub size-requires : goal.size-requires
 size-requires c =
     let q = c.requires.place in
-    subterm_fits (view c.args.spot.place.from.now.term) c.args.spot.pos.now (view c.args.spot.place.part.now) q.stands.found q.fits
+    subterm_fits (view c.args.place.from.now.term) c.args.place.pos.now (view c.args.place.part.now) q.stands.found q.fits
 
 pub overflow_add-behind : goal.overflow_add-behind
 overflow_add-behind c =
-    let q = c.args.spot.place in
+    let q = c.args.place in
     let is = c.requires.place in
     let few = key_few (view q.from.now.term) q.key.now is.key is.fits in
-    let low = behind_low (view q.from.now.term) q.key.now is.key q.index c.args.spot.pos.now (view q.part.now) is.stands in
+    let low = behind_low (view q.from.now.term) q.key.now is.key q.index c.args.place.pos.now (view q.part.now) is.stands in
     let nodes = c.size.ensures in
     omega (arith, few, low, nodes)
 
 pub slice_bounds-front-end : goal.slice_bounds-front-end
 slice_bounds-front-end c =
-    let q = c.args.spot.place in
+    let q = c.args.place in
     let is = c.requires.place in
-    let low = behind_low (view q.from.now.term) q.key.now is.key q.index c.args.spot.pos.now (view q.part.now) is.stands in
+    let low = behind_low (view q.from.now.term) q.key.now is.key q.index c.args.place.pos.now (view q.part.now) is.stands in
     sym (length-take-le (q.index) q.key.now (omega (arith, low)))
 
 pub offset_bounds-place-behind : goal.offset_bounds-place-behind
 offset_bounds-place-behind c =
-    let q = c.args.spot.place in
+    let q = c.args.place in
     let is = c.requires.place in
     let few = key_few (view q.from.now.term) q.key.now is.key is.fits in
-    let low = behind_low (view q.from.now.term) q.key.now is.key q.index c.args.spot.pos.now (view q.part.now) is.stands in
+    let low = behind_low (view q.from.now.term) q.key.now is.key q.index c.args.place.pos.now (view q.part.now) is.stands in
     let nodes = c.size.ensures in
     omega (arith, few, low, nodes)
 
 pub slice_bounds-back-count : goal.slice_bounds-back-count
 slice_bounds-back-count c =
-    let q = c.args.spot.place in
+    let q = c.args.place in
     let is = c.requires.place in
-    let low = behind_low (view q.from.now.term) q.key.now is.key q.index c.args.spot.pos.now (view q.part.now) is.stands in
+    let low = behind_low (view q.from.now.term) q.key.now is.key q.index c.args.place.pos.now (view q.part.now) is.stands in
     let nodes = c.size.ensures in
     omega (arith, low, nodes)
 
@@ -49,10 +49,10 @@ slice_bounds-back-start c = slice_bounds-back-count c
 
 pub returns-clause-few : goal.returns-clause-few
 returns-clause-few c =
-    let q = c.args.spot.place in
+    let q = c.args.place in
     let is = c.requires.place in
     let few = key_few (view q.from.now.term) q.key.now is.key is.fits in
-    let low = behind_low (view q.from.now.term) q.key.now is.key q.index c.args.spot.pos.now (view q.part.now) is.stands in
+    let low = behind_low (view q.from.now.term) q.key.now is.key q.index c.args.place.pos.now (view q.part.now) is.stands in
     let nodes = c.size.ensures in
     let before = q.index in
     let behind = q.index + c.size.result in
@@ -63,9 +63,9 @@ returns-clause-few c =
 
 pub returns-clause-cells : goal.returns-clause-cells
 returns-clause-cells c u t e =
-    let q = c.args.spot.place in
+    let q = c.args.place in
     let is = c.requires.place in
     let front = take (q.index) q.key.now in
     let behind = q.index + c.size.result in
     let back = between_to_end q.key.now behind (length q.key.now) (le_refl (length q.key.now)) ∙ ap (λ n. drop (q.index + n) q.key.now) c.size.ensures in
-    ap (λ z. front ++ (cells u ++ z)) back ∙ key_of_replaced (view q.from.now.term) q.key.now is.key q.index c.args.spot.pos.now (view q.part.now) is.stands u t e
+    ap (λ z. front ++ (cells u ++ z)) back ∙ key_of_replaced (view q.from.now.term) q.key.now is.key q.index c.args.place.pos.now (view q.part.now) is.stands u t e
