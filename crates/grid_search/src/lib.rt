@@ -2,16 +2,18 @@
 #![tactic(auto)]
 
 mod entries;
+mod needs;
+mod prefix;
 mod walk;
 
 ghost use Rattle.std.specs.Prelude.{ℕ};
 ghost use Rattle.cc_count.specs.Counts.{Spends};
 ghost use Rattle.grid_search.specs.Answers.{GridAnswers};
 
+pub use crate::prefix::{PrefixJudge, check_prefix};
 use crate::walk::walk_grid;
 use cc_count::Budget;
 use cert_model::Linear;
-use linear_interp::PrefixJudge;
 use std::alloc::Global;
 use term_core::{NoMemory, System};
 use unravel::UnravelError;

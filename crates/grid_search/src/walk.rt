@@ -7,11 +7,10 @@ ghost use Rattle.cc_count.specs.Counts.{Spends};
 ghost use Rattle.grid_search.specs.Answers.{GridAnswers};
 ghost use Rattle.grid_search.specs.Walks.{HasComeTo, HasDoneWith, GoesOn, HasOneMore, PaidAnswers, VisitAnswers};
 
-use crate::GridSearch;
 use crate::entries::{advance, first_entry};
+use crate::{GridSearch, PrefixJudge};
 use cc_count::Budget;
 use cert_model::{Linear, LinearEntry};
-use linear_interp::PrefixJudge;
 use measure::Partial;
 use std::alloc::Global;
 use term_core::NoMemory;
