@@ -2,10 +2,12 @@ use Rattle.std.proofs.Common.{map, ◌∙◌, subst}
 use Rattle.cert_model.specs.CertificateView.{simp_view}
 use Rattle.quasi_space.specs.Measures.{pruned_measures}
 use Rattle.proof_spaces.specs.Proofs.{three_with_steps}
-use Rattle.portfolio.specs.Answers.{SearchesAll}
 use Rattle.portfolio.proofs.behind.search_last_system.Goals as goal
+use Rattle.search_answers.specs.Answers.{Searches}
+use Rattle.quasi_space.specs.Endings.{MayEndLast}
+use Rattle.portfolio.specs.StepAnswers.{behind_ending}
 
 pub returns-clause-searched : goal.returns-clause-searched
 returns-clause-searched c =
-    subst (λ s. SearchesAll (three_with_steps pruned_measures c.args.names.now (map simp_view c.args.steps.items) s) c.args.budget.now c.search_three_behind.new.budget c.search_three_behind.result)
+    subst (λ s. Searches behind_ending (MayEndLast (three_with_steps pruned_measures c.args.names.now (map simp_view c.args.steps.items) s)) c.args.budget.now c.search_three_behind.new.budget c.search_three_behind.result)
     (c.in_ok-lefts.ensures ∙ c.in_ok-indexed.ensures) c.search_three_behind.ensures.searched
