@@ -17,8 +17,8 @@ use Rattle.cert_model.specs.CertificateView.{linear_entry_view}
 use Rattle.cert_model.specs.declared.model.LinearEntry.{LinearEntry}
 use Rattle.unravel.specs.Answers.{IsUnraveled}
 use Rattle.unravel.specs.declared.Unraveled.{Unraveled}
-use Rattle.linear_interp.specs.Prefix.{HasPrefix}
-use Rattle.linear_interp.proofs.Extending.{prefix_start, next_prefix}
+use Rattle.grid_search.specs.Prefix.{HasPrefix}
+use Rattle.grid_search.proofs.Extending.{prefix_start, next_prefix}
 
 abbrev IsWithin : ℕ → Type 0
 IsWithin c = (1 ≤ c) × (c ≤ 1000000)

@@ -2,10 +2,10 @@
 ghost use Rattle.std.specs.Prelude.{◌≡◌, ◌+◌, [], IfOk, replicate};
 ghost use Rattle.term_core.specs.HeadView.{head_view};
 ghost use Rattle.cert_model.specs.CertificateView.{linear_entry_view};
-ghost use Rattle.linear_interp.specs.Prefix.{HasPrefix};
+ghost use Rattle.grid_search.specs.Prefix.{HasPrefix};
 
 use cert_model::LinearEntry;
-use linear_interp::check_prefix;
+use grid_search::check_prefix;
 use measure::Partial;
 use std::alloc::Global;
 use std::io;

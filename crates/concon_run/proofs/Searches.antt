@@ -10,12 +10,13 @@ use Rattle.term_core.specs.declared.terms.NoMemory.{NoMemory}
 use Rattle.cert_model.specs.CertificateView.{certificate_view}
 use Rattle.search_spaces.specs.Texts.{HasText}
 use Rattle.search_spaces.specs.Laws.{IsSearchable}
+use Rattle.search_answers.specs.Answers.{Searches, IfFound, IfNothing}
+use Rattle.portfolio.specs.Answers.{outcome_ending}
 use Rattle.proof_spaces.specs.Proofs.{proof_space, pruned_proof_space}
-use Rattle.proof_spaces.specs.Endings.{IsTooLittle}
+use Rattle.proof_spaces.specs.Endings.{IsTooLittle, MayProofEnd}
 use Rattle.proof_spaces.specs.Laws.{ProofSpacesAreSearchable, PrunedProofsAreProofs}
 use Rattle.portfolio.specs.declared.Outcome.{Outcome}
 use Rattle.portfolio.specs.declared.Outcome.TheVariants.{Found, Exhausted, Spent}
-use Rattle.portfolio.specs.Answers.{Proves, IfProved, IfExhausted}
 use Rattle.cops_names.specs.NameTable.{NameTable}
 use Rattle.cert_check.specs.Kinds.{verdict_of}
 use Rattle.run_parts.specs.Devices.{ShelfRun, HasFailed}
@@ -52,8 +53,9 @@ prove_once words file other a b (inr (number, e, h)) (inr (numeral, f, k)) = (cc
 
 -- how the search ended is what it answers; what is found shows what it is for
 module _ (names : NameTable) (sys : System) (law : IsSearchable sys (proof_space names sys)) (shows : (c : Certificate) → HasText names c → IsValid sys c → IsShown sys c (verdict_of c)) where
-  pub ended : (units : ℕ) (before after : Counts) → before.left ≡ units → (r : Result Outcome NoMemory) → Proves names sys before after r → IfProved r (HasText names)
-      → IfExhausted r (HoldsNone names sys) → SearchAnswers sys names units r
+  pub ended : (units : ℕ) (before after : Counts) → before.left ≡ units → (r : Result Outcome NoMemory) → Searches outcome_ending (MayProofEnd names sys) before after r
+      → IfFound outcome_ending r (HasText names)
+      → IfNothing outcome_ending r (HoldsNone names sys) → SearchAnswers sys names units r
   ended units before after all (Ok (Found c)) (paid, spends, (n, f, le)) text none =
       let valid = (law.searched.held (certificate_view c) n f).1 in
       (record { price = n; first = f; valid = valid }, shows (certificate_view c) text valid)

@@ -30,7 +30,9 @@ use Rattle.cert_check.specs.declared.Verdict.{Verdict}
 use Rattle.cc_count.specs.Counts.{Counts, Spends}
 use Rattle.search_spaces.specs.Entries.{entry_for}
 use Rattle.search_spaces.specs.Ortho.{ortho_space}
-use Rattle.portfolio.specs.Answers.{Proves, IfProved}
+use Rattle.search_answers.specs.Answers.{Searches, IfFound}
+use Rattle.proof_spaces.specs.Endings.{MayProofEnd}
+use Rattle.portfolio.specs.Answers.{outcome_ending}
 use Rattle.portfolio.specs.declared.Outcome.{Outcome}
 use Rattle.portfolio.specs.declared.Outcome.TheVariants.{Found, Exhausted, Spent}
 use Rattle.generated_systems.specs.Generated.{generated, generated_names}
@@ -86,24 +88,24 @@ never_refused_cert never names bytes c text bad.NoMemory other h = other refl
 
 -- a search that the first space has a certificate for, at a price within the budget
 module _ (names : NameTable) (sys : System) (before after : Counts) (o : Outcome) where
-  module _ (c : math.Certificate) (n : ℕ) (finds : (ortho_space names sys).Finds c n) (h : Proves names sys before after (Ok o)) where
+  module _ (c : math.Certificate) (n : ℕ) (finds : (ortho_space names sys).Finds c n) (h : Searches outcome_ending (MayProofEnd names sys) before after (Ok o)) where
     pub never_exhausted : o ≡ Exhausted → ⊥
-    never_exhausted e = go (subst (λ p. Proves names sys before after (Ok p)) e h)
+    never_exhausted e = go (subst (λ p. Searches outcome_ending (MayProofEnd names sys) before after (Ok p)) e h)
       where
-        go : Proves names sys before after (Ok Exhausted) → ⊥
+        go : Searches outcome_ending (MayProofEnd names sys) before after (Ok Exhausted) → ⊥
         go (paid, spends, (barren, costs)) = barren c n (inl (inl (inl finds)))
 
     pub never_spent : before.left ≡ 1000000 → n ≤ 1000000 → o ≡ Spent → ⊥
-    never_spent left enough e = go (subst (λ p. Proves names sys before after (Ok p)) e h)
+    never_spent left enough e = go (subst (λ p. Searches outcome_ending (MayProofEnd names sys) before after (Ok p)) e h)
       where
-        go : Proves names sys before after (Ok Spent) → ⊥
+        go : Searches outcome_ending (MayProofEnd names sys) before after (Ok Spent) → ⊥
         go (paid, spends, (all, less)) = let more = less.price n (inl (c, inl (inl (inl finds)))) in omega (arith, more)
 
   pub found_first : (found : Certificate) → o ≡ Found found → before.spent ≡ 0 → (spent : ℕ) → spent ≡ after.spent
-      → ((c : math.Certificate) (n : ℕ) → (ortho_space names sys).Finds c n → IfProved (Ok o) (λ d. (d ≡ c) × Spends before n after))
+      → ((c : math.Certificate) (n : ℕ) → (ortho_space names sys).Finds c n → IfFound outcome_ending (Ok o) (λ d. (d ≡ c) × Spends before n after))
       → (c : math.Certificate) (n : ℕ) → (ortho_space names sys).Finds c n → (certificate_view found ≡ c) × (spent ≡ n)
   found_first found e none spent is first c n finds =
-      let h = subst (λ p. IfProved (Ok p) (λ d. (d ≡ c) × Spends before n after)) e (first c n finds) in
+      let h = subst (λ p. IfFound outcome_ending (Ok p) (λ d. (d ≡ c) × Spends before n after)) e (first c n finds) in
       let all = h.1.spent in
       (h.0, omega (arith, all))
 

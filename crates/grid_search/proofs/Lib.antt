@@ -1,6 +1,11 @@
 pub mod Columns
+pub mod Completed
+pub mod Extending
 pub mod Extensions
+pub mod JudgedRules
+pub mod Needed
 pub mod Odometer
+pub mod Prefixes
 pub mod Standing
 pub mod Tried
 pub mod Turns

@@ -15,8 +15,8 @@ use Rattle.term_core.specs.HeadView.{head_view}
 use Rattle.term_core.specs.declared.systems.Head as program
 use Rattle.measure.specs.declared.Partial.{Partial}
 use Rattle.measure.specs.declared.Partial.TheVariants.{Unknown}
-use Rattle.linear_interp.specs.Prefix.{PrefixAnswers}
-use Rattle.linear_interp.proofs.Prefixes.{whole_prefix_good}
+use Rattle.grid_search.specs.Prefix.{PrefixAnswers}
+use Rattle.grid_search.proofs.Prefixes.{whole_prefix_good}
 use Rattle.cc_count.specs.Counts.{Counts}
 use Rattle.grid_search.specs.declared.walk.Seen.{Seen}
 use Rattle.grid_search.specs.declared.walk.Seen.TheVariants.{Good}

@@ -10,7 +10,7 @@ use Rattle.certificates.specs.Certificates.{LinearEntry, linear_measure}
 use Rattle.interpretations.specs.Linear.{Interpretation}
 use Rattle.interpretations.specs.Judgement.{good}
 use Rattle.interpretations.specs.Judged.{IsInterpretationJudged}
-use Rattle.linear_interp.specs.Prefix.{IsPrefix, IsAliveBefore}
+use Rattle.grid_search.specs.Prefix.{IsPrefix, IsAliveBefore}
 use Rattle.search_trees.specs.Trees.{IsBarrenBelow, IsFirstBelow, StopsBelow}
 use Rattle.search_trees.specs.Paths.{IsAtChild, HasWalked}
 use Rattle.search_trees.proofs.Paths as paths

@@ -1,3 +1,6 @@
 pub mod Answers
 pub mod Columns
+pub mod JudgeView
+pub mod Needed
+pub mod Prefix
 pub mod Walks

@@ -7,11 +7,10 @@ ghost use Rattle.cc_count.specs.Counts.{Spends};
 ghost use Rattle.grid_search.specs.Answers.{GridAnswers};
 ghost use Rattle.grid_search.specs.Walks.{HasComeTo, HasDoneWith, GoesOn, HasOneMore, PaidAnswers, VisitAnswers};
 
-use crate::GridSearch;
+use crate::PrefixJudge;
 use crate::entries::{advance, first_entry};
-use cc_count::Budget;
+use cc_count::{Budget, Sought};
 use cert_model::{Linear, LinearEntry};
-use linear_interp::PrefixJudge;
 use measure::Partial;
 use std::alloc::Global;
 use term_core::NoMemory;
@@ -88,7 +87,7 @@ pub(crate) fn walk_grid(
     alloc: Global,
     judge: &PrefixJudge<'_>,
     budget: &mut Budget,
-) -> Result<GridSearch, NoMemory>
+) -> Result<Sought<Linear>, NoMemory>
     ensures answer { GridAnswers judge.now budget.old budget.new result }
     ensures kept { (n : ℕ) × Spends budget.old n budget.new }
 {
@@ -99,11 +98,11 @@ pub(crate) fn walk_grid(
             Ok(Seen::Alive) => go_down(alloc, judge, &mut prefix)?,
             Ok(Seen::Dead) => {
                 if !go_on(&mut prefix)? {
-                    return Ok(GridSearch::NoneGood);
+                    return Ok(Sought::Nothing);
                 }
             }
-            Ok(Seen::Good) => return Ok(GridSearch::Good(Linear { entries: prefix })),
-            Ok(Seen::Unpaid) => return Ok(GridSearch::Spent),
+            Ok(Seen::Good) => return Ok(Sought::Found(Linear { entries: prefix })),
+            Ok(Seen::Unpaid) => return Ok(Sought::Spent),
             Err(e) => return Err(e),
         }
     }

@@ -4,8 +4,3 @@ pub mod Judging
 pub mod EntryChecks
 pub mod Final
 pub mod Positions
-pub mod Needed
-pub mod Completed
-pub mod Prefixes
-pub mod Walked
-pub mod Extending

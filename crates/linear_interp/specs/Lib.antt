@@ -1,6 +1,3 @@
 pub mod Parts
 pub mod Falling
 pub mod Entries
-pub mod Prefix
-pub mod Needed
-pub mod JudgeView

@@ -1,8 +1,6 @@
 //! Linear interpretations of the unraveled system as a measure.
 #![tactic(auto)]
 
-mod needs;
-mod prefix;
 mod rules;
 mod shape;
 mod sums;
@@ -13,7 +11,7 @@ ghost use Rattle.interpretations.specs.Judged.{IsInterpretationJudged};
 ghost use Rattle.measure.specs.Answers.{ShowsAnswers};
 ghost use Rattle.unravel.specs.Answers.{IsUnraveled};
 
-pub use crate::prefix::{PrefixJudge, check_prefix};
+pub use crate::rules::does_fall;
 use crate::rules::judge_rules;
 use crate::shape::{first_bad, first_misshapen};
 use cert_model::{Linear, LinearEntry, MeasureReason};

@@ -5,9 +5,10 @@ ghost use Rattle.std.specs.Prelude.{ℕ};
 ghost use Rattle.certificates.specs.Certificates as math;
 ghost use Rattle.valid_certificates.specs.Certificates.{IsValid};
 ghost use Rattle.cc_count.specs.Counts.{Spends};
-ghost use Rattle.search_answers.specs.Answers.{SearchesExactly, IfFound, IfNothing};
 ghost use Rattle.search_spaces.specs.Peak.{peak_space, IsPeakCost};
 ghost use Rattle.search_answers.specs.Given.{IsOverlapList};
+ghost use Rattle.search_answers.specs.Answers.{Searches, ending_of, IfFound, IfNothing};
+ghost use Rattle.first_found.specs.Spaces.{MayEndExactly};
 ghost use Rattle.noncon_search.specs.Answers.{StartsAnswer};
 
 mod candidates;
@@ -63,10 +64,10 @@ pub fn search_peak_over(
     budget: &mut Budget,
 ) -> Result<Search, NoMemory>
     requires overlaps { IsOverlapList sys.now overlaps }
-    ensures searched { SearchesExactly (peak_space names.now sys.now) budget.old budget.new result }
-    ensures nothing { IfNothing result ((c : math.Certificate) → (peak_space names.now sys.now).Holds c → IsValid sys.now c → ⊥) }
-    ensures valid { IfFound result (IsValid sys.now) }
-    ensures paid { IfNothing result ((n : ℕ) × Spends budget.old n budget.new × IsPeakCost sys.now n) }
+    ensures searched { Searches ending_of (MayEndExactly (peak_space names.now sys.now)) budget.old budget.new result }
+    ensures nothing { IfNothing ending_of result ((c : math.Certificate) → (peak_space names.now sys.now).Holds c → IsValid sys.now c → ⊥) }
+    ensures valid { IfFound ending_of result (IsValid sys.now) }
+    ensures paid { IfNothing ending_of result ((n : ℕ) × Spends budget.old n budget.new × IsPeakCost sys.now n) }
     ensures kept { (n : ℕ) × Spends budget.old n budget.new }
 {
     try_starts(alloc, sys, names, overlaps, budget)
@@ -81,10 +82,10 @@ pub fn search_peak(
     names: &Names,
     budget: &mut Budget,
 ) -> Result<Search, NoMemory>
-    ensures searched { SearchesExactly (peak_space names.now sys.now) budget.old budget.new result }
-    ensures nothing { IfNothing result ((c : math.Certificate) → (peak_space names.now sys.now).Holds c → IsValid sys.now c → ⊥) }
-    ensures valid { IfFound result (IsValid sys.now) }
-    ensures paid { IfNothing result ((n : ℕ) × Spends budget.old n budget.new × IsPeakCost sys.now n) }
+    ensures searched { Searches ending_of (MayEndExactly (peak_space names.now sys.now)) budget.old budget.new result }
+    ensures nothing { IfNothing ending_of result ((c : math.Certificate) → (peak_space names.now sys.now).Holds c → IsValid sys.now c → ⊥) }
+    ensures valid { IfFound ending_of result (IsValid sys.now) }
+    ensures paid { IfNothing ending_of result ((n : ℕ) × Spends budget.old n budget.new × IsPeakCost sys.now n) }
     ensures kept { (n : ℕ) × Spends budget.old n budget.new }
 {
     let indexed = IndexedSystem::new(alloc, sys)?;

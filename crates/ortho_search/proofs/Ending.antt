@@ -14,30 +14,30 @@ use Rattle.validity.specs.declared.Search.TheVariants.{Found, Nothing, Spent}
 use Rattle.cc_count.specs.Counts.{Counts, Spends}
 use Rattle.first_found.specs.Rows.{AreFirsts, EndsAtRow, StopsInRow}
 use Rattle.first_found.specs.Spaces.{spent, MayEndExactly}
-use Rattle.search_answers.specs.Answers.{SearchesExactly, IfFound, IfNothing}
 use Rattle.search_spaces.specs.Entries.{overlap_cost, StopsAtOverlap}
 use Rattle.search_spaces.specs.Ortho.{IsOrthoOpen, IsOrthoEntry, IsOrthoPaid, ortho_space}
 use Rattle.search_spaces.specs.PairItems.{ortho_items}
 use Rattle.search_spaces.specs.Texts.{HasText}
 use Rattle.search_spaces.proofs.Ortho.{space_searched, ends_closed, ends_at_row, ends_found, ends_too_long, ends_spent}
 use Rattle.cc_count.proofs.Spending.{spends_none}
+use Rattle.search_answers.specs.Answers.{Searches, ending_of, IfFound, IfNothing}
 
 module _ (names : NameTable) (sys : System) where
   abbrev Searched : Counts → Counts → Result Search NoMemory → Type 0
-  Searched = SearchesExactly (ortho_space names sys)
+  Searched = Searches ending_of (MayEndExactly (ortho_space names sys))
 
   abbrev Paid : Counts → Counts → Type 0
   Paid before after = (n : ℕ) × Spends before n after × IsOrthoPaid names sys n
 
   -- what is found is valid, and where nothing is, nothing in the space is
-  pub found_valid : (before after : Counts) (r : Result Search NoMemory) → Searched before after r → IfFound r (IsValid sys)
+  pub found_valid : (before after : Counts) (r : Result Search NoMemory) → Searched before after r → IfFound ending_of r (IsValid sys)
   found_valid before after (Ok (Found c)) (n, s, f) = ((space_searched names sys).held (certificate_view c) n f).1
   found_valid before after (Ok Nothing) h = tt
   found_valid before after (Ok Spent) h = tt
   found_valid before after (Err e) h = tt
 
   pub nothing_valid : (before after : Counts) (r : Result Search NoMemory) → Searched before after r
-      → IfNothing r ((c : Certificate) → (ortho_space names sys).Holds c → IsValid sys c → ⊥)
+      → IfNothing ending_of r ((c : Certificate) → (ortho_space names sys).Holds c → IsValid sys c → ⊥)
   nothing_valid before after (Ok (Found c)) h = tt
   nothing_valid before after (Ok Nothing) (n, s, (barren, rest)) = (space_searched names sys).barren barren
   nothing_valid before after (Ok Spent) h = tt

@@ -8,9 +8,10 @@ ghost use Rattle.critical_pairs.specs.View.{overlap_view};
 ghost use Rattle.valid_certificates.specs.Certificates.{IsValid};
 ghost use Rattle.valid_certificates.specs.Confluence.{IsInOrthoClasses};
 ghost use Rattle.cc_count.specs.Counts.{Spends};
-ghost use Rattle.search_answers.specs.Answers.{SearchesExactly, IfFound, IfNothing};
 ghost use Rattle.search_answers.specs.Given.{IsOverlapList};
 ghost use Rattle.search_spaces.specs.Ortho.{ortho_space, IsOrthoPaid};
+ghost use Rattle.search_answers.specs.Answers.{Searches, ending_of, IfFound, IfNothing};
+ghost use Rattle.first_found.specs.Spaces.{MayEndExactly};
 
 mod entries;
 mod items;
@@ -18,13 +19,12 @@ mod trying;
 
 use crate::entries::entries_for;
 pub use crate::trying::try_overlap;
-use cc_count::Budget;
+use cc_count::{Budget, Sought};
 use cert_limits::has_text;
 use cert_model::Certificate;
 use cops_names::Names;
 use critical_pairs::Overlap;
 use ctrs_classes::{is_extended_oriented, is_left_linear, is_right_stable, is_type3};
-use pair_search::Entries;
 use prepared_system::PreparedSystem;
 use rule_index::IndexedSystem;
 use search_answers::overlaps_or_none;
@@ -49,12 +49,12 @@ fn search_open(
 ) -> Result<Search, NoMemory>
     requires classes { IsInOrthoClasses sys.now }
     requires overlaps { AreOverlaps sys.now (map overlap_view overlaps.now) }
-    ensures searched { SearchesExactly (ortho_space names.now sys.now) budget.old budget.new result }
-    ensures paid { IfNothing result ((n : ℕ) × Spends budget.old n budget.new × IsOrthoPaid names.now sys.now n) }
+    ensures searched { Searches ending_of (MayEndExactly (ortho_space names.now sys.now)) budget.old budget.new result }
+    ensures paid { IfNothing ending_of result ((n : ℕ) × Spends budget.old n budget.new × IsOrthoPaid names.now sys.now n) }
     ensures kept { (n : ℕ) × Spends budget.old n budget.new }
 {
     match entries_for(alloc, sys, overlaps, budget) {
-        Ok(Entries::Whole(pairs)) => {
+        Ok(Sought::Found(pairs)) => {
             let cert = Certificate::Ortho(pairs);
             if has_text(alloc, names, &cert)? {
                 Ok(Search::Found(cert))
@@ -62,8 +62,8 @@ fn search_open(
                 Ok(Search::Nothing)
             }
         }
-        Ok(Entries::Missing) => Ok(Search::Nothing),
-        Ok(Entries::Spent) => Ok(Search::Spent),
+        Ok(Sought::Nothing) => Ok(Search::Nothing),
+        Ok(Sought::Spent) => Ok(Search::Spent),
         Err(e) => Err(e),
     }
 }
@@ -77,10 +77,10 @@ pub fn search_ortho_over(
     budget: &mut Budget,
 ) -> Result<Search, NoMemory>
     requires overlaps { IsOverlapList sys.now overlaps }
-    ensures searched { SearchesExactly (ortho_space names.now sys.now) budget.old budget.new result }
-    ensures nothing { IfNothing result ((c : math.Certificate) → (ortho_space names.now sys.now).Holds c → IsValid sys.now c → ⊥) }
-    ensures valid { IfFound result (IsValid sys.now) }
-    ensures paid { IfNothing result ((n : ℕ) × Spends budget.old n budget.new × IsOrthoPaid names.now sys.now n) }
+    ensures searched { Searches ending_of (MayEndExactly (ortho_space names.now sys.now)) budget.old budget.new result }
+    ensures nothing { IfNothing ending_of result ((c : math.Certificate) → (ortho_space names.now sys.now).Holds c → IsValid sys.now c → ⊥) }
+    ensures valid { IfFound ending_of result (IsValid sys.now) }
+    ensures paid { IfNothing ending_of result ((n : ℕ) × Spends budget.old n budget.new × IsOrthoPaid names.now sys.now n) }
     ensures kept { (n : ℕ) × Spends budget.old n budget.new }
 {
     let Some(found) = overlaps else {
@@ -103,10 +103,10 @@ pub fn search_ortho(
     names: &Names,
     budget: &mut Budget,
 ) -> Result<Search, NoMemory>
-    ensures searched { SearchesExactly (ortho_space names.now sys.now) budget.old budget.new result }
-    ensures nothing { IfNothing result ((c : math.Certificate) → (ortho_space names.now sys.now).Holds c → IsValid sys.now c → ⊥) }
-    ensures valid { IfFound result (IsValid sys.now) }
-    ensures paid { IfNothing result ((n : ℕ) × Spends budget.old n budget.new × IsOrthoPaid names.now sys.now n) }
+    ensures searched { Searches ending_of (MayEndExactly (ortho_space names.now sys.now)) budget.old budget.new result }
+    ensures nothing { IfNothing ending_of result ((c : math.Certificate) → (ortho_space names.now sys.now).Holds c → IsValid sys.now c → ⊥) }
+    ensures valid { IfFound ending_of result (IsValid sys.now) }
+    ensures paid { IfNothing ending_of result ((n : ℕ) × Spends budget.old n budget.new × IsOrthoPaid names.now sys.now n) }
     ensures kept { (n : ℕ) × Spends budget.old n budget.new }
 {
     let indexed = IndexedSystem::new(alloc, sys)?;

@@ -11,10 +11,10 @@ ghost use Rattle.pair_search.specs.Grown.{IsGrown};
 ghost use Rattle.ortho_search.specs.ItemView.{item_view};
 
 use crate::items::{Item, items_of};
-use cc_count::Budget;
+use cc_count::{Budget, Sought};
 use cert_model::PairEvidence;
 use critical_pairs::Overlap;
-use pair_search::{Grown, Walk, judged, try_refuting};
+use pair_search::{Grown, judged, try_refuting};
 use prepared_system::PreparedSystem;
 use std::alloc::Global;
 use term_core::NoMemory;
@@ -53,7 +53,7 @@ fn try_items(
     items: &[Item],
     budget: &mut Budget,
     grown: &mut Grown,
-) -> Result<Walk, NoMemory>
+) -> Result<Sought<PairEvidence>, NoMemory>
     requires overlap { IsOverlapOf sys.now (overlap_view overlap.now) }
     requires knows { IsGrown grown.old sys.now }
     ensures answer { WalkAnswers one (GivesEvidence ortho sys.now (overlap_view overlap.now)) (map item_view items.now) budget.old budget.new result }
@@ -62,15 +62,15 @@ fn try_items(
 {
     'items: for item in items {
         if !budget.take() {
-            return Ok(Walk::Spent);
+            return Ok(Sought::Spent);
         }
         match try_item(alloc, sys, overlap, *item, grown) {
-            Ok(Some(evidence)) => return Ok(Walk::Given(evidence)),
+            Ok(Some(evidence)) => return Ok(Sought::Found(evidence)),
             Ok(None) => {}
             Err(e) => return Err(e),
         }
     }
-    Ok(Walk::Nothing)
+    Ok(Sought::Nothing)
 }
 
 /// Tries all items of the overlap in order, a unit each, up to the first that gives valid evidence.
@@ -80,7 +80,7 @@ pub fn try_overlap(
     overlap: &Overlap,
     budget: &mut Budget,
     grown: &mut Grown,
-) -> Result<Walk, NoMemory>
+) -> Result<Sought<PairEvidence>, NoMemory>
     requires overlap { IsOverlapOf sys.now (overlap_view overlap.now) }
     requires knows { IsGrown grown.old sys.now }
     ensures answer { WalkAnswers one (GivesEvidence ortho sys.now (overlap_view overlap.now)) (ortho_items (overlap_view overlap.now)) budget.old budget.new result }

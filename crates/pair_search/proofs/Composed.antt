@@ -9,8 +9,8 @@ use Rattle.first_found.specs.Items.{GivesNothing, cost_of}
 use Rattle.first_found.proofs.Items.{cost_append, none_append, first_left, first_right, stopped_left, stopped_right}
 use Rattle.pair_search.specs.Answers.{WalkAnswers}
 use Rattle.cert_model.specs.declared.evidence.PairEvidence.{PairEvidence}
-use Rattle.pair_search.specs.declared.walks.Walk.{Walk}
-use Rattle.pair_search.specs.declared.walks.Walk.TheVariants.{Given, Nothing, Spent}
+use Rattle.cc_count.specs.declared.Sought.{Sought}
+use Rattle.cc_count.specs.declared.Sought.TheVariants.{Found, Nothing, Spent}
 
 module _ {A : Type 0} (cost : A → ℕ) (Gives : A → math.PairEvidence → Type 0) where
   module _ (a : A) (before after : Counts) where
@@ -29,7 +29,7 @@ module _ {A : Type 0} (cost : A → ℕ) (Gives : A → math.PairEvidence → Ty
         item_is_dear [] (omega (arith, some, end)) (subst (λ z. Spends before before.left z) (sym same) (subst (λ z. Spends before z before) (sym end) (spends_none before)))
 
     module _ (paid : Spends before (cost a) after) where
-      pub item_gives : (e : PairEvidence) → Gives a (pair_evidence_view e) → WalkAnswers cost Gives (a ∷ []) before after (Ok (Given e))
+      pub item_gives : (e : PairEvidence) → Gives a (pair_evidence_view e) → WalkAnswers cost Gives (a ∷ []) before after (Ok (Found e))
       item_gives e g = (cost a, paid, record { before = []; item = a; behind = []; split = refl; none = tt; gives = g; up_to = omega arith })
 
       pub item_bare : GivesNothing Gives a → WalkAnswers cost Gives (a ∷ []) before after (Ok Nothing)
@@ -37,14 +37,14 @@ module _ {A : Type 0} (cost : A → ℕ) (Gives : A → math.PairEvidence → Ty
 
   module _ (xs ys : List A) (a b : Counts) where
     -- a walk that ended ends there, whatever stands behind
-    pub ends_early : (w : Walk) → (w ≡ Nothing → ⊥) → WalkAnswers cost Gives xs a b (Ok w) → WalkAnswers cost Gives (xs ++ ys) a b (Ok w)
-    ends_early (Given e) other (n, s, f) = (n, s, first_left Gives cost xs ys (pair_evidence_view e) n f)
+    pub ends_early : (w : Sought PairEvidence) → (w ≡ Nothing → ⊥) → WalkAnswers cost Gives xs a b (Ok w) → WalkAnswers cost Gives (xs ++ ys) a b (Ok w)
+    ends_early (Found e) other (n, s, f) = (n, s, first_left Gives cost xs ys (pair_evidence_view e) n f)
     ends_early Nothing other h = absurd (other refl)
     ends_early Spent other (n, s, end, stopped) = (n, s, end, stopped_left Gives cost xs ys n stopped)
 
     -- behind items that give nothing the walk goes on
-    pub goes_behind : (c : Counts) (r : Result Walk NoMemory) → WalkAnswers cost Gives xs a b (Ok Nothing) → WalkAnswers cost Gives ys b c r → WalkAnswers cost Gives (xs ++ ys) a c r
-    goes_behind c (Ok (Given e)) (s, none) (n, t, f) =
+    pub goes_behind : (c : Counts) (r : Result (Sought PairEvidence) NoMemory) → WalkAnswers cost Gives xs a b (Ok Nothing) → WalkAnswers cost Gives ys b c r → WalkAnswers cost Gives (xs ++ ys) a c r
+    goes_behind c (Ok (Found e)) (s, none) (n, t, f) =
         (cost_of cost xs + n, spends_both a b c (cost_of cost xs) n s t, first_right Gives cost xs ys (pair_evidence_view e) n none f)
     goes_behind c (Ok Nothing) (s, none) (t, none_behind) = (
       subst (λ z. Spends a z c) (sym (cost_append cost xs ys)) (spends_both a b c (cost_of cost xs) (cost_of cost ys) s t),
@@ -56,7 +56,7 @@ module _ {A : Type 0} (cost : A → ℕ) (Gives : A → math.PairEvidence → Ty
 
   -- items that are left of some: what a walk through them answers, one through all answers
   abbrev pub Walking : List A → Counts → Counts → List A → Type 0
-  Walking items start here rest = (c : Counts) (r : Result Walk NoMemory) → WalkAnswers cost Gives rest here c r → WalkAnswers cost Gives items start c r
+  Walking items start here rest = (c : Counts) (r : Result (Sought PairEvidence) NoMemory) → WalkAnswers cost Gives rest here c r → WalkAnswers cost Gives items start c r
 
   module _ (items : List A) (start : Counts) where
     pub begins : (rest : List A) → rest ≡ items → Walking items start start rest
@@ -68,7 +68,7 @@ module _ {A : Type 0} (cost : A → ℕ) (Gives : A → math.PairEvidence → Ty
       goes_on h c r k = w c r (subst (λ z. WalkAnswers cost Gives z here c r) (sym split) (goes_behind xs ys here next c r h k))
 
       -- the walk ended in them
-      pub ends : (r : Walk) → (r ≡ Nothing → ⊥) → WalkAnswers cost Gives xs here next (Ok r) → WalkAnswers cost Gives items start next (Ok r)
+      pub ends : (r : Sought PairEvidence) → (r ≡ Nothing → ⊥) → WalkAnswers cost Gives xs here next (Ok r) → WalkAnswers cost Gives items start next (Ok r)
       ends r other h = w next (Ok r) (subst (λ z. WalkAnswers cost Gives z here next (Ok r)) (sym split) (ends_early xs ys here next r other h))
 
     -- nothing is left

@@ -15,12 +15,12 @@ use Rattle.first_found.specs.Rows.{HasNone, AreFirsts, EndsAtRow, StopsInRow}
 use Rattle.first_found.proofs.Rows.{firsts_more}
 use Rattle.cc_count.proofs.Spending.{spends_both}
 use Rattle.pair_search.specs.Answers.{WalkAnswers, EntriesAnswers}
-use Rattle.pair_search.specs.declared.walks.Walk.{Walk}
-use Rattle.pair_search.specs.declared.walks.Entries.{Entries}
+use Rattle.cc_count.specs.declared.Sought.{Sought}
+use Rattle.cert_model.specs.declared.evidence.PairEvidence.{PairEvidence}
 use Rattle.pair_search.proofs.Places.{split_at}
 
 -- what a walk told, of what it is known to be
-pub told : {A : Type 0} (cost : A → ℕ) (Gives : A → evidence.PairEvidence → Type 0) (items : List A) (before after : Counts) (f g : Walk) → f ≡ g
+pub told : {A : Type 0} (cost : A → ℕ) (Gives : A → evidence.PairEvidence → Type 0) (items : List A) (before after : Counts) (f g : Sought PairEvidence) → f ≡ g
     → WalkAnswers cost Gives items before after (Ok f) → WalkAnswers cost Gives items before after (Ok g)
 told cost Gives items before after f g is h = subst (λ z. WalkAnswers cost Gives items before after (Ok z)) is h
 
@@ -30,7 +30,7 @@ among_here xs i x l e = among_map overlap_view x xs (among_at xs i x x l e)
 
 module _ (First : math.Overlap → certificates.PairEntry → ℕ → Type 0) where
   -- what the walk over the overlaps told
-  pub entries_told : (whole : math.Overlap → ℕ) (Stops : math.Overlap → ℕ → Type 0) (os : List math.Overlap) (before after : Counts) (f g : Entries) → f ≡ g
+  pub entries_told : (whole : math.Overlap → ℕ) (Stops : math.Overlap → ℕ → Type 0) (os : List math.Overlap) (before after : Counts) (f g : Sought (Vec PairEntry Global)) → f ≡ g
       → EntriesAnswers First whole Stops os before after (Ok f) → EntriesAnswers First whole Stops os before after (Ok g)
   entries_told whole Stops os before after f g is h = subst (λ z. EntriesAnswers First whole Stops os before after (Ok z)) is h
 

@@ -1,11 +1,11 @@
 //! What the searches for certificates of confluence share: evidence for an overlap that is tried, what grew for a
-//! condition, and how walks end.
+//! condition, and the entry that is made of it.
 #![tactic(auto)]
 
+mod entries;
 mod grown;
 mod trying;
-mod walks;
 
+pub use entries::add_entry;
 pub use grown::Grown;
 pub use trying::{judged, try_refuting};
-pub use walks::{Entries, Walk, add_entry};

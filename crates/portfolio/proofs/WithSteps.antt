@@ -1,142 +1,121 @@
 -- How the searches of the last system end behind the steps.
-use Rattle.std.proofs.Common.{ℕ, ◌≡◌, ◌+◌, List, map, Vec, Global, Result, Ok, Err, sym, subst, arith}
+use Rattle.std.proofs.Common.{ℕ, ◌≡◌, List, map, Vec, Global, Result, Ok, Err, IfOk, refl, sym, subst}
 use Rattle.rewriting.specs.Rules.{System}
 use Rattle.certificates.specs.Certificates.{Simplification, Certificate, simplified_certificate}
 use Rattle.cert_model.specs.CertificateView.{simp_view, certificate_view}
-use Rattle.cert_model.specs.declared.model.Certificate as model
 use Rattle.cert_model.specs.declared.model.Simp.{Simp}
 use Rattle.cops_names.specs.NameTable.{NameTable}
 use Rattle.term_core.specs.declared.terms.NoMemory.{NoMemory}
 use Rattle.validity.specs.declared.Search.{Search}
 use Rattle.validity.specs.declared.Search.TheVariants as search
-use Rattle.cc_count.specs.Counts.{Counts, Spends}
-use Rattle.cc_count.proofs.Spending.{spends_both}
-use Rattle.first_found.specs.Spaces.{Space, Ending, found, nothing, spent, MayEnd, MayEndExactly}
-use Rattle.search_answers.specs.Answers.{SearchesExactly, ending_of}
+use Rattle.cc_count.specs.Counts.{Counts}
+use Rattle.first_found.specs.Spaces.{Ending, found, nothing, spent, MayEnd, MayEndExactly}
+use Rattle.search_answers.specs.Answers.{Searches, ending_of}
+use Rattle.search_answers.proofs.OrElse.{stands, or_else}
 use Rattle.search_spaces.specs.Texts.{HasText}
 use Rattle.search_spaces.specs.Ortho.{ortho_space}
 use Rattle.search_spaces.specs.Peak.{peak_space}
 use Rattle.quasi_space.specs.Endings.{MayEndLast}
 use Rattle.quasi_space.specs.Measures.{pruned_measures}
 use Rattle.quasi_space.specs.Quasi.{quasi_space_by}
-use Rattle.quasi_search.specs.Answers.{Searches}
 use Rattle.proof_spaces.specs.Proofs.{with_steps, two_with_steps, three_with_steps}
 use Rattle.proof_spaces.proofs.Behind as behind
-use Rattle.portfolio.specs.declared.Outcome.{Outcome}
-use Rattle.portfolio.specs.declared.Outcome.TheVariants as outcome
 use Rattle.portfolio.specs.declared.behind.Behind.{Behind}
 use Rattle.portfolio.specs.declared.behind.Behind.TheVariants.{Found, Nothing, Spent}
-use Rattle.portfolio.specs.Answers.{outcome_ending, SearchesAll}
-use Rattle.portfolio.specs.StepAnswers.{behind_ending, HandsBack, AnswersBehind, SearchesBehind}
+use Rattle.portfolio.specs.StepAnswers.{behind_ending, HandsBack, AnswersBehind, quasi_with_steps}
+
+not_nothing : (b : Behind) → ((v : Vec Simp Global) → b ≡ Nothing v → ⊥) → behind_ending b ≡ nothing → ⊥
+not_nothing (Found c) other e = cc
+not_nothing (Nothing v) other e = other v refl
+not_nothing Spent other e = cc
 
 module _ (names : NameTable) (steps : List Simplification) where
   -- a search of the last system that ends so, ends otherwise behind the steps
-  module _ (Ends Behinds : Ending Certificate → Type 0) (kept : (c : Certificate) → Ends (found c) → HasText names (simplified_certificate steps c) → Behinds (found (simplified_certificate steps c)))
-      (lost : (c : Certificate) → Ends (found c) → (HasText names (simplified_certificate steps c) → ⊥) → Behinds nothing) (none : Ends nothing → Behinds nothing) (out : Ends spent → Behinds spent) where
-    ends : (answer : Search) (b : Behind) → AnswersBehind names steps answer (Ok b) → Ends (ending_of answer) → Behinds (behind_ending b)
-    ends (search.Found body) (Found c) (is, text) h = subst (λ z. Behinds (found z)) (sym is) (kept (certificate_view body) h text)
-    ends (search.Found body) (Nothing again) (same, unwritten) h = lost (certificate_view body) h unwritten
-    ends (search.Found body) Spent a h = absurd a
-    ends search.Nothing b (is, same) h = subst Behinds (sym is) (none h)
-    ends search.Spent b is h = subst Behinds (sym is) (out h)
+  module _ (Ends Behinds : ℕ → ℕ → Ending Certificate → Type 0)
+      (kept : (left n : ℕ) (c : Certificate) → Ends left n (found c) → HasText names (simplified_certificate steps c) → Behinds left n (found (simplified_certificate steps c)))
+      (lost : (left n : ℕ) (c : Certificate) → Ends left n (found c) → (HasText names (simplified_certificate steps c) → ⊥) → Behinds left n nothing)
+      (none : (left n : ℕ) → Ends left n nothing → Behinds left n nothing) (out : (left n : ℕ) → Ends left n spent → Behinds left n spent) where
+    ends : (left n : ℕ) (answer : Search) (b : Behind) → AnswersBehind names steps answer (Ok b) → Ends left n (ending_of answer) → Behinds left n (behind_ending b)
+    ends left n (search.Found body) (Found c) (is, text) h = subst (λ z. Behinds left n (found z)) (sym is) (kept left n (certificate_view body) h text)
+    ends left n (search.Found body) (Nothing again) (same, unwritten) h = lost left n (certificate_view body) h unwritten
+    ends left n (search.Found body) Spent a h = absurd a
+    ends left n search.Nothing b (is, same) h = subst (Behinds left n) (sym is) (none left n h)
+    ends left n search.Spent b is h = subst (Behinds left n) (sym is) (out left n h)
+
+    ends_behind : (before after : Counts) (answer : Search) (r : Result Behind NoMemory) → Searches ending_of Ends before after (Ok answer) → AnswersBehind names steps answer r
+        → Searches behind_ending Behinds before after r
+    ends_behind before after answer (Ok b) (n, s, h) a = (n, s, ends before.left n answer b a h)
+    ends_behind before after answer (Err e) h a = tt
 
   not_spent : (b : Behind) → behind_ending b ≡ spent → HandsBack steps b
   not_spent (Found c) e = tt
   not_spent (Nothing again) e = absurd (cc)
   not_spent Spent e = tt
 
-  hands_back : (answer : Search) (b : Behind) → AnswersBehind names steps answer (Ok b) → HandsBack steps b
-  hands_back (search.Found body) (Found c) a = tt
-  hands_back (search.Found body) (Nothing again) a = a.0
-  hands_back (search.Found body) Spent a = tt
-  hands_back search.Nothing b a = a.1
-  hands_back search.Spent b a = not_spent b a
+  pub hands_back : (answer : Search) (r : Result Behind NoMemory) → AnswersBehind names steps answer r → IfOk r (HandsBack steps)
+  hands_back (search.Found body) (Ok (Found c)) a = tt
+  hands_back (search.Found body) (Ok (Nothing again)) a = a.0
+  hands_back (search.Found body) (Ok Spent) a = tt
+  hands_back search.Nothing (Ok b) a = a.1
+  hands_back search.Spent (Ok b) a = not_spent b a
+  hands_back answer (Err e) a = tt
+
+  -- those that were handed on are the same
+  pub hands_on : (v : Vec Simp Global) → HandsBack steps (Nothing v) → (r : Result Behind NoMemory) → IfOk r (HandsBack (map simp_view v.items)) → IfOk r (HandsBack steps)
+  hands_on v same r h = subst (λ ss. IfOk r (HandsBack ss)) same h
 
   module _ (last : System) where
-    abbrev First : Space Certificate
-    First = with_steps names steps (ortho_space names last)
+    abbrev Ortho : ℕ → ℕ → Ending Certificate → Type 0
+    Ortho = MayEnd (with_steps names steps (ortho_space names last))
 
-    abbrev Second : Space Certificate
-    Second = with_steps names steps (peak_space names last)
+    abbrev Peak : ℕ → ℕ → Ending Certificate → Type 0
+    Peak = MayEnd (with_steps names steps (peak_space names last))
 
-    abbrev Third : Space Certificate
-    Third = with_steps names steps (quasi_space_by (pruned_measures last) names last)
+    abbrev Two : ℕ → ℕ → Ending Certificate → Type 0
+    Two = MayEnd (two_with_steps names steps last)
 
-    module _ (before after : Counts) (answer : Search) where
-      pub ortho_behind : (r : Result Behind NoMemory) → SearchesExactly (ortho_space names last) before after (Ok answer) → AnswersBehind names steps answer r → SearchesBehind steps First before after r
-      ortho_behind (Ok b) (n, s, h) a =
-          let left = before.left in (
-            hands_back answer b a,
-            (
-              n,
-              s,
-              ends (MayEndExactly (ortho_space names last) left n) (MayEnd First left n) (behind.ortho_kept names steps last left n) (behind.ortho_lost names steps last left n) (behind.ortho_nothing names steps last left n) (behind.ortho_spent names steps last left n)
-                  answer b a h,
-            ),
-          )
-      ortho_behind (Err e) h a = tt
+    abbrev Last : ℕ → ℕ → Ending Certificate → Type 0
+    Last = MayEndLast (quasi_with_steps names steps last)
 
-      pub peak_behind : (r : Result Behind NoMemory) → SearchesExactly (peak_space names last) before after (Ok answer) → AnswersBehind names steps answer r → SearchesBehind steps Second before after r
-      peak_behind (Ok b) (n, s, h) a =
-          let left = before.left in (
-            hands_back answer b a,
-            (
-              n,
-              s,
-              ends (MayEndExactly (peak_space names last) left n) (MayEnd Second left n) (behind.peak_kept names steps last left n) (behind.peak_lost names steps last left n) (behind.peak_nothing names steps last left n) (behind.peak_spent names steps last left n)
-                  answer b a h,
-            ),
-          )
-      peak_behind (Err e) h a = tt
+    abbrev Three : ℕ → ℕ → Ending Certificate → Type 0
+    Three = MayEndLast (three_with_steps pruned_measures names steps last)
 
-      pub quasi_behind : (b : Behind) → Searches (quasi_space_by (pruned_measures last) names last) before after (Ok answer) → AnswersBehind names steps answer (Ok b)
-          → (n : ℕ) × Spends before n after × MayEndLast Third before.left n (behind_ending b)
-      quasi_behind b (n, s, h) a =
-          let left = before.left in (
-            n,
-            s,
-            ends (MayEndLast (quasi_space_by (pruned_measures last) names last) left n) (MayEndLast Third left n) (behind.quasi_kept names steps last left n) (behind.quasi_lost names steps last left n)
-                (behind.quasi_nothing names steps last left n) (behind.quasi_spent names steps last left n) answer b a h,
-          )
+    module _ (before after : Counts) (answer : Search) (r : Result Behind NoMemory) where
+      pub ortho_behind : Searches ending_of (MayEndExactly (ortho_space names last)) before after (Ok answer) → AnswersBehind names steps answer r → Searches behind_ending Ortho before after r
+      ortho_behind =
+          ends_behind (MayEndExactly (ortho_space names last)) Ortho (behind.ortho_kept names steps last) (behind.ortho_lost names steps last) (behind.ortho_nothing names steps last)
+          (behind.ortho_spent names steps last) before after answer r
+
+      pub peak_behind : Searches ending_of (MayEndExactly (peak_space names last)) before after (Ok answer) → AnswersBehind names steps answer r → Searches behind_ending Peak before after r
+      peak_behind =
+          ends_behind (MayEndExactly (peak_space names last)) Peak (behind.peak_kept names steps last) (behind.peak_lost names steps last) (behind.peak_nothing names steps last)
+          (behind.peak_spent names steps last) before after answer r
+
+      pub quasi_behind : Searches ending_of (MayEndLast (quasi_space_by (pruned_measures last) names last)) before after (Ok answer) → AnswersBehind names steps answer r
+          → Searches behind_ending Last before after r
+      quasi_behind =
+          ends_behind (MayEndLast (quasi_space_by (pruned_measures last) names last)) Last (behind.quasi_kept names steps last) (behind.quasi_lost names steps last)
+          (behind.quasi_nothing names steps last) (behind.quasi_spent names steps last) before after answer r
 
     -- one behind the other
     module _ (before here : Counts) where
-      pub two_found : (c : model.Certificate) → SearchesBehind steps First before here (Ok (Found c)) → SearchesBehind steps (two_with_steps names steps last) before here (Ok (Found c))
-      two_found c (u, (n, s, h)) = (u, (n, s, behind.first_ends_two names steps last before.left n (certificate_view c) h))
+      pub two_stand : (b : Behind) → ((v : Vec Simp Global) → b ≡ Nothing v → ⊥) → Searches behind_ending Ortho before here (Ok b) → Searches behind_ending Two before here (Ok b)
+      two_stand b other = stands behind_ending Ortho Two (behind.first_ends_two names steps last) (behind.first_spends_two names steps last) before here b (not_nothing b other)
 
-      pub two_spent : SearchesBehind steps First before here (Ok Spent) → SearchesBehind steps (two_with_steps names steps last) before here (Ok Spent)
-      two_spent (u, (n, s, h)) = (u, (n, s, behind.first_spends_two names steps last before.left n h))
+      pub three_stand : (b : Behind) → ((v : Vec Simp Global) → b ≡ Nothing v → ⊥) → Searches behind_ending Two before here (Ok b) → Searches behind_ending Three before here (Ok b)
+      three_stand b other = stands behind_ending Two Three (behind.two_end_three names steps last) (behind.two_spend_three names steps last) before here b (not_nothing b other)
 
-      module _ (after : Counts) where
-        two_go_on : (v : Vec Simp Global) → SearchesBehind steps First before here (Ok (Nothing v)) → (r : Result Behind NoMemory) → SearchesBehind steps Second here after r
-            → SearchesBehind steps (two_with_steps names steps last) before after r
-        two_go_on v (same, (n, s, none)) (Ok b) (back, (m, t, h)) =
-            let left = s.left in
-            (back, (n + m, spends_both before here after n m s t, behind.second_ends_two names steps last before.left n here.left m (behind_ending b) none (omega (arith, left)) h))
-        two_go_on v none (Err e) h = tt
+      -- the steps that were handed back are the same
+      module _ (after : Counts) (v : Vec Simp Global) (same : HandsBack steps (Nothing v)) (r : Result Behind NoMemory) where
+        pub two_behind : Searches behind_ending Ortho before here (Ok (Nothing v)) → Searches behind_ending (MayEnd (with_steps names (map simp_view v.items) (peak_space names last))) here after r
+            → Searches behind_ending Two before after r
+        two_behind none h =
+            or_else behind_ending Ortho Two Peak (λ left n rest m e none l h. behind.second_ends_two names steps last left n rest m e none l h) before here after none r
+            (subst (λ ss. Searches behind_ending (MayEnd (with_steps names ss (peak_space names last))) here after r) same h)
 
-        -- the steps that were handed back are the same
-        pub two_behind : (v : Vec Simp Global) → SearchesBehind steps First before here (Ok (Nothing v))
-            → (r : Result Behind NoMemory) → SearchesBehind (map simp_view v.items) (with_steps names (map simp_view v.items) (peak_space names last)) here after r
-            → SearchesBehind steps (two_with_steps names steps last) before after r
-        two_behind v none r h = two_go_on v none r (subst (λ ss. SearchesBehind ss (with_steps names ss (peak_space names last)) here after r) none.0 h)
-
-      pub three_found : (c : model.Certificate) → SearchesBehind steps (two_with_steps names steps last) before here (Ok (Found c))
-          → SearchesAll (three_with_steps pruned_measures names steps last) before here (Ok (outcome.Found c))
-      three_found c (u, (n, s, h)) = (n, s, behind.two_end_three names steps last before.left n (certificate_view c) h)
-
-      pub three_spent : SearchesBehind steps (two_with_steps names steps last) before here (Ok Spent) → SearchesAll (three_with_steps pruned_measures names steps last) before here (Ok outcome.Spent)
-      three_spent (u, (n, s, h)) = (n, s, behind.two_spend_three names steps last before.left n h)
-
-      module _ (after : Counts) where
-        three_go_on : (v : Vec Simp Global) → SearchesBehind steps (two_with_steps names steps last) before here (Ok (Nothing v)) → (r : Result Outcome NoMemory) → SearchesAll Third here after r
-            → SearchesAll (three_with_steps pruned_measures names steps last) before after r
-        three_go_on v (same, (n, s, none)) (Ok o) (m, t, h) =
-            let left = s.left in
-            (n + m, spends_both before here after n m s t, behind.last_ends_three names steps last before.left n here.left m (outcome_ending o) none (omega (arith, left)) h)
-        three_go_on v none (Err e) h = tt
-
-        pub three_behind : (v : Vec Simp Global) → SearchesBehind steps (two_with_steps names steps last) before here (Ok (Nothing v))
-            → (r : Result Outcome NoMemory) → SearchesAll (with_steps names (map simp_view v.items) (quasi_space_by (pruned_measures last) names last)) here after r
-            → SearchesAll (three_with_steps pruned_measures names steps last) before after r
-        three_behind v none r h = three_go_on v none r (subst (λ ss. SearchesAll (with_steps names ss (quasi_space_by (pruned_measures last) names last)) here after r) none.0 h)
+        pub three_behind : Searches behind_ending Two before here (Ok (Nothing v))
+            → Searches behind_ending (MayEndLast (quasi_with_steps names (map simp_view v.items) last)) here after r
+            → Searches behind_ending Three before after r
+        three_behind none h =
+            or_else behind_ending Two Three Last (λ left n rest m e none l h. behind.last_ends_three names steps last left n rest m e none l h) before here after none r
+            (subst (λ ss. Searches behind_ending (MayEndLast (quasi_with_steps names ss last)) here after r) same h)

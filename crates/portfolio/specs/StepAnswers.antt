@@ -5,19 +5,19 @@ use Rattle.certificates.specs.Certificates as math
 use Rattle.certificates.specs.Certificates.{Simplification, ortho_certificate, quasi_certificate, peak_certificate, simplified_certificate}
 use Rattle.cert_model.specs.CertificateView.{simp_view, certificate_view}
 use Rattle.cops_names.specs.NameTable.{NameTable}
-use Rattle.cc_count.specs.Counts.{Counts, Spends}
 use Rattle.term_core.specs.declared.terms.NoMemory.{NoMemory}
 use Rattle.validity.specs.declared.Search.{Search}
 use Rattle.validity.specs.declared.Search.TheVariants as search
-use Rattle.first_found.specs.Spaces.{Space, Ending, found, nothing, spent, MayEnd}
+use Rattle.first_found.specs.Spaces.{Space, Ending, found, nothing, spent}
 use Rattle.search_spaces.specs.Texts.{HasText}
 use Rattle.quasi_space.specs.Endings.{MayEndLast}
 use Rattle.quasi_space.specs.AllSpaces.{pruned_spaces}
+use Rattle.quasi_space.specs.Measures.{pruned_measures}
+use Rattle.quasi_space.specs.Quasi.{quasi_space_by}
+use Rattle.proof_spaces.specs.Proofs.{with_steps}
 use Rattle.proof_spaces.specs.Endings.{MayProofEnd}
-use Rattle.portfolio.specs.declared.Outcome.{Outcome}
 use Rattle.portfolio.specs.declared.behind.Behind.{Behind}
 use Rattle.portfolio.specs.declared.behind.Behind.TheVariants.{Found, Nothing, Spent}
-use Rattle.portfolio.specs.Answers.{outcome_ending}
 
 -- a certificate with steps before its body, and those steps
 abbrev pub HasSteps : math.Certificate → Type 0
@@ -58,15 +58,10 @@ AnswersBehind names steps search.Spent (Ok b) = behind_ending b ≡ spent
 AnswersBehind names steps search.Nothing (Err e) = Unit {0}
 AnswersBehind names steps search.Spent (Err e) = Unit {0}
 
--- a search of a space behind the steps
-abbrev pub SearchesBehind : List Simplification → Space math.Certificate → Counts → Counts → Result Behind NoMemory → Type 0
-SearchesBehind steps S before after (Ok b) = HandsBack steps b × ((n : ℕ) × Spends before n after × MayEnd S before.left n (behind_ending b))
-SearchesBehind steps S before after (Err e) = Unit {0}
+-- the last of the three spaces behind the steps, over the pruned measures
+abbrev pub quasi_with_steps : NameTable → List Simplification → System → Space math.Certificate
+quasi_with_steps names steps last = with_steps names steps (quasi_space_by (pruned_measures last) names last)
 
 -- so the proof may end where the three spaces of the system hold nothing, and so much more is paid out of what they left
 abbrev pub MayEndSimplified : NameTable → System → ℕ → ℕ → Ending math.Certificate → Type 0
 MayEndSimplified names sys rest more e = (left paid : ℕ) → MayEndLast (pruned_spaces names sys) left paid nothing → left ≡ paid + rest → MayProofEnd names sys left (paid + more) e
-
-abbrev pub SearchesSimplified : NameTable → System → Counts → Counts → Result Outcome NoMemory → Type 0
-SearchesSimplified names sys before after (Ok answer) = (n : ℕ) × Spends before n after × MayEndSimplified names sys before.left n (outcome_ending answer)
-SearchesSimplified names sys before after (Err e) = Unit {0}

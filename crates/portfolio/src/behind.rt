@@ -1,17 +1,19 @@
 //! The three spaces of the system that the standard steps leave, searched one behind the other. What is found stands behind the
 //! steps; where it cannot be written with them it counts for nothing, and the next space is searched.
-ghost use Rattle.std.specs.Prelude.{ℕ, ◌≡◌, map};
+ghost use Rattle.std.specs.Prelude.{ℕ, ◌≡◌, IfOk, map};
 ghost use Rattle.cert_model.specs.CertificateView.{simp_view, certificate_view};
 ghost use Rattle.cc_count.specs.Counts.{Spends};
 ghost use Rattle.simplifications.specs.Simplifying.{AllSimplify};
 ghost use Rattle.search_spaces.specs.Ortho.{ortho_space};
 ghost use Rattle.search_spaces.specs.Peak.{peak_space};
 ghost use Rattle.quasi_space.specs.Measures.{pruned_measures};
-ghost use Rattle.quasi_space.specs.Quasi.{quasi_space_by};
 ghost use Rattle.proof_spaces.specs.Proofs.{with_steps, two_with_steps, three_with_steps};
 ghost use Rattle.search_answers.specs.Given.{HasOverlaps, IsOverlapList};
-ghost use Rattle.portfolio.specs.Answers.{SearchesAll};
-ghost use Rattle.portfolio.specs.StepAnswers.{HasSteps, steps_before, WritesBehind, AnswersBehind, SearchesBehind, SearchesSimplified};
+ghost use Rattle.search_answers.specs.Answers.{Searches};
+ghost use Rattle.first_found.specs.Spaces.{MayEnd};
+ghost use Rattle.quasi_space.specs.Endings.{MayEndLast};
+ghost use Rattle.portfolio.specs.Answers.{outcome_ending};
+ghost use Rattle.portfolio.specs.StepAnswers.{HasSteps, steps_before, behind_ending, HandsBack, WritesBehind, AnswersBehind, quasi_with_steps, MayEndSimplified};
 
 use crate::Outcome;
 use crate::untouched::overlaps_behind;
@@ -102,7 +104,8 @@ fn search_ortho_behind(
     budget: &mut Budget,
 ) -> Result<Behind, NoMemory>
     requires overlaps { IsOverlapList last.now overlaps }
-    ensures searched { SearchesBehind (map simp_view steps.items) (with_steps names.now (map simp_view steps.items) (ortho_space names.now last.now)) budget.old budget.new result }
+    ensures searched { Searches behind_ending (MayEnd (with_steps names.now (map simp_view steps.items) (ortho_space names.now last.now))) budget.old budget.new result }
+    ensures hands_back { IfOk result (HandsBack (map simp_view steps.items)) }
     ensures kept { (n : ℕ) × Spends budget.old n budget.new }
 {
     let answer = search_ortho_over(alloc, last, names, overlaps, budget)?;
@@ -119,7 +122,8 @@ fn search_peak_behind(
     budget: &mut Budget,
 ) -> Result<Behind, NoMemory>
     requires overlaps { IsOverlapList last.now overlaps }
-    ensures searched { SearchesBehind (map simp_view steps.items) (with_steps names.now (map simp_view steps.items) (peak_space names.now last.now)) budget.old budget.new result }
+    ensures searched { Searches behind_ending (MayEnd (with_steps names.now (map simp_view steps.items) (peak_space names.now last.now))) budget.old budget.new result }
+    ensures hands_back { IfOk result (HandsBack (map simp_view steps.items)) }
     ensures kept { (n : ℕ) × Spends budget.old n budget.new }
 {
     let answer = search_peak_over(alloc, last.indexed(), names, overlaps, budget)?;
@@ -134,17 +138,13 @@ fn search_quasi_behind(
     overlaps: Option<&[Overlap]>,
     steps: Vec<Simp>,
     budget: &mut Budget,
-) -> Result<Outcome, NoMemory>
+) -> Result<Behind, NoMemory>
     requires overlaps { IsOverlapList last.now overlaps }
-    ensures searched { SearchesAll (with_steps names.now (map simp_view steps.items) (quasi_space_by (pruned_measures last.now) names.now last.now)) budget.old budget.new result }
+    ensures searched { Searches behind_ending (MayEndLast (quasi_with_steps names.now (map simp_view steps.items) last.now)) budget.old budget.new result }
     ensures kept { (n : ℕ) × Spends budget.old n budget.new }
 {
     let answer = search_quasi_over(alloc, last, names, overlaps, budget)?;
-    match with_the_steps(alloc, names, steps, answer)? {
-        Behind::Found(cert) => Ok(Outcome::Found(cert)),
-        Behind::Nothing(_) => Ok(Outcome::Exhausted),
-        Behind::Spent => Ok(Outcome::Spent),
-    }
+    with_the_steps(alloc, names, steps, answer)
 }
 
 // The first two searches, one behind the other.
@@ -157,16 +157,13 @@ fn search_two_behind(
     budget: &mut Budget,
 ) -> Result<Behind, NoMemory>
     requires overlaps { IsOverlapList last.now overlaps }
-    ensures searched { SearchesBehind (map simp_view steps.items) (two_with_steps names.now (map simp_view steps.items) last.now) budget.old budget.new result }
+    ensures searched { Searches behind_ending (MayEnd (two_with_steps names.now (map simp_view steps.items) last.now)) budget.old budget.new result }
+    ensures hands_back { IfOk result (HandsBack (map simp_view steps.items)) }
     ensures kept { (n : ℕ) × Spends budget.old n budget.new }
 {
-    match search_ortho_behind(alloc, last, names, overlaps, steps, budget) {
-        Ok(Behind::Found(cert)) => Ok(Behind::Found(cert)),
-        Ok(Behind::Nothing(steps)) => {
-            search_peak_behind(alloc, last, names, overlaps, steps, budget)
-        }
-        Ok(Behind::Spent) => Ok(Behind::Spent),
-        Err(e) => Err(e),
+    match search_ortho_behind(alloc, last, names, overlaps, steps, budget)? {
+        Behind::Nothing(steps) => search_peak_behind(alloc, last, names, overlaps, steps, budget),
+        end => Ok(end),
     }
 }
 
@@ -178,18 +175,14 @@ fn search_three_behind(
     overlaps: Option<&[Overlap]>,
     steps: Vec<Simp>,
     budget: &mut Budget,
-) -> Result<Outcome, NoMemory>
+) -> Result<Behind, NoMemory>
     requires overlaps { IsOverlapList last.now overlaps }
-    ensures searched { SearchesAll (three_with_steps pruned_measures names.now (map simp_view steps.items) last.now) budget.old budget.new result }
+    ensures searched { Searches behind_ending (MayEndLast (three_with_steps pruned_measures names.now (map simp_view steps.items) last.now)) budget.old budget.new result }
     ensures kept { (n : ℕ) × Spends budget.old n budget.new }
 {
-    match search_two_behind(alloc, last, names, overlaps, steps, budget) {
-        Ok(Behind::Found(cert)) => Ok(Outcome::Found(cert)),
-        Ok(Behind::Nothing(steps)) => {
-            search_quasi_behind(alloc, last, names, overlaps, steps, budget)
-        }
-        Ok(Behind::Spent) => Ok(Outcome::Spent),
-        Err(e) => Err(e),
+    match search_two_behind(alloc, last, names, overlaps, steps, budget)? {
+        Behind::Nothing(steps) => search_quasi_behind(alloc, last, names, overlaps, steps, budget),
+        end => Ok(end),
     }
 }
 
@@ -202,16 +195,27 @@ fn search_last_system(
     names: &Names,
     steps: Vec<Simp>,
     budget: &mut Budget,
-) -> Result<Outcome, NoMemory>
+) -> Result<Behind, NoMemory>
     requires known { HasOverlaps sys.now known }
     requires steps { AllSimplify sys.now (map simp_view steps.items) last.now }
-    ensures searched { SearchesAll (three_with_steps pruned_measures names.now (map simp_view steps.items) last.now) budget.old budget.new result }
+    ensures searched { Searches behind_ending (MayEndLast (three_with_steps pruned_measures names.now (map simp_view steps.items) last.now)) budget.old budget.new result }
     ensures kept { (n : ℕ) × Spends budget.old n budget.new }
 {
     let indexed = IndexedSystem::new(alloc, last)?;
     let prepared = PreparedSystem::new(alloc, indexed)?;
     let found = overlaps_behind(alloc, sys, known, &steps, &prepared)?;
     search_three_behind(alloc, &prepared, names, found.as_deref(), steps, budget)
+}
+
+// The outcome of the searches, where these are the last.
+fn outcome_of(end: Behind) -> Outcome
+    ensures { outcome_ending result ≡ behind_ending end }
+{
+    match end {
+        Behind::Found(cert) => Outcome::Found(cert),
+        Behind::Nothing(_) => Outcome::Exhausted,
+        Behind::Spent => Outcome::Spent,
+    }
 }
 
 /// Finds the standard steps of the system, whose overlaps are known, and searches what they leave; where there are none, there is
@@ -224,7 +228,7 @@ pub fn search_simplified(
     budget: &mut Budget,
 ) -> Result<Outcome, NoMemory>
     requires known { HasOverlaps sys.now known }
-    ensures searched { SearchesSimplified names.now sys.now budget.old budget.new result }
+    ensures searched { Searches outcome_ending (MayEndSimplified names.now sys.now) budget.old budget.new result }
     ensures kept { (n : ℕ) × Spends budget.old n budget.new }
 {
     match find_steps(alloc, sys, budget) {
@@ -232,7 +236,8 @@ pub fn search_simplified(
             if steps.is_empty() {
                 return Ok(Outcome::Exhausted);
             }
-            search_last_system(alloc, sys, known, &last, names, steps, budget)
+            let end = search_last_system(alloc, sys, known, &last, names, steps, budget)?;
+            Ok(outcome_of(end))
         }
         Ok(SimpSearch::Spent) => Ok(Outcome::Spent),
         Err(e) => Err(e),

@@ -7,8 +7,10 @@ ghost use Rattle.valid_certificates.specs.Certificates.{IsValid};
 ghost use Rattle.cc_count.specs.Counts.{Spends};
 ghost use Rattle.search_spaces.specs.Texts.{HasText};
 ghost use Rattle.search_spaces.specs.Ortho.{ortho_space};
+ghost use Rattle.search_answers.specs.Answers.{Searches, IfFound, IfNothing};
+ghost use Rattle.proof_spaces.specs.Endings.{MayProofEnd};
+ghost use Rattle.portfolio.specs.Answers.{outcome_ending};
 ghost use Rattle.proof_spaces.specs.Proofs.{proof_space};
-ghost use Rattle.portfolio.specs.Answers.{Proves, IfProved, IfExhausted};
 
 mod behind;
 mod own;
@@ -25,6 +27,7 @@ use rule_index::IndexedSystem;
 use search_answers::overlaps_or_none;
 use std::alloc::Global;
 use term_core::{NoMemory, System};
+use validity::Search;
 
 /// How the searches end.
 #[derive(Debug, Drop)]
@@ -48,12 +51,12 @@ pub fn prove(
     budget: &mut Budget,
 ) -> Result<Outcome, NoMemory>
     // By the price, by that where nothing behind dead prefixes of the grid is tried, and by the sum of all that is searched then.
-    ensures searched { Proves names.now sys.now budget.old budget.new result }
-    ensures valid { IfProved result (IsValid sys.now) }
-    ensures written { IfProved result (HasText names.now) }
-    ensures exhausted { IfExhausted result ((c : math.Certificate) → (proof_space names.now sys.now).Holds c → IsValid sys.now c → ⊥) }
+    ensures searched { Searches outcome_ending (MayProofEnd names.now sys.now) budget.old budget.new result }
+    ensures valid { IfFound outcome_ending result (IsValid sys.now) }
+    ensures written { IfFound outcome_ending result (HasText names.now) }
+    ensures exhausted { IfNothing outcome_ending result ((c : math.Certificate) → (proof_space names.now sys.now).Holds c → IsValid sys.now c → ⊥) }
     // Where the first space has a certificate, that is found, for exactly its price.
-    ensures ortho_first { (c : math.Certificate) (n : ℕ) → (ortho_space names.now sys.now).Finds c n → IfProved result (λ found. (found ≡ c) × Spends budget.old n budget.new) }
+    ensures ortho_first { (c : math.Certificate) (n : ℕ) → (ortho_space names.now sys.now).Finds c n → IfFound outcome_ending result (λ found. (found ≡ c) × Spends budget.old n budget.new) }
     ensures kept { (n : ℕ) × Spends budget.old n budget.new }
 {
     proof_spaces_are_searchable();
@@ -61,9 +64,9 @@ pub fn prove(
     let prepared = PreparedSystem::new(alloc, indexed)?;
     let found = overlaps_or_none(alloc, &prepared)?;
     match search_whole(alloc, &prepared, names, found.as_deref(), budget) {
-        Ok(Outcome::Found(cert)) => Ok(Outcome::Found(cert)),
-        Ok(Outcome::Exhausted) => search_simplified(alloc, sys, names, found, budget),
-        Ok(Outcome::Spent) => Ok(Outcome::Spent),
+        Ok(Search::Found(cert)) => Ok(Outcome::Found(cert)),
+        Ok(Search::Nothing) => search_simplified(alloc, sys, names, found, budget),
+        Ok(Search::Spent) => Ok(Outcome::Spent),
         Err(e) => Err(e),
     }
 }

@@ -2,17 +2,14 @@
 ghost use Rattle.std.specs.Prelude.{ℕ, ◌≡◌};
 ghost use Rattle.certificates.specs.Certificates as math;
 ghost use Rattle.cc_count.specs.Counts.{Spends};
-ghost use Rattle.search_answers.specs.Answers.{SearchesExactly, IfFound};
 ghost use Rattle.search_spaces.specs.Ortho.{ortho_space};
 ghost use Rattle.search_spaces.specs.OrthoThenPeak.{ortho_then_peak_space};
 ghost use Rattle.quasi_space.specs.AllSpaces.{pruned_spaces};
-ghost use Rattle.quasi_space.specs.Measures.{pruned_measures};
-ghost use Rattle.quasi_space.specs.Quasi.{quasi_space_by};
-ghost use Rattle.quasi_search.specs.Answers.{Searches};
 ghost use Rattle.search_answers.specs.Given.{IsOverlapList};
-ghost use Rattle.portfolio.specs.Answers.{SearchesBoth, SearchesAll, IfProved};
+ghost use Rattle.search_answers.specs.Answers.{Searches, ending_of, IfFound};
+ghost use Rattle.first_found.specs.Spaces.{MayEnd};
+ghost use Rattle.quasi_space.specs.Endings.{MayEndLast};
 
-use crate::Outcome;
 use cc_count::Budget;
 use cops_names::Names;
 use critical_pairs::Overlap;
@@ -34,56 +31,32 @@ fn search_both(
     budget: &mut Budget,
 ) -> Result<Search, NoMemory>
     requires overlaps { IsOverlapList sys.now overlaps }
-    ensures searched { SearchesBoth (ortho_then_peak_space names.now sys.now) budget.old budget.new result }
-    ensures ortho_first { (c : math.Certificate) (n : ℕ) → (ortho_space names.now sys.now).Finds c n → IfFound result (λ found. (found ≡ c) × Spends budget.old n budget.new) }
+    ensures searched { Searches ending_of (MayEnd (ortho_then_peak_space names.now sys.now)) budget.old budget.new result }
+    ensures ortho_first { (c : math.Certificate) (n : ℕ) → (ortho_space names.now sys.now).Finds c n → IfFound ending_of result (λ found. (found ≡ c) × Spends budget.old n budget.new) }
     ensures kept { (n : ℕ) × Spends budget.old n budget.new }
 {
-    match search_ortho_over(alloc, sys, names, overlaps, budget) {
-        Ok(Search::Found(cert)) => Ok(Search::Found(cert)),
-        Ok(Search::Nothing) => search_peak_over(alloc, sys.indexed(), names, overlaps, budget),
-        Ok(Search::Spent) => Ok(Search::Spent),
-        Err(e) => Err(e),
+    match search_ortho_over(alloc, sys, names, overlaps, budget)? {
+        Search::Nothing => search_peak_over(alloc, sys.indexed(), names, overlaps, budget),
+        end => Ok(end),
     }
 }
 
-// The last search, behind the others.
-fn search_last(
-    alloc: Global,
-    sys: &PreparedSystem<'_>,
-    names: &Names,
-    overlaps: Option<&[Overlap]>,
-    budget: &mut Budget,
-) -> Result<Outcome, NoMemory>
-    requires overlaps { IsOverlapList sys.now overlaps }
-    ensures searched { SearchesAll (quasi_space_by (pruned_measures sys.now) names.now sys.now) budget.old budget.new result }
-    ensures kept { (n : ℕ) × Spends budget.old n budget.new }
-{
-    match search_quasi_over(alloc, sys, names, overlaps, budget) {
-        Ok(Search::Found(cert)) => Ok(Outcome::Found(cert)),
-        Ok(Search::Nothing) => Ok(Outcome::Exhausted),
-        Ok(Search::Spent) => Ok(Outcome::Spent),
-        Err(e) => Err(e),
-    }
-}
-
-/// All searches, one behind the other, over the system and the list of its overlaps.
+/// All three, one behind the other, over the system and the list of its overlaps.
 pub fn search_whole(
     alloc: Global,
     sys: &PreparedSystem<'_>,
     names: &Names,
     overlaps: Option<&[Overlap]>,
     budget: &mut Budget,
-) -> Result<Outcome, NoMemory>
+) -> Result<Search, NoMemory>
     requires overlaps { IsOverlapList sys.now overlaps }
-    ensures searched { SearchesAll (pruned_spaces names.now sys.now) budget.old budget.new result }
-    ensures ortho_first { (c : math.Certificate) (n : ℕ) → (ortho_space names.now sys.now).Finds c n → IfProved result (λ found. (found ≡ c) × Spends budget.old n budget.new) }
+    ensures searched { Searches ending_of (MayEndLast (pruned_spaces names.now sys.now)) budget.old budget.new result }
+    ensures ortho_first { (c : math.Certificate) (n : ℕ) → (ortho_space names.now sys.now).Finds c n → IfFound ending_of result (λ found. (found ≡ c) × Spends budget.old n budget.new) }
     ensures kept { (n : ℕ) × Spends budget.old n budget.new }
 {
     spaces_are_searchable();
-    match search_both(alloc, sys, names, overlaps, budget) {
-        Ok(Search::Found(cert)) => Ok(Outcome::Found(cert)),
-        Ok(Search::Nothing) => search_last(alloc, sys, names, overlaps, budget),
-        Ok(Search::Spent) => Ok(Outcome::Spent),
-        Err(e) => Err(e),
+    match search_both(alloc, sys, names, overlaps, budget)? {
+        Search::Nothing => search_quasi_over(alloc, sys, names, overlaps, budget),
+        end => Ok(end),
     }
 }

@@ -15,8 +15,7 @@ ghost use Rattle.path_orders.specs.Dead.{IsDead};
 ghost use Rattle.precedence_search.specs.Answers.{SearchAnswers};
 ghost use Rattle.precedence_search.specs.Walks.{FreeAnswers, GoesDown, GoesOn, HasDoneWith, HasHeads, IsAliveBefore, IsInPlace, IsLonger, IsSoundOf, PaidAnswers, TakeAnswers, VisitAnswers};
 
-use crate::PrecedenceSearch;
-use cc_count::Budget;
+use cc_count::{Budget, Sought};
 use lpo::{is_listed_dead, is_one_dead, no_places, rules_by_symbol, symbol_of};
 use std::alloc::Global;
 use term_core::{Head, NoMemory, Rule, System};
@@ -170,7 +169,7 @@ pub(crate) fn walk_precedences(
     sys: &System,
     unraveled: &Unraveled,
     budget: &mut Budget,
-) -> Result<PrecedenceSearch, NoMemory>
+) -> Result<Sought<Vec<Head>>, NoMemory>
     requires { IsUnraveled sys.now unraveled.now }
     ensures answer { SearchAnswers sys.now budget.old budget.new result }
     ensures kept { (n : ℕ) × Spends budget.old n budget.new }
@@ -189,11 +188,11 @@ pub(crate) fn walk_precedences(
             Seen::Alive => go_down(heads, &mut walk)?,
             Seen::Barren => {
                 if !go_on(heads, &mut walk)? {
-                    return Ok(PrecedenceSearch::NoneGood);
+                    return Ok(Sought::Nothing);
                 }
             }
-            Seen::Good => return Ok(PrecedenceSearch::Good(walk.prefix)),
-            Seen::Unpaid => return Ok(PrecedenceSearch::Spent),
+            Seen::Good => return Ok(Sought::Found(walk.prefix)),
+            Seen::Unpaid => return Ok(Sought::Spent),
         }
     }
 }

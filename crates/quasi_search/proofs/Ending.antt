@@ -13,7 +13,7 @@ use Rattle.quasi_check.specs.Parts.{AreRulesGood}
 use Rattle.cc_count.specs.Counts.{Counts, Spends}
 use Rattle.first_found.specs.Rows.{AreFirsts, EndsAtRow, StopsInRow}
 use Rattle.first_found.specs.Spaces.{Space, spent}
-use Rattle.search_answers.specs.Answers.{ending_of, IfFound, IfNothing}
+use Rattle.search_answers.specs.Answers.{ending_of, Searches, IfFound, IfNothing}
 use Rattle.search_spaces.specs.Texts.{HasText}
 use Rattle.measure_lists.specs.Pruned.{IsPrunedFirst}
 use Rattle.quasi_space.specs.Endings.{MayEndLast}
@@ -23,12 +23,12 @@ use Rattle.quasi_space.proofs.AllSpaces.{each_searchable, pruned_search}
 use Rattle.quasi_space.proofs.Measures.{pruned_tried}
 use Rattle.quasi_space.proofs.Quasi.{ends_closed, ends_at_row, ends_in_row, ends_found, ends_too_long, ends_no_measure, ends_in_measures}
 use Rattle.cc_count.proofs.Spending.{spends_none, spends_both}
-use Rattle.quasi_search.specs.Answers.{Searches}
 use Rattle.quasi_search.specs.MeasureTrials.{IsNoneGood, AreTooFew, MeasureAnswers}
-use Rattle.quasi_search.specs.declared.measures.MeasureSearch.{MeasureSearch}
+use Rattle.cert_model.specs.declared.model.MeasureCert.{MeasureCert}
+use Rattle.cc_count.specs.declared.Sought.{Sought}
 
 -- what the search for a measure told, of what it is known to be
-pub measure_told : (here sys : System) (before after : Counts) (f g : MeasureSearch) → here ≡ sys → f ≡ g → MeasureAnswers here before after (Ok f) → MeasureAnswers sys before after (Ok g)
+pub measure_told : (here sys : System) (before after : Counts) (f g : Sought MeasureCert) → here ≡ sys → f ≡ g → MeasureAnswers here before after (Ok f) → MeasureAnswers sys before after (Ok g)
 measure_told here sys before after f g same is h = subst (λ s. MeasureAnswers s before after (Ok g)) same (subst (λ z. MeasureAnswers here before after (Ok z)) is h)
 
 module _ (names : NameTable) (sys : System) where
@@ -37,41 +37,41 @@ module _ (names : NameTable) (sys : System) where
 
   module _ (before after : Counts) where
     -- what is answered with the pruned grid may be answered with the whole one
-    pub whole_searched : (r : Result Search NoMemory) → Searches Pruned before after r → Searches (quasi_space names sys) before after r
+    pub whole_searched : (r : Result Search NoMemory) → Searches ending_of (MayEndLast Pruned) before after r → Searches ending_of (MayEndLast (quasi_space names sys)) before after r
     whole_searched (Ok answer) (n, s, e) = (n, s, pruned_search names sys before.left n (ending_of answer) e)
     whole_searched (Err e) h = tt
 
     -- what is found is valid, and where nothing is, nothing in the space is
-    valid_of : (r : Result Search NoMemory) → Searches (quasi_space names sys) before after r → IfFound r (IsValid sys)
+    valid_of : (r : Result Search NoMemory) → Searches ending_of (MayEndLast (quasi_space names sys)) before after r → IfFound ending_of r (IsValid sys)
     valid_of (Ok (Found c)) (n, s, (k, f, most)) = ((each_searchable names sys).searched.held (certificate_view c) k f).1
     valid_of (Ok Nothing) h = tt
     valid_of (Ok Spent) h = tt
     valid_of (Err e) h = tt
 
-    nothing_of : (r : Result Search NoMemory) → Searches (quasi_space names sys) before after r → IfNothing r ((c : Certificate) → (quasi_space names sys).Holds c → IsValid sys c → ⊥)
+    nothing_of : (r : Result Search NoMemory) → Searches ending_of (MayEndLast (quasi_space names sys)) before after r → IfNothing ending_of r ((c : Certificate) → (quasi_space names sys).Holds c → IsValid sys c → ⊥)
     nothing_of (Ok (Found c)) h = tt
     nothing_of (Ok Nothing) (n, s, (barren, most)) = (each_searchable names sys).searched.barren barren
     nothing_of (Ok Spent) h = tt
     nothing_of (Err e) h = tt
 
-    pub found_valid : (r : Result Search NoMemory) → Searches Pruned before after r → IfFound r (IsValid sys)
+    pub found_valid : (r : Result Search NoMemory) → Searches ending_of (MayEndLast Pruned) before after r → IfFound ending_of r (IsValid sys)
     found_valid r h = valid_of r (whole_searched r h)
 
-    pub nothing_valid : (r : Result Search NoMemory) → Searches Pruned before after r → IfNothing r ((c : Certificate) → (quasi_space names sys).Holds c → IsValid sys c → ⊥)
+    pub nothing_valid : (r : Result Search NoMemory) → Searches ending_of (MayEndLast Pruned) before after r → IfNothing ending_of r ((c : Certificate) → (quasi_space names sys).Holds c → IsValid sys c → ⊥)
     nothing_valid r h = nothing_of r (whole_searched r h)
 
   -- where a rule is not good, or the overlaps have no list
-  closed : ((os : List Overlap) → IsQuasiOpen sys os → ⊥) → (b : Counts) → Searches Pruned b b (Ok Nothing)
+  closed : ((os : List Overlap) → IsQuasiOpen sys os → ⊥) → (b : Counts) → Searches ending_of (MayEndLast Pruned) b b (Ok Nothing)
   closed none b = (0, spends_none b, ends_closed names sys (pruned_measures sys) (pruned_tried sys) none b.left)
 
-  pub closed_by_rules : (AreRulesGood sys → ⊥) → (b : Counts) → Searches Pruned b b (Ok Nothing)
+  pub closed_by_rules : (AreRulesGood sys → ⊥) → (b : Counts) → Searches ending_of (MayEndLast Pruned) b b (Ok Nothing)
   closed_by_rules bad = closed (λ os h. bad (record { deterministic = h.deterministic; irreducible = h.irreducible }))
 
-  pub closed_by_overlaps : ((os : List Overlap) → AreOverlaps sys os → ⊥) → (b : Counts) → Searches Pruned b b (Ok Nothing)
+  pub closed_by_overlaps : ((os : List Overlap) → AreOverlaps sys os → ⊥) → (b : Counts) → Searches ending_of (MayEndLast Pruned) b b (Ok Nothing)
   closed_by_overlaps none = closed (λ os h. none os h.overlaps)
 
   -- where all units are spent
-  all_spent : (before after : Counts) (n : ℕ) → Spends before n after → after.left ≡ 0 → MayEndLast Pruned n n spent → Searches Pruned before after (Ok Spent)
+  all_spent : (before after : Counts) (n : ℕ) → Spends before n after → after.left ≡ 0 → MayEndLast Pruned n n spent → Searches ending_of (MayEndLast Pruned) before after (Ok Spent)
   all_spent before after n spends end stopped =
       let units = spends.left in
       let all : n ≡ before.left = omega (arith, units, end) in (n, spends, subst (λ left. MayEndLast Pruned left n spent) all stopped)
@@ -81,10 +81,10 @@ module _ (names : NameTable) (sys : System) where
     is_open = record { deterministic = rules.deterministic; irreducible = rules.irreducible; overlaps = overlaps }
 
     module _ (before after : Counts) where
-      pub row_searched : (n : ℕ) × Spends before n after × EndsAtRow (IsQuasiEntry sys) (items_cost sys) os n → Searches Pruned before after (Ok Nothing)
+      pub row_searched : (n : ℕ) × Spends before n after × EndsAtRow (IsQuasiEntry sys) (items_cost sys) os n → Searches ending_of (MayEndLast Pruned) before after (Ok Nothing)
       row_searched (n, spends, ends) = (n, spends, ends_at_row names sys (pruned_measures sys) (pruned_tried sys) os is_open before.left n ends)
 
-      pub row_spent : (n : ℕ) × Spends before n after × (after.left ≡ 0) × StopsInRow (IsQuasiEntry sys) (StopsAtQuasi sys) os n → Searches Pruned before after (Ok Spent)
+      pub row_spent : (n : ℕ) × Spends before n after × (after.left ≡ 0) × StopsInRow (IsQuasiEntry sys) (StopsAtQuasi sys) os n → Searches ending_of (MayEndLast Pruned) before after (Ok Spent)
       row_spent (n, spends, end, stops) = all_spent before after n spends end (ends_in_row names sys (pruned_measures sys) (pruned_tried sys) os is_open n stops)
 
     -- every overlap has evidence, and the search goes on for a measure
@@ -97,21 +97,21 @@ module _ (names : NameTable) (sys : System) where
         subst (λ c. (k : ℕ) × Pruned.Finds c k × (whole.0 + u ≤ k)) (sym is) (ends_found names sys (pruned_measures sys) (pruned_tried sys) os is_open es whole.0 whole.2 before.left u m first (subst (HasText names) is text)),
       )
 
-      pub long_searched : (m : MeasureCertificate) → (u : ℕ) × Spends here u after × IsPrunedFirst sys m u → (d : Certificate) → d ≡ quasi_certificate m es → (HasText names d → ⊥) → Searches Pruned before after (Ok Nothing)
+      pub long_searched : (m : MeasureCertificate) → (u : ℕ) × Spends here u after × IsPrunedFirst sys m u → (d : Certificate) → d ≡ quasi_certificate m es → (HasText names d → ⊥) → Searches ending_of (MayEndLast Pruned) before after (Ok Nothing)
       long_searched m (u, spends, first) d is long = (
         whole.0 + u,
         spends_both before here after whole.0 u whole.1 spends,
         ends_too_long names sys (pruned_measures sys) (pruned_tried sys) os is_open es whole.0 whole.2 before.left u m first (λ t. long (subst (HasText names) (sym is) t)),
       )
 
-      pub none_searched : (u : ℕ) × Spends here u after × IsNoneGood sys u → Searches Pruned before after (Ok Nothing)
+      pub none_searched : (u : ℕ) × Spends here u after × IsNoneGood sys u → Searches ending_of (MayEndLast Pruned) before after (Ok Nothing)
       none_searched (u, spends, none) = (
         whole.0 + u,
         spends_both before here after whole.0 u whole.1 spends,
         ends_no_measure names sys (pruned_measures sys) (pruned_tried sys) os is_open es whole.0 whole.2 before.left u none.within none.none,
       )
 
-      pub spent_searched : (u : ℕ) × Spends here u after × (after.left ≡ 0) × AreTooFew sys u → Searches Pruned before after (Ok Spent)
+      pub spent_searched : (u : ℕ) × Spends here u after × (after.left ≡ 0) × AreTooFew sys u → Searches ending_of (MayEndLast Pruned) before after (Ok Spent)
       spent_searched (u, spends, end, few) =
           all_spent before after (whole.0 + u) (spends_both before here after whole.0 u whole.1 spends) end
           (ends_in_measures names sys (pruned_measures sys) (pruned_tried sys) os is_open es whole.0 whole.2 u

@@ -14,8 +14,9 @@ use Rattle.reach.proofs.Fitting.{listed_fit}
 use Rattle.search_spaces.specs.Listings.{listing, listing_cost}
 use Rattle.term_core.specs.declared.terms.NoMemory.{NoMemory}
 use Rattle.pair_search.specs.Answers.{WalkAnswers}
-use Rattle.pair_search.specs.declared.walks.Walk.{Walk}
-use Rattle.pair_search.specs.declared.walks.Walk.TheVariants.{Spent}
+use Rattle.cc_count.specs.declared.Sought.{Sought}
+use Rattle.cert_model.specs.declared.evidence.PairEvidence.{PairEvidence}
+use Rattle.cc_count.specs.declared.Sought.TheVariants.{Spent}
 use Rattle.pair_search.proofs.Composed.{item_is_dear, item_bare, goes_behind}
 use Rattle.quasi_space.specs.QuasiItems.{QuasiItem, make_listing, quasi_item_cost, GivesQuasi}
 use Rattle.quasi_search.specs.Listed.{ListedAnswers}
@@ -32,7 +33,7 @@ module _ (sys : System) (o : Overlap) (t : Term) (a b : Counts) where
   item = make_listing (listing_cost sys o.pair.conditions t)
 
   -- a listing that is made gives nothing, and the walk goes on
-  pub listing_made : (rest : List QuasiItem) (l : Vec Entry Global) → ListedAnswers sys o t a b (Ok (Some l)) → (c : Counts) (r : Result Walk NoMemory)
+  pub listing_made : (rest : List QuasiItem) (l : Vec Entry Global) → ListedAnswers sys o t a b (Ok (Some l)) → (c : Counts) (r : Result (Sought PairEvidence) NoMemory)
       → WalkAnswers quasi_item_cost (GivesQuasi sys o) rest b c r → WalkAnswers quasi_item_cost (GivesQuasi sys o) (item ∷ rest) a c r
   listing_made rest l (is, s) c r h =
       goes_behind quasi_item_cost (GivesQuasi sys o) (item ∷ []) rest a b c r (item_bare quasi_item_cost (GivesQuasi sys o) item a b s (λ e g. g.0)) h

@@ -26,7 +26,7 @@ use Rattle.first_found.specs.Items.{GivesNothing, NoneGives, cost_of, IsFirst}
 use Rattle.first_found.proofs.Items.{cost_append, none_append, first_here, first_left, first_right, first_within}
 use Rattle.search_spaces.specs.Listings.{listing}
 use Rattle.pair_search.specs.Answers.{WalkAnswers}
-use Rattle.pair_search.specs.declared.walks.Walk.TheVariants.{Given, Nothing}
+use Rattle.cc_count.specs.declared.Sought.TheVariants.{Found, Nothing}
 use Rattle.quasi_space.specs.Laws.{AreListedAt}
 use Rattle.quasi_space.specs.QuasiItems.{QuasiItem, try_join, quasi_item_cost, GivesQuasi, joins}
 use Rattle.quasi_space.proofs.Joins.{joins_shared}
@@ -115,7 +115,7 @@ module _ (sys : System) (o : Overlap) where
         )
 
     -- the first shared term gives the evidence, for nothing
-    pub join_given : (a : Counts) (e : PairEvidence) → pair_evidence_view e ≡ joined_pair x.by y.by → WalkAnswers quasi_item_cost Gives (joins left_list right_list) a a (Ok (Given e))
+    pub join_given : (a : Counts) (e : PairEvidence) → pair_evidence_view e ≡ joined_pair x.by y.by → WalkAnswers quasi_item_cost Gives (joins left_list right_list) a a (Ok (Found e))
     join_given a e is =
         let first = in_all in
         let most = first_within Gives quasi_item_cost (joins left_list right_list) (joined_pair x.by y.by) first.0 first.1 in
@@ -135,7 +135,7 @@ module _ (sys : System) (o : Overlap) where
     at_listings = subst₂ (λ xs ys. SharedAnswers xs ys (Ok f)) left_is right_is h
 
     pub shared_given : (x y : Bor listed.Entry) → f ≡ Some (x, y) → (a : Counts) (e : PairEvidence) → pair_evidence_view e ≡ joined_pair (entry_view x.now).by (entry_view y.now).by
-        → WalkAnswers quasi_item_cost Gives (joins left_list right_list) a a (Ok (Given e))
+        → WalkAnswers quasi_item_cost Gives (joins left_list right_list) a a (Ok (Found e))
     shared_given x y is a e same = join_given (entry_view x.now) (entry_view y.now) (subst (λ z. SharedAnswers left_list right_list (Ok z)) is at_listings) a e same
 
     pub none_given : f ≡ None → (a : Counts) → WalkAnswers quasi_item_cost Gives (joins left_list right_list) a a (Ok Nothing)

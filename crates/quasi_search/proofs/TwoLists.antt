@@ -14,8 +14,9 @@ use Rattle.measure_lists.specs.Pruned.{IsPrunedFirst, IsPrunedWhole}
 use Rattle.grid_search.specs.Answers as grid_search
 use Rattle.precedence_search.specs.Answers as path_search
 use Rattle.quasi_search.specs.MeasureTrials.{IsNoneGood, AreTooFew, MeasureAnswers, PrecedenceAnswers}
-use Rattle.quasi_search.specs.declared.measures.MeasureSearch.{MeasureSearch}
-use Rattle.quasi_search.specs.declared.measures.MeasureSearch.TheVariants.{Good, NoneGood, Spent}
+use Rattle.cert_model.specs.declared.model.MeasureCert.{MeasureCert}
+use Rattle.cc_count.specs.declared.Sought.{Sought}
+use Rattle.cc_count.specs.declared.Sought.TheVariants.{Found, Nothing, Spent}
 
 module _ (sys : System) where
   grid_fits : (m : MeasureCertificate) (k : ℕ) → grid.IsPrunedFirst sys m k → DoesUnravelingFit sys
@@ -81,8 +82,8 @@ module _ (sys : System) where
 
     -- what the search of the precedences answers behind them
     module _ (before here after : Counts) (spends : Spends before u here) where
-      pub behind : (r : Result MeasureSearch NoMemory) → PrecedenceAnswers sys here after r → MeasureAnswers sys before after r
-      behind (Ok (Good m)) (n, s, f) = (u + n, spends_both before here after u n spends s, first_behind _ n f)
-      behind (Ok NoneGood) (n, s, h) = (u + n, spends_both before here after u n spends s, none_behind n h)
+      pub behind : (r : Result (Sought MeasureCert) NoMemory) → PrecedenceAnswers sys here after r → MeasureAnswers sys before after r
+      behind (Ok (Found m)) (n, s, f) = (u + n, spends_both before here after u n spends s, first_behind _ n f)
+      behind (Ok Nothing) (n, s, h) = (u + n, spends_both before here after u n spends s, none_behind n h)
       behind (Ok Spent) (n, s, end, stops) = (u + n, spends_both before here after u n spends s, end, stops_behind n stops)
       behind (Err e) h = tt

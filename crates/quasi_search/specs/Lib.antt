@@ -1,4 +1,3 @@
-pub mod Answers
 pub mod Joins
 pub mod Listed
 pub mod MeasureTrials

@@ -11,7 +11,8 @@ use Rattle.reach_lists.specs.Solutions.{Reached}
 use Rattle.reach.specs.EntryView.{entry_view}
 use Rattle.search_spaces.specs.Listings.{listing, listing_cost, pairs_of}
 use Rattle.pair_search.specs.Answers.{WalkAnswers}
-use Rattle.pair_search.specs.declared.walks.Walk.{Walk}
+use Rattle.cc_count.specs.declared.Sought.{Sought}
+use Rattle.cert_model.specs.declared.evidence.PairEvidence.{PairEvidence}
 use Rattle.quasi_space.specs.Laws.{IsReductAt}
 use Rattle.quasi_space.specs.QuasiItems.{QuasiItem, make_listing, two_reducts, quasi_item_cost, GivesQuasi}
 use Rattle.quasi_search.specs.declared.reducts.Reduct.{Reduct}
@@ -40,6 +41,6 @@ abbrev pub condition_items : System → Overlap → ℕ → Term → List QuasiI
 condition_items sys o k t = make_listing (listing_cost sys o.pair.conditions t) ∷ map (two_reducts k) (pairs_of (listing sys o.pair.conditions t))
 
 -- what a walk through pairs of such terms answers
-abbrev pub PairsAnswer : ℕ → List Reduct → List (Reached × Reached) → Counts → Counts → Result Walk NoMemory → Type 0
+abbrev pub PairsAnswer : ℕ → List Reduct → List (Reached × Reached) → Counts → Counts → Result (Sought PairEvidence) NoMemory → Type 0
 PairsAnswer k rs pairs before after result =
     (sys : System) (o : Overlap) → EachOf (IsReductOf sys o k) rs → WalkAnswers quasi_item_cost (GivesQuasi sys o) (map (two_reducts k) pairs) before after result

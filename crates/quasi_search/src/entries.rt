@@ -7,9 +7,10 @@ ghost use Rattle.quasi_space.specs.Quasi.{IsQuasiEntry, StopsAtQuasi, items_cost
 ghost use Rattle.pair_search.specs.Answers.{EntriesAnswers};
 
 use crate::trying::try_overlap;
-use cc_count::Budget;
+use cc_count::{Budget, Sought};
+use cert_model::PairEntry;
 use critical_pairs::Overlap;
-use pair_search::{Entries, Grown, Walk, add_entry};
+use pair_search::{Grown, add_entry};
 use prepared_system::PreparedSystem;
 use std::alloc::Global;
 use term_core::NoMemory;
@@ -20,7 +21,7 @@ pub fn entries_for(
     sys: &PreparedSystem<'_>,
     overlaps: &[Overlap],
     budget: &mut Budget,
-) -> Result<Entries, NoMemory>
+) -> Result<Sought<Vec<PairEntry>>, NoMemory>
     requires overlaps { EachIsOverlap sys.now (map overlap_view overlaps.now) }
     ensures answer { EntriesAnswers (IsQuasiEntry sys.now) (items_cost sys.now) (StopsAtQuasi sys.now) (map overlap_view overlaps.now) budget.old budget.new result }
     ensures kept { (n : ℕ) × Spends budget.old n budget.new }
@@ -29,11 +30,11 @@ pub fn entries_for(
     let mut grown = Grown::new();
     'rows: for overlap in overlaps {
         match try_overlap(alloc, sys, overlap, budget, &mut grown) {
-            Ok(Walk::Given(evidence)) => add_entry(alloc, &mut entries, overlap, evidence)?,
-            Ok(Walk::Nothing) => return Ok(Entries::Missing),
-            Ok(Walk::Spent) => return Ok(Entries::Spent),
+            Ok(Sought::Found(evidence)) => add_entry(alloc, &mut entries, overlap, evidence)?,
+            Ok(Sought::Nothing) => return Ok(Sought::Nothing),
+            Ok(Sought::Spent) => return Ok(Sought::Spent),
             Err(e) => return Err(e),
         }
     }
-    Ok(Entries::Whole(entries))
+    Ok(Sought::Found(entries))
 }

@@ -16,11 +16,10 @@ ghost use Rattle.quasi_space.specs.QuasiItems.{quasi_item_cost, GivesQuasi, join
 ghost use Rattle.quasi_search.specs.Joins.{IsIndexOf, FindAnswers, SharedAnswers};
 
 use crate::listed::listed_under;
-use cc_count::Budget;
+use cc_count::{Budget, Sought};
 use cert_model::PairEvidence;
 use critical_pairs::Overlap;
 use indexmap::IndexMap;
-use pair_search::Walk;
 use prepared_system::PreparedSystem;
 use reach::{Entry, key_of};
 use std::alloc::Global;
@@ -87,19 +86,19 @@ pub fn try_joins(
     sys: &PreparedSystem<'_>,
     overlap: &Overlap,
     budget: &mut Budget,
-) -> Result<Walk, NoMemory>
+) -> Result<Sought<PairEvidence>, NoMemory>
     requires overlap { IsOverlapOf sys.now (overlap_view overlap.now) }
     ensures answer { WalkAnswers quasi_item_cost (GivesQuasi sys.now (overlap_view overlap.now)) (join_items sys.now (overlap_view overlap.now)) budget.old budget.new result }
     ensures kept { (n : ℕ) × Spends budget.old n budget.new }
 {
     let Some(left) = listed_under(alloc, sys, overlap, &overlap.left, budget)? else {
-        return Ok(Walk::Spent);
+        return Ok(Sought::Spent);
     };
     let Some(right) = listed_under(alloc, sys, overlap, &overlap.right, budget)? else {
-        return Ok(Walk::Spent);
+        return Ok(Sought::Spent);
     };
     match first_shared(alloc, &left, &right)? {
-        Some((first, second)) => Ok(Walk::Given(joined(alloc, first, second)?)),
-        None => Ok(Walk::Nothing),
+        Some((first, second)) => Ok(Sought::Found(joined(alloc, first, second)?)),
+        None => Ok(Sought::Nothing),
     }
 }

@@ -8,11 +8,11 @@ ghost use Rattle.critical_pairs.specs.View.{overlap_view};
 ghost use Rattle.valid_certificates.specs.Certificates.{IsValid};
 ghost use Rattle.quasi_check.specs.Parts.{AreRulesGood};
 ghost use Rattle.cc_count.specs.Counts.{Spends};
-ghost use Rattle.search_answers.specs.Answers.{IfFound, IfNothing};
 ghost use Rattle.search_answers.specs.Given.{IsOverlapList};
+ghost use Rattle.search_answers.specs.Answers.{Searches, ending_of, IfFound, IfNothing};
+ghost use Rattle.quasi_space.specs.Endings.{MayEndLast};
 ghost use Rattle.quasi_space.specs.Measures.{pruned_measures};
 ghost use Rattle.quasi_space.specs.Quasi.{quasi_space, quasi_space_by};
-ghost use Rattle.quasi_search.specs.Answers.{Searches};
 
 mod entries;
 mod joins;
@@ -23,15 +23,14 @@ mod refuting;
 mod trying;
 
 use crate::entries::entries_for;
-use crate::measures::{MeasureSearch, search_measures};
+use crate::measures::search_measures;
 pub use crate::trying::try_overlap;
-use cc_count::Budget;
+use cc_count::{Budget, Sought};
 use cert_limits::has_text;
 use cert_model::Certificate;
 use cops_names::Names;
 use critical_pairs::Overlap;
 use ctrs_classes::is_deterministic;
-use pair_search::Entries;
 use prepared_system::PreparedSystem;
 use quasi_check::are_right_sides_irreducible;
 use rule_index::IndexedSystem;
@@ -50,7 +49,7 @@ fn are_rules_good(alloc: Global, sys: &PreparedSystem<'_>) -> Result<bool, NoMem
     are_right_sides_irreducible(alloc, sys)
 }
 
-// Searches where the rules are good: for the entries, and behind them for a measure.
+// Searches ending_of (MayEndLast where) the rules are good: for the entries, and behind them for a measure.
 fn search_open(
     alloc: Global,
     sys: &PreparedSystem<'_>,
@@ -60,17 +59,17 @@ fn search_open(
 ) -> Result<Search, NoMemory>
     requires rules { AreRulesGood sys.now }
     requires overlaps { AreOverlaps sys.now (map overlap_view overlaps.now) }
-    ensures pruned { Searches (quasi_space_by (pruned_measures sys.now) names.now sys.now) budget.old budget.new result }
+    ensures pruned { Searches ending_of (MayEndLast (quasi_space_by (pruned_measures sys.now) names.now sys.now)) budget.old budget.new result }
     ensures kept { (n : ℕ) × Spends budget.old n budget.new }
 {
     let pairs = match entries_for(alloc, sys, overlaps, budget) {
-        Ok(Entries::Whole(pairs)) => pairs,
-        Ok(Entries::Missing) => return Ok(Search::Nothing),
-        Ok(Entries::Spent) => return Ok(Search::Spent),
+        Ok(Sought::Found(pairs)) => pairs,
+        Ok(Sought::Nothing) => return Ok(Search::Nothing),
+        Ok(Sought::Spent) => return Ok(Search::Spent),
         Err(e) => return Err(e),
     };
     match search_measures(alloc, sys.system(), budget) {
-        Ok(MeasureSearch::Good(measure)) => {
+        Ok(Sought::Found(measure)) => {
             let cert = Certificate::Quasi(measure, pairs);
             if has_text(alloc, names, &cert)? {
                 Ok(Search::Found(cert))
@@ -78,8 +77,8 @@ fn search_open(
                 Ok(Search::Nothing)
             }
         }
-        Ok(MeasureSearch::NoneGood) => Ok(Search::Nothing),
-        Ok(MeasureSearch::Spent) => Ok(Search::Spent),
+        Ok(Sought::Nothing) => Ok(Search::Nothing),
+        Ok(Sought::Spent) => Ok(Search::Spent),
         Err(e) => Err(e),
     }
 }
@@ -93,10 +92,10 @@ pub fn search_quasi_over(
     budget: &mut Budget,
 ) -> Result<Search, NoMemory>
     requires overlaps { IsOverlapList sys.now overlaps }
-    ensures searched { Searches (quasi_space names.now sys.now) budget.old budget.new result }
-    ensures pruned { Searches (quasi_space_by (pruned_measures sys.now) names.now sys.now) budget.old budget.new result }
-    ensures nothing { IfNothing result ((c : math.Certificate) → (quasi_space names.now sys.now).Holds c → IsValid sys.now c → ⊥) }
-    ensures valid { IfFound result (IsValid sys.now) }
+    ensures searched { Searches ending_of (MayEndLast (quasi_space names.now sys.now)) budget.old budget.new result }
+    ensures pruned { Searches ending_of (MayEndLast (quasi_space_by (pruned_measures sys.now) names.now sys.now)) budget.old budget.new result }
+    ensures nothing { IfNothing ending_of result ((c : math.Certificate) → (quasi_space names.now sys.now).Holds c → IsValid sys.now c → ⊥) }
+    ensures valid { IfFound ending_of result (IsValid sys.now) }
     ensures kept { (n : ℕ) × Spends budget.old n budget.new }
 {
     let Some(found) = overlaps else {
@@ -109,7 +108,7 @@ pub fn search_quasi_over(
     }
 }
 
-/// Searches for a certificate with a measure. First there is to be an entry for each overlap, with the first valid evidence
+/// Searches ending_of (MayEndLast for) a certificate with a measure. First there is to be an entry for each overlap, with the first valid evidence
 /// among caps and grown automata, common reducts of its sides, and two reducts of the left side of a condition that show that
 /// it is never met. Caps and each automaton cost a unit. Reducts are looked for in lists of what a term reaches in 5 steps with
 /// condition depth 2, a unit for each term that is listed; common ones cost no more, and each two of a condition a unit. The
@@ -125,10 +124,10 @@ pub fn search_quasi(
     names: &Names,
     budget: &mut Budget,
 ) -> Result<Search, NoMemory>
-    ensures searched { Searches (quasi_space names.now sys.now) budget.old budget.new result }
-    ensures pruned { Searches (quasi_space_by (pruned_measures sys.now) names.now sys.now) budget.old budget.new result }
-    ensures nothing { IfNothing result ((c : math.Certificate) → (quasi_space names.now sys.now).Holds c → IsValid sys.now c → ⊥) }
-    ensures valid { IfFound result (IsValid sys.now) }
+    ensures searched { Searches ending_of (MayEndLast (quasi_space names.now sys.now)) budget.old budget.new result }
+    ensures pruned { Searches ending_of (MayEndLast (quasi_space_by (pruned_measures sys.now) names.now sys.now)) budget.old budget.new result }
+    ensures nothing { IfNothing ending_of result ((c : math.Certificate) → (quasi_space names.now sys.now).Holds c → IsValid sys.now c → ⊥) }
+    ensures valid { IfFound ending_of result (IsValid sys.now) }
     ensures kept { (n : ℕ) × Spends budget.old n budget.new }
 {
     let indexed = IndexedSystem::new(alloc, sys)?;

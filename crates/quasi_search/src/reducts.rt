@@ -19,11 +19,10 @@ ghost use Rattle.quasi_space.specs.QuasiItems.{quasi_item_cost, GivesQuasi, redu
 ghost use Rattle.quasi_search.specs.Reducts.{reduct_view, reducts_view, pairs_with, condition_items, IsJudged, PairsAnswer};
 
 use crate::listed::listed_under;
-use cc_count::Budget;
+use cc_count::{Budget, Sought};
 use cert_model::PairEvidence;
 use critical_pairs::Overlap;
 use irreducible::do_all_clash;
-use pair_search::Walk;
 use prepared_system::PreparedSystem;
 use reach::Entry;
 use std::alloc::Global;
@@ -95,23 +94,23 @@ fn try_pair(
     first: &Reduct<'_>,
     second: &Reduct<'_>,
     budget: &mut Budget,
-) -> Result<Walk, NoMemory>
+) -> Result<Sought<PairEvidence>, NoMemory>
     ensures answer { PairsAnswer cond (first.now ∷ second.now ∷ []) ((reduct_view first.now, reduct_view second.now) ∷ []) budget.old budget.new result }
     ensures kept { (n : ℕ) × Spends budget.old n budget.new }
 {
     if !budget.take() {
-        return Ok(Walk::Spent);
+        return Ok(Sought::Spent);
     }
     if !first.is_irreducible {
-        return Ok(Walk::Nothing);
+        return Ok(Sought::Nothing);
     }
     if !second.is_irreducible {
-        return Ok(Walk::Nothing);
+        return Ok(Sought::Nothing);
     }
     if !do_clash(alloc, first.listed, second.listed)? {
-        return Ok(Walk::Nothing);
+        return Ok(Sought::Nothing);
     }
-    Ok(Walk::Given(unfeasible(alloc, cond, first.listed, second.listed)?))
+    Ok(Sought::Found(unfeasible(alloc, cond, first.listed, second.listed)?))
 }
 
 // Tries a reduct with each of later ones.
@@ -121,17 +120,17 @@ fn try_with(
     first: &Reduct<'_>,
     later: &[Reduct<'_>],
     budget: &mut Budget,
-) -> Result<Walk, NoMemory>
+) -> Result<Sought<PairEvidence>, NoMemory>
     ensures answer { PairsAnswer cond (first.now ∷ later.now) (pairs_with (reduct_view first.now) (reducts_view later.now)) budget.old budget.new result }
     ensures kept { (n : ℕ) × Spends budget.old n budget.new }
 {
     'later: for second in later {
         match try_pair(alloc, cond, first, second, budget)? {
-            Walk::Nothing => {}
+            Sought::Nothing => {}
             end => return Ok(end),
         }
     }
-    Ok(Walk::Nothing)
+    Ok(Sought::Nothing)
 }
 
 // Tries all pairs of an earlier and a later reduct, by the earlier, then the later.
@@ -140,18 +139,18 @@ fn try_pairs(
     cond: u32,
     reducts: &[Reduct<'_>],
     budget: &mut Budget,
-) -> Result<Walk, NoMemory>
+) -> Result<Sought<PairEvidence>, NoMemory>
     ensures answer { PairsAnswer cond reducts.now (pairs_of (reducts_view reducts.now)) budget.old budget.new result }
     ensures kept { (n : ℕ) × Spends budget.old n budget.new }
 {
     'firsts: for (i, first) in reducts.iter().enumerate() {
         let later = &reducts[i + 1..];
         match try_with(alloc, cond, first, later, budget)? {
-            Walk::Nothing => {}
+            Sought::Nothing => {}
             end => return Ok(end),
         }
     }
-    Ok(Walk::Nothing)
+    Ok(Sought::Nothing)
 }
 
 // Lists the terms that the left side of a condition leads to, and tries their pairs.
@@ -162,7 +161,7 @@ fn try_condition(
     number: u32,
     cond: &Cond,
     budget: &mut Budget,
-) -> Result<Walk, NoMemory>
+) -> Result<Sought<PairEvidence>, NoMemory>
     requires overlap { IsOverlapOf sys.now (overlap_view overlap.now) }
     requires cond { hypothesis_at (map condition_view overlap.now.conds.items) number ≡ Some (condition_view cond.now) }
     ensures answer { WalkAnswers quasi_item_cost (GivesQuasi sys.now (overlap_view overlap.now)) (condition_items sys.now (overlap_view overlap.now) number (view cond.now.left)) budget.old budget.new result }
@@ -171,7 +170,7 @@ fn try_condition(
     // That conditions are small is known of the rules of a system.
     let _rules = sys.rules();
     let Some(list) = listed_under(alloc, sys, overlap, &cond.left, budget)? else {
-        return Ok(Walk::Spent);
+        return Ok(Sought::Spent);
     };
     let reducts = reducts_of(alloc, sys, &list)?;
     try_pairs(alloc, number, &reducts, budget)
@@ -183,7 +182,7 @@ pub fn try_reducts(
     sys: &PreparedSystem<'_>,
     overlap: &Overlap,
     budget: &mut Budget,
-) -> Result<Walk, NoMemory>
+) -> Result<Sought<PairEvidence>, NoMemory>
     requires overlap { IsOverlapOf sys.now (overlap_view overlap.now) }
     ensures answer { WalkAnswers quasi_item_cost (GivesQuasi sys.now (overlap_view overlap.now)) (reduct_items sys.now (map condition_view overlap.now.conds.items) 1 (map condition_view overlap.now.conds.items)) budget.old budget.new result }
     ensures kept { (n : ℕ) × Spends budget.old n budget.new }
@@ -193,9 +192,9 @@ pub fn try_reducts(
     'conds: for (i, cond) in overlap.conds.iter().enumerate() {
         let number = i as u32 + 1;
         match try_condition(alloc, sys, overlap, number, cond, budget)? {
-            Walk::Nothing => {}
+            Sought::Nothing => {}
             end => return Ok(end),
         }
     }
-    Ok(Walk::Nothing)
+    Ok(Sought::Nothing)
 }

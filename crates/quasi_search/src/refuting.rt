@@ -9,11 +9,12 @@ ghost use Rattle.pair_search.specs.Answers.{WalkAnswers};
 ghost use Rattle.pair_search.specs.Grown.{IsGrown};
 ghost use Rattle.quasi_space.specs.QuasiItems.{try_refuting as refuting_item, quasi_item_cost, GivesQuasi, refuting_items};
 
-use cc_count::Budget;
+use cc_count::{Budget, Sought};
+use cert_model::PairEvidence;
 use critical_pairs::Overlap;
 use evidence_offers::Refuting;
 use pair_check::CertKind;
-use pair_search::{Grown, Walk, try_refuting};
+use pair_search::{Grown, try_refuting};
 use prepared_system::PreparedSystem;
 use std::alloc::Global;
 use term_core::NoMemory;
@@ -26,7 +27,7 @@ fn try_way(
     refuting: Refuting,
     budget: &mut Budget,
     grown: &mut Grown,
-) -> Result<Walk, NoMemory>
+) -> Result<Sought<PairEvidence>, NoMemory>
     requires overlap { IsOverlapOf sys.now (overlap_view overlap.now) }
     requires knows { IsGrown grown.old sys.now }
     ensures answer { WalkAnswers quasi_item_cost (GivesQuasi sys.now (overlap_view overlap.now)) (refuting_item (refuting_view refuting) ∷ []) budget.old budget.new result }
@@ -34,11 +35,11 @@ fn try_way(
     ensures knows { IsGrown grown.new sys.now }
 {
     if !budget.take() {
-        return Ok(Walk::Spent);
+        return Ok(Sought::Spent);
     }
     match try_refuting(alloc, sys, CertKind::Quasi, overlap, refuting, grown)? {
-        Some(evidence) => Ok(Walk::Given(evidence)),
-        None => Ok(Walk::Nothing),
+        Some(evidence) => Ok(Sought::Found(evidence)),
+        None => Ok(Sought::Nothing),
     }
 }
 
@@ -49,7 +50,7 @@ fn try_growths(
     overlap: &Overlap,
     budget: &mut Budget,
     grown: &mut Grown,
-) -> Result<Walk, NoMemory>
+) -> Result<Sought<PairEvidence>, NoMemory>
     requires overlap { IsOverlapOf sys.now (overlap_view overlap.now) }
     requires knows { IsGrown grown.old sys.now }
     ensures answer { WalkAnswers quasi_item_cost (GivesQuasi sys.now (overlap_view overlap.now)) (map refuting_item (growths (length (overlap_view overlap.now).pair.conditions))) budget.old budget.new result }
@@ -62,11 +63,11 @@ fn try_growths(
     'growths: for before in 0..count {
         let growth = Refuting::Growth { cond: before + 1 };
         match try_way(alloc, sys, overlap, growth, budget, grown)? {
-            Walk::Nothing => {}
+            Sought::Nothing => {}
             end => return Ok(end),
         }
     }
-    Ok(Walk::Nothing)
+    Ok(Sought::Nothing)
 }
 
 /// Tries caps, then the automata that grow from conditions.
@@ -76,7 +77,7 @@ pub fn try_refutings(
     overlap: &Overlap,
     budget: &mut Budget,
     grown: &mut Grown,
-) -> Result<Walk, NoMemory>
+) -> Result<Sought<PairEvidence>, NoMemory>
     requires overlap { IsOverlapOf sys.now (overlap_view overlap.now) }
     requires knows { IsGrown grown.old sys.now }
     ensures answer { WalkAnswers quasi_item_cost (GivesQuasi sys.now (overlap_view overlap.now)) (refuting_items (length (overlap_view overlap.now).pair.conditions)) budget.old budget.new result }
@@ -84,7 +85,7 @@ pub fn try_refutings(
     ensures knows { IsGrown grown.new sys.now }
 {
     match try_way(alloc, sys, overlap, Refuting::Caps, budget, grown)? {
-        Walk::Nothing => try_growths(alloc, sys, overlap, budget, grown),
+        Sought::Nothing => try_growths(alloc, sys, overlap, budget, grown),
         end => Ok(end),
     }
 }

@@ -10,9 +10,10 @@ ghost use Rattle.quasi_space.specs.QuasiItems.{quasi_item_cost, GivesQuasi, quas
 use crate::joins::try_joins;
 use crate::reducts::try_reducts;
 use crate::refuting::try_refutings;
-use cc_count::Budget;
+use cc_count::{Budget, Sought};
+use cert_model::PairEvidence;
 use critical_pairs::Overlap;
-use pair_search::{Grown, Walk};
+use pair_search::Grown;
 use prepared_system::PreparedSystem;
 use std::alloc::Global;
 use term_core::NoMemory;
@@ -24,7 +25,7 @@ pub fn try_overlap(
     overlap: &Overlap,
     budget: &mut Budget,
     grown: &mut Grown,
-) -> Result<Walk, NoMemory>
+) -> Result<Sought<PairEvidence>, NoMemory>
     requires overlap { IsOverlapOf sys.now (overlap_view overlap.now) }
     requires knows { IsGrown grown.old sys.now }
     ensures answer { WalkAnswers quasi_item_cost (GivesQuasi sys.now (overlap_view overlap.now)) (quasi_items sys.now (overlap_view overlap.now)) budget.old budget.new result }
@@ -32,11 +33,11 @@ pub fn try_overlap(
     ensures knows { IsGrown grown.new sys.now }
 {
     match try_refutings(alloc, sys, overlap, budget, grown)? {
-        Walk::Nothing => {}
+        Sought::Nothing => {}
         end => return Ok(end),
     }
     match try_joins(alloc, sys, overlap, budget)? {
-        Walk::Nothing => try_reducts(alloc, sys, overlap, budget),
+        Sought::Nothing => try_reducts(alloc, sys, overlap, budget),
         end => Ok(end),
     }
 }

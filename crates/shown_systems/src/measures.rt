@@ -1,8 +1,8 @@
 //! The search for a measure: in the grid of linear interpretations, then among the precedences.
-use cc_count::Budget;
+use cc_count::{Budget, Sought};
 use cert_model::MeasureCert;
-use grid_search::{GridSearch, search_grid};
-use precedence_search::{PrecedenceSearch, search_precedences};
+use grid_search::search_grid;
+use precedence_search::search_precedences;
 use std::alloc::Global;
 use term_core::{NoMemory, System};
 
@@ -35,12 +35,12 @@ fn find_order(
 ) -> Result<(), NoMemory> {
     let mut budget = Budget::new(units);
     match search_precedences(alloc, sys, &mut budget)? {
-        PrecedenceSearch::Good(order) => {
+        Sought::Found(order) => {
             measured.found = Some(MeasureCert::Lpo(order));
             measured.order = MeasureEnd::Good;
         }
-        PrecedenceSearch::NoneGood => measured.order = MeasureEnd::NoneGood,
-        PrecedenceSearch::Spent => measured.order = MeasureEnd::Spent,
+        Sought::Nothing => measured.order = MeasureEnd::NoneGood,
+        Sought::Spent => measured.order = MeasureEnd::Spent,
     }
     measured.order_units = budget.spent();
     Ok(())
@@ -55,12 +55,12 @@ fn find_linear(
 ) -> Result<(), NoMemory> {
     let mut budget = Budget::new(units);
     match search_grid(alloc, sys, &mut budget)? {
-        GridSearch::Good(linear) => {
+        Sought::Found(linear) => {
             measured.found = Some(MeasureCert::Linear(linear));
             measured.grid = MeasureEnd::Good;
         }
-        GridSearch::NoneGood => measured.grid = MeasureEnd::NoneGood,
-        GridSearch::Spent => measured.grid = MeasureEnd::Spent,
+        Sought::Nothing => measured.grid = MeasureEnd::NoneGood,
+        Sought::Spent => measured.grid = MeasureEnd::Spent,
     }
     measured.grid_units = budget.spent();
     Ok(())

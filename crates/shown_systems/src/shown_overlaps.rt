@@ -7,11 +7,11 @@ use crate::failures::{put_ortho_failures, put_quasi_failures};
 use crate::findings::Findings;
 use crate::subject::Subject;
 use crate::walks::{SHOWN, Walked};
+use cc_count::Sought;
 use cert_model::{Derivation, InfEvidence, PairEvidence};
 use cert_writing::write_deriv;
 use critical_pairs::Overlap;
 use lens_pages::{Naming, Page, Piece};
-use pair_search::Walk;
 use term_core::NoMemory;
 
 /// What the line of a certificate for an overlap begins with behind `pair`.
@@ -128,20 +128,20 @@ fn put_evidence(page: &mut Page<'_>, evidence: &PairEvidence) -> Result<(), NoMe
 }
 
 // What a walk gave for an overlap; true where nothing settles it.
-fn put_walk(page: &mut Page<'_>, name: &str, walk: Option<&Walk>) -> bool {
+fn put_walk(page: &mut Page<'_>, name: &str, walk: Option<&Sought<PairEvidence>>) -> bool {
     page.words(name);
     match walk {
-        Some(Walk::Given(evidence)) => {
+        Some(Sought::Found(evidence)) => {
             let put = put_evidence(page, evidence);
             let _put = page.got(put);
         }
-        Some(Walk::Nothing) => page.words("open, since nothing that is tried settles it\n"),
-        Some(Walk::Spent) | None => page.words("not tried to the end, the units were spent\n"),
+        Some(Sought::Nothing) => page.words("open, since nothing that is tried settles it\n"),
+        Some(Sought::Spent) | None => page.words("not tried to the end, the units were spent\n"),
     }
-    matches!(walk, Some(Walk::Nothing))
+    matches!(walk, Some(Sought::Nothing))
 }
 
-fn walk_at(walked: &Option<Walked>, place: usize) -> Option<&Walk> {
+fn walk_at(walked: &Option<Walked>, place: usize) -> Option<&Sought<PairEvidence>> {
     match walked {
         Some(walked) => walked.shown.get(place),
         None => None,

@@ -4,9 +4,10 @@ ghost use Rattle.unifier_run.specs.Overlaps.{AreOverlaps, IsOverlapOf};
 ghost use Rattle.critical_pairs.specs.View.{overlap_view};
 ghost use Rattle.pair_search.specs.Grown.{IsGrown};
 
-use cc_count::Budget;
+use cc_count::{Budget, Sought};
+use cert_model::PairEvidence;
 use critical_pairs::Overlap;
-use pair_search::{Grown, Walk};
+use pair_search::Grown;
 use prepared_system::PreparedSystem;
 use std::alloc::Global;
 use term_core::NoMemory;
@@ -33,7 +34,7 @@ pub enum WalkEnd {
 /// What was found for the first overlaps, why the walk does not settle all, if so, and for how many units.
 #[derive(Drop)]
 pub struct Walked {
-    pub shown: Vec<Walk>,
+    pub shown: Vec<Sought<PairEvidence>>,
     pub end: Option<WalkEnd>,
     pub units: u64,
 }
@@ -46,7 +47,7 @@ fn try_overlap(
     overlap: &Overlap,
     budget: &mut Budget,
     grown: &mut Grown,
-) -> Result<Walk, NoMemory>
+) -> Result<Sought<PairEvidence>, NoMemory>
     requires overlap { IsOverlapOf sys.now (overlap_view overlap.now) }
     requires knows { IsGrown grown.old sys.now }
     ensures knows { IsGrown grown.new sys.now }
@@ -58,17 +59,22 @@ fn try_overlap(
 }
 
 // Whether an overlap ends the walk.
-fn end_at(number: usize, walk: &Walk) -> Option<WalkEnd> {
+fn end_at(number: usize, walk: &Sought<PairEvidence>) -> Option<WalkEnd> {
     match walk {
-        Walk::Nothing => Some(WalkEnd::Open(number)),
-        Walk::Spent => Some(WalkEnd::Spent(number)),
-        Walk::Given(_) => None,
+        Sought::Nothing => Some(WalkEnd::Open(number)),
+        Sought::Spent => Some(WalkEnd::Spent(number)),
+        Sought::Found(_) => None,
     }
 }
 
 impl Walked {
     // Takes what was found for the overlap behind so many others.
-    fn take(&mut self, before: usize, walk: Walk, spent: u64) -> Result<(), NoMemory> {
+    fn take(
+        &mut self,
+        before: usize,
+        walk: Sought<PairEvidence>,
+        spent: u64,
+    ) -> Result<(), NoMemory> {
         if self.end.is_none() {
             self.units = spent;
             self.end = end_at(before.saturating_add(1), &walk);

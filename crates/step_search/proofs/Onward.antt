@@ -17,7 +17,7 @@ use Rattle.simplified_spaces.proofs.Walks.{one_more, paid_within, standard_at_en
 use Rattle.simplify.specs.Changes.{after, IsChangeOf}
 use Rattle.step_search.specs.Answers.{WalkAnswers, Finds, RunsOut, AreWithinTries, FindAnswers}
 use Rattle.step_search.specs.declared.tries.Made.{Made}
-use Rattle.step_search.specs.declared.walks.Walk.TheVariants as walk
+use Rattle.cc_count.specs.declared.Sought.TheVariants.{Found, Nothing, Spent}
 
 -- these steps were made, and their tries paid
 pub record GoesOn (sys : System) (steps : List Simp) (here : System) (start now : Counts) : Type 0 where
@@ -33,7 +33,7 @@ begins sys here steps start e f =
 module _ (sys here : System) (steps : List Simp) (start now end : Counts) (g : GoesOn sys steps here start now) where
   -- one step more
   pub goes_on : (new : List Simp) (m : Made) (next : System) → new ≡ steps ++ m.step ∷ [] → next ≡ after here m.change
-      → WalkAnswers here (tries here) now end (Ok (walk.Given m)) → GoesOn sys new next start end
+      → WalkAnswers here (tries here) now end (Ok (Found m)) → GoesOn sys new next start end
   goes_on new m next e is (change, (n, paid, first)) =
       record {
         tried = g.tried + all_tries here;
@@ -44,7 +44,7 @@ module _ (sys here : System) (steps : List Simp) (start now end : Counts) (g : G
         spent = spends_both start now end g.paid n g.spent paid;
       }
 
-  pub finds : WalkAnswers here (tries here) now end (Ok walk.Nothing) → Finds sys (map simp_view steps) here start end
+  pub finds : WalkAnswers here (tries here) now end (Ok Nothing) → Finds sys (map simp_view steps) here start end
   finds (paid, none) =
       record {
         tried = g.tried;
@@ -55,7 +55,7 @@ module _ (sys here : System) (steps : List Simp) (start now end : Counts) (g : G
         spent = spends_same start end (g.paid + cost_of one (tries here)) (g.paid + all_tries here) (ap (λ z. g.paid + z) (counted here)) (spends_both start now end g.paid (cost_of one (tries here)) g.spent paid);
       }
 
-  pub runs_out : WalkAnswers here (tries here) now end (Ok walk.Spent) → RunsOut sys start end
+  pub runs_out : WalkAnswers here (tries here) now end (Ok Spent) → RunsOut sys start end
   runs_out (n, paid, none, stopped) =
       let both = spends_both start now end g.paid n g.spent paid in
       let whole : g.paid + n ≡ start.left = (let all = both.left in omega (arith, all, none)) in
@@ -73,7 +73,7 @@ module _ (sys here : System) (steps : List Simp) (start now end : Counts) (g : G
   )
 
   -- a step was found, and then memory was refused
-  pub fails_found : (m : Made) → WalkAnswers here (tries here) now end (Ok (walk.Given m)) → (n : ℕ) × Spends start n end × AreWithinTries sys n
+  pub fails_found : (m : Made) → WalkAnswers here (tries here) now end (Ok (Found m)) → (n : ℕ) × Spends start n end × AreWithinTries sys n
   fails_found m (change, (n, paid, first)) = (
     g.paid + n,
     spends_both start now end g.paid n g.spent paid,
@@ -81,7 +81,7 @@ module _ (sys here : System) (steps : List Simp) (start now end : Counts) (g : G
   )
 
 -- a walk that gives a step has spent a unit
-pub walk_pays : (here : System) (now end : Counts) (m : Made) → WalkAnswers here (tries here) now end (Ok (walk.Given m)) → end.left < now.left
+pub walk_pays : (here : System) (now end : Counts) (m : Made) → WalkAnswers here (tries here) now end (Ok (Found m)) → end.left < now.left
 walk_pays here now end m (change, (n, paid, first)) =
     let least : n ≡ cost_of one first.before + 1 = first.up_to in
     let all = paid.left in omega (arith, least, all)

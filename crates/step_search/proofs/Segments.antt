@@ -10,8 +10,7 @@ use Rattle.term_core.specs.declared.terms.NoMemory.{NoMemory}
 use Rattle.simplified_spaces.specs.Tries.{Try, GivesStep}
 use Rattle.step_search.specs.Answers.{TryAnswers, WalkAnswers}
 use Rattle.step_search.specs.declared.tries.Made.{Made}
-use Rattle.step_search.specs.declared.walks.Walk.{Walk}
-use Rattle.step_search.specs.declared.walks.Walk.TheVariants as walk
+use Rattle.cc_count.specs.declared.Sought.TheVariants.{Found, Nothing, Spent}
 
 -- these tries gave nothing, and were paid
 pub record SoFar (sys : System) (done : List Try) (start now : Counts) : Type 0 where
@@ -23,7 +22,7 @@ nothing_yet sys start = record { none = tt; paid = spends_none start }
 
 -- a walk over one try
 module _ (sys : System) (t : Try) (start end : Counts) where
-  pub one_stops : start.left ≡ 0 → end ≡ start → WalkAnswers sys (t ∷ []) start end (Ok walk.Spent)
+  pub one_stops : start.left ≡ 0 → end ≡ start → WalkAnswers sys (t ∷ []) start end (Ok Spent)
   one_stops none same = (
     0,
     subst (Spends start 0) (sym same) (spends_none start),
@@ -32,10 +31,10 @@ module _ (sys : System) (t : Try) (start end : Counts) where
   )
 
   module _ (paid : Spends start 1 end) where
-    pub one_given : (m : Made) → TryAnswers sys t (Ok (Some m)) → WalkAnswers sys (t ∷ []) start end (Ok (walk.Given m))
+    pub one_given : (m : Made) → TryAnswers sys t (Ok (Some m)) → WalkAnswers sys (t ∷ []) start end (Ok (Found m))
     one_given m h = (h.0, (1, paid, record { before = []; item = t; behind = []; split = refl; none = tt; gives = h.1; up_to = refl }))
 
-    pub one_nothing : TryAnswers sys t (Ok None) → WalkAnswers sys (t ∷ []) start end (Ok walk.Nothing)
+    pub one_nothing : TryAnswers sys t (Ok None) → WalkAnswers sys (t ∷ []) start end (Ok Nothing)
     one_nothing h = (paid, (h, tt))
 
     pub one_fails : (e : NoMemory) → WalkAnswers sys (t ∷ []) start end (Err e)
@@ -51,7 +50,7 @@ module _ (sys : System) (all done mid rest : List Try) (start here end : Counts)
   split_in before behind t e =
       split ∙ ap (λ z. done ++ (z ++ rest)) e ∙ ap (λ z. done ++ z) (append_assoc before (t ∷ behind) rest) ∙ sym (append_assoc done before (t ∷ (behind ++ rest)))
 
-  pub part_given : (m : Made) → WalkAnswers sys mid here end (Ok (walk.Given m)) → WalkAnswers sys all start end (Ok (walk.Given m))
+  pub part_given : (m : Made) → WalkAnswers sys mid here end (Ok (Found m)) → WalkAnswers sys all start end (Ok (Found m))
   part_given m (change, (n, paid, f)) = (
     change,
     (
@@ -69,7 +68,7 @@ module _ (sys : System) (all done mid rest : List Try) (start here end : Counts)
     ),
   )
 
-  pub part_stops : WalkAnswers sys mid here end (Ok walk.Spent) → WalkAnswers sys all start end (Ok walk.Spent)
+  pub part_stops : WalkAnswers sys mid here end (Ok Spent) → WalkAnswers sys all start end (Ok Spent)
   part_stops (n, paid, none, f) = (
     cost_of one done + n,
     spends_both start here end (cost_of one done) n so_far.paid paid,
@@ -92,7 +91,7 @@ module _ (sys : System) (all done mid rest : List Try) (start here end : Counts)
         ap (cost_of one) split ∙ cost_append one done (mid ++ rest) ∙ ap (λ z. cost_of one done + z) (cost_append one mid rest) in omega (arith, sum, less),
   )
 
-  pub part_done : WalkAnswers sys mid here end (Ok walk.Nothing) → SoFar sys (done ++ mid) start end
+  pub part_done : WalkAnswers sys mid here end (Ok Nothing) → SoFar sys (done ++ mid) start end
   part_done (paid, none) =
       record {
         none = none_append (GivesStep sys) done mid so_far.none none;
@@ -100,5 +99,5 @@ module _ (sys : System) (all done mid rest : List Try) (start here end : Counts)
       }
 
 -- all of them gave nothing
-pub all_done : (sys : System) (all done : List Try) (start now : Counts) → done ≡ all → SoFar sys done start now → WalkAnswers sys all start now (Ok walk.Nothing)
+pub all_done : (sys : System) (all done : List Try) (start now : Counts) → done ≡ all → SoFar sys done start now → WalkAnswers sys all start now (Ok Nothing)
 all_done sys all done start now e h = let s = subst (λ z. SoFar sys z start now) e h in (s.paid, s.none)

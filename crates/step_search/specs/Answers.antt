@@ -2,6 +2,8 @@
 use Rattle.std.specs.Prelude.{ℕ, ◌≡◌, ◌+◌, ◌<◌, ◌≤◌, List, map, Option, None, Some, Result, Ok, Err}
 use Rattle.rewriting.specs.Rules.{System}
 use Rattle.cc_count.specs.Counts.{Counts, Spends}
+use Rattle.cc_count.specs.declared.Sought.{Sought}
+use Rattle.cc_count.specs.declared.Sought.TheVariants.{Found, Nothing, Spent}
 use Rattle.first_found.specs.Items.{GivesNothing, NoneGives, IsFirst, IsStopped, cost_of, one}
 use Rattle.term_core.specs.declared.terms.NoMemory.{NoMemory}
 use Rattle.certificates.specs.Certificates.{Simplification}
@@ -13,8 +15,6 @@ use Rattle.simplified_spaces.specs.Standard.{AreStandard}
 use Rattle.simplified_spaces.specs.Walks.{LeadsOn}
 use Rattle.simplify.specs.Changes.{after, IsChangeOf}
 use Rattle.step_search.specs.declared.tries.Made.{Made}
-use Rattle.step_search.specs.declared.walks.Walk.{Walk}
-use Rattle.step_search.specs.declared.walks.Walk.TheVariants as walk
 use Rattle.step_search.specs.declared.rounds.SimpSearch.{SimpSearch}
 use Rattle.step_search.specs.declared.rounds.SimpSearch.TheVariants as search
 
@@ -31,11 +31,11 @@ TryAnswers sys t (Ok None) = GivesNothing (GivesStep sys) t
 TryAnswers sys t (Err e) = Unit {0}
 
 -- the first good step of some tries, that there is none, or that the budget ended; and what was spent, also where memory is refused
-abbrev pub WalkAnswers : System → List math.Try → Counts → Counts → Result Walk NoMemory → Type 0
-WalkAnswers sys ts start end (Ok (walk.Given m)) =
+abbrev pub WalkAnswers : System → List math.Try → Counts → Counts → Result (Sought Made) NoMemory → Type 0
+WalkAnswers sys ts start end (Ok (Found m)) =
     IsChangeOf sys m.change × ((n : ℕ) × Spends start n end × IsFirst one (GivesStep sys) ts (simp_view m.step, after sys m.change) n)
-WalkAnswers sys ts start end (Ok walk.Nothing) = Spends start (cost_of one ts) end × NoneGives (GivesStep sys) ts
-WalkAnswers sys ts start end (Ok walk.Spent) = (n : ℕ) × Spends start n end × (end.left ≡ 0) × IsStopped one (GivesStep sys) ts n
+WalkAnswers sys ts start end (Ok Nothing) = Spends start (cost_of one ts) end × NoneGives (GivesStep sys) ts
+WalkAnswers sys ts start end (Ok Spent) = (n : ℕ) × Spends start n end × (end.left ≡ 0) × IsStopped one (GivesStep sys) ts n
 WalkAnswers sys ts start end (Err e) = (n : ℕ) × Spends start n end × (n ≤ cost_of one ts)
 
 -- these are the standard steps and the last system. The steps were found by `paid` tries out of `tried`, which are those of the

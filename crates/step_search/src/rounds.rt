@@ -2,8 +2,8 @@
 ghost use Rattle.step_search.specs.Answers.{FindAnswers};
 
 use crate::tries::Made;
-use crate::walks::{Walk, walk_through};
-use cc_count::Budget;
+use crate::walks::walk_through;
+use cc_count::{Budget, Sought};
 use cert_model::Simp;
 use simplify::{changed, copied};
 use std::alloc::Global;
@@ -27,15 +27,15 @@ pub fn find_steps(alloc: Global, sys: &System, budget: &mut Budget) -> Result<Si
     // Each round but the last spends a unit.
     'rounds: loop {
         match walk_through(alloc, &current, budget) {
-            Ok(Walk::Given(made)) => {
+            Ok(Sought::Found(made)) => {
                 let Made { step, change } = made;
                 let Ok(()) = steps.push(step) else {
                     return Err(NoMemory);
                 };
                 current = changed(current, change);
             }
-            Ok(Walk::Nothing) => return Ok(SimpSearch::Steps(steps, current)),
-            Ok(Walk::Spent) => return Ok(SimpSearch::Spent),
+            Ok(Sought::Nothing) => return Ok(SimpSearch::Steps(steps, current)),
+            Ok(Sought::Spent) => return Ok(SimpSearch::Spent),
             Err(e) => return Err(e),
         }
     }

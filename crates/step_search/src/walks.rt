@@ -7,21 +7,10 @@ ghost use Rattle.term_core.specs.RuleView.{condition_view, rule_view};
 ghost use Rattle.step_search.specs.Answers.{WalkAnswers};
 
 use crate::tries::{Made, tried};
-use cc_count::Budget;
+use cc_count::{Budget, Sought};
 use rule_index::IndexedSystem;
 use std::alloc::Global;
 use term_core::{NoMemory, Rule, System};
-
-/// How a walk ends.
-#[derive(Debug, Drop)]
-pub enum Walk {
-    /// What the first try gives that gives a good step.
-    Given(Made),
-    /// No try gives one.
-    Nothing,
-    /// The budget was spent.
-    Spent,
-}
 
 // One try of a rule, for a unit.
 fn walk_one(
@@ -31,17 +20,17 @@ fn walk_one(
     rule: &Rule,
     place: u32,
     budget: &mut Budget,
-) -> Result<Walk, NoMemory>
+) -> Result<Sought<Made>, NoMemory>
     requires rule { rule_at sys.now number ≡ Some (rule_view rule.now) }
     requires few { length rule.now.conds.items ≤ 100 }
     ensures { (t : math.Try) → slice_get (tries_of number (map condition_view rule.now.conds.items)) place ≡ Some t → WalkAnswers sys.now (t ∷ []) budget.old budget.new result }
 {
     if !budget.take() {
-        return Ok(Walk::Spent);
+        return Ok(Sought::Spent);
     }
     match tried(alloc, sys, number, rule, place) {
-        Ok(Some(made)) => Ok(Walk::Given(made)),
-        Ok(None) => Ok(Walk::Nothing),
+        Ok(Some(made)) => Ok(Sought::Found(made)),
+        Ok(None) => Ok(Sought::Nothing),
         Err(e) => Err(e),
     }
 }
@@ -53,45 +42,53 @@ fn walk_rule(
     number: u32,
     rule: &Rule,
     budget: &mut Budget,
-) -> Result<Walk, NoMemory>
+) -> Result<Sought<Made>, NoMemory>
     requires { rule_at sys.now number ≡ Some (rule_view rule.now) }
     ensures { WalkAnswers sys.now (tries_of number (map condition_view rule.now.conds.items)) budget.old budget.new result }
 {
     if rule.conds.is_empty() {
-        return Ok(Walk::Nothing);
+        return Ok(Sought::Nothing);
     }
     // That they are few is known of the rules of a system.
     let _rules = sys.rules();
     let count = 2 * rule.conds.len() as u32 + 1;
     'tries: for place in 0..count {
         match walk_one(alloc, sys, number, rule, place, budget) {
-            Ok(Walk::Given(made)) => return Ok(Walk::Given(made)),
-            Ok(Walk::Nothing) => {}
-            Ok(Walk::Spent) => return Ok(Walk::Spent),
+            Ok(Sought::Found(made)) => return Ok(Sought::Found(made)),
+            Ok(Sought::Nothing) => {}
+            Ok(Sought::Spent) => return Ok(Sought::Spent),
             Err(e) => return Err(e),
         }
     }
-    Ok(Walk::Nothing)
+    Ok(Sought::Nothing)
 }
 
 // All tries of all rules.
-fn walk_rules(alloc: Global, sys: &IndexedSystem, budget: &mut Budget) -> Result<Walk, NoMemory>
+fn walk_rules(
+    alloc: Global,
+    sys: &IndexedSystem,
+    budget: &mut Budget,
+) -> Result<Sought<Made>, NoMemory>
     ensures { WalkAnswers sys.now (tries sys.now) budget.old budget.new result }
 {
     let rules = sys.rules();
     'rules: for (i, rule) in rules.iter().enumerate() {
         match walk_rule(alloc, sys, i as u32 + 1, rule, budget) {
-            Ok(Walk::Given(made)) => return Ok(Walk::Given(made)),
-            Ok(Walk::Nothing) => {}
-            Ok(Walk::Spent) => return Ok(Walk::Spent),
+            Ok(Sought::Found(made)) => return Ok(Sought::Found(made)),
+            Ok(Sought::Nothing) => {}
+            Ok(Sought::Spent) => return Ok(Sought::Spent),
             Err(e) => return Err(e),
         }
     }
-    Ok(Walk::Nothing)
+    Ok(Sought::Nothing)
 }
 
 /// The first of the system's tries that gives a good step, at a unit for each try.
-pub fn walk_through(alloc: Global, sys: &System, budget: &mut Budget) -> Result<Walk, NoMemory>
+pub fn walk_through(
+    alloc: Global,
+    sys: &System,
+    budget: &mut Budget,
+) -> Result<Sought<Made>, NoMemory>
     ensures { WalkAnswers sys.now (tries sys.now) budget.old budget.new result }
 {
     match IndexedSystem::new(alloc, sys) {

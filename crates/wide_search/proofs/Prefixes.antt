@@ -8,8 +8,8 @@ use Rattle.certificates.specs.Certificates.{LinearEntry}
 use Rattle.interpretations.specs.Linear.{Interpretation, IsEntry}
 use Rattle.measure_grid.specs.Dead.{IsDead}
 use Rattle.general_lemmas.proofs.Places.{slice_get-append_left}
-use Rattle.linear_interp.specs.Prefix.{IsPrefix, IsAliveBefore}
-use Rattle.linear_interp.proofs.Extending.{prefix_start, next_prefix}
+use Rattle.grid_search.specs.Prefix.{IsPrefix, IsAliveBefore}
+use Rattle.grid_search.proofs.Extending.{prefix_start, next_prefix}
 use Rattle.grid_search.proofs.Standing.{within_arities}
 use Rattle.term_core.specs.HeadView.{head_view}
 use Rattle.term_core.specs.declared.systems.Head as heads_of

@@ -5,7 +5,7 @@ use Rattle.rewriting.specs.Unraveling.{heads}
 use Rattle.certificates.specs.Certificates.{LinearEntry}
 use Rattle.interpretations.specs.Linear.{Interpretation}
 use Rattle.measure_grid.specs.Dead.{IsDead}
-use Rattle.linear_interp.specs.Prefix.{IsPrefix}
+use Rattle.grid_search.specs.Prefix.{IsPrefix}
 use Rattle.term_core.specs.declared.terms.NoMemory.{NoMemory}
 use Rattle.wide_search.specs.Tried.{AreTried}
 use Rattle.wide_search.specs.declared.grid.Seen.{Seen}

@@ -6,9 +6,10 @@ ghost use Rattle.pair_check.specs.Walk.{EachIsOverlap};
 ghost use Rattle.pair_search.specs.Grown.{IsGrown};
 
 use crate::joins::try_joins;
-use cc_count::Budget;
+use cc_count::{Budget, Sought};
+use cert_model::{PairEntry, PairEvidence};
 use critical_pairs::Overlap;
-use pair_search::{Entries, Grown, Walk, add_entry};
+use pair_search::{Grown, add_entry};
 use prepared_system::PreparedSystem;
 use quasi_search::try_overlap;
 use std::alloc::Global;
@@ -21,13 +22,13 @@ fn try_widely(
     overlap: &Overlap,
     budget: &mut Budget,
     grown: &mut Grown,
-) -> Result<Walk, NoMemory>
+) -> Result<Sought<PairEvidence>, NoMemory>
     requires overlap { IsOverlapOf sys.now (overlap_view overlap.now) }
     requires knows { IsGrown grown.old sys.now }
     ensures knows { IsGrown grown.new sys.now }
 {
     match try_overlap(alloc, sys, overlap, budget, grown)? {
-        Walk::Nothing => try_joins(alloc, sys, overlap, budget),
+        Sought::Nothing => try_joins(alloc, sys, overlap, budget),
         end => Ok(end),
     }
 }
@@ -38,17 +39,17 @@ pub(crate) fn entries_for(
     sys: &PreparedSystem<'_>,
     overlaps: &[Overlap],
     budget: &mut Budget,
-) -> Result<Entries, NoMemory>
+) -> Result<Sought<Vec<PairEntry>>, NoMemory>
     requires overlaps { EachIsOverlap sys.now (map overlap_view overlaps.now) }
 {
     let mut entries = Vec::new(alloc);
     let mut grown = Grown::new();
     'rows: for overlap in overlaps {
         match try_widely(alloc, sys, overlap, budget, &mut grown)? {
-            Walk::Given(evidence) => add_entry(alloc, &mut entries, overlap, evidence)?,
-            Walk::Nothing => return Ok(Entries::Missing),
-            Walk::Spent => return Ok(Entries::Spent),
+            Sought::Found(evidence) => add_entry(alloc, &mut entries, overlap, evidence)?,
+            Sought::Nothing => return Ok(Sought::Nothing),
+            Sought::Spent => return Ok(Sought::Spent),
         }
     }
-    Ok(Entries::Whole(entries))
+    Ok(Sought::Found(entries))
 }

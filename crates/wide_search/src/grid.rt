@@ -6,10 +6,9 @@ ghost use Rattle.cert_model.specs.CertificateView.{linear_entry_view};
 ghost use Rattle.wide_search.specs.Prefixes.{IsNext, IsAlive, SeenAnswers};
 
 use crate::numbers::{advance, first_entry};
-use cc_count::Budget;
+use cc_count::{Budget, Sought};
 use cert_model::{Linear, LinearEntry};
-use grid_search::GridSearch;
-use linear_interp::PrefixJudge;
+use grid_search::PrefixJudge;
 use measure::Partial;
 use std::alloc::Global;
 use term_core::{NoMemory, System};
@@ -74,20 +73,20 @@ fn walk(
     alloc: Global,
     judge: &PrefixJudge<'_>,
     budget: &mut Budget,
-) -> Result<GridSearch, NoMemory> {
+) -> Result<Sought<Linear>, NoMemory> {
     let mut prefix = Vec::new(alloc);
     'visits: while budget.take() {
         match look_at(alloc, judge, &prefix)? {
             Seen::Alive => go_down(alloc, judge, &mut prefix)?,
             Seen::Dead => {
                 if !go_on(&mut prefix)? {
-                    return Ok(GridSearch::NoneGood);
+                    return Ok(Sought::Nothing);
                 }
             }
-            Seen::Good => return Ok(GridSearch::Good(Linear { entries: prefix })),
+            Seen::Good => return Ok(Sought::Found(Linear { entries: prefix })),
         }
     }
-    Ok(GridSearch::Spent)
+    Ok(Sought::Spent)
 }
 
 /// Searches the interpretations with numbers up to 6 for one that is good.
@@ -95,10 +94,10 @@ pub(crate) fn search_wide_grid(
     alloc: Global,
     sys: &System,
     budget: &mut Budget,
-) -> Result<GridSearch, NoMemory> {
+) -> Result<Sought<Linear>, NoMemory> {
     match PrefixJudge::new(alloc, sys) {
         Ok(judge) => walk(alloc, &judge, budget),
-        Err(UnravelError::TooLarge { .. }) => Ok(GridSearch::NoneGood),
+        Err(UnravelError::TooLarge { .. }) => Ok(Sought::Nothing),
         Err(UnravelError::NoMemory) => Err(NoMemory),
     }
 }

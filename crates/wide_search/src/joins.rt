@@ -7,12 +7,11 @@ ghost use Rattle.reach.specs.EntryView.{table_view};
 ghost use Rattle.reach.specs.Parts.{DoAllFit};
 ghost use Rattle.term_core.specs.View.{view};
 
-use cc_count::Budget;
+use cc_count::{Budget, Sought};
 use cert_model::PairEvidence;
 use critical_pairs::Overlap;
 use flatterm::Work;
 use indexmap::IndexMap;
-use pair_search::Walk;
 use prepared_system::PreparedSystem;
 use reach::{Entry, ReachStop, key_of, reach_in};
 use std::alloc::Global;
@@ -92,20 +91,20 @@ pub(crate) fn try_joins(
     sys: &PreparedSystem<'_>,
     overlap: &Overlap,
     budget: &mut Budget,
-) -> Result<Walk, NoMemory>
+) -> Result<Sought<PairEvidence>, NoMemory>
     requires overlap { IsOverlapOf sys.now (overlap_view overlap.now) }
 {
     let Some(left) = listed_under(alloc, sys, overlap, &overlap.left, budget)? else {
-        return Ok(Walk::Spent);
+        return Ok(Sought::Spent);
     };
     let Some(right) = listed_under(alloc, sys, overlap, &overlap.right, budget)? else {
-        return Ok(Walk::Spent);
+        return Ok(Sought::Spent);
     };
     match first_shared(alloc, &left, &right)? {
-        Some((first, second)) => Ok(Walk::Given(PairEvidence::Join {
+        Some((first, second)) => Ok(Sought::Found(PairEvidence::Join {
             left: first.derivation(alloc)?,
             right: second.derivation(alloc)?,
         })),
-        None => Ok(Walk::Nothing),
+        None => Ok(Sought::Nothing),
     }
 }

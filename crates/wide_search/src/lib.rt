@@ -5,7 +5,7 @@ ghost use Rattle.std.specs.Prelude.{ℕ, ◌≡◌, map};
 ghost use Rattle.valid_certificates.specs.Certificates.{IsValid};
 ghost use Rattle.cc_count.specs.Counts.{Spends};
 ghost use Rattle.search_spaces.specs.Texts.{HasText};
-ghost use Rattle.search_answers.specs.Answers.{IfFound};
+ghost use Rattle.search_answers.specs.Answers.{ending_of, IfFound};
 
 mod accepted;
 mod entries;
@@ -42,8 +42,8 @@ fn search_both(
     budget: &mut Budget,
 ) -> Result<Search, NoMemory>
     requires named { sys.now.arities ≡ map (λ s. s.1) names.now.symbols }
-    ensures valid { IfFound result (IsValid sys.now) }
-    ensures written { IfFound result (HasText names.now) }
+    ensures valid { IfFound ending_of result (IsValid sys.now) }
+    ensures written { IfFound ending_of result (HasText names.now) }
 {
     let mut share = part_of(budget, 2);
     let found = search_behind(alloc, sys, names, &[], sys, &mut share)?;
@@ -66,8 +66,8 @@ fn seek_within(
     budget: &mut Budget,
 ) -> Result<Search, NoMemory>
     requires named { sys.now.arities ≡ map (λ s. s.1) names.now.symbols }
-    ensures valid { IfFound result (IsValid sys.now) }
-    ensures written { IfFound result (HasText names.now) }
+    ensures valid { IfFound ending_of result (IsValid sys.now) }
+    ensures written { IfFound ending_of result (HasText names.now) }
 {
     match find_steps(alloc, sys, budget)? {
         SimpSearch::Steps(steps, last) => {
@@ -94,8 +94,8 @@ pub fn seek(
     budget: &mut Budget,
 ) -> Result<Search, NoMemory>
     requires named { sys.now.arities ≡ map (λ s. s.1) names.now.symbols }
-    ensures valid { IfFound result (IsValid sys.now) }
-    ensures written { IfFound result (HasText names.now) }
+    ensures valid { IfFound ending_of result (IsValid sys.now) }
+    ensures written { IfFound ending_of result (HasText names.now) }
     ensures kept { (n : ℕ) × Spends budget.old n budget.new }
 {
     let mut share = part_of(budget, 1);

@@ -2,8 +2,8 @@
 ghost use Rattle.std.specs.Prelude.{◌≡◌, map};
 ghost use Rattle.valid_certificates.specs.Certificates.{IsValid};
 ghost use Rattle.search_spaces.specs.Texts.{HasText};
-ghost use Rattle.search_answers.specs.Answers.{IfFound};
 ghost use Rattle.search_answers.specs.Given.{IsOverlapList};
+ghost use Rattle.search_answers.specs.Answers.{ending_of, IfFound};
 
 use crate::accepted::accepted;
 use crate::ground::Pool;
@@ -106,8 +106,8 @@ fn judged(
     found: Search,
 ) -> Result<Search, NoMemory>
     requires named { sys.now.arities ≡ map (λ s. s.1) names.now.symbols }
-    ensures valid { IfFound result (IsValid sys.now) }
-    ensures written { IfFound result (HasText names.now) }
+    ensures valid { IfFound ending_of result (IsValid sys.now) }
+    ensures written { IfFound ending_of result (HasText names.now) }
 {
     match found {
         Search::Found(body) => {
@@ -134,8 +134,8 @@ fn search_parts(
 ) -> Result<Search, NoMemory>
     requires named { sys.now.arities ≡ map (λ s. s.1) names.now.symbols }
     requires overlaps { IsOverlapList last.now overlaps }
-    ensures valid { IfFound result (IsValid sys.now) }
-    ensures written { IfFound result (HasText names.now) }
+    ensures valid { IfFound ending_of result (IsValid sys.now) }
+    ensures written { IfFound ending_of result (HasText names.now) }
 {
     let mut is_cut = false;
     'parts: for (part, left) in PARTS {
@@ -165,8 +165,8 @@ pub(crate) fn search_behind(
     budget: &mut Budget,
 ) -> Result<Search, NoMemory>
     requires named { sys.now.arities ≡ map (λ s. s.1) names.now.symbols }
-    ensures valid { IfFound result (IsValid sys.now) }
-    ensures written { IfFound result (HasText names.now) }
+    ensures valid { IfFound ending_of result (IsValid sys.now) }
+    ensures written { IfFound ending_of result (HasText names.now) }
 {
     let indexed = IndexedSystem::new(alloc, last)?;
     let prepared = PreparedSystem::new(alloc, indexed)?;

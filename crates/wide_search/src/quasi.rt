@@ -4,13 +4,12 @@ ghost use Rattle.unifier_run.specs.Overlaps.{AreOverlaps};
 ghost use Rattle.critical_pairs.specs.View.{overlap_view};
 
 use crate::entries::entries_for;
-use crate::measures::{MeasureSearch, search_measures};
+use crate::measures::search_measures;
 use crate::shares::{part_of, settle};
-use cc_count::Budget;
+use cc_count::{Budget, Sought};
 use cert_model::{Certificate, PairEntry};
 use critical_pairs::Overlap;
 use ctrs_classes::is_deterministic;
-use pair_search::Entries;
 use prepared_system::PreparedSystem;
 use quasi_check::are_right_sides_irreducible;
 use std::alloc::Global;
@@ -25,9 +24,9 @@ fn search_behind(
     budget: &mut Budget,
 ) -> Result<Search, NoMemory> {
     match search_measures(alloc, sys.system(), budget)? {
-        MeasureSearch::Good(measure) => Ok(Search::Found(Certificate::Quasi(measure, pairs))),
-        MeasureSearch::NoneGood => Ok(Search::Nothing),
-        MeasureSearch::Spent => Ok(Search::Spent),
+        Sought::Found(measure) => Ok(Search::Found(Certificate::Quasi(measure, pairs))),
+        Sought::Nothing => Ok(Search::Nothing),
+        Sought::Spent => Ok(Search::Spent),
     }
 }
 
@@ -50,8 +49,8 @@ pub(crate) fn search_quasi_widely(
     let entries = entries_for(alloc, sys, overlaps, &mut share)?;
     settle(budget, &share);
     match entries {
-        Entries::Whole(pairs) => search_behind(alloc, sys, pairs, budget),
-        Entries::Missing => Ok(Search::Nothing),
-        Entries::Spent => Ok(Search::Spent),
+        Sought::Found(pairs) => search_behind(alloc, sys, pairs, budget),
+        Sought::Nothing => Ok(Search::Nothing),
+        Sought::Spent => Ok(Search::Spent),
     }
 }

@@ -1,52 +1,52 @@
 use Rattle.std.proofs.Common.{◌≡◌, ◌∙◌, Ok, sym, subst}
 use Rattle.cc_count.specs.Counts.{Spends}
 use Rattle.cc_count.proofs.Spending.{kept_on}
+use Rattle.validity.specs.declared.Search.TheVariants as search
 use Rattle.search_spaces.specs.Ortho.{ortho_space}
+use Rattle.search_answers.specs.Answers.{ending_of, IfFound}
 use Rattle.portfolio.specs.declared.Outcome.TheVariants.{Found}
-use Rattle.portfolio.specs.Answers.{IfProved}
-use Rattle.portfolio.proofs.Proving.{own_searched, own_proves, own_runs_out, proves_behind, none_first_of_all, proved_valid, proved_written, nothing_valid}
+use Rattle.portfolio.proofs.Proving.{own_told, own_proves, own_runs_out, proves_behind, none_first_of_all, proved_valid, proved_written, nothing_valid}
 use Rattle.portfolio.proofs.prove.Goals as goal
 
-pub returns-in-Ok-Found-clause-searched : goal.returns-in-Ok-Found-clause-searched
-returns-in-Ok-Found-clause-searched c =
-    own_proves c.args.names.now c.args.sys.now c.args.budget.now c.search_whole.new.budget c.in-Ok-Found.cert (own_searched c.args.names.now c.in_ok-prepared.prepared c.args.sys.now c.args.budget.now c.search_whole.new.budget _ _ (c.in_ok-prepared.ensures ∙ c.in_ok-indexed.ensures) c.in-Ok-Found.field-0-is c.in-Ok-Found.ensures.searched)
+pub returns-in-Ok-Found : goal.returns-in-Ok-Found
+returns-in-Ok-Found c =
+    let names = c.args.names.now in
+    let sys = c.args.sys.now in
+    let before = c.args.budget.now in
+    let here = c.search_whole.new.budget in
+    let cert = c.in-Ok-Found.cert in
+    let law = c.proof_spaces_are_searchable.ensures in
+    let proved = own_proves names sys before here cert (own_told names sys before here c.in_ok-prepared.prepared (c.in_ok-prepared.ensures ∙ c.in_ok-indexed.ensures) c.in-Ok-Found.field-0 (search.Found cert) c.in-Ok-Found.field-0-is c.in-Ok-Found.ensures.searched) in
+    record {
+      searched = proved;
+      valid = proved_valid names sys before here (law.whole names sys) (Ok (Found cert)) proved;
+      written = proved_written names sys before here law.texts (Ok (Found cert)) proved;
+      exhausted = tt;
+      ortho_first = λ d n f. subst (λ o. IfFound ending_of (Ok o) (λ found. (found ≡ d) × Spends before n here)) c.in-Ok-Found.field-0-is (c.in-Ok-Found.ensures.ortho_first d n (subst (λ s. (ortho_space names s).Finds d n) (sym (c.in_ok-prepared.ensures ∙ c.in_ok-indexed.ensures)) f));
+      kept = c.in-Ok-Found.ensures.kept;
+    }
 
-pub returns-in-Ok-Found-clause-valid : goal.returns-in-Ok-Found-clause-valid
-returns-in-Ok-Found-clause-valid c =
-    proved_valid c.args.names.now c.args.sys.now c.args.budget.now c.search_whole.new.budget (c.proof_spaces_are_searchable.ensures.whole c.args.names.now c.args.sys.now) (Ok (Found c.in-Ok-Found.cert)) (own_proves c.args.names.now c.args.sys.now c.args.budget.now c.search_whole.new.budget c.in-Ok-Found.cert (own_searched c.args.names.now c.in_ok-prepared.prepared c.args.sys.now c.args.budget.now c.search_whole.new.budget _ _ (c.in_ok-prepared.ensures ∙ c.in_ok-indexed.ensures) c.in-Ok-Found.field-0-is c.in-Ok-Found.ensures.searched))
-
-pub returns-in-Ok-Found-clause-written : goal.returns-in-Ok-Found-clause-written
-returns-in-Ok-Found-clause-written c =
-    proved_written c.args.names.now c.args.sys.now c.args.budget.now c.search_whole.new.budget c.proof_spaces_are_searchable.ensures.texts (Ok (Found c.in-Ok-Found.cert)) (own_proves c.args.names.now c.args.sys.now c.args.budget.now c.search_whole.new.budget c.in-Ok-Found.cert (own_searched c.args.names.now c.in_ok-prepared.prepared c.args.sys.now c.args.budget.now c.search_whole.new.budget _ _ (c.in_ok-prepared.ensures ∙ c.in_ok-indexed.ensures) c.in-Ok-Found.field-0-is c.in-Ok-Found.ensures.searched))
-
-pub returns-in-Ok-Found-clause-ortho_first : goal.returns-in-Ok-Found-clause-ortho_first
-returns-in-Ok-Found-clause-ortho_first c =
-    λ d n f. subst (λ o. IfProved (Ok o) (λ found. (found ≡ d) × Spends c.args.budget.now n c.search_whole.new.budget)) c.in-Ok-Found.field-0-is (c.in-Ok-Found.ensures.ortho_first d n (subst (λ s. (ortho_space c.args.names.now s).Finds d n) (sym (c.in_ok-prepared.ensures ∙ c.in_ok-indexed.ensures)) f))
-
-pub returns-in-Ok-Exhausted-clause-searched : goal.returns-in-Ok-Exhausted-clause-searched
-returns-in-Ok-Exhausted-clause-searched c =
-    proves_behind c.args.names.now c.args.sys.now c.args.budget.now c.search_whole.new.budget c.search_simplified.new.budget (own_searched c.args.names.now c.in_ok-prepared.prepared c.args.sys.now c.args.budget.now c.search_whole.new.budget _ _ (c.in_ok-prepared.ensures ∙ c.in_ok-indexed.ensures) c.in-Ok-Exhausted.field-0-is c.in-Ok-Exhausted.ensures.searched) c.search_simplified.result c.search_simplified.ensures.searched
-
-pub returns-in-Ok-Exhausted-clause-valid : goal.returns-in-Ok-Exhausted-clause-valid
-returns-in-Ok-Exhausted-clause-valid c =
-    proved_valid c.args.names.now c.args.sys.now c.args.budget.now c.search_simplified.new.budget (c.proof_spaces_are_searchable.ensures.whole c.args.names.now c.args.sys.now) c.search_simplified.result (proves_behind c.args.names.now c.args.sys.now c.args.budget.now c.search_whole.new.budget c.search_simplified.new.budget (own_searched c.args.names.now c.in_ok-prepared.prepared c.args.sys.now c.args.budget.now c.search_whole.new.budget _ _ (c.in_ok-prepared.ensures ∙ c.in_ok-indexed.ensures) c.in-Ok-Exhausted.field-0-is c.in-Ok-Exhausted.ensures.searched) c.search_simplified.result c.search_simplified.ensures.searched)
-
-pub returns-in-Ok-Exhausted-clause-written : goal.returns-in-Ok-Exhausted-clause-written
-returns-in-Ok-Exhausted-clause-written c =
-    proved_written c.args.names.now c.args.sys.now c.args.budget.now c.search_simplified.new.budget c.proof_spaces_are_searchable.ensures.texts c.search_simplified.result (proves_behind c.args.names.now c.args.sys.now c.args.budget.now c.search_whole.new.budget c.search_simplified.new.budget (own_searched c.args.names.now c.in_ok-prepared.prepared c.args.sys.now c.args.budget.now c.search_whole.new.budget _ _ (c.in_ok-prepared.ensures ∙ c.in_ok-indexed.ensures) c.in-Ok-Exhausted.field-0-is c.in-Ok-Exhausted.ensures.searched) c.search_simplified.result c.search_simplified.ensures.searched)
-
-pub returns-in-Ok-Exhausted-clause-exhausted : goal.returns-in-Ok-Exhausted-clause-exhausted
-returns-in-Ok-Exhausted-clause-exhausted c =
-    nothing_valid c.args.names.now c.args.sys.now c.args.budget.now c.search_simplified.new.budget (c.proof_spaces_are_searchable.ensures.whole c.args.names.now c.args.sys.now) c.search_simplified.result (proves_behind c.args.names.now c.args.sys.now c.args.budget.now c.search_whole.new.budget c.search_simplified.new.budget (own_searched c.args.names.now c.in_ok-prepared.prepared c.args.sys.now c.args.budget.now c.search_whole.new.budget _ _ (c.in_ok-prepared.ensures ∙ c.in_ok-indexed.ensures) c.in-Ok-Exhausted.field-0-is c.in-Ok-Exhausted.ensures.searched) c.search_simplified.result c.search_simplified.ensures.searched)
-
-pub returns-in-Ok-Exhausted-clause-ortho_first : goal.returns-in-Ok-Exhausted-clause-ortho_first
-returns-in-Ok-Exhausted-clause-ortho_first c =
-    none_first_of_all c.args.names.now c.args.sys.now c.args.budget.now c.search_whole.new.budget c.search_simplified.new.budget (own_searched c.args.names.now c.in_ok-prepared.prepared c.args.sys.now c.args.budget.now c.search_whole.new.budget _ _ (c.in_ok-prepared.ensures ∙ c.in_ok-indexed.ensures) c.in-Ok-Exhausted.field-0-is c.in-Ok-Exhausted.ensures.searched) c.search_simplified.result
-
-pub returns-in-Ok-Exhausted-clause-kept : goal.returns-in-Ok-Exhausted-clause-kept
-returns-in-Ok-Exhausted-clause-kept c =
-    kept_on c.args.budget.now c.search_whole.new.budget c.search_simplified.new.budget c.search_whole.ensures.kept c.search_simplified.ensures.kept
+pub returns-in-Ok-Nothing : goal.returns-in-Ok-Nothing
+returns-in-Ok-Nothing c =
+    let names = c.args.names.now in
+    let sys = c.args.sys.now in
+    let before = c.args.budget.now in
+    let here = c.search_whole.new.budget in
+    let after = c.search_simplified.new.budget in
+    let result = c.search_simplified.result in
+    let law = c.proof_spaces_are_searchable.ensures in
+    let none = own_told names sys before here c.in_ok-prepared.prepared (c.in_ok-prepared.ensures ∙ c.in_ok-indexed.ensures) c.in-Ok-Nothing.field-0 search.Nothing c.in-Ok-Nothing.field-0-is c.in-Ok-Nothing.ensures.searched in
+    let proved = proves_behind names sys before here after none result c.search_simplified.ensures.searched in
+    record {
+      searched = proved;
+      valid = proved_valid names sys before after (law.whole names sys) result proved;
+      written = proved_written names sys before after law.texts result proved;
+      exhausted = nothing_valid names sys before after (law.whole names sys) result proved;
+      ortho_first = none_first_of_all names sys before here after none result;
+      kept = kept_on before here after c.in-Ok-Nothing.ensures.kept c.search_simplified.ensures.kept;
+    }
 
 pub returns-in-Ok-Spent-clause-searched : goal.returns-in-Ok-Spent-clause-searched
 returns-in-Ok-Spent-clause-searched c =
-    own_runs_out c.args.names.now c.args.sys.now c.args.budget.now c.search_whole.new.budget (own_searched c.args.names.now c.in_ok-prepared.prepared c.args.sys.now c.args.budget.now c.search_whole.new.budget _ _ (c.in_ok-prepared.ensures ∙ c.in_ok-indexed.ensures) c.in-Ok-Spent.field-0-is c.in-Ok-Spent.ensures.searched)
+    own_runs_out c.args.names.now c.args.sys.now c.args.budget.now c.search_whole.new.budget
+    (own_told c.args.names.now c.args.sys.now c.args.budget.now c.search_whole.new.budget c.in_ok-prepared.prepared (c.in_ok-prepared.ensures ∙ c.in_ok-indexed.ensures) c.in-Ok-Spent.field-0 search.Spent c.in-Ok-Spent.field-0-is c.in-Ok-Spent.ensures.searched)

@@ -3,71 +3,70 @@ use Rattle.std.proofs.Common.{map}
 use Rattle.cert_model.specs.CertificateView.{pair_entry_view, measure_view}
 use Rattle.cert_model.proofs.CertificateViews.{quasi_shown}
 use Rattle.critical_pairs.specs.View.{overlap_view}
-use Rattle.pair_search.specs.declared.walks.Entries.TheVariants as entries
 use Rattle.pair_search.proofs.Walking.{entries_told}
-use Rattle.quasi_search.specs.declared.measures.MeasureSearch.TheVariants as measures
+use Rattle.cc_count.specs.declared.Sought.TheVariants.{Found, Nothing, Spent}
 use Rattle.quasi_space.specs.Quasi.{IsQuasiEntry, StopsAtQuasi, items_cost}
 use Rattle.quasi_search.proofs.Ending.{measure_told, row_searched, row_spent, good_searched, long_searched, none_searched, spent_searched}
 use Rattle.quasi_search.proofs.search_open.Goals as goal
 
-pub returns-in-Ok-Missing-clause-pruned : goal.returns-in-Ok-Missing-clause-pruned
-returns-in-Ok-Missing-clause-pruned c =
+pub returns-in-Ok-Nothing-clause-pruned : goal.returns-in-Ok-Nothing-clause-pruned
+returns-in-Ok-Nothing-clause-pruned c =
     row_searched c.args.names.now c.args.sys.now (map overlap_view c.args.overlaps.now) c.requires.rules c.requires.overlaps c.args.budget.now c.entries_for.new.budget
-    (entries_told (IsQuasiEntry c.args.sys.now) (items_cost c.args.sys.now) (StopsAtQuasi c.args.sys.now) (map overlap_view c.args.overlaps.now) c.args.budget.now c.entries_for.new.budget c.in-Ok-Missing.field-0 entries.Missing c.in-Ok-Missing.field-0-is c.in-Ok-Missing.ensures.answer)
+    (entries_told (IsQuasiEntry c.args.sys.now) (items_cost c.args.sys.now) (StopsAtQuasi c.args.sys.now) (map overlap_view c.args.overlaps.now) c.args.budget.now c.entries_for.new.budget c.in-Ok-Nothing.field-0 Nothing c.in-Ok-Nothing.field-0-is c.in-Ok-Nothing.ensures.answer)
 
 pub returns-in-Ok-Spent-clause-pruned : goal.returns-in-Ok-Spent-clause-pruned
 returns-in-Ok-Spent-clause-pruned c =
     row_spent c.args.names.now c.args.sys.now (map overlap_view c.args.overlaps.now) c.requires.rules c.requires.overlaps c.args.budget.now c.entries_for.new.budget
-    (entries_told (IsQuasiEntry c.args.sys.now) (items_cost c.args.sys.now) (StopsAtQuasi c.args.sys.now) (map overlap_view c.args.overlaps.now) c.args.budget.now c.entries_for.new.budget c.in-Ok-Spent.field-0 entries.Spent c.in-Ok-Spent.field-0-is c.in-Ok-Spent.ensures.answer)
+    (entries_told (IsQuasiEntry c.args.sys.now) (items_cost c.args.sys.now) (StopsAtQuasi c.args.sys.now) (map overlap_view c.args.overlaps.now) c.args.budget.now c.entries_for.new.budget c.in-Ok-Spent.field-0 Spent c.in-Ok-Spent.field-0-is c.in-Ok-Spent.ensures.answer)
 
 pub returns-then-branch-clause-pruned : goal.returns-then-branch-clause-pruned
 returns-then-branch-clause-pruned c =
-    good_searched c.args.names.now c.args.sys.now (map overlap_view c.args.overlaps.now) c.requires.rules c.requires.overlaps c.args.budget.now c.entries_for.new.budget c.search_measures.new.budget (map pair_entry_view c.in-Ok-Whole.pairs.items)
-    (entries_told (IsQuasiEntry c.args.sys.now) (items_cost c.args.sys.now) (StopsAtQuasi c.args.sys.now) (map overlap_view c.args.overlaps.now) c.args.budget.now c.entries_for.new.budget c.in-Ok-Whole.field-0 (entries.Whole c.in-Ok-Whole.pairs) c.in-Ok-Whole.field-0-is c.in-Ok-Whole.ensures.answer)
-    (measure_view c.in-Ok-Good.measure)
-    (measure_told c.system.result.now c.args.sys.now c.entries_for.new.budget c.search_measures.new.budget c.in-Ok-Good.field-0 (measures.Good c.in-Ok-Good.measure) c.system.ensures c.in-Ok-Good.field-0-is c.in-Ok-Good.ensures.answer)
-    _ (quasi_shown c.in-Ok-Good.measure c.in-Ok-Whole.pairs) (c.in_ok-has_text-in-Ok-Good.ensures.0 c.if-branch.true)
+    good_searched c.args.names.now c.args.sys.now (map overlap_view c.args.overlaps.now) c.requires.rules c.requires.overlaps c.args.budget.now c.entries_for.new.budget c.search_measures.new.budget (map pair_entry_view c.in-Ok-Found.pairs.items)
+    (entries_told (IsQuasiEntry c.args.sys.now) (items_cost c.args.sys.now) (StopsAtQuasi c.args.sys.now) (map overlap_view c.args.overlaps.now) c.args.budget.now c.entries_for.new.budget c.in-Ok-Found.field-0 (Found c.in-Ok-Found.pairs) c.in-Ok-Found.field-0-is c.in-Ok-Found.ensures.answer)
+    (measure_view c.in-Ok-Found-search_measures.measure)
+    (measure_told c.system.result.now c.args.sys.now c.entries_for.new.budget c.search_measures.new.budget c.in-Ok-Found-search_measures.field-0 (Found c.in-Ok-Found-search_measures.measure) c.system.ensures c.in-Ok-Found-search_measures.field-0-is c.in-Ok-Found-search_measures.ensures.answer)
+    _ (quasi_shown c.in-Ok-Found-search_measures.measure c.in-Ok-Found.pairs) (c.in_ok-has_text-in-Ok-Found-search_measures.ensures.0 c.if-branch.true)
 
 pub returns-then-branch-clause-kept : goal.returns-then-branch-clause-kept
 returns-then-branch-clause-kept c =
-    kept_on c.args.budget.now c.entries_for.new.budget c.search_measures.new.budget c.in-Ok-Whole.ensures.kept c.in-Ok-Good.ensures.kept
+    kept_on c.args.budget.now c.entries_for.new.budget c.search_measures.new.budget c.in-Ok-Found.ensures.kept c.in-Ok-Found-search_measures.ensures.kept
 
 pub returns-else-branch-clause-pruned : goal.returns-else-branch-clause-pruned
 returns-else-branch-clause-pruned c =
-    long_searched c.args.names.now c.args.sys.now (map overlap_view c.args.overlaps.now) c.requires.rules c.requires.overlaps c.args.budget.now c.entries_for.new.budget c.search_measures.new.budget (map pair_entry_view c.in-Ok-Whole.pairs.items)
-    (entries_told (IsQuasiEntry c.args.sys.now) (items_cost c.args.sys.now) (StopsAtQuasi c.args.sys.now) (map overlap_view c.args.overlaps.now) c.args.budget.now c.entries_for.new.budget c.in-Ok-Whole.field-0 (entries.Whole c.in-Ok-Whole.pairs) c.in-Ok-Whole.field-0-is c.in-Ok-Whole.ensures.answer)
-    (measure_view c.in-Ok-Good.measure)
-    (measure_told c.system.result.now c.args.sys.now c.entries_for.new.budget c.search_measures.new.budget c.in-Ok-Good.field-0 (measures.Good c.in-Ok-Good.measure) c.system.ensures c.in-Ok-Good.field-0-is c.in-Ok-Good.ensures.answer)
-    _ (quasi_shown c.in-Ok-Good.measure c.in-Ok-Whole.pairs) (λ t. (let e = c.in_ok-has_text-in-Ok-Good.ensures.1 t in cc))
+    long_searched c.args.names.now c.args.sys.now (map overlap_view c.args.overlaps.now) c.requires.rules c.requires.overlaps c.args.budget.now c.entries_for.new.budget c.search_measures.new.budget (map pair_entry_view c.in-Ok-Found.pairs.items)
+    (entries_told (IsQuasiEntry c.args.sys.now) (items_cost c.args.sys.now) (StopsAtQuasi c.args.sys.now) (map overlap_view c.args.overlaps.now) c.args.budget.now c.entries_for.new.budget c.in-Ok-Found.field-0 (Found c.in-Ok-Found.pairs) c.in-Ok-Found.field-0-is c.in-Ok-Found.ensures.answer)
+    (measure_view c.in-Ok-Found-search_measures.measure)
+    (measure_told c.system.result.now c.args.sys.now c.entries_for.new.budget c.search_measures.new.budget c.in-Ok-Found-search_measures.field-0 (Found c.in-Ok-Found-search_measures.measure) c.system.ensures c.in-Ok-Found-search_measures.field-0-is c.in-Ok-Found-search_measures.ensures.answer)
+    _ (quasi_shown c.in-Ok-Found-search_measures.measure c.in-Ok-Found.pairs) (λ t. (let e = c.in_ok-has_text-in-Ok-Found-search_measures.ensures.1 t in cc))
 
 pub returns-else-branch-clause-kept : goal.returns-else-branch-clause-kept
 returns-else-branch-clause-kept c =
-    kept_on c.args.budget.now c.entries_for.new.budget c.search_measures.new.budget c.in-Ok-Whole.ensures.kept c.in-Ok-Good.ensures.kept
+    kept_on c.args.budget.now c.entries_for.new.budget c.search_measures.new.budget c.in-Ok-Found.ensures.kept c.in-Ok-Found-search_measures.ensures.kept
 
-pub returns-in_err-has_text-in-Ok-Good-clause-kept : goal.returns-in_err-has_text-in-Ok-Good-clause-kept
-returns-in_err-has_text-in-Ok-Good-clause-kept c =
-    kept_on c.args.budget.now c.entries_for.new.budget c.search_measures.new.budget c.in-Ok-Whole.ensures.kept c.in-Ok-Good.ensures.kept
+pub returns-in_err-has_text-in-Ok-Found-search_measures-clause-kept : goal.returns-in_err-has_text-in-Ok-Found-search_measures-clause-kept
+returns-in_err-has_text-in-Ok-Found-search_measures-clause-kept c =
+    kept_on c.args.budget.now c.entries_for.new.budget c.search_measures.new.budget c.in-Ok-Found.ensures.kept c.in-Ok-Found-search_measures.ensures.kept
 
-pub returns-in-Ok-NoneGood-clause-pruned : goal.returns-in-Ok-NoneGood-clause-pruned
-returns-in-Ok-NoneGood-clause-pruned c =
-    none_searched c.args.names.now c.args.sys.now (map overlap_view c.args.overlaps.now) c.requires.rules c.requires.overlaps c.args.budget.now c.entries_for.new.budget c.search_measures.new.budget (map pair_entry_view c.in-Ok-Whole.pairs.items)
-    (entries_told (IsQuasiEntry c.args.sys.now) (items_cost c.args.sys.now) (StopsAtQuasi c.args.sys.now) (map overlap_view c.args.overlaps.now) c.args.budget.now c.entries_for.new.budget c.in-Ok-Whole.field-0 (entries.Whole c.in-Ok-Whole.pairs) c.in-Ok-Whole.field-0-is c.in-Ok-Whole.ensures.answer)
-    (measure_told c.system.result.now c.args.sys.now c.entries_for.new.budget c.search_measures.new.budget c.in-Ok-NoneGood.field-0 measures.NoneGood c.system.ensures c.in-Ok-NoneGood.field-0-is c.in-Ok-NoneGood.ensures.answer)
+pub returns-in-Ok-Nothing-search_measures-clause-pruned : goal.returns-in-Ok-Nothing-search_measures-clause-pruned
+returns-in-Ok-Nothing-search_measures-clause-pruned c =
+    none_searched c.args.names.now c.args.sys.now (map overlap_view c.args.overlaps.now) c.requires.rules c.requires.overlaps c.args.budget.now c.entries_for.new.budget c.search_measures.new.budget (map pair_entry_view c.in-Ok-Found.pairs.items)
+    (entries_told (IsQuasiEntry c.args.sys.now) (items_cost c.args.sys.now) (StopsAtQuasi c.args.sys.now) (map overlap_view c.args.overlaps.now) c.args.budget.now c.entries_for.new.budget c.in-Ok-Found.field-0 (Found c.in-Ok-Found.pairs) c.in-Ok-Found.field-0-is c.in-Ok-Found.ensures.answer)
+    (measure_told c.system.result.now c.args.sys.now c.entries_for.new.budget c.search_measures.new.budget c.in-Ok-Nothing-search_measures.field-0 Nothing c.system.ensures c.in-Ok-Nothing-search_measures.field-0-is c.in-Ok-Nothing-search_measures.ensures.answer)
 
-pub returns-in-Ok-NoneGood-clause-kept : goal.returns-in-Ok-NoneGood-clause-kept
-returns-in-Ok-NoneGood-clause-kept c =
-    kept_on c.args.budget.now c.entries_for.new.budget c.search_measures.new.budget c.in-Ok-Whole.ensures.kept c.in-Ok-NoneGood.ensures.kept
+pub returns-in-Ok-Nothing-search_measures-clause-kept : goal.returns-in-Ok-Nothing-search_measures-clause-kept
+returns-in-Ok-Nothing-search_measures-clause-kept c =
+    kept_on c.args.budget.now c.entries_for.new.budget c.search_measures.new.budget c.in-Ok-Found.ensures.kept c.in-Ok-Nothing-search_measures.ensures.kept
 
 pub returns-in-Ok-Spent-search_measures-clause-pruned : goal.returns-in-Ok-Spent-search_measures-clause-pruned
 returns-in-Ok-Spent-search_measures-clause-pruned c =
-    spent_searched c.args.names.now c.args.sys.now (map overlap_view c.args.overlaps.now) c.requires.rules c.requires.overlaps c.args.budget.now c.entries_for.new.budget c.search_measures.new.budget (map pair_entry_view c.in-Ok-Whole.pairs.items)
-    (entries_told (IsQuasiEntry c.args.sys.now) (items_cost c.args.sys.now) (StopsAtQuasi c.args.sys.now) (map overlap_view c.args.overlaps.now) c.args.budget.now c.entries_for.new.budget c.in-Ok-Whole.field-0 (entries.Whole c.in-Ok-Whole.pairs) c.in-Ok-Whole.field-0-is c.in-Ok-Whole.ensures.answer)
-    (measure_told c.system.result.now c.args.sys.now c.entries_for.new.budget c.search_measures.new.budget c.in-Ok-Spent-search_measures.field-0 measures.Spent c.system.ensures c.in-Ok-Spent-search_measures.field-0-is c.in-Ok-Spent-search_measures.ensures.answer)
+    spent_searched c.args.names.now c.args.sys.now (map overlap_view c.args.overlaps.now) c.requires.rules c.requires.overlaps c.args.budget.now c.entries_for.new.budget c.search_measures.new.budget (map pair_entry_view c.in-Ok-Found.pairs.items)
+    (entries_told (IsQuasiEntry c.args.sys.now) (items_cost c.args.sys.now) (StopsAtQuasi c.args.sys.now) (map overlap_view c.args.overlaps.now) c.args.budget.now c.entries_for.new.budget c.in-Ok-Found.field-0 (Found c.in-Ok-Found.pairs) c.in-Ok-Found.field-0-is c.in-Ok-Found.ensures.answer)
+    (measure_told c.system.result.now c.args.sys.now c.entries_for.new.budget c.search_measures.new.budget c.in-Ok-Spent-search_measures.field-0 Spent c.system.ensures c.in-Ok-Spent-search_measures.field-0-is c.in-Ok-Spent-search_measures.ensures.answer)
 
 pub returns-in-Ok-Spent-search_measures-clause-kept : goal.returns-in-Ok-Spent-search_measures-clause-kept
 returns-in-Ok-Spent-search_measures-clause-kept c =
-    kept_on c.args.budget.now c.entries_for.new.budget c.search_measures.new.budget c.in-Ok-Whole.ensures.kept c.in-Ok-Spent-search_measures.ensures.kept
+    kept_on c.args.budget.now c.entries_for.new.budget c.search_measures.new.budget c.in-Ok-Found.ensures.kept c.in-Ok-Spent-search_measures.ensures.kept
 
 pub returns-in-Err-search_measures-clause-kept : goal.returns-in-Err-search_measures-clause-kept
 returns-in-Err-search_measures-clause-kept c =
-    kept_on c.args.budget.now c.entries_for.new.budget c.search_measures.new.budget c.in-Ok-Whole.ensures.kept c.in-Err-search_measures.ensures.kept
+    kept_on c.args.budget.now c.entries_for.new.budget c.search_measures.new.budget c.in-Ok-Found.ensures.kept c.in-Err-search_measures.ensures.kept

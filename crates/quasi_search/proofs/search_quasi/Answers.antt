@@ -1,17 +1,17 @@
 use Rattle.std.proofs.Common.{subst, ◌∙◌}
 use Rattle.certificates.specs.Certificates.{Certificate}
 use Rattle.valid_certificates.specs.Certificates.{IsValid}
-use Rattle.search_answers.specs.Answers.{IfNothing}
+use Rattle.search_answers.specs.Answers.{Searches, ending_of, IfNothing}
+use Rattle.quasi_space.specs.Endings.{MayEndLast}
 use Rattle.quasi_space.specs.Quasi.{quasi_space}
-use Rattle.quasi_search.specs.Answers.{Searches}
 use Rattle.quasi_search.proofs.search_quasi.Goals as goal
 
 pub returns-clause-searched : goal.returns-clause-searched
 returns-clause-searched c =
-    subst (λ s. Searches (quasi_space c.args.names.now s) c.args.budget.now c.search_quasi_over.new.budget c.search_quasi_over.result) (c.in_ok-prepared.ensures ∙ c.in_ok-indexed.ensures)
+    subst (λ s. Searches ending_of (MayEndLast (quasi_space c.args.names.now s)) c.args.budget.now c.search_quasi_over.new.budget c.search_quasi_over.result) (c.in_ok-prepared.ensures ∙ c.in_ok-indexed.ensures)
     c.search_quasi_over.ensures.searched
 
 pub returns-clause-nothing : goal.returns-clause-nothing
 returns-clause-nothing c =
-    subst (λ s. IfNothing c.search_quasi_over.result ((d : Certificate) → (quasi_space c.args.names.now s).Holds d → IsValid s d → ⊥)) (c.in_ok-prepared.ensures ∙ c.in_ok-indexed.ensures)
+    subst (λ s. IfNothing ending_of c.search_quasi_over.result ((d : Certificate) → (quasi_space c.args.names.now s).Holds d → IsValid s d → ⊥)) (c.in_ok-prepared.ensures ∙ c.in_ok-indexed.ensures)
     c.search_quasi_over.ensures.nothing

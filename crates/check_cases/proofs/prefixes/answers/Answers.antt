@@ -1,7 +1,7 @@
 use Rattle.std.proofs.Common.{map, length, sym, ap, ◌∙◌, subst, arith}
 use Rattle.std.proofs.lemmas.List.{length_push}
 use Rattle.cert_model.specs.CertificateView.{linear_entry_view}
-use Rattle.linear_interp.specs.Prefix.{HasPrefix}
+use Rattle.grid_search.specs.Prefix.{HasPrefix}
 use Rattle.check_cases.proofs.Ones.{as_many, one_more}
 use Rattle.check_cases.proofs.prefixes.answers.Goals as goal
 

@@ -1,6 +1,6 @@
 use Rattle.std.proofs.Common.{◌≡◌, map, length}
 use Rattle.cert_model.specs.CertificateView.{linear_entry_view}
-use Rattle.linear_interp.specs.Prefix.{HasPrefix}
+use Rattle.grid_search.specs.Prefix.{HasPrefix}
 use Rattle.check_cases.proofs.prefixes.answers.Given as goal
 
 abbrev pub invariant-symbols : goal.invariant-symbols

@@ -5,7 +5,7 @@ use Rattle.search_spaces.specs.Entries.{entry_for}
 use Rattle.quasi_space.specs.QuasiItems.{quasi_item_cost, GivesQuasi, quasi_items}
 use Rattle.quasi_space.specs.Quasi.{IsQuasiEntry, StopsAtQuasi, items_cost}
 use Rattle.quasi_space.proofs.Entries.{no_quasi_entry}
-use Rattle.pair_search.specs.declared.walks.Walk.TheVariants.{Given, Nothing, Spent}
+use Rattle.cc_count.specs.declared.Sought.TheVariants.{Found, Nothing, Spent}
 use Rattle.pair_search.proofs.Walking.{among_here, told, entry_more, row_ends, row_stops, kept_more}
 use Rattle.quasi_search.proofs.entries.entries_for.Goals as goal
 
@@ -15,9 +15,9 @@ try_overlap-requires c = record {
   knows = c.rows.invariant.knows;
 }
 
-pub returns-in_err-add_entry-in-Ok-Given-clause-kept : goal.returns-in_err-add_entry-in-Ok-Given-clause-kept
-returns-in_err-add_entry-in-Ok-Given-clause-kept c =
-    kept_more (IsQuasiEntry c.args.sys.now) c.args.overlaps.now c.rows.overlap-index c.overlap-item.result c.rows-test.true c.overlap-item.is c.args.budget.now c.rows.budget c.try_overlap.new.budget c.rows.entries.items c.rows.invariant.far c.in-Ok-Given.ensures.kept
+pub returns-in_err-add_entry-in-Ok-Found-clause-kept : goal.returns-in_err-add_entry-in-Ok-Found-clause-kept
+returns-in_err-add_entry-in-Ok-Found-clause-kept c =
+    kept_more (IsQuasiEntry c.args.sys.now) c.args.overlaps.now c.rows.overlap-index c.overlap-item.result c.rows-test.true c.overlap-item.is c.args.budget.now c.rows.budget c.try_overlap.new.budget c.rows.entries.items c.rows.invariant.far c.in-Ok-Found.ensures.kept
 
 pub returns-in-Ok-Nothing-clause-answer : goal.returns-in-Ok-Nothing-clause-answer
 returns-in-Ok-Nothing-clause-answer c =
@@ -49,12 +49,12 @@ pub rows-preserved : goal.rows-preserved
 rows-preserved c =
     let below = c.rows-test.true in
     let o = overlap_view c.overlap-item.result in
-    let e = pair_evidence_view c.in-Ok-Given.evidence in
+    let e = pair_evidence_view c.in-Ok-Found.evidence in
     let w =
-    told quasi_item_cost (GivesQuasi c.args.sys.now o) (quasi_items c.args.sys.now o) c.rows.budget c.try_overlap.new.budget c.in-Ok-Given.field-0 (Given c.in-Ok-Given.evidence) c.in-Ok-Given.field-0-is c.in-Ok-Given.ensures.answer in
+    told quasi_item_cost (GivesQuasi c.args.sys.now o) (quasi_items c.args.sys.now o) c.rows.budget c.try_overlap.new.budget c.in-Ok-Found.field-0 (Found c.in-Ok-Found.evidence) c.in-Ok-Found.field-0-is c.in-Ok-Found.ensures.answer in
     record {
       within = omega (arith, below);
       far = entry_more (IsQuasiEntry c.args.sys.now) c.args.overlaps.now c.rows.overlap-index c.overlap-item.result c.rows-test.true c.overlap-item.is c.args.budget.now c.rows.budget c.try_overlap.new.budget c.rows.entries.items c.rows.invariant.far
-          (entry_for o e) (w.0, w.1, (e, w.2, refl)) c.add_entry.new.entries.items c.in_ok-add_entry-in-Ok-Given.ensures;
-      knows = c.in-Ok-Given.ensures.knows;
+          (entry_for o e) (w.0, w.1, (e, w.2, refl)) c.add_entry.new.entries.items c.in_ok-add_entry-in-Ok-Found.ensures;
+      knows = c.in-Ok-Found.ensures.knows;
     }

@@ -3,7 +3,7 @@ use Rattle.std.proofs.Common.{◌∙◌, ◌∷◌, Ok, ap, subst}
 use Rattle.critical_pairs.specs.View.{overlap_view}
 use Rattle.reach.specs.EntryView.{table_view}
 use Rattle.search_spaces.specs.Listings.{listing, listing_cost}
-use Rattle.pair_search.specs.declared.walks.Walk.TheVariants.{Given, Nothing, Spent}
+use Rattle.cc_count.specs.declared.Sought.TheVariants.{Found, Nothing, Spent}
 use Rattle.quasi_space.specs.QuasiItems.{make_listing, joins}
 use Rattle.quasi_search.specs.Listed.{ListedAnswers}
 use Rattle.quasi_search.proofs.Listings.{listing_fits, listing_once, listing_made, listing_stops, made_kept, stopped_kept}
@@ -117,9 +117,9 @@ returns-in-Some-3-clause-answer c =
     let o = overlap_view c.args.overlap.now in
     listing_made sys o o.pair.left c.args.budget.now c.listed_under.new.budget
     (make_listing (listing_cost sys o.pair.conditions o.pair.right) ∷ joins (listing sys o.pair.conditions o.pair.left) (listing sys o.pair.conditions o.pair.right)) c.in-Some.left
-    (subst (λ z. ListedAnswers sys o o.pair.left c.args.budget.now c.listed_under.new.budget (Ok z)) c.in-Some.is c.in_ok-left.ensures) c.listed_under-2.new.budget (Ok (Given c.in_ok-joined-in-Some-3.field-0))
+    (subst (λ z. ListedAnswers sys o o.pair.left c.args.budget.now c.listed_under.new.budget (Ok z)) c.in-Some.is c.in_ok-left.ensures) c.listed_under-2.new.budget (Ok (Found c.in_ok-joined-in-Some-3.field-0))
     (listing_made sys o o.pair.right c.listed_under.new.budget c.listed_under-2.new.budget (joins (listing sys o.pair.conditions o.pair.left) (listing sys o.pair.conditions o.pair.right)) c.in-Some-2.right
-    (subst (λ z. ListedAnswers sys o o.pair.right c.listed_under.new.budget c.listed_under-2.new.budget (Ok z)) c.in-Some-2.is c.in_ok-right.ensures) c.listed_under-2.new.budget (Ok (Given c.in_ok-joined-in-Some-3.field-0))
+    (subst (λ z. ListedAnswers sys o o.pair.right c.listed_under.new.budget c.listed_under-2.new.budget (Ok z)) c.in-Some-2.is c.in_ok-right.ensures) c.listed_under-2.new.budget (Ok (Found c.in_ok-joined-in-Some-3.field-0))
     (shared_given sys o (table_view c.deref.result.now) (table_view c.deref-2.result.now)
     (ap table_view c.deref.ensures.value ∙ (subst (λ z. ListedAnswers sys o o.pair.left c.args.budget.now c.listed_under.new.budget (Ok z)) c.in-Some.is c.in_ok-left.ensures).0)
     (ap table_view c.deref-2.ensures.value ∙ (subst (λ z. ListedAnswers sys o o.pair.right c.listed_under.new.budget c.listed_under-2.new.budget (Ok z)) c.in-Some-2.is c.in_ok-right.ensures).0)

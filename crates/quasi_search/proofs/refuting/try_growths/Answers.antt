@@ -3,7 +3,7 @@ use Rattle.critical_pairs.specs.View.{overlap_view}
 use Rattle.search_spaces.specs.Refuting.{try_growth, growths}
 use Rattle.cc_count.proofs.Spending.{spends_none, kept_on}
 use Rattle.pair_search.specs.Answers.{WalkAnswers}
-use Rattle.pair_search.specs.declared.walks.Walk.TheVariants.{Nothing}
+use Rattle.cc_count.specs.declared.Sought.TheVariants.{Nothing}
 use Rattle.pair_search.proofs.Composed.{begins, goes_on, ends, finishes}
 use Rattle.quasi_space.specs.QuasiItems.{try_refuting, quasi_item_cost, GivesQuasi}
 use Rattle.quasi_search.proofs.Growths.{growths_behind, all_left, next_growth, none_behind, few_conditions, counted}

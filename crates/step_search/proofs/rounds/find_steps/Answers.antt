@@ -15,15 +15,15 @@ returns-in-Err c = fails c.args.sys.now c.rounds.current c.rounds.steps.items c.
 
 pub rounds-preserved : goal.rounds-preserved
 rounds-preserved c =
-    goes_on c.args.sys.now c.rounds.current c.rounds.steps.items c.args.budget.now c.rounds.budget c.walk_through.new.budget c.rounds.invariant c.push.new.self.items c.in-Ok-Given.made c.changed-current.result (c.in-Ok.ensures).items c.changed-current.ensures
-    (subst (λ z. WalkAnswers c.rounds.current (tries c.rounds.current) c.rounds.budget c.walk_through.new.budget (Ok z)) c.in-Ok-Given.field-0-is c.in-Ok-Given.ensures)
+    goes_on c.args.sys.now c.rounds.current c.rounds.steps.items c.args.budget.now c.rounds.budget c.walk_through.new.budget c.rounds.invariant c.push.new.self.items c.in-Ok-Found.made c.changed-current.result (c.in-Ok.ensures).items c.changed-current.ensures
+    (subst (λ z. WalkAnswers c.rounds.current (tries c.rounds.current) c.rounds.budget c.walk_through.new.budget (Ok z)) c.in-Ok-Found.field-0-is c.in-Ok-Found.ensures)
 
 pub returns-in_default : goal.returns-in_default
 returns-in_default c =
-    fails_found c.args.sys.now c.rounds.current c.rounds.steps.items c.args.budget.now c.rounds.budget c.walk_through.new.budget c.rounds.invariant c.in-Ok-Given.made
-    (subst (λ z. WalkAnswers c.rounds.current (tries c.rounds.current) c.rounds.budget c.walk_through.new.budget (Ok z)) c.in-Ok-Given.field-0-is c.in-Ok-Given.ensures)
+    fails_found c.args.sys.now c.rounds.current c.rounds.steps.items c.args.budget.now c.rounds.budget c.walk_through.new.budget c.rounds.invariant c.in-Ok-Found.made
+    (subst (λ z. WalkAnswers c.rounds.current (tries c.rounds.current) c.rounds.budget c.walk_through.new.budget (Ok z)) c.in-Ok-Found.field-0-is c.in-Ok-Found.ensures)
 
 pub rounds-smaller : goal.rounds-smaller
 rounds-smaller c =
-    walk_pays c.rounds.current c.rounds.budget c.walk_through.new.budget c.in-Ok-Given.made
-    (subst (λ z. WalkAnswers c.rounds.current (tries c.rounds.current) c.rounds.budget c.walk_through.new.budget (Ok z)) c.in-Ok-Given.field-0-is c.in-Ok-Given.ensures)
+    walk_pays c.rounds.current c.rounds.budget c.walk_through.new.budget c.in-Ok-Found.made
+    (subst (λ z. WalkAnswers c.rounds.current (tries c.rounds.current) c.rounds.budget c.walk_through.new.budget (Ok z)) c.in-Ok-Found.field-0-is c.in-Ok-Found.ensures)

@@ -29,13 +29,13 @@ overflow_add-count c =
 pub walk_one-requires-clause-few : goal.walk_one-requires-clause-few
 walk_one-requires-clause-few c = few_conds c.args.sys.now c.args.number c.args.rule.now c.rules-rules.ensures.sound c.requires
 
-pub returns-in-Ok-Given : goal.returns-in-Ok-Given
-returns-in-Ok-Given c =
+pub returns-in-Ok-Found : goal.returns-in-Ok-Found
+returns-in-Ok-Found c =
     let xs = tries_of c.args.number (map condition_view c.args.rule.now.conds.items) in
     let k = c.tries.place in
     let it = its_try c.args.rule.now c.args.number c.len.result c.len.ensures c.if-is_empty.ensures k c.tries-test.true in
-    part_given c.args.sys.now xs (take k xs) (it.0 ∷ []) (drop (suc k) xs) c.args.budget.now c.tries.budget c.walk_one.new.budget (split_at xs k it.0 it.1) c.tries.invariant c.in-Ok-Given.made
-    (subst (λ z. WalkAnswers c.args.sys.now (it.0 ∷ []) c.tries.budget c.walk_one.new.budget (Ok z)) c.in-Ok-Given.field-0-is (c.in-Ok-Given.ensures it.0 it.1))
+    part_given c.args.sys.now xs (take k xs) (it.0 ∷ []) (drop (suc k) xs) c.args.budget.now c.tries.budget c.walk_one.new.budget (split_at xs k it.0 it.1) c.tries.invariant c.in-Ok-Found.made
+    (subst (λ z. WalkAnswers c.args.sys.now (it.0 ∷ []) c.tries.budget c.walk_one.new.budget (Ok z)) c.in-Ok-Found.field-0-is (c.in-Ok-Found.ensures it.0 it.1))
 
 pub returns-in-Ok-Spent : goal.returns-in-Ok-Spent
 returns-in-Ok-Spent c =

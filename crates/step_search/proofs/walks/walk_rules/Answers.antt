@@ -15,15 +15,15 @@ walk_rule-requires c =
     (subst (λ rs. slice_get rs c.rules.i ≡ Some (rule_view c.index-rules-i.result)) c.rules-rules.ensures.rules
     (slice_get-map_read rule_view c.rules-rules.result.now c.rules.i c.index-rules-i.result c.rules-test.true c.index-rules-i.is))
 
-pub returns-in-Ok-Given : goal.returns-in-Ok-Given
-returns-in-Ok-Given c =
+pub returns-in-Ok-Found : goal.returns-in-Ok-Found
+returns-in-Ok-Found c =
     let rs = map rule_view c.rules-rules.result.now in
     let k = c.rules.i in
     let at = slice_get-map_read rule_view c.rules-rules.result.now k c.index-rules-i.result c.rules-test.true c.index-rules-i.is in
     let all = ap (tries_from 1) (sym c.rules-rules.ensures.rules) ∙ rule_tries rs k (rule_view c.index-rules-i.result) at in
     part_given c.args.sys.now (tries c.args.sys.now) (tries_from 1 (take k rs)) (tries_of (k + 1) (rule_view c.index-rules-i.result).conditions) (tries_from (suc (k + 1)) (drop (suc k) rs))
-    c.args.budget.now c.rules.budget c.walk_rule.new.budget all c.rules.invariant c.in-Ok-Given.made
-    (subst (λ z. WalkAnswers c.args.sys.now (tries_of (k + 1) (rule_view c.index-rules-i.result).conditions) c.rules.budget c.walk_rule.new.budget (Ok z)) c.in-Ok-Given.field-0-is c.in-Ok-Given.ensures)
+    c.args.budget.now c.rules.budget c.walk_rule.new.budget all c.rules.invariant c.in-Ok-Found.made
+    (subst (λ z. WalkAnswers c.args.sys.now (tries_of (k + 1) (rule_view c.index-rules-i.result).conditions) c.rules.budget c.walk_rule.new.budget (Ok z)) c.in-Ok-Found.field-0-is c.in-Ok-Found.ensures)
 
 pub returns-in-Ok-Spent : goal.returns-in-Ok-Spent
 returns-in-Ok-Spent c =

@@ -1,8 +1,8 @@
 use Rattle.std.proofs.Common.{map, sym, ◌∙◌}
 use Rattle.std.proofs.lemmas.Bool.{false≢true}
 use Rattle.cert_model.specs.CertificateView.{linear_entry_view}
-use Rattle.linear_interp.proofs.Walked.{walked, next_at, next_ready, next_dead, one_more, all_walked}
-use Rattle.linear_interp.proofs.prefix.PrefixJudge.judge_last.Goals as goal
+use Rattle.grid_search.proofs.JudgedRules.{walked, next_at, next_ready, next_dead, one_more, all_walked}
+use Rattle.grid_search.proofs.prefix.PrefixJudge.judge_last.Goals as goal
 
 pub overflow_sub-number : goal.overflow_sub-number
 overflow_sub-number c =

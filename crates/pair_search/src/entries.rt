@@ -1,4 +1,4 @@
-//! How walks through the items of an overlap and over all overlaps end.
+//! The entries that the walk over the overlaps makes.
 ghost use Rattle.std.specs.Prelude.{◌≡◌, ◌++◌, ◌∷◌, [], OnOk, map};
 ghost use Rattle.cert_model.specs.CertificateView.{pair_entry_view};
 ghost use Rattle.cert_model.specs.EvidenceView.{pair_evidence_view};
@@ -9,28 +9,6 @@ use cert_model::{PairEntry, PairEvidence, copy_numbers};
 use critical_pairs::Overlap;
 use std::alloc::Global;
 use term_core::NoMemory;
-
-/// How a walk through the items of an overlap ends.
-#[derive(Debug, Drop)]
-pub enum Walk {
-    /// The first evidence that is valid.
-    Given(PairEvidence),
-    /// No item gives valid evidence.
-    Nothing,
-    /// The budget was spent.
-    Spent,
-}
-
-/// How the walk over the overlaps ends.
-#[derive(Debug, Drop)]
-pub enum Entries {
-    /// An entry for each overlap.
-    Whole(Vec<PairEntry>),
-    /// An overlap has no valid evidence.
-    Missing,
-    /// The budget was spent.
-    Spent,
-}
 
 /// Puts the entry for an overlap last.
 pub fn add_entry(

@@ -7,11 +7,11 @@ ghost use Rattle.interpretations.specs.Size.{DoesUnravelingFit};
 ghost use Rattle.term_core.specs.HeadView.{head_view};
 ghost use Rattle.cert_model.specs.CertificateView.{linear_entry_view};
 ghost use Rattle.unravel.specs.Answers.{IsUnraveled};
-ghost use Rattle.linear_interp.specs.Prefix.{IsPrefix, IsAliveBefore, PrefixAnswers, NewAnswers, HasPrefix};
+ghost use Rattle.grid_search.specs.Prefix.{IsPrefix, IsAliveBefore, PrefixAnswers, NewAnswers, HasPrefix};
 
 use crate::needs::{numbers_by_need, rule_needs};
-use crate::rules::does_fall;
 use cert_model::LinearEntry;
+use linear_interp::does_fall;
 use measure::Partial;
 use std::alloc::Global;
 use std::marker::Model;
@@ -30,7 +30,7 @@ pub struct PrefixJudge<'a> {
 impl<'a> Model for PrefixJudge<'a> {
     ghost use Rattle.rewriting.specs.Codes.{coded_system};
     ghost use Rattle.rewriting.specs.Rules as math;
-    ghost use Rattle.linear_interp.specs.JudgeView.{judge_view, IsHeld};
+    ghost use Rattle.grid_search.specs.JudgeView.{judge_view, IsHeld};
 
     ghost Value = { math.System };
 

@@ -3,9 +3,9 @@ use Rattle.std.proofs.lemmas.List.{length-map}
 use Rattle.rewriting.specs.Unraveling.{heads}
 use Rattle.term_core.specs.HeadView.{head_view}
 use Rattle.term_core.specs.RuleView.{rule_view}
-use Rattle.linear_interp.specs.Needed.{DoNeedBelow, numbers_needing}
-use Rattle.linear_interp.proofs.Needed.{unraveled_need}
-use Rattle.linear_interp.proofs.prefix.PrefixJudge.new.Goals as goal
+use Rattle.grid_search.specs.Needed.{DoNeedBelow, numbers_needing}
+use Rattle.grid_search.proofs.Needed.{unraveled_need}
+use Rattle.grid_search.proofs.prefix.PrefixJudge.new.Goals as goal
 
 pub numbers_by_need-requires-clause-needs : goal.numbers_by_need-requires-clause-needs
 numbers_by_need-requires-clause-needs c =

@@ -1,7 +1,7 @@
 use Rattle.std.proofs.Common.{◌≡◌, ◌++◌, ◌∷◌, [], if◌then◌else◌, nat_eq, set, arith, subst}
-use Rattle.linear_interp.specs.Needed.{listed}
-use Rattle.linear_interp.proofs.Needed.{number_put}
-use Rattle.linear_interp.proofs.needs.add_number.Goals as goal
+use Rattle.grid_search.specs.Needed.{listed}
+use Rattle.grid_search.proofs.Needed.{number_put}
+use Rattle.grid_search.proofs.needs.add_number.Goals as goal
 
 pub returns-clause-listed : goal.returns-clause-listed
 returns-clause-listed c =

@@ -1,7 +1,7 @@
 use Rattle.std.proofs.Common.{map}
 use Rattle.cert_model.specs.CertificateView.{linear_entry_view}
-use Rattle.linear_interp.proofs.Walked.{DoFallSoFar}
-use Rattle.linear_interp.proofs.prefix.PrefixJudge.judge_last.Given as goal
+use Rattle.grid_search.proofs.JudgedRules.{DoFallSoFar}
+use Rattle.grid_search.proofs.prefix.PrefixJudge.judge_last.Given as goal
 
 abbrev pub invariant-completed : goal.invariant-completed
 invariant-completed l = DoFallSoFar l.self (map linear_entry_view l.prefix) l.number-items l.number-index

@@ -16,13 +16,13 @@ use Rattle.term_core.specs.declared.systems.Rule.{Rule}
 use Rattle.cert_model.specs.CertificateView.{linear_entry_view}
 use Rattle.cert_model.specs.declared.model.LinearEntry.{LinearEntry}
 use Rattle.linear_interp.specs.Falling.{IsRuleReady}
-use Rattle.linear_interp.specs.Prefix.{IsPrefix, IsAliveBefore}
-use Rattle.linear_interp.specs.Needed.{needed_at, numbers_needing, listed}
-use Rattle.linear_interp.specs.JudgeView.{IsHeld}
-use Rattle.linear_interp.specs.declared.prefix.PrefixJudge.TheInside.{Inside}
-use Rattle.linear_interp.proofs.Needed.{IsOf, number_of_rule, HoldsOfAll, of_rules}
-use Rattle.linear_interp.proofs.Completed.{rule_ready}
-use Rattle.linear_interp.proofs.Prefixes.{dead_at, not_dead_yet}
+use Rattle.grid_search.specs.Prefix.{IsPrefix, IsAliveBefore}
+use Rattle.grid_search.specs.Needed.{needed_at, numbers_needing, listed}
+use Rattle.grid_search.specs.JudgeView.{IsHeld}
+use Rattle.grid_search.specs.declared.prefix.PrefixJudge.TheInside.{Inside}
+use Rattle.grid_search.proofs.Needed.{IsOf, number_of_rule, HoldsOfAll, of_rules}
+use Rattle.grid_search.proofs.Completed.{rule_ready}
+use Rattle.grid_search.proofs.Prefixes.{dead_at, not_dead_yet}
 
 -- the rules of the unraveled system, and the numbers of those that need n entries
 pub record AreWalked (sys : System) (n : ℕ) (rs : List Rule) (ns : List ℕ) : Type 0 where

@@ -18,10 +18,10 @@ use Rattle.interpretations.proofs.Bound.{length-heads}
 use Rattle.interpretations.proofs.Decided.{DoesNotFall, overflows, variable_counts_more, constant_is_kept, falls}
 use Rattle.measure_grid.specs.Dead.{HasEntries, HaveEntries, IsDead}
 use Rattle.measure_grid.proofs.Dead.{falls_more}
-use Rattle.linear_interp.specs.Prefix.{IsPrefix, IsAliveBefore}
-use Rattle.linear_interp.specs.Needed.{needed_at}
-use Rattle.linear_interp.proofs.Needed.{has_needed, needed_of}
-use Rattle.linear_interp.proofs.Completed.{whole_shape}
+use Rattle.grid_search.specs.Prefix.{IsPrefix, IsAliveBefore}
+use Rattle.grid_search.specs.Needed.{needed_at}
+use Rattle.grid_search.proofs.Needed.{has_needed, needed_of}
+use Rattle.grid_search.proofs.Completed.{whole_shape}
 
 -- a list with an element ends in one
 ends : {X : Type 0} (x : X) (xs : List X) → (before : List X) × (last : X) × (x ∷ xs ≡ before ++ last ∷ [])

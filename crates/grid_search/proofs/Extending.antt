@@ -9,7 +9,7 @@ use Rattle.rewriting.specs.Rules.{System}
 use Rattle.rewriting.specs.Unraveling.{heads, unraveled}
 use Rattle.certificates.specs.Certificates.{LinearEntry}
 use Rattle.interpretations.specs.Linear.{Interpretation, IsEntry, AreNumbersGood}
-use Rattle.linear_interp.specs.Prefix.{IsPrefix}
+use Rattle.grid_search.specs.Prefix.{IsPrefix}
 
 pub prefix_start : (sys : System) → IsPrefix sys []
 prefix_start sys = record { few = omega arith; entries = λ k lt. absurd (omega (arith, lt)); numbers = λ k e at. absurd (cc) }

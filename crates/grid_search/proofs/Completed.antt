@@ -17,12 +17,12 @@ use Rattle.term_core.specs.RuleView.{rule_view, AreCounted}
 use Rattle.term_core.specs.declared.systems.Rule.{Rule}
 use Rattle.linear_interp.specs.Parts.{IsReady, AreReady}
 use Rattle.linear_interp.specs.Falling.{IsSideReady, IsRuleReady}
-use Rattle.linear_interp.specs.Prefix.{IsPrefix}
-use Rattle.linear_interp.specs.Needed.{needed_at}
-use Rattle.linear_interp.proofs.Needed.{has_needed}
+use Rattle.grid_search.specs.Prefix.{IsPrefix}
+use Rattle.grid_search.specs.Needed.{needed_at}
+use Rattle.grid_search.proofs.Needed.{has_needed}
 use Rattle.linear_interp.proofs.Judging.{ready_rule}
 use Rattle.linear_interp.proofs.Final.{rules_ready}
-use Rattle.linear_interp.proofs.Extending.{next_prefix}
+use Rattle.grid_search.proofs.Extending.{next_prefix}
 
 -- an entry of a symbol with n arguments whose numbers are all 1
 abbrev ones : Head → ℕ → LinearEntry

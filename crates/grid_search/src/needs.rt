@@ -2,7 +2,7 @@
 ghost use Rattle.std.specs.Prelude.{◌≡◌, ◌<◌, ◌+◌, ◌++◌, ◌∷◌, ◌^◌, ℕ, [], IfOk, OnOk, if◌then◌else◌, nat_eq, map, length};
 ghost use Rattle.term_core.specs.View.{view};
 ghost use Rattle.term_core.specs.RuleView.{rule_view};
-ghost use Rattle.linear_interp.specs.Needed.{needed, needed_at, DoNeedBelow, numbers_needing, listed};
+ghost use Rattle.grid_search.specs.Needed.{needed, needed_at, DoNeedBelow, numbers_needing, listed};
 
 use std::alloc::Global;
 use term_core::{NoMemory, Rule, Term};

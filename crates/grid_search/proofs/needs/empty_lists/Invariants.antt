@@ -1,6 +1,6 @@
 use Rattle.std.proofs.Common.{◌≡◌, ℕ, [], length}
-use Rattle.linear_interp.specs.Needed.{listed}
-use Rattle.linear_interp.proofs.needs.empty_lists.Given as goal
+use Rattle.grid_search.specs.Needed.{listed}
+use Rattle.grid_search.proofs.needs.empty_lists.Given as goal
 
 abbrev pub invariant-lists : goal.invariant-lists
 invariant-lists l = record {

@@ -1,7 +1,7 @@
 use Rattle.std.proofs.Common.{◌≡◌, ℕ, ◌+◌, ◌++◌, length, map, drop}
 use Rattle.term_core.specs.RuleView.{rule_view}
-use Rattle.linear_interp.specs.Needed.{DoNeedBelow, numbers_needing, listed}
-use Rattle.linear_interp.proofs.needs.add_rules.Given as goal
+use Rattle.grid_search.specs.Needed.{DoNeedBelow, numbers_needing, listed}
+use Rattle.grid_search.proofs.needs.add_rules.Given as goal
 
 abbrev pub invariant-rules : goal.invariant-rules
 invariant-rules l = record {

@@ -4,8 +4,8 @@ use Rattle.rewriting.specs.Rules.{System}
 use Rattle.rewriting.specs.Systems.{IsSystem}
 use Rattle.rewriting.specs.Unraveling.{unraveled, heads}
 use Rattle.unravel.specs.Answers.{IsUnraveled}
-use Rattle.linear_interp.specs.Needed.{numbers_needing, listed}
-use Rattle.linear_interp.specs.declared.prefix.PrefixJudge.TheInside.{Inside}
+use Rattle.grid_search.specs.Needed.{numbers_needing, listed}
+use Rattle.grid_search.specs.declared.prefix.PrefixJudge.TheInside.{Inside}
 
 abbrev pub judge_view : Inside → System
 judge_view i = i.own.now

@@ -5,10 +5,10 @@ use Rattle.general_lemmas.proofs.Places.{slice_get-map_read}
 use Rattle.cert_model.specs.CertificateView.{linear_entry_view}
 use Rattle.term_core.specs.RuleView.{rule_view}
 use Rattle.linear_interp.proofs.Judging.{one_more, all_hold}
-use Rattle.linear_interp.proofs.Completed.{rule_ready}
-use Rattle.linear_interp.proofs.Prefixes.{DoesFallWithin, dead_at, not_dead}
-use Rattle.linear_interp.proofs.prefix.check_prefix.Goals as goal
-use Rattle.linear_interp.proofs.prefix.check_prefix.Goals.{then-rule_needs-prefix+in_ok-does_fall+else-not-branch, else-rule_needs-prefix}
+use Rattle.grid_search.proofs.Completed.{rule_ready}
+use Rattle.grid_search.proofs.Prefixes.{DoesFallWithin, dead_at, not_dead}
+use Rattle.grid_search.proofs.prefix.check_prefix.Goals as goal
+use Rattle.grid_search.proofs.prefix.check_prefix.Goals.{then-rule_needs-prefix+in_ok-does_fall+else-not-branch, else-rule_needs-prefix}
 
 pub does_fall-requires : goal.does_fall-requires
 does_fall-requires c =

@@ -11,7 +11,7 @@ use Rattle.rewriting.specs.Unraveling.{unraveled, heads}
 use Rattle.interpretations.specs.Linear.{Interpretation}
 use Rattle.interpretations.proofs.Bound.{length-heads}
 use Rattle.measure_grid.specs.Dead.{HasEntries, HaveEntries}
-use Rattle.linear_interp.specs.Needed.{needed, needed_by, needed_at, DoNeedBelow, numbers_needing, listed}
+use Rattle.grid_search.specs.Needed.{needed, needed_by, needed_at, DoNeedBelow, numbers_needing, listed}
 
 -- the number of a rule is put last in one list
 put_here : (lists : List (Vec ℕ Global)) (g n : ℕ) (b v : Vec ℕ Global) → g < length lists → v.items ≡ (get_or lists g b).items ++ n ∷ [] → listed (set lists g v) g ≡ listed lists g ++ n ∷ []
