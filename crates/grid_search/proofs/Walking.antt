@@ -11,9 +11,9 @@ use Rattle.interpretations.specs.Linear.{Interpretation}
 use Rattle.interpretations.specs.Judgement.{good}
 use Rattle.interpretations.specs.Judged.{IsInterpretationJudged}
 use Rattle.grid_search.specs.Prefix.{IsPrefix, IsAliveBefore}
-use Rattle.search_trees.specs.Trees.{IsBarrenBelow, IsFirstBelow, StopsBelow}
-use Rattle.search_trees.specs.Paths.{IsAtChild, HasWalked}
-use Rattle.search_trees.proofs.Paths as paths
+use Rattle.first_found.specs.Trees.{IsBarrenBelow, IsFirstBelow, StopsBelow}
+use Rattle.first_found.specs.Paths.{IsAtChild, HasWalked}
+use Rattle.first_found.proofs.Paths as paths
 use Rattle.measure_grid.specs.Grid.{entries_of, columns}
 use Rattle.measure_grid.specs.Dead.{IsDead}
 use Rattle.measure_grid.specs.Pruned.{Prefix, extensions, IsDeadPrefix, PrefixGives, start, IsPrunedFirst, IsPrunedBarren, PrunedStops}

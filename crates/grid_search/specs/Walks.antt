@@ -6,8 +6,8 @@ use Rattle.certificates.specs.Certificates.{LinearEntry}
 use Rattle.interpretations.specs.Linear.{Interpretation}
 use Rattle.interpretations.specs.Judgement.{good}
 use Rattle.interpretations.specs.Judged.{IsInterpretationJudged}
-use Rattle.search_trees.specs.Trees.{IsBarrenBelow}
-use Rattle.search_trees.specs.Paths.{HasWalked}
+use Rattle.first_found.specs.Trees.{IsBarrenBelow}
+use Rattle.first_found.specs.Paths.{HasWalked}
 use Rattle.term_core.specs.declared.terms.NoMemory.{NoMemory}
 use Rattle.cc_count.specs.Counts.{Counts, Spends}
 use Rattle.measure_grid.specs.Grid.{columns}

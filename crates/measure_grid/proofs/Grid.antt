@@ -5,8 +5,8 @@ use Rattle.rewriting.specs.Rules.{System}
 use Rattle.rewriting.specs.Unraveling.{Head, file, auxiliary, heads, unraveled}
 use Rattle.certificates.specs.Certificates.{LinearEntry}
 use Rattle.interpretations.specs.Linear.{Interpretation}
-use Rattle.search_trees.specs.Trees.{leaves}
-use Rattle.search_trees.proofs.Trees.{EachNode, IsFull}
+use Rattle.first_found.specs.Trees.{leaves}
+use Rattle.first_found.proofs.Trees.{EachNode, IsFull}
 use Rattle.measure_grid.specs.Grid.{choices, active_numbers, passive_numbers, ranges, entries_of, columns}
 use Rattle.measure_grid.specs.Pruned.{Prefix, extensions}
 

@@ -5,10 +5,10 @@ use Rattle.rewriting.specs.Rules.{System}
 use Rattle.certificates.specs.Certificates.{LinearEntry, MeasureCertificate}
 use Rattle.interpretations.specs.Linear.{Interpretation}
 use Rattle.first_found.specs.Items.{GivesNothing, NoneGives, cost_of, IsFirst, one}
-use Rattle.search_trees.specs.Trees.{leaves}
+use Rattle.first_found.specs.Trees.{leaves}
 use Rattle.first_found.proofs.Items.{none_append, cost_of_ones}
-use Rattle.search_trees.proofs.Lists.{none_mapped, first_mapped}
-use Rattle.search_trees.proofs.Trees.{barren_or_first, barren_once, below_once, stops_in_barren, stops_before_first, there_below, barren_within, nothing_below, place_below}
+use Rattle.first_found.proofs.Lists.{none_mapped, first_mapped}
+use Rattle.first_found.proofs.Trees.{barren_or_first, barren_once, below_once, stops_in_barren, stops_before_first, there_below, barren_within, nothing_below, place_below}
 use Rattle.measure_grid.specs.Grid.{columns, grid, GivesMeasure}
 use Rattle.measure_grid.specs.Dead.{IsDead}
 use Rattle.measure_grid.specs.Pruned.{Prefix, extended, extensions, IsDeadPrefix, PrefixGives, start, IsPrunedFirst, IsPrunedBarren, PrunedStops, IsPrunedWhole}

@@ -10,9 +10,9 @@ use Rattle.rewriting.proofs.Lists.{among_left, among_right, among_either, among_
 use Rattle.rewriting.proofs.Members.{place_among, among_place}
 use Rattle.certificates.specs.Certificates.{precedence_measure}
 use Rattle.interpretations.specs.Judgement.{good}
-use Rattle.search_trees.specs.Trees.{IsBarrenBelow, IsFirstBelow, StopsBelow}
-use Rattle.search_trees.specs.Paths.{IsAtChild, HasWalked}
-use Rattle.search_trees.proofs.Paths as paths
+use Rattle.first_found.specs.Trees.{IsBarrenBelow, IsFirstBelow, StopsBelow}
+use Rattle.first_found.specs.Paths.{IsAtChild, HasWalked}
+use Rattle.first_found.proofs.Paths as paths
 use Rattle.path_orders.specs.Precedences.{Precedence}
 use Rattle.path_orders.specs.Dead.{IsDead}
 use Rattle.path_orders.specs.Judged.{IsPrecedenceJudged}

@@ -3,8 +3,8 @@ use Rattle.std.specs.Prelude.{ℕ, suc, ◌≡◌, ◌+◌, ◌<◌, ◌≤◌, 
 use Rattle.rewriting.specs.Rules.{Rule, System}
 use Rattle.rewriting.specs.Systems.{IsSystem}
 use Rattle.rewriting.specs.Unraveling.{Head, heads, unraveled}
-use Rattle.search_trees.specs.Trees.{IsBarrenBelow}
-use Rattle.search_trees.specs.Paths.{HasWalked}
+use Rattle.first_found.specs.Trees.{IsBarrenBelow}
+use Rattle.first_found.specs.Paths.{HasWalked}
 use Rattle.term_core.specs.HeadView.{head_view}
 use Rattle.cc_count.specs.Counts.{Counts, Spends}
 use Rattle.path_orders.specs.Precedences.{Precedence, IsGood}

@@ -14,7 +14,7 @@ use Rattle.unifier_run.proofs.Total.{all_clash_decided}
 use Rattle.valid_certificates.specs.Confluence.{IsInOrthoClasses, AreRightSidesIrreducible}
 use Rattle.valid_certificates.proofs.OneOverlaps.{overlaps_or_large, overlaps_or_many}
 use Rattle.first_found.specs.Items.{cost_of}
-use Rattle.measure_lists.specs.Measures.{trials}
+use Rattle.quasi_space.specs.MeasureLists.{trials}
 use Rattle.search_spaces.specs.PairItems.{ortho_items}
 use Rattle.search_spaces.specs.PeakItems.{peak_item_cost, peak_items}
 use Rattle.search_spaces.specs.Entries.{overlap_cost}

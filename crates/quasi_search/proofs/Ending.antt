@@ -15,7 +15,7 @@ use Rattle.first_found.specs.Rows.{AreFirsts, EndsAtRow, StopsInRow}
 use Rattle.first_found.specs.Spaces.{Space, spent}
 use Rattle.search_answers.specs.Answers.{ending_of, Searches, IfFound, IfNothing}
 use Rattle.search_spaces.specs.Texts.{HasText}
-use Rattle.measure_lists.specs.Pruned.{IsPrunedFirst}
+use Rattle.quasi_space.specs.PrunedMeasures.{IsPrunedFirst}
 use Rattle.quasi_space.specs.Endings.{MayEndLast}
 use Rattle.quasi_space.specs.Measures.{pruned_measures}
 use Rattle.quasi_space.specs.Quasi.{IsQuasiOpen, IsQuasiEntry, StopsAtQuasi, items_cost, quasi_space, quasi_space_by}

@@ -10,7 +10,7 @@ use Rattle.measure_grid.specs.Pruned as grid
 use Rattle.measure_grid.proofs.Pruned as of_grid
 use Rattle.precedence_walks.specs.Pruned as path
 use Rattle.precedence_walks.proofs.Pruned as of_path
-use Rattle.measure_lists.specs.Pruned.{IsPrunedFirst, IsPrunedWhole}
+use Rattle.quasi_space.specs.PrunedMeasures.{IsPrunedFirst, IsPrunedWhole}
 use Rattle.grid_search.specs.Answers as grid_search
 use Rattle.precedence_search.specs.Answers as path_search
 use Rattle.quasi_search.specs.MeasureTrials.{IsNoneGood, AreTooFew, MeasureAnswers, PrecedenceAnswers}

@@ -10,7 +10,7 @@ use Rattle.cc_count.specs.Sought.{Seeks}
 use Rattle.cc_count.specs.declared.Sought.{Sought}
 use Rattle.precedence_walks.specs.Pruned as path
 use Rattle.precedence_search.specs.Answers as path_search
-use Rattle.measure_lists.specs.Pruned.{IsPrunedFirst, IsPrunedWhole}
+use Rattle.quasi_space.specs.PrunedMeasures.{IsPrunedFirst, IsPrunedWhole}
 
 -- no measure is good, and n units are no more than those of the whole
 pub record IsNoneGood (sys : System) (n : ℕ) : Type 0 where

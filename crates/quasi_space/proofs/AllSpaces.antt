@@ -6,7 +6,7 @@ use Rattle.cops_names.specs.NameTable.{NameTable}
 use Rattle.search_spaces.specs.OrthoThenPeak.{ortho_then_peak_space}
 use Rattle.search_spaces.specs.Laws.{IsSearchable}
 use Rattle.search_spaces.proofs.OrthoThenPeak.{whole_searchable, both_searchable}
-use Rattle.measure_lists.proofs.Pruned.{firsts_are, whole_there}
+use Rattle.quasi_space.proofs.PrunedMeasures.{firsts_are, whole_there}
 use Rattle.quasi_space.specs.Measures.{MeasureTrials, each_measure, pruned_measures}
 use Rattle.quasi_space.specs.Quasi.{all_items_cost, IsQuasiFound, IsQuasiCost, quasi_space, quasi_space_by}
 use Rattle.quasi_space.specs.AllSpaces.{all_spaces_by, all_spaces, pruned_spaces}

@@ -6,9 +6,9 @@ use Rattle.interpretations.specs.Judgement.{good}
 use Rattle.valid_certificates.specs.Certificates.{IsMeasureJudged}
 use Rattle.first_found.specs.Items.{IsFirst, one}
 use Rattle.first_found.proofs.Items.{first_once, first_within, not_both, cost_of_ones}
-use Rattle.measure_lists.specs.Measures.{Trial, try_interpretation, try_precedence, trials, GivesMeasure}
-use Rattle.measure_lists.specs.Pruned.{IsPrunedFirst, IsPrunedWhole}
-use Rattle.measure_lists.proofs.Pruned.{firsts_are, barren_is, pruned_once, first_or_barren, whole_once, whole_there}
+use Rattle.quasi_space.specs.MeasureLists.{Trial, try_interpretation, try_precedence, trials, GivesMeasure}
+use Rattle.quasi_space.specs.PrunedMeasures.{IsPrunedFirst, IsPrunedWhole}
+use Rattle.quasi_space.proofs.PrunedMeasures.{firsts_are, barren_is, pruned_once, first_or_barren, whole_once, whole_there}
 use Rattle.quasi_space.specs.Measures.{MeasureTrials, each_measure, pruned_measures}
 
 -- what is found first is good and one, and the units are at most those of the whole, which are one number

@@ -4,3 +4,6 @@ pub mod Laws
 pub mod Measures
 pub mod Quasi
 pub mod QuasiItems
+pub mod MeasureLists
+pub mod PrunedMeasures
+pub mod MeasureListLaws

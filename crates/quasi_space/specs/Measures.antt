@@ -4,8 +4,8 @@ use Rattle.std.specs.Prelude.{ℕ, ◌≡◌, length}
 use Rattle.rewriting.specs.Rules.{System}
 use Rattle.certificates.specs.Certificates.{MeasureCertificate}
 use Rattle.first_found.specs.Items.{IsFirst, one}
-use Rattle.measure_lists.specs.Measures.{trials, GivesMeasure}
-use Rattle.measure_lists.specs.Pruned.{IsPrunedFirst, IsPrunedWhole}
+use Rattle.quasi_space.specs.MeasureLists.{trials, GivesMeasure}
+use Rattle.quasi_space.specs.PrunedMeasures.{IsPrunedFirst, IsPrunedWhole}
 
 -- how measures are tried: the first good one, with the units up to and with it; and the units of the whole
 pub record MeasureTrials : Type 1 where

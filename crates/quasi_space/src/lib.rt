@@ -4,6 +4,7 @@
 
 ghost use Rattle.quasi_space.specs.Laws.{JoinsAreSharedTerms, ClashingReductsAreUnfeasible, QuasiSpacesAreSearchable, PrunedSpacesAreSearchable, PrunedSearchesAreSearches};
 ghost use Rattle.quasi_space.specs.Laws.{AllSpacesAreSearchable, AllPrunedSpacesAreSearchable, AllPrunedSearchesAreSearches};
+ghost use Rattle.quasi_space.specs.MeasureListLaws.{PrunedFirstsAreFirsts, PrunedListsAreBarren, PrunedListsEndOnce};
 
 /// Two listed terms join the sides of an overlap exactly where they are one term.
 pub fn joins_are_shared_terms()
@@ -30,4 +31,13 @@ pub fn quasi_spaces_are_searchable()
 pub fn pruned_searches_are_searches()
     ensures quasi { PrunedSearchesAreSearches }
     ensures all { AllPrunedSearchesAreSearches }
+{}
+
+/// The first good measure that the pruned lists come to is the first of the lists, and the units up to it are at most its
+/// place there; where the pruned lists have none, the lists have none, and the units are at most their length. There is one
+/// such number at most, and it cannot be that there is none.
+pub fn pruned_lists_are_lists()
+    ensures firsts { PrunedFirstsAreFirsts }
+    ensures none { PrunedListsAreBarren }
+    ensures once { PrunedListsEndOnce }
 {}

@@ -5,7 +5,7 @@ use Rattle.cc_count.proofs.Spending.{spends_none}
 use Rattle.reach_lists.specs.Solutions.{Reached}
 use Rattle.reach_lists.specs.Lists.{total, with_terms}
 use Rattle.reach_lists.proofs.Growing.{with_terms-append}
-use Rattle.solution_paths.proofs.Totals.{total-append}
+use Rattle.reach_lists.proofs.Totals.{total-append}
 use Rattle.reach.specs.declared.listed.ReachStop.{ReachStop}
 use Rattle.reach.specs.Costs.{Costs}
 use Rattle.reach.specs.Offers.{TakesNone, added}

@@ -13,7 +13,7 @@ use Rattle.cc_count.proofs.Spending.{spends_same}
 use Rattle.reach_lists.specs.Solutions as lists
 use Rattle.reach_lists.specs.Solutions.{starts, extended}
 use Rattle.reach_lists.specs.Lists.{total, reach_list, reach_cost, started}
-use Rattle.solution_paths.specs.Paths.{followed, asked_on_paths}
+use Rattle.reach_lists.specs.Paths.{followed, asked_on_paths}
 use Rattle.term_core.specs.View.{view}
 use Rattle.term_core.specs.declared.terms.Term.{Term}
 use Rattle.term_core.specs.declared.terms.Term.TheVariants.{Fun}

@@ -15,7 +15,7 @@ use Rattle.reach_lists.specs.Lists.{by_solution}
 use Rattle.reach_lists.specs.Solutions as lists
 use Rattle.reach_lists.specs.Solutions.{extended}
 use Rattle.reach_lists.proofs.Each.{each_append, each_flat_map, each_any, each_if}
-use Rattle.solution_paths.specs.Paths.{followed, asked_on_paths}
+use Rattle.reach_lists.specs.Paths.{followed, asked_on_paths}
 use Rattle.reach.specs.Splices.{GivesNothing}
 use Rattle.reach.proofs.Idle.{none_of_each}
 use Rattle.reach.proofs.Instances.{value_is}

@@ -8,9 +8,9 @@ use Rattle.rewriting.specs.Substitutions.{Bindings}
 use Rattle.origins.specs.declared.Origin.{Origin}
 use Rattle.reach_lists.specs.Solutions.{Reached, Solution, starts, solutions, asked}
 use Rattle.reach_lists.specs.Lists.{total, reach_list, reach_cost, unconditional}
-use Rattle.solution_paths.specs.Paths.{followed, asked_on_paths}
-use Rattle.solution_paths.proofs.Totals.{total-append}
-use Rattle.solution_paths.proofs.Following.{are_followed, cost_the_same}
+use Rattle.reach_lists.specs.Paths.{followed, asked_on_paths}
+use Rattle.reach_lists.proofs.Totals.{total-append}
+use Rattle.reach_lists.proofs.Following.{are_followed, cost_the_same}
 use Rattle.reach.specs.declared.listed.ReachStop.{ReachStop}
 use Rattle.flatterm.specs.Work.{HasRisen}
 use Rattle.flatterm.proofs.Rising.{risen_on}

@@ -6,7 +6,7 @@ use Rattle.rewriting.specs.Rules.{Condition}
 use Rattle.reach_lists.specs.Lists.{total, at_site, asked_at, by_solution}
 use Rattle.reach_lists.specs.Sites.{Site}
 use Rattle.reach_lists.specs.Solutions.{Reached, Solution, extended}
-use Rattle.solution_paths.specs.Paths.{followed, asked_on_paths}
+use Rattle.reach_lists.specs.Paths.{followed, asked_on_paths}
 use Rattle.term_core.specs.RuleView.{rule_view}
 use Rattle.reach.specs.declared.listed.ReachStop.{ReachStop}
 use Rattle.reach.specs.declared.sites.Search.{Search}

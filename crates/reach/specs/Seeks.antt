@@ -5,7 +5,7 @@ use Rattle.rewriting.specs.Terms.{Term}
 use Rattle.rewriting.specs.Rules.{Condition}
 use Rattle.reach_lists.specs.Lists.{total}
 use Rattle.reach_lists.specs.Solutions as math
-use Rattle.solution_paths.specs.Paths.{followed, asked_on_paths}
+use Rattle.reach_lists.specs.Paths.{followed, asked_on_paths}
 use Rattle.reach.specs.declared.listed.ReachStop.{ReachStop}
 use Rattle.reach.specs.declared.seeking.Solution.{Solution}
 use Rattle.reach.specs.declared.sites.Search.{Search}

@@ -5,3 +5,5 @@ pub mod Growing
 pub mod Short
 pub mod Queue
 pub mod Laws
+pub mod Totals
+pub mod Following

@@ -4,3 +4,5 @@ pub mod Lists
 pub mod Codes
 pub mod Queue
 pub mod Laws
+pub mod Paths
+pub mod DepthFirst

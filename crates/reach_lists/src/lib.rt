@@ -3,6 +3,7 @@
 #![tactic(auto)]
 
 ghost use Rattle.reach_lists.specs.Laws.{StartsAre, ListedTermsAreDerived, ListedDerivationsAreShort, NoTermIsListedTwice, ListsAreShort, ListsCostTheirTerms, ListsGrow, RoundsExpandNewTerms, SuccessorsAreSettled, ListsAreThoseOfQueues};
+ghost use Rattle.reach_lists.specs.DepthFirst.{SolutionsAreFollowed, PathsCostTheSame};
 
 /// A list begins with its start; each listed term is derived from the start by its derivation; no term is listed twice, and at
 /// most 2,000 are.
@@ -22,4 +23,11 @@ pub fn lists_are_breadth_first()
     ensures rounds { RoundsExpandNewTerms }
     ensures settled { SuccessorsAreSettled }
     ensures queue { ListsAreThoseOfQueues }
+{}
+
+/// Conditions have the same solutions depth first as breadth first, in the same order, and the lists that are made for them cost
+/// as much together.
+pub fn depth_first_finds_the_same()
+    ensures solutions { SolutionsAreFollowed }
+    ensures cost { PathsCostTheSame }
 {}

@@ -1,7 +1,7 @@
 -- How a walk through a tree goes on, and what its end shows of the root.
 use Rattle.std.proofs.Common.{ℕ, zero, suc, ◌≡◌, ◌+◌, inl, inr, List, [], ◌∷◌, ◌++◌, refl, sym, ap, ◌∙◌, subst, arith, append_assoc}
-use Rattle.search_trees.specs.Trees.{HaveTogether, IsOneBehind, IsBarrenBelow, IsFirstBelow, StopsBelow}
-use Rattle.search_trees.specs.Paths.{IsAtChild, HasWalked}
+use Rattle.first_found.specs.Trees.{HaveTogether, IsOneBehind, IsBarrenBelow, IsFirstBelow, StopsBelow}
+use Rattle.first_found.specs.Paths.{IsAtChild, HasWalked}
 
 module _ {P : Type 0} (Has : P → ℕ → Type 0) where
   together_last : (before : List P) (p : P) (n m : ℕ) → HaveTogether Has before n → Has p m → HaveTogether Has (before ++ p ∷ []) (n + m)

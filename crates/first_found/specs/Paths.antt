@@ -1,6 +1,6 @@
 -- How far a walk through a tree has come.
 use Rattle.std.specs.Prelude.{ℕ, zero, suc, ◌≡◌, ◌+◌, List, ◌∷◌, ◌++◌}
-use Rattle.search_trees.specs.Trees.{HaveTogether, IsBarrenBelow}
+use Rattle.first_found.specs.Trees.{HaveTogether, IsBarrenBelow}
 
 -- the walk is at a child of a node that it came to, and paid n: those for the node, and those that show the children before to be barren
 pub record IsAtChild {P : Type 0} (next : P → List P) (Dead : P → Type 0) (Barren CameTo : P → ℕ → Type 0) (p : P) (n : ℕ) : Type 0 where

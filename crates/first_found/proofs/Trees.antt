@@ -2,7 +2,7 @@
 use Rattle.std.proofs.Common.{ℕ, zero, suc, ◌≡◌, ◌+◌, ◌<◌, ◌≤◌, inl, inr, List, [], ◌∷◌, flat_map, length, refl, sym, ◌∙◌, arith}
 use Rattle.first_found.specs.Items.{NoneGives, cost_of, IsFirst, one}
 use Rattle.first_found.proofs.Items.{cost_append, none_append, first_here, first_left, first_right}
-use Rattle.search_trees.specs.Trees.{leaves, HaveTogether, IsOneBehind, IsBarrenBelow, IsFirstBelow, StopsBelow}
+use Rattle.first_found.specs.Trees.{leaves, HaveTogether, IsOneBehind, IsBarrenBelow, IsFirstBelow, StopsBelow}
 
 -- each has the property
 abbrev pub EachNode : {P : Type 0} → (P → Type 0) → List P → Type 0
