@@ -7,12 +7,24 @@ use lens_pages::{Naming, Page, Piece};
 use matching::{Match, match_onto, match_term};
 use term_core::{Cond, NoMemory, Subst, Term, TermError, equal, fits, replace, subterm};
 
-/// What a derivation is told over: a system, how the variables of its terms are named, and the conditions that it may use.
+/// What a derivation is told over: a system, how the variables of its terms are named, the conditions that it may use, and how
+/// far from the left margin it is told.
 #[derive(Clone, Copy)]
 pub struct Stage<'a> {
     pub scene: Scene<'a>,
     pub naming: Naming,
     pub hyps: &'a [Cond],
+    pub margin: usize,
+}
+
+impl<'a> Stage<'a> {
+    /// The same, further from the margin.
+    pub fn within(self, more: usize) -> Stage<'a> {
+        Stage {
+            margin: self.margin.saturating_add(more),
+            ..self
+        }
+    }
 }
 
 // The instance of a term, or none where a variable has no value or the instance is too large, which is told.
@@ -84,7 +96,6 @@ fn with_part(
 fn values_at<'x>(
     page: &mut Page<'_>,
     stage: Stage<'_>,
-    margin: usize,
     t: &'x Term,
     number: u32,
     pos: &'x [u32],
@@ -93,7 +104,7 @@ fn values_at<'x>(
     let Some(part) = subterm(t, pos) else {
         break_off(
             page,
-            margin,
+            stage.margin,
             "here rule # is to be used #, which is no position of #",
             &[
                 Piece::Number(number as usize),
@@ -109,7 +120,7 @@ fn values_at<'x>(
     }
     break_off(
         page,
-        margin,
+        stage.margin,
         "here rule # does not match #: its left side is #, and there stands #",
         &[
             Piece::Number(number as usize),
@@ -125,7 +136,6 @@ fn values_at<'x>(
 fn values_after(
     page: &mut Page<'_>,
     stage: Stage<'_>,
-    margin: usize,
     values: &Subst,
     number: u32,
     right: &Term,
@@ -137,7 +147,7 @@ fn values_after(
     }
     break_off(
         page,
-        margin,
+        stage.margin,
         "here the condition does not hold: # is no instance of # with what its variables stand for",
         &[
             Piece::Term(stage.naming, end),
@@ -148,16 +158,9 @@ fn values_after(
 }
 
 // Tells that a condition of a rule is to be met.
-fn tell_condition(
-    page: &mut Page<'_>,
-    stage: Stage<'_>,
-    margin: usize,
-    number: u32,
-    k: usize,
-    cond: &Cond,
-) {
+fn tell_condition(page: &mut Page<'_>, stage: Stage<'_>, number: u32, k: usize, cond: &Cond) {
     page.line(
-        margin,
+        stage.margin,
         "for condition # of rule #, #:",
         &[
             Piece::Number(k.saturating_add(1)),
@@ -173,22 +176,21 @@ fn conditions_met(
     page: &mut Page<'_>,
     ds: &[Derivation],
     stage: Stage<'_>,
-    margin: usize,
     number: u32,
     conds: &[Cond],
     start: Subst,
 ) -> Option<Subst> {
-    let inner = margin.saturating_add(2);
+    let inner = stage.within(2);
     let mut values = start;
     for (k, d) in ds.iter().enumerate() {
         let Some(cond) = conds.get(k) else {
             return Some(values);
         };
-        tell_condition(page, stage, margin, number, k, cond);
+        tell_condition(page, stage, number, k, cond);
         let naming = stage.scene.naming(number);
-        let from = instance(page, inner, &values, naming, &cond.left)?;
-        let end = tell_derivation(page, d, stage, inner, from)?;
-        let after = values_after(page, stage, inner, &values, number, &cond.right, &end)?;
+        let from = instance(page, inner.margin, &values, naming, &cond.left)?;
+        let end = tell_derivation(page, d, inner, from)?;
+        let after = values_after(page, inner, &values, number, &cond.right, &end)?;
         values = after;
     }
     Some(values)
@@ -214,31 +216,30 @@ fn after_rule(
     page: &mut Page<'_>,
     ds: &[Derivation],
     stage: Stage<'_>,
-    margin: usize,
     t: &Term,
     number: u32,
     pos: &[u32],
 ) -> Option<Term> {
-    let inner = margin.saturating_add(5);
+    let inner = stage.within(5);
     let Some(rule) = rule_of(stage.scene, number) else {
         break_off(
             page,
-            inner,
+            inner.margin,
             "here there is no rule #",
             &[Piece::Number(number as usize)],
         );
         return None;
     };
-    let values = values_at(page, stage, inner, t, number, pos, &rule.left)?;
+    let values = values_at(page, inner, t, number, pos, &rule.left)?;
     if rule.conds.len() != ds.len() {
-        tell_wrong_count(page, inner, number, rule.conds.len(), ds.len());
+        tell_wrong_count(page, inner.margin, number, rule.conds.len(), ds.len());
         return None;
     }
-    let values = conditions_met(page, ds, stage, inner, number, &rule.conds, values)?;
+    let values = conditions_met(page, ds, inner, number, &rule.conds, values)?;
     let naming = stage.scene.naming(number);
-    let part = instance(page, inner, &values, naming, &rule.right)?;
-    let u = with_part(page, inner, t, pos, &part)?;
-    tell_after(page, stage, margin, &u, "rule", number, pos);
+    let part = instance(page, inner.margin, &values, naming, &rule.right)?;
+    let u = with_part(page, inner.margin, t, pos, &part)?;
+    tell_after(page, stage, &u, "rule", number, pos);
     Some(u)
 }
 
@@ -246,14 +247,13 @@ fn after_rule(
 fn tell_after<'x>(
     page: &mut Page<'_>,
     stage: Stage<'_>,
-    margin: usize,
     u: &'x Term,
     by: &'x str,
     number: u32,
     pos: &'x [u32],
 ) {
     page.line(
-        margin,
+        stage.margin,
         "-> #   by # # #",
         &[
             Piece::Term(stage.naming, u),
@@ -276,16 +276,15 @@ fn stands_at(t: &Term, pos: &[u32], left: &Term) -> bool {
 fn after_hypothesis<'x>(
     page: &mut Page<'_>,
     stage: Stage<'x>,
-    margin: usize,
     t: &'x Term,
     number: u32,
     pos: &'x [u32],
 ) -> Option<Term> {
-    let inner = margin.saturating_add(5);
+    let inner = stage.within(5);
     let Some(cond) = condition(stage.hyps, number) else {
         break_off(
             page,
-            inner,
+            inner.margin,
             "here there is no condition # that may be used",
             &[Piece::Number(number as usize)],
         );
@@ -294,7 +293,7 @@ fn after_hypothesis<'x>(
     if !stands_at(t, pos, &cond.left) {
         break_off(
             page,
-            inner,
+            inner.margin,
             "here condition # cannot be used #, where its left side # does not stand",
             &[
                 Piece::Number(number as usize),
@@ -304,23 +303,17 @@ fn after_hypothesis<'x>(
         );
         return None;
     }
-    let u = with_part(page, inner, t, pos, &cond.right)?;
-    tell_after(page, stage, margin, &u, "condition", number, pos);
+    let u = with_part(page, inner.margin, t, pos, &cond.right)?;
+    tell_after(page, stage, &u, "condition", number, pos);
     Some(u)
 }
 
 /// The term after a step, which is told; none where it does not apply.
 #[cycle(tell)]
-pub fn after_step(
-    page: &mut Page<'_>,
-    step: &Step,
-    stage: Stage<'_>,
-    margin: usize,
-    t: &Term,
-) -> Option<Term> {
+pub fn after_step(page: &mut Page<'_>, step: &Step, stage: Stage<'_>, t: &Term) -> Option<Term> {
     match step {
-        Step::Rule { rule, pos, conds } => after_rule(page, conds, stage, margin, t, *rule, pos),
-        Step::Hyp { number, pos } => after_hypothesis(page, stage, margin, t, *number, pos),
+        Step::Rule { rule, pos, conds } => after_rule(page, conds, stage, t, *rule, pos),
+        Step::Hyp { number, pos } => after_hypothesis(page, stage, t, *number, pos),
     }
 }
 
@@ -331,17 +324,16 @@ pub fn tell_derivation(
     page: &mut Page<'_>,
     d: &Derivation,
     stage: Stage<'_>,
-    margin: usize,
     start: Term,
 ) -> Option<Term> {
     page.line(
-        margin.saturating_add(3),
+        stage.margin.saturating_add(3),
         "#",
         &[Piece::Term(stage.naming, &start)],
     );
     let mut t = start;
     for step in &d.steps {
-        let next = after_step(page, step, stage, margin, &t)?;
+        let next = after_step(page, step, stage, &t)?;
         t = next;
     }
     Some(t)

@@ -78,7 +78,7 @@ fn push_rows(
 ) -> Result<(), NoMemory> {
     let mut t = try_clone(page.alloc, start)?;
     for step in &d.steps {
-        let Some(next) = after_step(page, step, stage, 0, &t) else {
+        let Some(next) = after_step(page, step, stage, &t) else {
             return Ok(());
         };
         push_row(page, step, &next, rows)?;

@@ -14,7 +14,7 @@ fn end_of(page: &mut Page<'_>, scene: Scene<'_>, start: &Term, d: &Derivation) -
     let copy = try_clone(page.alloc, start);
     let start = page.got(copy)?;
     page.set_quiet(true);
-    let end = tell_derivation(page, d, stage_of(scene), 0, start);
+    let end = tell_derivation(page, d, stage_of(scene), start);
     page.set_quiet(false);
     end
 }

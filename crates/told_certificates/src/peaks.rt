@@ -13,6 +13,7 @@ pub fn stage_of<'a>(scene: Scene<'a>) -> Stage<'a> {
         scene,
         naming: Naming::Numbered,
         hyps: &[],
+        margin: 0,
     }
 }
 
@@ -34,7 +35,7 @@ fn tell_way(
     );
     let copy = try_clone(page.alloc, start);
     let start = page.got(copy)?;
-    let end = tell_derivation(page, d, stage_of(scene), 2, start);
+    let end = tell_derivation(page, d, stage_of(scene).within(2), start);
     page.words("\n");
     end
 }

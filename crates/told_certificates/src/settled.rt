@@ -14,6 +14,7 @@ pub fn stage_of<'a>(scene: Scene<'a>, overlap: &'a Overlap) -> Stage<'a> {
         scene,
         naming: scene.overlap_naming(overlap),
         hyps: &overlap.conds,
+        margin: 4,
     }
 }
 
@@ -26,7 +27,7 @@ pub fn tell_from(
 ) -> Option<Term> {
     let copy = try_clone(page.alloc, start);
     let start = page.got(copy)?;
-    tell_derivation(page, d, stage, 4, start)
+    tell_derivation(page, d, stage, start)
 }
 
 fn tell_differ(page: &mut Page<'_>, naming: Naming, first: &Term, second: &Term) {
