@@ -37,7 +37,6 @@ use Rattle.cert_reading.specs.declared.uses.Uses as uses_code
 use Rattle.cert_reading.specs.Uses.{version_by, automata_by}
 use Rattle.cert_reading.specs.Plain.{EvidenceUses, PairsUse, IsPlainBy}
 use Rattle.cert_reading.specs.Stops.{AreBehind, WithinEntry, IsStoppedWhere, ReadsWhere}
-use Rattle.cert_reading.proofs.FoundSecond.{drop_whole}
 use Rattle.cert_reading.proofs.Opening.{entry_at, head_at, same_item}
 use Rattle.cert_sharing.proofs.UseMarks.{counts_pairs, alone}
 use Rattle.cert_reading.proofs.Stopping.{stop_behind, any_stop, stopped_where}
@@ -156,14 +155,21 @@ pairs_use v all [] p h k = (k, tt)
 pairs_use v all (x ∷ es) p h k = (h.0, pairs_use v all es p h.1 k)
 
 can_simplify : (v : Version) (o : Opening) (es fs : List math.PairEntry) → CanSimplify v (certificate_for o es) → CanSimplify v (certificate_for o fs)
+can_simplify first_version o es fs h = absurd h
 can_simplify second_version ortho_opening es fs h = tt
 can_simplify second_version (quasi_opening m) es fs h = tt
-can_simplify _ _ es fs h = absurd h
+can_simplify second_version (simplified_opening ss o) es fs h = absurd h
 
 plain_more : (v : Version) (all : List Automaton) (o : Opening) (es : List math.PairEntry) (p : math.PairEntry) → IsPlainBy v all (certificate_for o es) → EvidenceUses v all p.evidence → IsPlainBy v all (certificate_for o (es ++ p ∷ []))
 plain_more v all ortho_opening es p h k = pairs_use v all es p h k
 plain_more v all (quasi_opening m) es p h k = (h.0, pairs_use v all es p h.1 k)
 plain_more v all (simplified_opening ss o) es p h k = (can_simplify v o es (es ++ p ∷ []) h.0, h.1, plain_more v all o es p h.2 k)
+
+drop_whole : {A : Type 0} (a : List A) (n : ℕ) → n ≡ length a → drop n a ≡ []
+drop_whole [] zero e = refl
+drop_whole [] (suc n) e = refl
+drop_whole (x ∷ a) zero e = absurd cc
+drop_whole (x ∷ a) (suc n) e = drop_whole a n (let q : suc n ≡ suc (length a) = e in omega arith)
 
 module _ (v : Version) (shared : List Automaton) (names : NameTable) (bytes left : List ℕ) (count n : ℕ) (now : Shared) (u : IsUpTo v shared names bytes left count now) (is_n : n ≡ suc count) where
   next : IsNext v u.item n left

@@ -65,11 +65,14 @@ meet (m ∷ f) (n ∷ g) (i ∷ s) t u b r q h k =
     meet_more m n f g t r u q same.marks (meet f g (h.0 ++ s) t u h.1 r q h.3 (subst (λ (x : List ℕ). Moves g (h.0 ++ s) x u q) (sym rest) (subst (λ (x : List Item). Moves g (x ++ s) k.1 u q) (sym same.items) k.3)))
 
 mark_read : (a : Lead) (w b : List ℕ) → IsWordOf (mode_of a) w → There a w b → mark_of a (take (taken a b) b) ≡ mark_of a w
+mark_read (text bytes items) w b h t = refl
+mark_read (check demand byte items) w b h t = refl
+mark_read (at_once demand items) w b h t = refl
+mark_read (keyword bytes demands items) w b h t = refl
 mark_read (numeral_lead demands items) w b h t = ap (mark_of (numeral_lead demands items)) (there_size (numeral_lead demands items) w b h t)
 mark_read (position_lead items) w b h t = ap (mark_of (position_lead items)) (there_size (position_lead items) w b h t)
 mark_read (variable_lead demands items) w b h t = ap (mark_of (variable_lead demands items)) (there_size (variable_lead demands items) w b h t)
 mark_read (name_lead demands items) w b h t = ap (mark_of (name_lead demands items)) (there_size (name_lead demands items) w b h t)
-mark_read _ w b h t = refl
 
 ends_or_further : (r : Answer) (k : Left) (z : Shared) → further k z ≡ ends r → ⊥
 ends_or_further r k z e = cc

@@ -131,9 +131,10 @@ versions_apart (Some false) (Some true) ms ns r s e = bytes_apart 78 89 _ _ refl
 versions_apart (Some false) (Some false) ms ns r s e = bytes_apart 49 50 _ _ refl (append_cancel_left (codes "NO\nconcon ") _ _ e)
 
 same_versions : (u w : Uses) (x y : Naming) (cs bs : List Automaton) (g k : Option Bool) (ms ns : List Mark) (r s : List ℕ) → marks_text (answer_marks g ++ (heading_marks x u cs ++ ms)) ++ r ≡ marks_text (answer_marks k ++ (heading_marks y w bs ++ ns)) ++ s → version_of u ≡ version_of w
+same_versions in_full in_full x y cs bs g k ms ns r s e = refl
+same_versions (by_number f) (by_number i) x y cs bs g k ms ns r s e = refl
 same_versions in_full (by_number i) x y cs bs g k ms ns r s e = absurd (versions_apart g k _ _ r s e)
 same_versions (by_number f) in_full x y cs bs g k ms ns r s e = absurd (versions_apart k g _ _ s r (sym e))
-same_versions _ _ x y cs bs g k ms ns r s e = refl
 
 pub version_is : (names : NameTable) (bytes left : List ℕ) (o : Opening) (end : ℕ) (u : Uses) (all : List Automaton) (given : Option Bool) (ms : List Mark) → (h : IsRead names bytes o [] end) → bytes ≡ marks_text (answer_marks given ++ (heading_marks (name_of names) u all ++ ms)) ++ left → version_in names bytes o end h ≡ version_of u
 version_is names bytes left o end u all given ms h text =

@@ -15,12 +15,16 @@ use Rattle.cert_openings.proofs.OpeningMarks.{opening_marks}
 
 -- a word that begins as that one does
 abbrev begins_peak : List ℕ → Bool
+begins_peak [] = false
+begins_peak (a ∷ []) = false
 begins_peak (a ∷ b ∷ bytes) = (a == 112) && (b == 101)
-begins_peak _ = false
 
 abbrev pub is_peak : Mark → Bool
+is_peak (fixed bytes) = false
 is_peak (word bytes demands) = begins_peak bytes
-is_peak _ = false
+is_peak (symbol name demands) = false
+is_peak (behind demand) = false
+is_peak (closed demand) = false
 
 abbrev pub Peakless : List Mark → Type 0
 Peakless [] = Unit {0}
@@ -32,6 +36,8 @@ both (m ∷ a) b h k = (h.0, both a b h.1 k)
 
 -- a numeral begins with a digit
 digits : (w : List ℕ) → IsWordOf number_begins w → begins_peak w ≡ false
+digits [] h = refl
+digits (a ∷ []) h = refl
 digits (a ∷ b ∷ w) h = by (a == 112) refl
   where
     by : (t : Bool) → (a == 112) ≡ t → ((a == 112) && (b == 101)) ≡ false
@@ -41,7 +47,6 @@ digits (a ∷ b ∷ w) h = by (a == 112) refl
         let none : next number_begins a ≡ None = ap (next number_begins) same in
         let two : ◌≡◌ {A = Option Mode} None (Some h.goes.0) = sym none ∙ h.goes.1 in
         absurd cc
-digits _ h = refl
 
 num : (n : ℕ) → begins_peak (numeral n) ≡ false
 num n = digits (numeral n) (number_word n)

@@ -17,12 +17,18 @@ use Rattle.cert_text.specs.ReadingView.{read_marks}
 -- ---- as many marks
 
 infeasibility_long : (e : InfeasibilityEvidence) (x : Naming) (u w : Uses) → version_of u ≡ version_of w → length (infeasibility_marks x u e) ≡ length (infeasibility_marks x w e)
-infeasibility_long _ x _ _ v = refl
-infeasibility_long (by_automaton k a) x _ _ v = absurd cc
+infeasibility_long by_caps x u w v = refl
+infeasibility_long (by_automaton k a) x in_full in_full v = refl
+infeasibility_long (by_automaton k a) x in_full (by_number h) v = absurd cc
+infeasibility_long (by_automaton k a) x (by_number f) in_full v = absurd cc
+infeasibility_long (by_automaton k a) x (by_number f) (by_number h) v = refl
 
 evidence_long : (e : PairEvidence) (x : Naming) (u w : Uses) → version_of u ≡ version_of w → length (evidence_marks x u e) ≡ length (evidence_marks x w e)
+evidence_long trivial_pair x u w v = refl
 evidence_long (infeasible_pair e) x u w v = infeasibility_long e x u w v
-evidence_long _ x u w v = refl
+evidence_long (conflicting_pair a b) x u w v = refl
+evidence_long (joined_pair d e) x u w v = refl
+evidence_long (unfeasible_pair k d e) x u w v = refl
 
 both_long : (a b c d : List Mark) → length a ≡ length c → length b ≡ length d → length (a ++ b) ≡ length (c ++ d)
 both_long a b c d p q = omega (arith, p, q, length-append a b, length-append c d)
