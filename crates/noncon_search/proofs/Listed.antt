@@ -25,7 +25,7 @@ use Rattle.reach_lists.specs.Lists.{is_listed, successors, condition_list}
 use Rattle.reach_lists.proofs.Laws.{listed_derived, none_twice}
 use Rattle.reach.specs.Parts.{DoAllFit}
 use Rattle.reach.proofs.Fitting.{listed_fit}
-use Rattle.reach.proofs.Rests.{rest_first}
+use Rattle.general_lemmas.proofs.Places.{map-drop_read}
 use Rattle.search_spaces.specs.Listings.{listing, pairs_of}
 use Rattle.search_spaces.specs.PeakItems.{try_ends, peak_items_of, peak_items}
 use Rattle.noncon_search.specs.declared.ends.End.{End}
@@ -49,7 +49,7 @@ slice_rest xs k = take_all (length xs - k) (drop k xs) (let long = length-drop k
 module _ (t : Term) where
   pub with_splits : (x : Reached) (later : List End) (j : ℕ) (y : End) → j < length later → y ≡ get_or later j y
       → pairs_with t x (ends_view (drop j later)) ≡ (try_ends t x (end_view y) ∷ []) ++ pairs_with t x (ends_view (drop (j + 1) later))
-  with_splits x later j y h e = ap (pairs_with t x) (rest_first end_view later j y h e)
+  with_splits x later j y h e = ap (pairs_with t x) (map-drop_read end_view later j y h e)
 
   pairs_split : (x : Reached) (ys : List Reached) (ps : List (Reached × Reached)) → map (λ p. try_ends t p.0 p.1) (map (λ y. (x, y)) ys ++ ps) ≡ pairs_with t x ys ++ map (λ p. try_ends t p.0 p.1) ps
   pairs_split x [] ps = refl
@@ -58,13 +58,13 @@ module _ (t : Term) where
   pub firsts_split : (ends : List End) (i : ℕ) (x : End) → i < length ends → x ≡ get_or ends i x
       → pair_items t (ends_view (drop i ends)) ≡ pairs_with t (end_view x) (ends_view (drop (i + 1) ends)) ++ pair_items t (ends_view (drop (i + 1) ends))
   firsts_split ends i x h e =
-      ap (pair_items t) (rest_first end_view ends i x h e)
+      ap (pair_items t) (map-drop_read end_view ends i x h e)
       ∙ pairs_split (end_view x) (ends_view (drop (i + 1) ends)) (pairs_of (ends_view (drop (i + 1) ends)))
 
 -- the starts that are left
 pub starts_split : {A : Type 0} (sys : System) (f : A → Term) (xs : List A) (i : ℕ) (x : A) → i < length xs → x ≡ get_or xs i x
     → peak_items sys (map f (drop i xs)) ≡ peak_items_of sys (f x) ++ peak_items sys (map f (drop (i + 1) xs))
-starts_split sys f xs i x h e = ap (peak_items sys) (rest_first f xs i x h e)
+starts_split sys f xs i x h e = ap (peak_items sys) (map-drop_read f xs i x h e)
 
 -- what holds of each item holds of what is left of them
 pub first_of_rest : {A : Type 0} (P : A → Type 0) (xs : List A) (i : ℕ) (x : A) → i < length xs → x ≡ get_or xs i x → EachOf P (drop i xs) → P x × EachOf P (drop (i + 1) xs)

@@ -9,7 +9,7 @@ use Rattle.reach_lists.proofs.Each.{each_append, each_to}
 use Rattle.reach.specs.Parts.{DoAllFit}
 use Rattle.reach.specs.EntryView.{entry_view, table_view}
 use Rattle.reach.specs.declared.listed.Entry as program
-use Rattle.reach.proofs.Rests.{rest_first}
+use Rattle.general_lemmas.proofs.Places.{map-drop_read}
 use Rattle.noncon_search.specs.declared.overlay.Overlay.{Overlay}
 use Rattle.noncon_search.specs.declared.ends.End.{End}
 use Rattle.noncon_search.specs.Ends.{end_view, ends_view, IsEnd, NeverClash, AreMet}
@@ -41,7 +41,7 @@ module _ (list : List program.Entry) (i : ℕ) (r : program.Entry) (low : i < le
   pub one_more_listed : (es : List End) (e : End) → e.listed.now ≡ r → ends_view es ++ table_view (drop i list) ≡ table_view list → ends_view (es ++ e ∷ []) ++ table_view (drop (i + 1) list) ≡ table_view list
   one_more_listed es e is all =
       ap (λ (z : List Reached). z ++ table_view (drop (i + 1) list)) (map-append end_view es (e ∷ [])) ∙ append_assoc (ends_view es) (end_view e ∷ []) (table_view (drop (i + 1) list))
-      ∙ ap (λ (z : List Reached). ends_view es ++ z) (ap (λ x. entry_view x ∷ table_view (drop (i + 1) list)) is ∙ sym (rest_first entry_view list i r low here)) ∙ all
+      ∙ ap (λ (z : List Reached). ends_view es ++ z) (ap (λ x. entry_view x ∷ table_view (drop (i + 1) list)) is ∙ sym (map-drop_read entry_view list i r low here)) ∙ all
 
   pub rest_fit : DoAllFit (table_view (drop i list)) → DoAllFit (table_view (drop (i + 1) list))
-  rest_fit fit = (subst DoAllFit (rest_first entry_view list i r low here) fit).1
+  rest_fit fit = (subst DoAllFit (map-drop_read entry_view list i r low here) fit).1

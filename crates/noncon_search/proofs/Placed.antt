@@ -1,6 +1,7 @@
 -- Arguments that are laid one after the other.
-use Rattle.std.proofs.Common.{ℕ, zero, suc, ◌≡◌, ◌+◌, ◌<◌, ◌≤◌, ◌⊎◌, inl, inr, true, false, min, List, [], ◌∷◌, length, get_or, take, drop, slice_set, Vec, Global, refl, sym, ap, ap₂, ◌∙◌, add-one, arith}
+use Rattle.std.proofs.Common.{ℕ, zero, suc, ◌≡◌, ◌+◌, ◌<◌, ◌≤◌, ◌⊎◌, inl, inr, true, false, min, List, [], ◌∷◌, map, length, get_or, take, drop, slice_set, Vec, Global, refl, sym, ap, ap₂, ◌∙◌, add-one, arith}
 use Rattle.std.proofs.Math.Dec.{leb}
+use Rattle.std.proofs.Math.ListN.{drop_of_length-le}
 use Rattle.std.proofs.lemmas.Bool.Decides.{leb_tells}
 use Rattle.rewriting.specs.Terms as math
 use Rattle.rewriting.specs.Terms.{Terms, app, nil, cons, terms_of}
@@ -8,7 +9,6 @@ use Rattle.unifier_run.specs.Run.{append}
 use Rattle.term_core.specs.View.{view, views}
 use Rattle.term_core.specs.declared.terms.Term.{Term, Fun}
 use Rattle.term_core.proofs.Views.{view-Fun}
-use Rattle.reach.proofs.Rests.{rest_none}
 use Rattle.noncon_search.specs.Laying.{laid, all_laid}
 
 -- the arguments below a place are laid, and the others are still to be
@@ -37,7 +37,7 @@ module _ (n : ℕ) where
   none_upon (cons t ts) = refl
 
   none_left : (ts : List Term) (i : ℕ) → length ts ≤ i → views (drop i ts) ≡ nil
-  none_left ts i h = ap terms_of (rest_none view ts i h)
+  none_left ts i h = ap terms_of (ap (map view) (drop_of_length-le ts h))
 
   all_are_laid : (ts us : List Term) (i : ℕ) → (length ts ≤ i) ⊎ (length us ≤ i) → laid_from n ts us i ≡ views ts
   all_are_laid ts us i (inl h) =

@@ -1,6 +1,7 @@
 -- Pairs of listed terms of the left side of a condition.
 use Rattle.std.proofs.Common.{ℕ, zero, suc, ◌≡◌, ◌+◌, ◌-◌, ◌<◌, ◌≤◌, ◌↔◌, inl, inr, List, [], ◌∷◌, ◌++◌, map, length, get_or, take, drop, length-drop, slice_get, None, Some, Ok, refl, sym, ap, ◌∙◌, subst, add-one, arith}
 use Rattle.std.specs.Prelude.{Bool, IsTrue}
+use Rattle.std.proofs.Math.ListN.{drop_of_length-le}
 use Rattle.std.proofs.lemmas.List.{map-append, take_all}
 use Rattle.rewriting.specs.Lists.{IsAmong}
 use Rattle.rewriting.specs.Terms.{Terms, Fits, cons, nil}
@@ -25,7 +26,7 @@ use Rattle.critical_pairs.specs.View.{overlap_view}
 use Rattle.critical_pairs.specs.declared.Overlap as listed
 use Rattle.reach_lists.specs.Solutions.{Reached}
 use Rattle.reach_lists.specs.Laws.{EachOf}
-use Rattle.reach.proofs.Rests.{rest_first, rest_none}
+use Rattle.general_lemmas.proofs.Places.{map-drop_read}
 use Rattle.first_found.specs.Items.{GivesNothing}
 use Rattle.search_spaces.specs.Listings.{listing, pairs_of}
 use Rattle.quasi_space.specs.QuasiItems.{QuasiItem, two_reducts, reduct_items, GivesQuasi}
@@ -87,19 +88,19 @@ module _ (k : ℕ) where
 
   pub next_with : (x : Reached) (later : List Reduct) (j : ℕ) (y : Reduct) → j < length later → y ≡ get_or later j y
       → items_with x (drop j later) ≡ (two_reducts k (x, reduct_view y) ∷ []) ++ items_with x (drop (j + 1) later)
-  next_with x later j y h e = ap (λ z. map (two_reducts k) (pairs_with x z)) (rest_first reduct_view later j y h e)
+  next_with x later j y h e = ap (λ z. map (two_reducts k) (pairs_with x z)) (map-drop_read reduct_view later j y h e)
 
   pub next_first : (rs : List Reduct) (i : ℕ) (x : Reduct) → i < length rs → x ≡ get_or rs i x
       → items_of (drop i rs) ≡ items_with (reduct_view x) (drop (i + 1) rs) ++ items_of (drop (i + 1) rs)
   next_first rs i x h e =
-      ap (λ z. map (two_reducts k) (pairs_of z)) (rest_first reduct_view rs i x h e)
+      ap (λ z. map (two_reducts k) (pairs_of z)) (map-drop_read reduct_view rs i x h e)
       ∙ map-append (two_reducts k) (pairs_with (reduct_view x) (reducts_view (drop (i + 1) rs))) (pairs_of (reducts_view (drop (i + 1) rs)))
 
   pub none_with : (x : Reached) (later : List Reduct) (j : ℕ) → length later ≤ j → items_with x (drop j later) ≡ []
-  none_with x later j h = ap (λ z. map (two_reducts k) (pairs_with x z)) (rest_none reduct_view later j h)
+  none_with x later j h = ap (λ z. map (two_reducts k) (pairs_with x z)) (ap (map reduct_view) (drop_of_length-le later h))
 
   pub none_of : (rs : List Reduct) (i : ℕ) → length rs ≤ i → items_of (drop i rs) ≡ []
-  none_of rs i h = ap (λ z. map (two_reducts k) (pairs_of z)) (rest_none reduct_view rs i h)
+  none_of rs i h = ap (λ z. map (two_reducts k) (pairs_of z)) (ap (map reduct_view) (drop_of_length-le rs h))
 
 -- the terms of the listing of a condition's left side
 module _ (sys : System) (o : Overlap) (k : ℕ) (c : Condition) (is : hypothesis_at o.pair.conditions k ≡ Some c) where
@@ -135,12 +136,12 @@ module _ (sys : System) (o : listed.Overlap) (i : ℕ) where
   items_behind = reduct_items sys (map condition_view o.conds.items) (i + 1) (map condition_view (drop i o.conds.items))
 
   pub none_behind : length o.conds.items ≤ i → items_behind ≡ []
-  none_behind h = ap (reduct_items sys (map condition_view o.conds.items) (i + 1)) (rest_none condition_view o.conds.items i h)
+  none_behind h = ap (reduct_items sys (map condition_view o.conds.items) (i + 1)) (ap (map condition_view) (drop_of_length-le o.conds.items h))
 
   pub next_condition : (x : Cond) → i < length o.conds.items → x ≡ get_or o.conds.items i x
       → items_behind
       ≡ condition_items sys (overlap_view o) (i + 1) (view x.left) ++ reduct_items sys (map condition_view o.conds.items) (i + 1 + 1) (map condition_view (drop (i + 1) o.conds.items))
   next_condition x h e =
       let number : suc (i + 1) ≡ i + 1 + 1 = omega arith in
-      ap (reduct_items sys (map condition_view o.conds.items) (i + 1)) (rest_first condition_view o.conds.items i x h e)
+      ap (reduct_items sys (map condition_view o.conds.items) (i + 1)) (map-drop_read condition_view o.conds.items i x h e)
       ∙ ap (λ m. condition_items sys (overlap_view o) (i + 1) (view x.left) ++ reduct_items sys (map condition_view o.conds.items) m (map condition_view (drop (i + 1) o.conds.items))) number
