@@ -1,6 +1,5 @@
 -- Functions and rules, one after the other.
-use Rattle.std.proofs.Common.{◌≡◌, ℕ, List, [], ◌∷◌, ◌++◌, codes, sym, ap, ◌∙◌, subst, append_assoc, append-nil, length-append, arith}
-use Rattle.general_lemmas.proofs.Lists.{not_nil}
+use Rattle.std.proofs.Common.{◌≡◌, ℕ, List, [], ◌∷◌, ◌++◌, codes, refl, sym, ap, ◌∙◌, subst, append_assoc, append-nil}
 use Rattle.file_text.specs.Syntax.{RuleTree}
 use Rattle.cops_syntax.specs.declared.tree.RuleText.{RuleText}
 use Rattle.cops_syntax.specs.View.{IsRule, AreRules}
@@ -24,6 +23,14 @@ are_more [] (u ∷ us) r t h i = absurd h
 are_more (q ∷ qs) [] r t h i = absurd h
 are_more (q ∷ qs) (u ∷ us) r t h i = (h.0, are_more qs us r t h.1 i)
 
+not_empty : (ts : List RuleTree) (t : RuleTree) → ts ++ t ∷ [] ≡ [] → ⊥
+not_empty [] t e = cc
+not_empty (u ∷ us) t e = cc
+
+no_trees : (ts : List RuleTree) → AreRules [] ts → ts ≡ []
+no_trees [] h = refl
+no_trees (t ∷ ts) h = absurd h
+
 pub one_rule_more : (ws mid named new : List Sign) (fs : Functions) (rs : List RuleText) (f : List ℕ) (r : RuleText)
     → ArePartsSoFar ws mid fs rs → IsBehindMetas mid (opening ∷ name f ∷ named) → f ≡ codes "rule" → IsRuleRead named new r → ArePartsSoFar ws new fs (rs ++ r ∷ [])
 one_rule_more ws mid named new fs rs f r s k e h = record {
@@ -31,7 +38,7 @@ one_rule_more ws mid named new fs rs f r s k e h = record {
   are = are_more rs s.trees r h.tree s.are h.is;
   rules_go_on = λ qs g. subst (ArePartsIn ws fs) (sym (append_assoc s.trees (h.tree ∷ []) qs))
       (s.rules_go_on (h.tree ∷ qs) (new, subst (IsBehindMetas mid) (ap (λ (t : List ℕ). opening ∷ name t ∷ named) e ∙ ap (λ (vs : List Sign). opening ∷ name (codes "rule") ∷ vs) h.words) k, g));
-  functions_go_on = λ t gs qs g. absurd (not_nil (s.trees ++ h.tree ∷ []) (omega (arith, length-append s.trees (h.tree ∷ []))) t);
+  functions_go_on = λ t gs qs g. absurd (not_empty s.trees h.tree t);
 }
 
 pub parts_read : (ws mid : List Sign) (fs : Functions) (rs : List RuleText) → ArePartsSoFar ws mid fs rs → IsBehindMetas mid [] → ArePartsRead ws fs rs

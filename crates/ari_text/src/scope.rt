@@ -2,7 +2,6 @@
 ghost use Rattle.std.specs.Prelude.{◌≡◌, ◌<◌, [], OnOk, IfOk, decimal, length};
 ghost use Rattle.std.specs.Bool.{OnTrue};
 ghost use Rattle.cops_syntax.specs.View.{names_view};
-ghost use Rattle.cops_read.specs.Bounds.{most_symbols};
 ghost use Rattle.ari_text.specs.Functions.{arity_of, AreUndeclared, AreDeclared};
 
 use crate::errors::AriError;
@@ -98,7 +97,7 @@ impl<'a> Scope<'a> {
 
     // Refuses the name of one more function where it is not new, or there are too many.
     pub(crate) fn check_new(&self, name: Name<'a>) -> Result<(), AriError>
-        ensures { OnOk result (length self.now.functions.symbols < most_symbols) }
+        ensures { OnOk result (length self.now.functions.symbols < 1000) }
     {
         let what = Count::Symbols;
         let limit = what.limit();

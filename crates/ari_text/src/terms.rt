@@ -1,7 +1,6 @@
 //! Terms from words to the list of their names.
 ghost use Rattle.std.specs.Prelude.{◌≡◌, ◌∷◌, ◌++◌, [], ◌<◌, ◌≤◌, ◌^◌, OnOk, length};
 ghost use Rattle.cops_syntax.specs.View.{name_view, nodes_view};
-ghost use Rattle.cops_read.specs.Bounds.{most_levels};
 ghost use Rattle.ari_text.specs.Signs.{opening, closing};
 ghost use Rattle.ari_text.specs.Reads.{IsTermRead, IsBarePut};
 
@@ -36,7 +35,7 @@ fn put_bare<'a>(
 
 // Refuses a name that stands too deep in its term.
 fn check_depth(name: Name<'_>, depth: usize) -> Result<(), AriError>
-    ensures { OnOk result (depth ≤ most_levels) }
+    ensures { OnOk result (depth ≤ 200) }
 {
     if depth > MOST_DEPTH {
         return Err(AriError::TooDeep { at: name.at });
