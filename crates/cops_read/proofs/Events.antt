@@ -1,13 +1,15 @@
 -- The first refusal among the events of a file is the one that is found part by part.
 use Rattle.std.proofs.Common.{◌≡◌, ℕ, suc, ◌+◌, ◌≤◌, Bool, true, false, List, [], ◌∷◌, ◌++◌, length, Option, Some, None, refl, sym, ap, ap₂, subst, ◌∙◌, arith, append_assoc, append-nil, length-append, eq-eqb, ne_eqb}
 use Rattle.std.specs.Prelude.{◌==◌, ◌&&◌, if◌then◌else◌, option_map}
+use Rattle.std.specs.Option.{option_or}
 use Rattle.file_text.specs.Syntax.{Phrase, Phrases, word, call, none, more, count, ConditionTree, Guard, RuleTree, conditions_of, FileTree, has_type}
 use Rattle.cops_names.specs.NameLists.{is_among, with_name}
 use Rattle.cops_read.specs.Meaning.{with_symbol, with_symbols, with_all_symbols, with_variables, with_all_variables, sides, phrases_of_rule, variables_of}
 use Rattle.cops_read.specs.Uses.{Spot, spots, spots_of_all, Side, side_of, Use, Event, use_of, bar_at, uses_from, term_events, condition_events, rule_events, rules_events}
-use Rattle.cops_read.specs.Refusals.{MeaningCause, conditions_without_type, cause_or, limit_cause, variable_cause, symbol_cause, first_or, symbols_used, variables_used, cause_at, first_refusal, refusal_of}
-use Rattle.cops_read.specs.Steps.{or_refusal, nodes, all_nodes, use_at, term_refusal, terms_refusal}
+use Rattle.cops_read.specs.Refusals.{MeaningCause, conditions_without_type, limit_cause, variable_cause, symbol_cause, first_or, symbols_used, variables_used, cause_at, first_refusal, refusal_of}
+use Rattle.cops_read.specs.Steps.{nodes, all_nodes, use_at, term_refusal, terms_refusal}
 use Rattle.cops_read.specs.RuleSteps.{side_refusal, condition_refusal, conditions_refusal, bar_refusal, rule_refusal, rules_refusal}
+use Rattle.cops_read.proofs.Firsts.{or_assoc, or_same, none_first, none_then, first_or_or}
 
 abbrev Refused : Type 0
 Refused = Option (MeaningCause × ℕ)
@@ -17,27 +19,6 @@ Table = List (List ℕ × ℕ)
 
 abbrev Names : Type 0
 Names = List (List ℕ)
-
-pub or_assoc : (a b c : Refused) → or_refusal (or_refusal a b) c ≡ or_refusal a (or_refusal b c)
-or_assoc None b c = refl
-or_assoc (Some r) b c = refl
-
-first_or_or : (c : Option MeaningCause) (at : ℕ) (a b : Refused) → first_or c at (or_refusal a b) ≡ or_refusal (first_or c at a) b
-first_or_or None at a b = refl
-first_or_or (Some cause) at a b = refl
-
--- equal firsts, and equal others where there is no first
-pub or_same : (a b x y : Refused) → a ≡ b → (b ≡ None → x ≡ y) → or_refusal a x ≡ or_refusal b y
-or_same a None x y h g = ap (λ (o : Refused). or_refusal o x) h ∙ g refl
-or_same a (Some r) x y h g = ap (λ (o : Refused). or_refusal o x) h
-
-pub none_first : (a b : Refused) → or_refusal a b ≡ None → a ≡ None
-none_first None b h = refl
-none_first (Some r) b h = h
-
-pub none_then : (a b : Refused) → or_refusal a b ≡ None → b ≡ None
-none_then None b h = h
-none_then (Some r) b h = cc
 
 module _ (block : Names) where
   symbols_after : (table : Table) (xs ys : List Event) → symbols_used block table (xs ++ ys) ≡ symbols_used block (symbols_used block table xs) ys
@@ -52,17 +33,17 @@ module _ (block : Names) where
       variables_after rule (if (u.side.rule == rule) && is_among block u.spot.node.name.text then with_name names u.spot.node.name.text else names) xs ys
 
   module _ (typed : Bool) where
-    refusal_after : (front xs ys : List Event) → first_refusal block typed front (xs ++ ys) ≡ or_refusal (first_refusal block typed front xs) (first_refusal block typed (front ++ xs) ys)
+    refusal_after : (front xs ys : List Event) → first_refusal block typed front (xs ++ ys) ≡ option_or (first_refusal block typed front xs) (first_refusal block typed (front ++ xs) ys)
     refusal_after front [] ys = ap (λ (f : List Event). first_refusal block typed f ys) (sym (append-nil front))
     refusal_after front (use_of u ∷ xs) ys =
         ap (first_or (cause_at block (symbols_used block [] front) (variables_used block u.side.rule [] front) u) u.spot.node.name.at) (refusal_after (front ++ use_of u ∷ []) xs ys)
         ∙ first_or_or (cause_at block (symbols_used block [] front) (variables_used block u.side.rule [] front) u) u.spot.node.name.at _ _
-        ∙ ap (λ (f : List Event). or_refusal (first_or (cause_at block (symbols_used block [] front) (variables_used block u.side.rule [] front) u) u.spot.node.name.at
+        ∙ ap (λ (f : List Event). option_or (first_or (cause_at block (symbols_used block [] front) (variables_used block u.side.rule [] front) u) u.spot.node.name.at
         (first_refusal block typed (front ++ use_of u ∷ []) xs)) (first_refusal block typed f ys)) (append_assoc front (use_of u ∷ []) xs)
     refusal_after front (bar_at at ∷ xs) ys =
         ap (first_or (if typed then None else Some conditions_without_type) at) (refusal_after (front ++ bar_at at ∷ []) xs ys)
         ∙ first_or_or (if typed then None else Some conditions_without_type) at _ _
-        ∙ ap (λ (f : List Event). or_refusal (first_or (if typed then None else Some conditions_without_type) at
+        ∙ ap (λ (f : List Event). option_or (first_or (if typed then None else Some conditions_without_type) at
         (first_refusal block typed (front ++ bar_at at ∷ []) xs)) (first_refusal block typed f ys)) (append_assoc front (bar_at at ∷ []) xs)
 
     -- these events of a rule are refused as told, and where they are not they add this to the symbols and to the rule's variables
@@ -73,7 +54,7 @@ module _ (block : Names) where
       pub others : (r : ℕ) (names : Names) → (rule == r) ≡ false → variables_used block r names es ≡ names
 
     part_then : (rule : ℕ) (xs ys : List Event) (f g : Table → Names → Refused) (s t : Table → Table) (v w : Names → Names) → IsPart rule xs f s v → IsPart rule ys g t w
-        → IsPart rule (xs ++ ys) (λ table names. or_refusal (f table names) (g (s table) (v names))) (λ table. t (s table)) (λ names. w (v names))
+        → IsPart rule (xs ++ ys) (λ table names. option_or (f table names) (g (s table) (v names))) (λ table. t (s table)) (λ names. w (v names))
     part_then rule xs ys f g s t v w p q = record {
       refusal = λ front.
           let table = symbols_used block [] front in
@@ -116,7 +97,7 @@ module _ (block : Names) where
       others = λ r names h. rw h refl;
     }
 
-    clear : (table : Table) (names : Names) (u : Use) (l : Option MeaningCause) (b : Bool) → u.spot.node.brackets ≡ true → cause_or l (if b then variable_cause names u else symbol_cause table u) ≡ None → b ≡ false
+    clear : (table : Table) (names : Names) (u : Use) (l : Option MeaningCause) (b : Bool) → u.spot.node.brackets ≡ true → option_or l (if b then variable_cause names u else symbol_cause table u) ≡ None → b ≡ false
     clear table names u (Some c) b e h = cc
     clear table names u None true e h = let h' = rw e at h in cc
     clear table names u None false e h = refl
@@ -165,7 +146,7 @@ module _ (block : Names) where
           (λ table names. first_or (cause_at block table names u) f.at None) (λ table names. terms_refusal block table names side (suc depth) 1 (suc before) ts)
           (λ table. with_symbol table f.text (count ts)) (λ table. with_all_symbols block table ts) (λ names. names) (λ names. with_all_variables block names ts)
           (part_head u refl) (part_terms side (suc depth) 1 (suc before) ts) in
-          part_as side.rule _ _ (λ table names. or_refusal (first_or (cause_at block table names u) f.at None) (terms_refusal block (with_symbol table f.text (count ts)) names side (suc depth) 1 (suc before) ts))
+          part_as side.rule _ _ (λ table names. option_or (first_or (cause_at block table names u) f.at None) (terms_refusal block (with_symbol table f.text (count ts)) names side (suc depth) 1 (suc before) ts))
           (λ table names. term_refusal block table names side depth argument before (call f ts)) (λ table. with_symbols block table (call f ts)) (λ names. with_variables block names (call f ts)) refl
           (λ table names.
           sym (first_or_or (cause_at block table names u) f.at None (terms_refusal block (with_symbol table f.text (count ts)) names side (suc depth) 1 (suc before) ts))
@@ -187,10 +168,10 @@ module _ (block : Names) where
           (λ table. with_symbols block table t) (λ table. with_all_symbols block table ts) (λ names. with_variables block names t) (λ names. with_all_variables block names ts)
           (part_term side depth argument before t) (part_terms side depth (suc argument) (before + nodes t) ts) in
           part_as side.rule (first ++ later) (uses_from side (suc before) (spots_of_all depth argument (more t ts)))
-          (λ table names. or_refusal (term_refusal block table names side depth argument before t)
+          (λ table names. option_or (term_refusal block table names side depth argument before t)
           (terms_refusal block (with_symbols block table t) (with_variables block names t) side depth (suc argument) (before + nodes t) ts))
           (λ table names. terms_refusal block table names side depth argument before (more t ts)) (λ table. with_all_symbols block table (more t ts)) (λ names. with_all_variables block names (more t ts)) split
-          (λ table names. ap (λ (a : ℕ). or_refusal (term_refusal block table names side depth argument before t)
+          (λ table names. ap (λ (a : ℕ). option_or (term_refusal block table names side depth argument before t)
           (terms_refusal block (with_symbols block table t) (with_variables block names t) side depth a (before + nodes t) ts)) (let e : suc argument ≡ argument + 1 = omega arith in e)) whole
 
     part_side : (side : Side) (p : Phrase) → IsPart side.rule (term_events side p) (λ table names. side_refusal block table names side p) (λ table. with_symbols block table p) (λ names. with_variables block names p)
@@ -207,15 +188,15 @@ module _ (block : Names) where
         (part_side side c.right) (part_conditions rule (suc number) cs) in
         let whole = part_then rule (term_events side c.left) (term_events side c.right ++ condition_events rule (suc number) cs)
         (λ table names. side_refusal block table names side c.left)
-        (λ table names. or_refusal (side_refusal block table names side c.right) (conditions_refusal block (with_symbols block table c.right) (with_variables block names c.right) rule (suc number) cs))
+        (λ table names. option_or (side_refusal block table names side c.right) (conditions_refusal block (with_symbols block table c.right) (with_variables block names c.right) rule (suc number) cs))
         (λ table. with_symbols block table c.left) (λ table. with_all_symbols block (with_symbols block table c.right) (sides cs))
         (λ names. with_variables block names c.left) (λ names. with_all_variables block (with_variables block names c.right) (sides cs)) (part_side side c.left) right in
         part_as rule _ (condition_events rule number (c ∷ cs))
-        (λ table names. or_refusal (side_refusal block table names side c.left) (or_refusal (side_refusal block (with_symbols block table c.left) (with_variables block names c.left) side c.right)
+        (λ table names. option_or (side_refusal block table names side c.left) (option_or (side_refusal block (with_symbols block table c.left) (with_variables block names c.left) side c.right)
         (conditions_refusal block (with_symbols block (with_symbols block table c.left) c.right) (with_variables block (with_variables block names c.left) c.right) rule (suc number) cs)))
         (λ table names. conditions_refusal block table names rule number (c ∷ cs)) (λ table. with_all_symbols block table (sides (c ∷ cs))) (λ names. with_all_variables block names (sides (c ∷ cs))) refl
         (λ table names. sym (or_assoc (side_refusal block table names side c.left) (side_refusal block (with_symbols block table c.left) (with_variables block names c.left) side c.right) _)
-        ∙ ap (λ (k : ℕ). or_refusal (condition_refusal block table names rule number c)
+        ∙ ap (λ (k : ℕ). option_or (condition_refusal block table names rule number c)
         (conditions_refusal block (with_symbols block (with_symbols block table c.left) c.right) (with_variables block (with_variables block names c.left) c.right) rule k cs))
         (let e : suc number ≡ number + 1 = omega arith in e)) whole
 
@@ -227,17 +208,17 @@ module _ (block : Names) where
     part_bar rule at = record { refusal = λ front. bar_is typed at; symbols = λ table names h. refl; variables = λ table names h. refl; others = λ r names h. refl }
 
     part_rule : (number : ℕ) (r : RuleTree) → IsPart number (rule_events number r)
-        (λ table names. or_refusal (side_refusal block table names (side_of number 0 true) r.left)
-        (or_refusal (side_refusal block (with_symbols block table r.left) (with_variables block names r.left) (side_of number 0 false) r.right)
-        (or_refusal (bar_refusal typed (option_map (λ g. g.at) r.guard))
+        (λ table names. option_or (side_refusal block table names (side_of number 0 true) r.left)
+        (option_or (side_refusal block (with_symbols block table r.left) (with_variables block names r.left) (side_of number 0 false) r.right)
+        (option_or (bar_refusal typed (option_map (λ g. g.at) r.guard))
         (conditions_refusal block (with_symbols block (with_symbols block table r.left) r.right) (with_variables block (with_variables block names r.left) r.right) number 1 (conditions_of r)))))
         (λ table. with_all_symbols block table (phrases_of_rule r)) (λ names. with_all_variables block names (phrases_of_rule r))
     part_rule number r = with_guard r.guard
       where
         with_guard : (guard : Option Guard) → IsPart number (rule_events number (record { left = r.left; right = r.right; guard = guard }))
-            (λ table names. or_refusal (side_refusal block table names (side_of number 0 true) r.left)
-            (or_refusal (side_refusal block (with_symbols block table r.left) (with_variables block names r.left) (side_of number 0 false) r.right)
-            (or_refusal (bar_refusal typed (option_map (λ g. g.at) guard))
+            (λ table names. option_or (side_refusal block table names (side_of number 0 true) r.left)
+            (option_or (side_refusal block (with_symbols block table r.left) (with_variables block names r.left) (side_of number 0 false) r.right)
+            (option_or (bar_refusal typed (option_map (λ g. g.at) guard))
             (conditions_refusal block (with_symbols block (with_symbols block table r.left) r.right) (with_variables block (with_variables block names r.left) r.right) number 1
             (conditions_of (record { left = r.left; right = r.right; guard = guard }))))))
             (λ table. with_all_symbols block table (phrases_of_rule (record { left = r.left; right = r.right; guard = guard })))

@@ -1,6 +1,7 @@
 pub mod Growth
 pub mod Unique
 pub mod Uses
+pub mod Firsts
 pub mod Tells
 pub mod Phrases
 pub mod Walks

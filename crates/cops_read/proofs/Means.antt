@@ -21,8 +21,9 @@ use Rattle.cops_names.proofs.Lists.{Extends, extends_refl, extends_trans, extend
 use Rattle.cops_read.proofs.Growth.{symbols_extend, all_symbols_extend, variables_extend, all_variables_extend, rule_symbols_extend, symbol_grows}
 use Rattle.cops_names.proofs.Sets.{place_with}
 use Rattle.cops_read.proofs.Uses.{put_last}
-use Rattle.cops_read.proofs.Events.{none_first, none_then, refusal_is}
-use Rattle.cops_read.proofs.Within.{no_cause, no_later, head_use, head_accepted, as_symbol, no_brackets, left_accepted, right_accepted, conditions_accepted}
+use Rattle.cops_read.proofs.Firsts.{none_first, none_then, no_cause, no_later}
+use Rattle.cops_read.proofs.Events.{refusal_is}
+use Rattle.cops_read.proofs.Within.{head_use, head_accepted, as_symbol, no_brackets, left_accepted, right_accepted, conditions_accepted}
 
 -- the number of a symbol in a table, with its arity
 record IsThere (table : List (List ℕ × ℕ)) (name : List ℕ) (n : ℕ) : Type 0 where

@@ -1,6 +1,7 @@
 -- Reading conditions and rules: from the parts to the whole.
 use Rattle.std.proofs.Common.{◌≡◌, ℕ, Bool, false, true, List, [], ◌++◌, map, length, Option, None, Vec, Global, sym, ap, ap₂, subst, ◌∙◌, append-nil}
 use Rattle.std.specs.Prelude.{option_map}
+use Rattle.std.specs.Option.{option_or}
 use Rattle.file_text.specs.Syntax.{Phrase, ConditionTree, Guard, RuleTree, conditions_of, flat}
 use Rattle.cops_syntax.specs.View.{nodes_view, IsTerm}
 use Rattle.cops_syntax.specs.declared.tree.Node as program
@@ -12,16 +13,14 @@ use Rattle.term_core.specs.declared.systems.Cond.{Cond}
 use Rattle.cops_read.specs.Meaning.{sides, with_symbols, with_all_symbols, with_variables, with_all_variables, rule_variables, IsTermOf, AreConditionsOf}
 use Rattle.cops_read.specs.Uses.{Side, side_of}
 use Rattle.cops_read.specs.Refusals.{MeaningCause}
-use Rattle.cops_read.specs.Steps.{or_refusal, IsRead, term_refusal}
+use Rattle.cops_read.specs.Steps.{IsRead, term_refusal}
 use Rattle.cops_read.specs.RuleSteps.{side_refusal, conditions_refusal, bar_refusal, IsSideRead, IsConditionRead, AreConditionsRead, IsRuleRead}
 use Rattle.cops_names.proofs.Lists.{Extends, extends_trans}
+use Rattle.cops_read.proofs.Firsts.{none_of_both}
 use Rattle.cops_read.proofs.Growth.{symbols_extend, all_symbols_extend, variables_extend, all_variables_extend, term_grows}
 
 pub whole_list : (ns : List program.Node) (p : Phrase) → IsTerm ns p → nodes_view ns ≡ flat p ++ []
 whole_list ns p h = h ∙ sym (append-nil (flat p))
-
-pub none_of_both : (o others : Option (MeaningCause × ℕ)) → o ≡ None → others ≡ None → or_refusal o others ≡ None
-none_of_both o others h g = ap (λ (x : Option (MeaningCause × ℕ)). or_refusal x others) h ∙ g
 
 pub side_read : (block : List (List ℕ)) (table : List (List ℕ × ℕ)) (names : List (List ℕ)) (side : Side) (p : Phrase) (after : List (List ℕ × ℕ)) (later : List (List ℕ)) (t : math.Term) (next : ℕ)
     → IsRead block table names p 0 (term_refusal block table names side 1 0 0 p) after later t next → IsSideRead block table names side p after later t
@@ -70,10 +69,10 @@ module _ (block : List (List ℕ)) (typed : Bool) (table : List (List ℕ × ℕ
   last_refusal = conditions_refusal block second_symbols second_names number 1 (conditions_of t)
 
   abbrev late_refusal : Option (MeaningCause × ℕ)
-  late_refusal = or_refusal (bar_refusal typed (option_map (λ g. g.at) t.guard)) last_refusal
+  late_refusal = option_or (bar_refusal typed (option_map (λ g. g.at) t.guard)) last_refusal
 
   abbrev next_refusal : Option (MeaningCause × ℕ)
-  next_refusal = or_refusal (side_refusal block first_symbols first_names at_right t.right) late_refusal
+  next_refusal = option_or (side_refusal block first_symbols first_names at_right t.right) late_refusal
 
   module _ (names : List (List ℕ)) (middle : List (List ℕ × ℕ)) (between : List (List ℕ)) (l : math.Term) (none_yet : names ≡ []) (first : IsSideRead block table names at_left t.left middle between l) where
     first_read : IsSideRead block table [] at_left t.left middle between l

@@ -3,8 +3,10 @@ use Rattle.std.proofs.Common.{ℕ, List, Result, Ok, Err}
 use Rattle.file_text.specs.Syntax.{FileTree}
 use Rattle.file_text.specs.Texts.{IsText}
 use Rattle.cops_syntax.specs.Answers.{IsCauseOf}
-use Rattle.cops_syntax.specs.declared.reader.SyntaxError.{SyntaxError}
-use Rattle.cops_syntax.specs.declared.reader.SyntaxError.TheVariants as syntax
+use Rattle.cops_syntax.specs.declared.reader.TextError.{TextError}
+use Rattle.cops_syntax.specs.declared.reader.TextError.TheVariants as text
+use Rattle.cops_syntax.specs.declared.blocks.SyntaxRefusal.{SyntaxRefusal}
+use Rattle.cops_syntax.specs.declared.blocks.SyntaxRefusal.TheVariants as syntax
 use Rattle.rewriting.specs.Rules.{System}
 use Rattle.cops_names.specs.NameTable.{NameTable}
 use Rattle.cops_read.specs.Refusals.{refusal_of}
@@ -15,16 +17,16 @@ use Rattle.cops_read.specs.declared.errors.ReadError.{ReadError}
 use Rattle.cops_read.specs.declared.errors.ReadError.TheVariants.{BadByte, IdTooLong, CommentNotClosed, Syntax, UnknownBlock, RepeatedBlock, ConditionTypeOther, MissingRules, ConditionsWithoutType, VariableWithArguments, ArityDiffers, LeftVariable, TooDeep, TooMany, NoMemory}
 
 -- a text without a tree
-pub no_tree : (bytes : List ℕ) (e : SyntaxError) → IsCauseOf bytes e → IsRefusedFor bytes (read_error_of e)
-no_tree bytes (syntax.BadByte at) h = h
-no_tree bytes (syntax.IdTooLong at) h = h
-no_tree bytes (syntax.CommentNotClosed at) h = h
-no_tree bytes (syntax.Syntax at) h = h
-no_tree bytes (syntax.UnknownBlock at) h = h
-no_tree bytes (syntax.RepeatedBlock at) h = h
-no_tree bytes (syntax.ConditionTypeOther at) h = h
-no_tree bytes (syntax.MissingRules at) h = h
-no_tree bytes syntax.NoMemory h = tt
+pub no_tree : (bytes : List ℕ) (e : TextError SyntaxRefusal) → IsCauseOf bytes e → IsRefusedFor bytes (read_error_of e)
+no_tree bytes (text.BadByte at) h = h
+no_tree bytes (text.IdTooLong at) h = h
+no_tree bytes (text.CommentNotClosed at) h = h
+no_tree bytes (text.Refused syntax.Syntax at) h = h
+no_tree bytes (text.Refused syntax.UnknownBlock at) h = h
+no_tree bytes (text.Refused syntax.RepeatedBlock at) h = h
+no_tree bytes (text.Refused syntax.ConditionTypeOther at) h = h
+no_tree bytes (text.Refused syntax.MissingRules at) h = h
+no_tree bytes text.NoMemory h = tt
 
 -- a tree that means no system
 refused : (bytes : List ℕ) (tree : FileTree) (e : ReadError) → IsText bytes tree → Tells e (refusal_of tree) → IsRefusedFor bytes e

@@ -1,6 +1,7 @@
 -- Reading conditions and rules one after the other.
 use Rattle.std.proofs.Common.{◌≡◌, ℕ, zero, suc, ◌+◌, ◌<◌, ◌≤◌, Bool, List, [], ◌∷◌, ◌++◌, map, length, take, drop, get_or, Option, refl, sym, ap, ap₂, subst, ◌∙◌, arith, append_assoc}
 use Rattle.std.proofs.lemmas.List.{take_all, drop_all}
+use Rattle.std.specs.Option.{option_or}
 use Rattle.file_text.specs.Syntax.{ConditionTree, RuleTree}
 use Rattle.cops_syntax.specs.View.{IsCondition, AreConditions, IsRule, AreRules}
 use Rattle.cops_syntax.specs.declared.tree.CondText.{CondText}
@@ -10,7 +11,7 @@ use Rattle.term_core.specs.declared.systems.Cond.{Cond}
 use Rattle.term_core.specs.declared.systems.Rule.{Rule}
 use Rattle.cops_read.specs.Meaning.{sides, phrases_of_rule, with_symbols, with_all_symbols, with_variables, with_all_variables, with_rule_symbols, rule_variables, AreConditionsOf, IsRuleOf, AreRulesOf}
 use Rattle.cops_read.specs.Refusals.{MeaningCause}
-use Rattle.cops_read.specs.Steps.{Tells, or_refusal}
+use Rattle.cops_read.specs.Steps.{Tells}
 use Rattle.cops_read.specs.RuleSteps.{condition_refusal, conditions_refusal, rule_refusal, rules_refusal, IsConditionRead, AreConditionsRead, IsRuleRead, AreNumbersOf, AreRulesRead}
 use Rattle.cops_read.specs.declared.errors.ReadError.{ReadError}
 use Rattle.cops_names.proofs.Lists.{Extends, extends_trans}
@@ -61,7 +62,7 @@ rules_length (r ∷ rs) [] h = absurd h
 rules_length (r ∷ rs) (t ∷ ts) h = ap suc (rules_length rs ts h.1)
 
 module _ (block : List (List ℕ)) where
-  conditions_end : (table : List (List ℕ × ℕ)) (names : List (List ℕ)) (cs : List ConditionTree) (ds : List Cond) (c : ConditionTree) (d : Cond) → AreConditionsOf block table names cs (map condition_view ds)
+  pub conditions_end : (table : List (List ℕ × ℕ)) (names : List (List ℕ)) (cs : List ConditionTree) (ds : List Cond) (c : ConditionTree) (d : Cond) → AreConditionsOf block table names cs (map condition_view ds)
       → AreConditionsOf block table names (c ∷ []) (condition_view d ∷ []) → AreConditionsOf block table names (cs ++ c ∷ []) (map condition_view (ds ++ d ∷ []))
   conditions_end table names [] [] c d h g = g
   conditions_end table names [] (e ∷ es) c d h g = absurd h
@@ -94,7 +95,7 @@ module _ (block : List (List ℕ)) where
           let number : suc i + 1 ≡ (i + 1) + 1 = omega arith in
           let further : Option (MeaningCause × ℕ) = conditions_refusal block (with_symbols block middle c.right) (with_variables block between c.right) rule ((i + 1) + 1) left in
           let refusal : further ≡ conditions_refusal block table names rule 1 cs =
-          ap (λ (o : Option (MeaningCause × ℕ)). or_refusal o further) (sym r.accepted) ∙ sym (ap (conditions_refusal block now later rule (i + 1)) n.later) ∙ h.refusal in
+          ap (λ (o : Option (MeaningCause × ℕ)). option_or o further) (sym r.accepted) ∙ sym (ap (conditions_refusal block now later rule (i + 1)) n.later) ∙ h.refusal in
           record {
             refusal = ap₂ (λ (x : List (List ℕ × ℕ)) (v : List (List ℕ)). conditions_refusal block x v rule (suc i + 1) left) r.symbols r.variables
                 ∙ ap (λ (k : ℕ). conditions_refusal block (with_symbols block middle c.right) (with_variables block between c.right) rule k left) number ∙ refusal;
@@ -155,7 +156,7 @@ module _ (block : List (List ℕ)) where
           let number : suc i + 1 ≡ (i + 1) + 1 = omega arith in
           let further : Option (MeaningCause × ℕ) = rules_refusal block typed (with_all_symbols block now (phrases_of_rule t)) ((i + 1) + 1) left in
           let refusal : further ≡ rules_refusal block typed table 1 ts =
-          ap (λ (o : Option (MeaningCause × ℕ)). or_refusal o further) (sym g.accepted) ∙ sym (ap (rules_refusal block typed now (i + 1)) n.later) ∙ h.refusal in
+          ap (λ (o : Option (MeaningCause × ℕ)). option_or o further) (sym g.accepted) ∙ sym (ap (rules_refusal block typed now (i + 1)) n.later) ∙ h.refusal in
           record {
             refusal = ap (λ (x : List (List ℕ × ℕ)). rules_refusal block typed x (suc i + 1) left) g.symbols
                 ∙ ap (λ (k : ℕ). rules_refusal block typed (with_all_symbols block now (phrases_of_rule t)) k left) number ∙ refusal;

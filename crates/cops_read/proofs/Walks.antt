@@ -1,5 +1,6 @@
 -- Reading a term: from an identifier and its arguments to the whole.
 use Rattle.std.proofs.Common.{◌≡◌, ℕ, suc, ◌+◌, ◌≤◌, true, false, List, [], ◌∷◌, ◌++◌, drop, Option, None, Vec, Global, refl, sym, ap, ap₂, subst, ◌∙◌, arith, append_assoc}
+use Rattle.std.specs.Option.{option_or}
 use Rattle.file_text.specs.Syntax.{Phrase, Phrases, word, call, none, more, with_last, count, Node, flat, flat_all}
 use Rattle.cops_syntax.specs.View.{nodes_view}
 use Rattle.cops_syntax.specs.declared.tree.Node as program
@@ -12,7 +13,7 @@ use Rattle.cops_names.specs.NameLists.{is_among}
 use Rattle.cops_read.specs.Meaning.{with_symbol, with_symbols, with_all_symbols, with_variables, with_all_variables, IsTermOf, AreTermsOf}
 use Rattle.cops_read.specs.Uses.{Side, Use}
 use Rattle.cops_read.specs.Refusals.{MeaningCause, limit_cause, cause_at, first_or, variable_cause, symbol_cause}
-use Rattle.cops_read.specs.Steps.{Tells, or_refusal, nodes, all_nodes, use_at, term_refusal, terms_refusal, IsRead, AreRead}
+use Rattle.cops_read.specs.Steps.{Tells, nodes, all_nodes, use_at, term_refusal, terms_refusal, IsRead, AreRead}
 use Rattle.cops_read.specs.Heads.{IsHead}
 use Rattle.cops_read.specs.declared.heads.VariableOrSymbol.TheVariants.{Variable, Symbol}
 use Rattle.cops_read.specs.declared.errors.ReadError.{ReadError}
@@ -119,7 +120,7 @@ module _ (block : List (List ℕ)) (table : List (List ℕ × ℕ)) (names : Lis
       (symbol_read p middle after later f (views terms.items) next l' h'' r')
 
 module _ (block : List (List ℕ)) where
-  terms_end : (table : List (List ℕ × ℕ)) (names : List (List ℕ)) (ps : Phrases) (ts : List Term) (p : Phrase) (t : Term) → AreTermsOf block table names ps (views ts)
+  pub terms_end : (table : List (List ℕ × ℕ)) (names : List (List ℕ)) (ps : Phrases) (ts : List Term) (p : Phrase) (t : Term) → AreTermsOf block table names ps (views ts)
       → IsTermOf block table names p (view t) → AreTermsOf block table names (with_last ps p) (views (ts ++ t ∷ []))
   terms_end table names none [] p t h g = (g, tt)
   terms_end table names none (u ∷ us) p t h g = absurd h
@@ -157,7 +158,7 @@ module _ (block : List (List ℕ)) where
           let place : suc i + 1 ≡ (i + 1) + 1 = omega arith in
           let further : Option (MeaningCause × ℕ) = terms_refusal block (with_symbols block now n.phrase) (with_variables block later n.phrase) side depth ((i + 1) + 1) (before + nodes n.phrase) left in
           let refusal : further ≡ terms_refusal block table names side depth 1 start ps =
-          ap (λ (o : Option (MeaningCause × ℕ)). or_refusal o further) (sym r.accepted) ∙ sym (ap (terms_refusal block now later side depth (i + 1) before) n.later) ∙ h.refusal in
+          ap (λ (o : Option (MeaningCause × ℕ)). option_or o further) (sym r.accepted) ∙ sym (ap (terms_refusal block now later side depth (i + 1) before) n.later) ∙ h.refusal in
           let count_left = ap all_nodes n.later in
           let before_end = h.end in
           let next_end = r.end in

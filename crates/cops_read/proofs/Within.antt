@@ -3,6 +3,7 @@ use Rattle.std.proofs.Common.{◌≡◌, ℕ, suc, ◌+◌, ◌<◌, ◌≤◌, 
 use Rattle.std.specs.Prelude.{if◌then◌else◌, is_some, option_map}
 use Rattle.std.proofs.lemmas.Bool.Decides.{nat_tests}
 use Rattle.std.proofs.lemmas.List.Elements.{All-nil, All-cons, All-push}
+use Rattle.std.specs.Option.{option_or}
 use Rattle.file_text.specs.Syntax.{Phrase, Phrases, word, call, none, more, count, ConditionTree, Guard, RuleTree, conditions_of, guarded, FileTree, has_type}
 use Rattle.rewriting.specs.Terms.{Term, var, app, Terms, nil, cons, size, size_all, depth, depth_all, IsVariable}
 use Rattle.rewriting.specs.Rules.{Condition, Rule, System}
@@ -12,12 +13,13 @@ use Rattle.cops_names.specs.NameTable.{NameTable, number_of}
 use Rattle.cops_names.specs.NameLists.{is_among, with_name}
 use Rattle.cops_read.specs.Meaning.{with_symbol, sides, phrases_of_rule, variables_of, with_variables, with_all_variables, with_symbols, with_all_symbols, with_rule_symbols, rule_variables, IsTermOf, AreTermsOf, AreConditionsOf, IsRuleOf, AreRulesOf}
 use Rattle.cops_read.specs.Uses.{Side, side_of, Use}
-use Rattle.cops_read.specs.Refusals.{MeaningCause, cause_or, limit_cause, variable_cause, symbol_cause, known_symbol_cause, arity_in, cause_at, first_or}
-use Rattle.cops_read.specs.Steps.{or_refusal, nodes, all_nodes, use_at, term_refusal, terms_refusal}
+use Rattle.cops_read.specs.Refusals.{limit_cause, variable_cause, symbol_cause, known_symbol_cause, arity_in, cause_at}
+use Rattle.cops_read.specs.Steps.{nodes, all_nodes, use_at, term_refusal, terms_refusal}
 use Rattle.cops_read.specs.RuleSteps.{side_refusal, condition_refusal, conditions_refusal, bar_refusal, rule_refusal, rules_refusal}
 use Rattle.cops_read.specs.Limits.{IsSmall, IsAllowed, IsWithinLimits}
 use Rattle.cops_read.specs.File.{IsSystemOf}
-use Rattle.cops_read.proofs.Events.{none_first, none_then, refusal_is}
+use Rattle.cops_read.proofs.Firsts.{none_first, none_then, no_cause, no_later}
+use Rattle.cops_read.proofs.Events.{refusal_is}
 
 pub record IsWithin (u : Use) : Type 0 where
   pub rules : u.side.rule ≤ 1000
@@ -29,23 +31,6 @@ pub record IsWithin (u : Use) : Type 0 where
 pub is_within : (u : Use) → limit_cause u ≡ None → IsWithin u
 is_within u h = record { rules = grind (arith, nat_tests); conditions = grind (arith, nat_tests); arguments = grind (arith, nat_tests); depth = grind (arith, nat_tests); number = grind (arith, nat_tests) }
 
-no_limit : (l other : Option MeaningCause) → cause_or l other ≡ None → l ≡ None
-no_limit None other h = refl
-no_limit (Some c) other h = cc
-
-no_other : (l other : Option MeaningCause) → cause_or l other ≡ None → other ≡ None
-no_other None other h = h
-no_other (Some c) other h = cc
-
-pub no_cause : (c : Option MeaningCause) (at : ℕ) (o : Option (MeaningCause × ℕ)) → first_or c at o ≡ None → c ≡ None
-no_cause None at o h = refl
-no_cause (Some c) at o h = cc
-
-pub no_later : (c : Option MeaningCause) (at : ℕ) (o : Option (MeaningCause × ℕ)) → first_or c at o ≡ None → o ≡ None
-no_later None at o h = h
-no_later (Some c) at o h = cc
-
--- the causes of names
 few_variables : (names : List (List ℕ)) (u : Use) → variable_cause names u ≡ None → is_among names u.spot.node.name.text ≡ false → length names < 100
 few_variables names u h b = grind (arith, nat_tests)
 
@@ -83,11 +68,11 @@ variable_kept names u h few = by (is_among names u.spot.node.name.text) refl
 
 module _ (block : List (List ℕ)) where
   within : (table : List (List ℕ × ℕ)) (names : List (List ℕ)) (u : Use) → cause_at block table names u ≡ None → IsWithin u
-  within table names u h = is_within u (no_limit (limit_cause u) _ h)
+  within table names u h = is_within u (none_first (limit_cause u) _ h)
 
   of_name : (table : List (List ℕ × ℕ)) (names : List (List ℕ)) (u : Use) → cause_at block table names u ≡ None
       → (if is_among block u.spot.node.name.text then variable_cause names u else symbol_cause table u) ≡ None
-  of_name table names u h = no_other (limit_cause u) _ h
+  of_name table names u h = none_then (limit_cause u) _ h
 
   as_variable : (table : List (List ℕ × ℕ)) (names : List (List ℕ)) (u : Use) → cause_at block table names u ≡ None → is_among block u.spot.node.name.text ≡ true → variable_cause names u ≡ None
   as_variable table names u h b = rw b at (of_name table names u h)
@@ -291,7 +276,7 @@ module _ (block : List (List ℕ)) where
     pub right_accepted : side_refusal block (with_symbols block table t.left) (with_variables block [] t.left) (side_of number 0 false) t.right ≡ None
     right_accepted = none_first _ _ (none_then (side_refusal block table [] (side_of number 0 true) t.left) _ h)
 
-    late : or_refusal (bar_refusal typed (option_map (λ g. g.at) t.guard))
+    late : option_or (bar_refusal typed (option_map (λ g. g.at) t.guard))
         (conditions_refusal block (with_symbols block (with_symbols block table t.left) t.right) (with_variables block (with_variables block [] t.left) t.right) number 1 (conditions_of t)) ≡ None
     late = none_then (side_refusal block (with_symbols block table t.left) (with_variables block [] t.left) (side_of number 0 false) t.right) _ (none_then (side_refusal block table [] (side_of number 0 true) t.left) _ h)
 

@@ -1,5 +1,6 @@
 -- Why, and at which place, the syntax tree of a file means no system.
 use Rattle.std.specs.Prelude.{◌==◌, ◌&&◌, ℕ, Bool, not, nat_lt, nat_le, if◌then◌else◌, List, [], ◌∷◌, ◌++◌, length, Option, Some, None, option_map, slice_get}
+use Rattle.std.specs.Option.{option_or}
 use Rattle.file_text.specs.Syntax.{FileTree, has_type}
 use Rattle.cops_names.specs.NameTable.{number_of}
 use Rattle.cops_read.specs.Bounds.{most_rules, most_symbols, most_conditions, most_variables, most_arguments, most_nodes, most_levels}
@@ -29,11 +30,6 @@ limit_cause u =
     if nat_lt most_levels u.spot.depth then Some too_deep else
     if nat_lt most_nodes u.number then Some too_many_nodes else None
 
--- the first cause, or else the other
-abbrev pub cause_or : Option MeaningCause → Option MeaningCause → Option MeaningCause
-cause_or (Some cause) other = Some cause
-cause_or None other = other
-
 -- a variable has no brackets, is no left side, and is not one too many in its rule
 abbrev pub variable_cause : List (List ℕ) → Use → Option MeaningCause
 variable_cause names u =
@@ -54,7 +50,7 @@ abbrev pub symbol_cause : List (List ℕ × ℕ) → Use → Option MeaningCause
 symbol_cause table u = known_symbol_cause table u (arity_in table (number_of table u.spot.node.name.text))
 
 -- the cause with its place, or else the other
-abbrev pub first_or : Option MeaningCause → ℕ → Option (MeaningCause × ℕ) → Option (MeaningCause × ℕ)
+abbrev pub first_or : {C : Type 0} → Option C → ℕ → Option (C × ℕ) → Option (C × ℕ)
 first_or (Some cause) at others = Some (cause, at)
 first_or None at others = others
 
@@ -75,7 +71,7 @@ module _ (block : List (List ℕ)) where
 
   -- the first cause at an identifier, where these symbols, and these variables of its rule, were used before it
   abbrev pub cause_at : List (List ℕ × ℕ) → List (List ℕ) → Use → Option MeaningCause
-  cause_at table names u = cause_or (limit_cause u) (if is_among block u.spot.node.name.text then variable_cause names u else symbol_cause table u)
+  cause_at table names u = option_or (limit_cause u) (if is_among block u.spot.node.name.text then variable_cause names u else symbol_cause table u)
 
   abbrev pub use_cause : List Event → Use → Option MeaningCause
   use_cause front u = cause_at (symbols_used [] front) (variables_used u.side.rule [] front) u

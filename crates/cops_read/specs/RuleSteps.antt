@@ -1,6 +1,6 @@
 -- What the parts of the reader answer that read rules.
 use Rattle.std.specs.Prelude.{◌≡◌, ℕ, ◌+◌, Bool, true, false, if◌then◌else◌, List, [], ◌∷◌, ◌++◌, map, length, Option, Some, None, option_map, Result, Ok, Err, ◌||◌}
-use Rattle.std.specs.Option.{is_some}
+use Rattle.std.specs.Option.{is_some, option_or}
 use Rattle.cops_syntax.specs.declared.tree.RuleText.{RuleText}
 use Rattle.std.specs.Global.{Vec}
 use Rattle.file_text.specs.Syntax.{Phrase, ConditionTree, RuleTree, conditions_of, FileTree}
@@ -16,7 +16,7 @@ use Rattle.cops_read.specs.Uses.{Side, side_of}
 use Rattle.cops_names.specs.NameTable.{NameTable}
 use Rattle.cops_read.specs.File.{IsSystemOf, IsJoinedFile, IsMeant}
 use Rattle.cops_read.specs.Refusals.{MeaningCause, conditions_without_type, refusal_of}
-use Rattle.cops_read.specs.Steps.{Tells, or_refusal, term_refusal}
+use Rattle.cops_read.specs.Steps.{Tells, term_refusal}
 use Rattle.cops_read.specs.declared.errors.ReadError.{ReadError}
 use Rattle.cops_read.specs.declared.errors.ReadError.TheVariants.{NoMemory}
 
@@ -38,29 +38,29 @@ module _ (block : List (List ℕ)) where
   -- in the condition with a number
   abbrev pub condition_refusal : List (List ℕ × ℕ) → List (List ℕ) → ℕ → ℕ → ConditionTree → Option (MeaningCause × ℕ)
   condition_refusal table names rule number c =
-      or_refusal (side_refusal table names (side_of rule number false) c.left)
+      option_or (side_refusal table names (side_of rule number false) c.left)
       (side_refusal (with_symbols block table c.left) (with_variables block names c.left) (side_of rule number false) c.right)
 
   -- in conditions from a number on
   abbrev pub conditions_refusal : List (List ℕ × ℕ) → List (List ℕ) → ℕ → ℕ → List ConditionTree → Option (MeaningCause × ℕ)
   conditions_refusal table names rule number [] = None
   conditions_refusal table names rule number (c ∷ cs) =
-      or_refusal (condition_refusal table names rule number c)
+      option_or (condition_refusal table names rule number c)
       (conditions_refusal (with_symbols block (with_symbols block table c.left) c.right) (with_variables block (with_variables block names c.left) c.right) rule (number + 1) cs)
 
   -- in the rule with a number
   abbrev pub rule_refusal : Bool → List (List ℕ × ℕ) → ℕ → RuleTree → Option (MeaningCause × ℕ)
   rule_refusal typed table number r =
-      or_refusal (side_refusal table [] (side_of number 0 true) r.left)
-      (or_refusal (side_refusal (with_symbols block table r.left) (with_variables block [] r.left) (side_of number 0 false) r.right)
-      (or_refusal (bar_refusal typed (option_map (λ g. g.at) r.guard))
+      option_or (side_refusal table [] (side_of number 0 true) r.left)
+      (option_or (side_refusal (with_symbols block table r.left) (with_variables block [] r.left) (side_of number 0 false) r.right)
+      (option_or (bar_refusal typed (option_map (λ g. g.at) r.guard))
       (conditions_refusal (with_symbols block (with_symbols block table r.left) r.right) (with_variables block (with_variables block [] r.left) r.right) number 1 (conditions_of r))))
 
   -- in rules from a number on
   abbrev pub rules_refusal : Bool → List (List ℕ × ℕ) → ℕ → List RuleTree → Option (MeaningCause × ℕ)
   rules_refusal typed table number [] = None
   rules_refusal typed table number (r ∷ rs) =
-      or_refusal (rule_refusal typed table number r) (rules_refusal typed (with_all_symbols block table (phrases_of_rule r)) (number + 1) rs)
+      option_or (rule_refusal typed table number r) (rules_refusal typed (with_all_symbols block table (phrases_of_rule r)) (number + 1) rs)
 
   -- a side of a rule or a condition was read: what it adds to the symbols and the variables, and what it means
   pub record IsSideRead (table : List (List ℕ × ℕ)) (names : List (List ℕ)) (side : Side) (p : Phrase) (after : List (List ℕ × ℕ)) (later : List (List ℕ)) (t : math.Term) : Type 0 where

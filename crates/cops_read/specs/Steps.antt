@@ -1,6 +1,7 @@
 -- What the parts of the reader answer: the first refusal in what they read, or what it adds to the tables and means.
 use Rattle.std.specs.Prelude.{◌≡◌, ℕ, suc, ◌+◌, true, false, List, Option, Some, None, Result, Ok, Err}
 use Rattle.std.specs.Global.{Vec}
+use Rattle.std.specs.Option.{option_or}
 use Rattle.file_text.specs.Syntax.{Phrase, Phrases, word, call, none, more, count, Node}
 use Rattle.rewriting.specs.Terms as math
 use Rattle.term_core.specs.View.{view, views}
@@ -9,8 +10,10 @@ use Rattle.cops_read.specs.Meaning.{with_symbol, with_symbols, with_all_symbols,
 use Rattle.cops_read.specs.Uses.{Side, Use}
 use Rattle.cops_read.specs.Refusals.{MeaningCause, conditions_without_type, too_deep, variable_with_arguments, left_variable, arity_differs, cause_at, first_or}
 use Rattle.cops_read.specs.Counts.{cause_of_count, most_of}
-use Rattle.cops_syntax.specs.declared.reader.SyntaxError.{SyntaxError}
-use Rattle.cops_syntax.specs.declared.reader.SyntaxError.TheVariants as syntax
+use Rattle.cops_syntax.specs.declared.reader.TextError.{TextError}
+use Rattle.cops_syntax.specs.declared.reader.TextError.TheVariants as text
+use Rattle.cops_syntax.specs.declared.blocks.SyntaxRefusal.{SyntaxRefusal}
+use Rattle.cops_syntax.specs.declared.blocks.SyntaxRefusal.TheVariants as syntax
 use Rattle.cops_read.specs.declared.errors.ReadError.{ReadError}
 use Rattle.cops_read.specs.declared.errors.ReadError.TheVariants.{BadByte, IdTooLong, CommentNotClosed, Syntax, UnknownBlock, RepeatedBlock, ConditionTypeOther, MissingRules, ConditionsWithoutType, VariableWithArguments, ArityDiffers, LeftVariable, TooDeep, TooMany, NoMemory}
 
@@ -31,11 +34,6 @@ Tells (LeftVariable at) o = o ≡ Some (left_variable, at)
 Tells (TooDeep at) o = o ≡ Some (too_deep, at)
 Tells (TooMany what limit at) o = (o ≡ Some (cause_of_count what, at)) × (limit ≡ most_of what)
 Tells NoMemory o = Unit {0}
-
--- the first refusal, or else the other
-abbrev pub or_refusal : Option (MeaningCause × ℕ) → Option (MeaningCause × ℕ) → Option (MeaningCause × ℕ)
-or_refusal (Some refusal) others = Some refusal
-or_refusal None others = others
 
 -- the number of identifiers
 abbrev mutual
@@ -65,7 +63,7 @@ module _ (block : List (List ℕ)) where
     pub terms_refusal : List (List ℕ × ℕ) → List (List ℕ) → Side → ℕ → ℕ → ℕ → Phrases → Option (MeaningCause × ℕ)
     terms_refusal table names side depth argument before none = None
     terms_refusal table names side depth argument before (more t ts) =
-        or_refusal (term_refusal table names side depth argument before t)
+        option_or (term_refusal table names side depth argument before t)
         (terms_refusal (with_symbols block table t) (with_variables block names t) side depth (argument + 1) (before + nodes t) ts)
 
   -- a phrase was read: what it adds to the symbols and the variables, what it means, and the identifiers up to its end
@@ -95,13 +93,16 @@ module _ (block : List (List ℕ)) where
   ArgumentsAnswers table names side depth before ps after later (Err e) = Tells e (terms_refusal table names side depth 1 before ps)
 
 -- what the refusal of a text is to the reader of its tree
-abbrev pub read_error_of : SyntaxError → ReadError
-read_error_of (syntax.BadByte at) = BadByte at
-read_error_of (syntax.IdTooLong at) = IdTooLong at
-read_error_of (syntax.CommentNotClosed at) = CommentNotClosed at
-read_error_of (syntax.Syntax at) = Syntax at
-read_error_of (syntax.UnknownBlock at) = UnknownBlock at
-read_error_of (syntax.RepeatedBlock at) = RepeatedBlock at
-read_error_of (syntax.ConditionTypeOther at) = ConditionTypeOther at
-read_error_of (syntax.MissingRules at) = MissingRules at
-read_error_of syntax.NoMemory = NoMemory
+abbrev pub refused_at : SyntaxRefusal → ℕ → ReadError
+refused_at syntax.Syntax at = Syntax at
+refused_at syntax.UnknownBlock at = UnknownBlock at
+refused_at syntax.RepeatedBlock at = RepeatedBlock at
+refused_at syntax.ConditionTypeOther at = ConditionTypeOther at
+refused_at syntax.MissingRules at = MissingRules at
+
+abbrev pub read_error_of : TextError SyntaxRefusal → ReadError
+read_error_of (text.BadByte at) = BadByte at
+read_error_of (text.IdTooLong at) = IdTooLong at
+read_error_of (text.CommentNotClosed at) = CommentNotClosed at
+read_error_of (text.Refused refusal at) = refused_at refusal at
+read_error_of text.NoMemory = NoMemory

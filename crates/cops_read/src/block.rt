@@ -2,6 +2,7 @@
 ghost use Rattle.std.specs.Prelude.{◌≡◌, ◌<◌};
 ghost use Rattle.cops_names.specs.NameLists.{is_among};
 ghost use Rattle.cops_read.specs.Shapes.{shape_of};
+ghost use Rattle.cops_read.specs.declared.block.TheConstants.{SHAPES};
 
 use cops_names::NameSet;
 use std::marker::Model;
@@ -33,7 +34,7 @@ impl<'a> Model for Block<'a> {
 // The first byte and the length of a name as one number, where seven bytes and more are one length.
 fn shape(name: &[u8]) -> usize
     ensures shape { result ≡ shape_of name.now }
-    ensures below { result < 2048 }
+    ensures below { result < SHAPES }
 {
     match name {
         [] => 0,

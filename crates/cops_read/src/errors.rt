@@ -3,7 +3,7 @@ ghost use Rattle.std.specs.Prelude.{◌≡◌};
 ghost use Rattle.cops_read.specs.Counts.{most_of};
 ghost use Rattle.cops_read.specs.declared.errors.ReadError.TheVariants.{NoMemory as no_memory};
 
-use cops_syntax::SyntaxError;
+use cops_syntax::{SyntaxError, SyntaxRefusal, TextError};
 use std::alloc::{AllocError, AllocFailed};
 use std::fmt;
 use term_core::NoMemory;
@@ -133,15 +133,17 @@ impl From<SyntaxError> for ReadError {
 
     fn from(error: SyntaxError) -> Self {
         match error {
-            SyntaxError::BadByte { at } => ReadError::BadByte { at },
-            SyntaxError::IdTooLong { at } => ReadError::IdTooLong { at },
-            SyntaxError::CommentNotClosed { at } => ReadError::CommentNotClosed { at },
-            SyntaxError::Syntax { at } => ReadError::Syntax { at },
-            SyntaxError::UnknownBlock { at } => ReadError::UnknownBlock { at },
-            SyntaxError::RepeatedBlock { at } => ReadError::RepeatedBlock { at },
-            SyntaxError::ConditionTypeOther { at } => ReadError::ConditionTypeOther { at },
-            SyntaxError::MissingRules { at } => ReadError::MissingRules { at },
-            SyntaxError::NoMemory => ReadError::NoMemory,
+            TextError::BadByte { at } => ReadError::BadByte { at },
+            TextError::IdTooLong { at } => ReadError::IdTooLong { at },
+            TextError::CommentNotClosed { at } => ReadError::CommentNotClosed { at },
+            TextError::Refused { cause, at } => match cause {
+                SyntaxRefusal::Syntax => ReadError::Syntax { at },
+                SyntaxRefusal::UnknownBlock => ReadError::UnknownBlock { at },
+                SyntaxRefusal::RepeatedBlock => ReadError::RepeatedBlock { at },
+                SyntaxRefusal::ConditionTypeOther => ReadError::ConditionTypeOther { at },
+                SyntaxRefusal::MissingRules => ReadError::MissingRules { at },
+            },
+            TextError::NoMemory => ReadError::NoMemory,
         }
     }
 }

@@ -1,6 +1,7 @@
 //! The variable or symbol that an identifier of a term means: new names are numbered as they come, within the limits of a file.
 ghost use Rattle.std.specs.Prelude.{◌≡◌, ◌+◌, ◌<◌, ◌≤◌, ◌^◌, OnOk, length};
 ghost use Rattle.cops_syntax.specs.View.{node_view};
+ghost use Rattle.cops_read.specs.Bounds.{most_variables};
 ghost use Rattle.cops_read.specs.Refusals.{limit_cause};
 ghost use Rattle.cops_read.specs.Heads.{used_at, WithinAnswers, RoomAnswers, CauseAnswers, VariableAnswers, SymbolAnswers, HeadAnswers};
 
@@ -87,9 +88,9 @@ fn read_variable<'a>(
     name: &'a str,
 ) -> Result<u32, ReadError>
     requires name { name.now ≡ node.now.name.text.now }
-    requires few { length variables.old ≤ 100 }
+    requires few { length variables.old ≤ most_variables }
     ensures variable { VariableAnswers variables.old (used_at place (node_view node.now)) variables.new result }
-    ensures few { OnOk result (length variables.new ≤ 100) }
+    ensures few { OnOk result (length variables.new ≤ most_variables) }
 {
     let at = node.name.at;
     if node.brackets {
@@ -140,11 +141,11 @@ pub(crate) fn read_head<'a>(
     place: NodePlace,
 ) -> Result<VariableOrSymbol, ReadError>
     requires place { place.before + 1 < 2 ^ 64 }
-    requires few { length scope.old.variables ≤ 100 }
+    requires few { length scope.old.variables ≤ most_variables }
     ensures head { HeadAnswers scope.old.block scope.old.names.symbols scope.old.variables (used_at place (node_view node.now)) scope.new.names.symbols scope.new.variables result }
     ensures block { scope.new.block ≡ scope.old.block }
     ensures rules { scope.new.names.variables ≡ scope.old.names.variables }
-    ensures few { OnOk result (length scope.new.variables ≤ 100) }
+    ensures few { OnOk result (length scope.new.variables ≤ most_variables) }
 {
     within_limits(node, place)?;
     let name = node.name.text;

@@ -2,6 +2,7 @@
 ghost use Rattle.std.specs.Prelude.{◌≡◌, ◌+◌, ◌<◌, ◌≤◌, [], List, OnOk, length};
 ghost use Rattle.file_text.specs.Syntax as syntax;
 ghost use Rattle.cops_syntax.specs.View.{IsTerm, IsCondition, AreConditions, IsRule, AreRules};
+ghost use Rattle.cops_read.specs.Bounds.{most_rules, most_variables};
 ghost use Rattle.cops_read.specs.Uses.{side_of};
 ghost use Rattle.cops_read.specs.RuleSteps.{SideAnswers, BarAnswers, ConditionAnswers, ConditionsAnswers, PartsAnswers, RuleAnswers, RulesAnswers};
 
@@ -22,10 +23,10 @@ fn read_side<'a>(
     is_left: bool,
 ) -> Result<Term, ReadError>
     requires text { (p : syntax.Phrase) × IsTerm nodes.now p }
-    requires few { length scope.old.variables ≤ 100 }
+    requires few { length scope.old.variables ≤ most_variables }
     ensures side { (p : syntax.Phrase) → IsTerm nodes.now p → SideAnswers scope.old.block scope.old.names.symbols scope.old.variables (side_of rule condition is_left) p scope.new.names.symbols scope.new.variables result }
-    ensures rule { OnOk result (rule ≤ 1000) }
-    ensures few { OnOk result (length scope.new.variables ≤ 100) }
+    ensures rule { OnOk result (rule ≤ most_rules) }
+    ensures few { OnOk result (length scope.new.variables ≤ most_variables) }
     ensures block { scope.new.block ≡ scope.old.block }
     ensures rules { scope.new.names.variables ≡ scope.old.names.variables }
 {
@@ -50,8 +51,8 @@ fn read_condition<'a>(
     number: usize,
 ) -> Result<Cond, ReadError>
     requires text { (c : syntax.ConditionTree) × IsCondition text.now c }
-    requires few { length scope.old.variables ≤ 100 }
-    ensures few { OnOk result (length scope.new.variables ≤ 100) }
+    requires few { length scope.old.variables ≤ most_variables }
+    ensures few { OnOk result (length scope.new.variables ≤ most_variables) }
     ensures condition { (c : syntax.ConditionTree) → IsCondition text.now c → ConditionAnswers scope.old.block scope.old.names.symbols scope.old.variables rule number c scope.new.names.symbols scope.new.variables result }
     ensures block { scope.new.block ≡ scope.old.block }
     ensures rules { scope.new.names.variables ≡ scope.old.names.variables }
@@ -68,8 +69,8 @@ fn read_conditions<'a>(
     rule: usize,
 ) -> Result<Vec<Cond>, ReadError>
     requires texts { (cs : List syntax.ConditionTree) × AreConditions texts.now cs }
-    requires few { length scope.old.variables ≤ 100 }
-    ensures few { OnOk result (length scope.new.variables ≤ 100) }
+    requires few { length scope.old.variables ≤ most_variables }
+    ensures few { OnOk result (length scope.new.variables ≤ most_variables) }
     ensures conditions { (cs : List syntax.ConditionTree) → AreConditions texts.now cs → ConditionsAnswers scope.old.block scope.old.names.symbols scope.old.variables rule cs scope.new.names.symbols scope.new.variables result }
     ensures block { scope.new.block ≡ scope.old.block }
     ensures rules { scope.new.names.variables ≡ scope.old.names.variables }
@@ -103,7 +104,7 @@ fn read_parts<'a>(
     requires none { scope.old.variables ≡ [] }
     requires text { (t : syntax.RuleTree) × IsRule text.now t }
     ensures parts { (t : syntax.RuleTree) → IsRule text.now t → PartsAnswers scope.old.block has_type scope.old.names.symbols number t scope.new.names.symbols scope.new.variables result }
-    ensures few { OnOk result (number ≤ 1000) }
+    ensures few { OnOk result (number ≤ most_rules) }
     ensures block { scope.new.block ≡ scope.old.block }
     ensures rules { scope.new.names.variables ≡ scope.old.names.variables }
 {

@@ -2,6 +2,7 @@
 ghost use Rattle.std.specs.Prelude.{◌≡◌, ◌≤◌, ◌++◌, List, OnOk, drop, length};
 ghost use Rattle.file_text.specs.Syntax as syntax;
 ghost use Rattle.cops_syntax.specs.View.{nodes_view};
+ghost use Rattle.cops_read.specs.Bounds.{most_rules, most_variables};
 ghost use Rattle.cops_read.specs.Heads.{side_at};
 ghost use Rattle.cops_read.specs.Texts.{IsTermThere, AreTermsThere};
 ghost use Rattle.cops_read.specs.Steps.{TermAnswers, ArgumentsAnswers};
@@ -22,10 +23,10 @@ pub(crate) fn read_term<'a>(
     place: NodePlace,
 ) -> Result<(Term, usize), ReadError>
     requires there { IsTermThere nodes.now place.before }
-    requires few { length scope.old.variables ≤ 100 }
+    requires few { length scope.old.variables ≤ most_variables }
     ensures term { (p : syntax.Phrase) (rest : List syntax.Node) → nodes_view (drop place.before nodes.now) ≡ syntax.flat p ++ rest → TermAnswers scope.old.block scope.old.names.symbols scope.old.variables (side_at place) place.depth place.argument place.before p scope.new.names.symbols scope.new.variables result }
-    ensures rule { OnOk result (place.rule ≤ 1000) }
-    ensures few { OnOk result (length scope.new.variables ≤ 100) }
+    ensures rule { OnOk result (place.rule ≤ most_rules) }
+    ensures few { OnOk result (length scope.new.variables ≤ most_variables) }
     ensures block { scope.new.block ≡ scope.old.block }
     ensures rules { scope.new.names.variables ≡ scope.old.names.variables }
 {
@@ -57,8 +58,8 @@ fn read_arguments<'a>(
     count: usize,
 ) -> Result<(Vec<Term>, usize), ReadError>
     requires there { AreTermsThere nodes.now first.before count }
-    requires few { length scope.old.variables ≤ 100 }
-    ensures few { OnOk result (length scope.new.variables ≤ 100) }
+    requires few { length scope.old.variables ≤ most_variables }
+    ensures few { OnOk result (length scope.new.variables ≤ most_variables) }
     ensures terms { (ps : syntax.Phrases) (rest : List syntax.Node) → count ≡ syntax.count ps → nodes_view (drop first.before nodes.now) ≡ syntax.flat_all ps ++ rest → ArgumentsAnswers scope.old.block scope.old.names.symbols scope.old.variables (side_at first) first.depth first.before ps scope.new.names.symbols scope.new.variables result }
     ensures block { scope.new.block ≡ scope.old.block }
     ensures rules { scope.new.names.variables ≡ scope.old.names.variables }

@@ -65,7 +65,7 @@ count-last : (ts : Phrases) (t : Phrase) → count (with_last ts t) ≡ count ts
 count-last none t = refl
 count-last (more u us) t = ap suc (count-last us t) ∙ omega arith
 
-flat-last : (ts : Phrases) (t : Phrase) → flat_all (with_last ts t) ≡ flat_all ts ++ flat t
+pub flat-last : (ts : Phrases) (t : Phrase) → flat_all (with_last ts t) ≡ flat_all ts ++ flat t
 flat-last none t = append-nil (flat t)
 flat-last (more u us) t = ap (λ (ns : List Node). flat u ++ ns) (flat-last us t) ∙ sym (append_assoc (flat u) (flat_all us) (flat t))
 

@@ -1,4 +1,5 @@
 mod Pushes
 pub mod FlatTrees
 mod FlatBlocks
+mod Words
 pub mod Parsed

@@ -1,28 +1,23 @@
--- What the reader says of the text.
-use Rattle.std.proofs.Common.{◌≡◌, ℕ, ◌+◌, List, [], ◌∷◌, ◌++◌, length, Option, Some, None, Result, Ok, Err, option_map, map, refl, sym, ap, subst, subst₂, ◌∙◌, length-append}
-use Rattle.std.proofs.Math.Seq.{append_snoc, take-append_seam, take-length}
-use Rattle.std.specs.Prelude.{unwrap_or}
-use Rattle.general_lemmas.proofs.Places.{slice_get_seam}
-use Rattle.file_text.specs.declared.Token.{Token}
-use Rattle.file_text.specs.Tokens.{Spells}
+-- What the reader of files says of the words that it has taken.
+use Rattle.std.proofs.Common.{◌≡◌, ℕ, ◌+◌, true, List, [], ◌∷◌, ◌++◌, length, Option, Some, None, Result, Ok, Err, map, refl, sym, ap, subst, ◌∙◌, arith}
+use Rattle.std.specs.Result.{IfOk}
 use Rattle.file_text.specs.Syntax as syntax
-use Rattle.file_text.specs.Grammar as grammar
-use Rattle.file_text.specs.Refusals.{SyntaxCause, unknown_block, repeated_block, other_condition_type, wrong_syntax, missing_rules}
-use Rattle.file_text.specs.Texts.{word_of, words_of, place_of_token, IsNoText}
-use Rattle.file_text.proofs.Machine.{State, outside, step, finish, run}
-use Rattle.file_text.proofs.CodeSteps.{state_at, state_start, state_next, state_refused, state_ended, state_end_refused}
-use Rattle.file_text.proofs.TextLaws.{text_read, text_refused}
-use Rattle.cops_lex.specs.Reading.{Reading, HasRead, ReadsOn, IsAtEnd, HasRest}
+use Rattle.file_text.specs.Grammar.{Word}
+use Rattle.file_text.specs.Refusals.{SyntaxCause}
+use Rattle.file_text.proofs.Machine.{State, outside, step, finish, numbered, finished, read_file}
+use Rattle.file_text.proofs.Goes.{goes, goes_then, goes_one_end, step_goes, goes_run, stop_run}
+use Rattle.file_text.proofs.Files.{file_sound}
+use Rattle.file_text.proofs.RefusedFiles.{refused_sound}
 use Rattle.cops_syntax.specs.Flat as lists
 use Rattle.cops_syntax.specs.declared.tree.CondText.{CondText}
 use Rattle.cops_syntax.specs.declared.tree.RuleText.{RuleText}
 use Rattle.cops_syntax.specs.declared.tree.FileText.{FileText}
 use Rattle.cops_syntax.specs.declared.blocks.SyntaxRefusal.{SyntaxRefusal}
 use Rattle.cops_syntax.specs.declared.blocks.Blocks.{Blocks}
-use Rattle.cops_syntax.specs.declared.reader.SyntaxError.{SyntaxError}
 use Rattle.cops_syntax.specs.View.{AreConditions, IsRule, AreRules, IsFileText}
-use Rattle.cops_syntax.specs.States.{condition_view, rule_view, stage_view, blocks_view, cause_of, passed, file_view, ended_file, error_at}
-use Rattle.cops_syntax.specs.Answers.{IsCauseOf, TreeAnswers}
+use Rattle.cops_syntax.specs.States.{condition_view, rule_view, stage_view, blocks_view, cause_of, passed, file_view, ended_file}
+use Rattle.cops_syntax.specs.Reader.{at_start, one_further, TakeAnswers, EndAnswers}
+use Rattle.cops_syntax.specs.Answers.{Follow, SpellFile, AreRefusedFor}
 use Rattle.cops_syntax.proofs.FlatTrees.{condition_of, rule_of}
 use Rattle.cops_syntax.proofs.FlatBlocks.{blocks_of, mapped, IsFresh, block_step_of, fresh_next, can_step_of, file_of, mapped_file, finish_of}
 
@@ -61,40 +56,7 @@ is_file f t e = record {
   rules = are_rules f.rules.items t.rules (ap (λ (g : lists.File). g.rules) e);
 }
 
--- ---- one token after the other
-
--- The reader of trees has read these tokens, and the blocks are those that it holds.
-pub record Follows (bytes : List ℕ) (ts : List Token) (b : Blocks) : Type 0 where
-  pub state : State
-  pub fresh : IsFresh state
-  pub shows : blocks_view b ≡ blocks_of state
-  pub reached : state_at bytes ts (length ts) ≡ Ok state
-
--- The same of the tokens that a lexer has read.
-pub record IsReadUpTo (bytes : List ℕ) (r : Reading) (b : Blocks) : Type 0 where
-  pub text : r.bytes ≡ bytes
-  pub tokens : List Token
-  pub read : HasRead r tokens
-  pub follows : Follows bytes tokens b
-
-pub follows_start : (bytes : List ℕ) (r : Reading) (b : Blocks) → r.bytes ≡ bytes → HasRead r [] → blocks_view b ≡ lists.begin → IsReadUpTo bytes r b
-follows_start bytes r b text read e = record {
-  text = text;
-  tokens = [];
-  read = read;
-  follows = record { state = outside []; fresh = tt; shows = e; reached = state_start bytes [] };
-}
-
-pub follows_can : (bytes : List ℕ) (r : Reading) (b : Blocks) → IsReadUpTo bytes r b → lists.CanStep (stage_view b.stage)
-follows_can bytes r b i = subst lists.CanStep (sym (ap (λ (c : lists.Blocks). c.stage) i.follows.shows)) (can_step_of i.follows.state)
-
--- the step of the reader of trees
-same_step : (bytes : List ℕ) (ts : List Token) (b : Blocks) (v : grammar.Word) (w : grammar.Word) (r : Result lists.Blocks SyntaxCause) (f : Follows bytes ts b) → r ≡ lists.step_blocks (blocks_view b) v → v ≡ w
-    → r ≡ mapped (step f.state w)
-same_step bytes ts b v w r f e is =
-    e ∙ ap (lists.step_blocks (blocks_view b)) is
-    ∙ ap (λ (c : lists.Blocks). lists.step_blocks c w) f.shows
-    ∙ block_step_of f.state w f.fresh
+-- ---- one word after the other
 
 mapped_ok : {P : Type 0} (b : lists.Blocks) (r : Result State SyntaxCause) → Ok b ≡ mapped r → ((t : State) → r ≡ Ok t → b ≡ blocks_of t → P) → P
 mapped_ok b (Ok t) e k = k t refl cc
@@ -104,58 +66,49 @@ mapped_err : (c : SyntaxCause) (r : Result State SyntaxCause) → Err c ≡ mapp
 mapped_err c (Ok t) e = absurd cc
 mapped_err c (Err d) e = let same : c ≡ d = cc in ap (λ (x : SyntaxCause). Err x) (sym same)
 
--- the first tokens lead to the same state, whatever follows them
-state_before : (bytes : List ℕ) (ts us : List Token) → state_at bytes (ts ++ us) (length ts) ≡ state_at bytes ts (length ts)
-state_before bytes ts us = ap (λ (vs : List Token). run 0 (outside []) (words_of bytes vs)) (take-append_seam ts us ∙ sym (take-length ts))
+-- The words lead to what the blocks show.
+record Followed (ws : List Word) (b : lists.Blocks) : Type 0 where
+  pub state : State
+  pub fresh : IsFresh state
+  pub shows : b ≡ blocks_of state
+  pub reached : goes true (outside []) ws ≡ Some state
 
-next_state : (bytes : List ℕ) (ts : List Token) (t : Token) (s u : State) → state_at bytes ts (length ts) ≡ Ok s → step s (word_of bytes t) ≡ Ok u → state_at bytes (ts ++ t ∷ []) (length (ts ++ t ∷ [])) ≡ Ok u
-next_state bytes ts t s u e is =
-    let longer : length (ts ++ t ∷ []) ≡ length ts + 1 = length-append ts (t ∷ []) in
-    ap (state_at bytes (ts ++ t ∷ [])) longer ∙ state_next bytes (ts ++ t ∷ []) (length ts) t s u (state_before bytes ts (t ∷ []) ∙ e) (slice_get_seam ts t []) is
+-- the step of the reader of trees
+same_step : (ws : List Word) (b : lists.Blocks) (w : Word) (f : Followed ws b) → lists.step_blocks b w ≡ mapped (step f.state w)
+same_step ws b w f = ap (λ (c : lists.Blocks). lists.step_blocks c w) f.shows ∙ block_step_of f.state w f.fresh
 
-pub follows_next : (bytes : List ℕ) (old new : Reading) (t : Token) (before after : Blocks) (v : grammar.Word) (o : Option SyntaxRefusal) → IsReadUpTo bytes old before → ReadsOn old t new → new.bytes ≡ old.bytes
-    → v ≡ word_of bytes t → passed o after ≡ lists.step_blocks (blocks_view before) v → o ≡ None → IsReadUpTo bytes new after
-follows_next bytes old new t before after v o i on text is e none =
-    let w = word_of bytes t in
-    let f = i.follows in
-    mapped_ok (blocks_view after) (step f.state w) (ap (λ (p : Option SyntaxRefusal). passed p after) (sym none) ∙ same_step bytes i.tokens before v w (passed o after) f e is)
+followed : (ws : List Word) (b : lists.Blocks) → Follow ws b → Followed ws b
+followed _ _ at_start = record { state = outside []; fresh = tt; shows = refl; reached = refl }
+followed _ _ (one_further ws w b c led e) =
+    let f = followed ws b led in
+    mapped_ok c (step f.state w) (sym e ∙ same_step ws b w f)
     (λ s to shows. record {
-      text = text ∙ i.text;
-      tokens = i.tokens ++ t ∷ [];
-      read = on i.tokens i.read;
-      follows = record {
-        state = s;
-        fresh = fresh_next f.state s w f.fresh to;
-        shows = shows;
-        reached = next_state bytes i.tokens t f.state s f.reached to;
-      };
+      state = s;
+      fresh = fresh_next f.state s w f.fresh to;
+      shows = shows;
+      reached = goes_then true ws (w ∷ []) (outside []) f.state f.reached ∙ goes_one_end true w f.state s (step_goes f.state s w to);
     })
 
-pub place_at : (bytes : List ℕ) (ts us : List Token) (t : Token) → place_of_token bytes (ts ++ t ∷ us) (length ts) ≡ t.from
-place_at bytes ts us t = ap (λ (o : Option Token). unwrap_or (option_map (λ u. u.from) o) (length bytes)) (slice_get_seam ts t us)
+pub follows_can : (ws : List Word) (b : Blocks) → Follow ws (blocks_view b) → lists.CanStep (stage_view b.stage)
+follows_can ws b led = let f = followed ws (blocks_view b) led in subst lists.CanStep (sym (ap (λ (c : lists.Blocks). c.stage) f.shows)) (can_step_of f.state)
 
--- the tokens that a lexer still reads stand behind the one that it has just read
-pub rest_behind : (bytes : List ℕ) (old new : Reading) (t : Token) (ts : List Token) → HasRead old ts → ReadsOn old t new → new.bytes ≡ bytes → HasRest new → (us : List Token) × Spells bytes (ts ++ t ∷ us)
-rest_behind bytes old new t ts h on text rest =
-    let all = rest (ts ++ t ∷ []) (on ts h) in
-    (all.0, subst₂ Spells text (append_snoc ts t all.0) all.1)
-
-pub follows_refused : (bytes : List ℕ) (old new : Reading) (t : Token) (before after : Blocks) (v : grammar.Word) (o : Option SyntaxRefusal) (refusal : SyntaxRefusal) → IsReadUpTo bytes old before → ReadsOn old t new
-    → new.bytes ≡ old.bytes → HasRest new → v ≡ word_of bytes t → passed o after ≡ lists.step_blocks (blocks_view before) v → o ≡ Some refusal → IsNoText bytes (cause_of refusal) t.from
-follows_refused bytes old new t before after v o refusal i on text rest is e some =
-    let w = word_of bytes t in
+takes : (before after : Blocks) (w : Word) (o : Option SyntaxRefusal) → passed o after ≡ lists.step_blocks (blocks_view before) w
+    → (ws : List Word) → Follow ws (blocks_view before) → TakeAnswers (λ vs. Follow vs (blocks_view after)) AreRefusedFor ws w o
+takes before after w None e ws led = one_further ws w (blocks_view before) (blocks_view after) led (sym e)
+takes before after w (Some refusal) e ws led = λ us.
+    let f = followed ws (blocks_view before) led in
     let c = cause_of refusal in
-    let f = i.follows in
-    let ts = i.tokens in
-    let stops = mapped_err c (step f.state w) (ap (λ (p : Option SyntaxRefusal). passed p after) (sym some) ∙ same_step bytes ts before v w (passed o after) f e is) in
-    let all = rest_behind bytes old new t ts i.read on (text ∙ i.text) rest in
-    subst (λ (at : ℕ). IsNoText bytes c at) (place_at bytes ts all.0 t)
-    (text_refused bytes (ts ++ t ∷ all.0) c (length ts) all.1 (state_refused bytes (ts ++ t ∷ all.0) (length ts) t f.state c (state_before bytes ts (t ∷ all.0) ∙ f.reached) (slice_get_seam ts t all.0) stops))
+    let number : 0 + length ws ≡ length ws = omega arith in
+    let stops = mapped_err c (step f.state w) (e ∙ same_step ws (blocks_view before) w f) in
+    refused_sound (ws ++ w ∷ us) c (length ws)
+    (ap (finished (length (ws ++ w ∷ us))) (stop_run 0 ws w us (outside []) f.state c f.reached stops ∙ ap (λ (n : ℕ). Err (c, n)) number))
+
+pub follows_take : {E : Type 0} (before after : Blocks) (w : Word) (r : Result (Option SyntaxRefusal) E) → IfOk r (λ o. passed o after ≡ lists.step_blocks (blocks_view before) w)
+    → IfOk r (λ o. (ws : List Word) → Follow ws (blocks_view before) → TakeAnswers (λ vs. Follow vs (blocks_view after)) AreRefusedFor ws w o)
+follows_take before after w (Ok o) h = takes before after w o h
+follows_take before after w (Err e) h = tt
 
 -- ---- the end
-
-same_end : (bytes : List ℕ) (ts : List Token) (b : Blocks) (r : Result lists.File SyntaxCause) (f : Follows bytes ts b) → r ≡ lists.finish (blocks_view b) → r ≡ mapped_file (finish f.state)
-same_end bytes ts b r f e = e ∙ ap (λ (c : lists.Blocks). lists.finish c) f.shows ∙ finish_of f.state
 
 file_ok : {P : Type 0} (g : lists.File) (r : Result syntax.FileTree SyntaxCause) → Ok g ≡ mapped_file r → ((t : syntax.FileTree) → r ≡ Ok t → g ≡ file_of t → P) → P
 file_ok g (Ok t) e k = k t refl cc
@@ -165,39 +118,17 @@ file_err : (c : SyntaxCause) (r : Result syntax.FileTree SyntaxCause) → Err c 
 file_err c (Ok t) e = absurd cc
 file_err c (Err d) e = let same : c ≡ d = cc in ap (λ (x : SyntaxCause). Err x) (sym same)
 
-all_spelled : (bytes : List ℕ) (r : Reading) (b : Blocks) (i : IsReadUpTo bytes r b) → IsAtEnd r → Spells bytes i.tokens
-all_spelled bytes r b i end = subst (λ (bs : List ℕ). Spells bs i.tokens) i.text (end i.tokens i.read)
+read_to : (ws : List Word) (s : State) (r : Result syntax.FileTree SyntaxCause) → goes true (outside []) ws ≡ Some s → finish s ≡ r → read_file ws ≡ numbered (length ws) (λ file. Ok file) r
+read_to ws s r e is = ap (finished (length ws)) (goes_run 0 ws (outside []) s e) ∙ ap (numbered (length ws) (λ (file : syntax.FileTree). Ok file)) is
 
-pub follows_file : (bytes : List ℕ) (last : Reading) (b : Blocks) (r : Result FileText SyntaxRefusal) (file : FileText) → IsReadUpTo bytes last b → IsAtEnd last → ended_file r ≡ lists.finish (blocks_view b) → r ≡ Ok file
-    → TreeAnswers bytes (Ok file)
-follows_file bytes last b r file i end e is =
-    let f = i.follows in
-    let ts = i.tokens in
-    file_ok (file_view file) (finish f.state) (ap ended_file (sym is) ∙ same_end bytes ts b (ended_file r) f e)
-    (λ t to same. (t, text_read bytes ts t (all_spelled bytes last b i end) (state_ended bytes ts f.state t f.reached to), is_file file t same))
+pub follows_end : (b : Blocks) (r : Result FileText SyntaxRefusal) → ended_file r ≡ lists.finish (blocks_view b) → (ws : List Word) → Follow ws (blocks_view b) → EndAnswers SpellFile AreRefusedFor ws r
+follows_end b r e ws led = go r (e ∙ ap (λ (c : lists.Blocks). lists.finish c) f.shows ∙ finish_of f.state)
+  where
+    f : Followed ws (blocks_view b)
+    f = followed ws (blocks_view b) led
 
-pub place_end : (bytes : List ℕ) (ts : List Token) → place_of_token bytes ts (length ts) ≡ length bytes
-place_end bytes [] = refl
-place_end bytes (t ∷ ts) = place_end bytes ts
-
-pub follows_missing : (bytes : List ℕ) (last : Reading) (b : Blocks) (r : Result FileText SyntaxRefusal) (refusal : SyntaxRefusal) → IsReadUpTo bytes last b → IsAtEnd last → ended_file r ≡ lists.finish (blocks_view b)
-    → r ≡ Err refusal → IsNoText bytes (cause_of refusal) (length bytes)
-follows_missing bytes last b r refusal i end e is =
-    let c = cause_of refusal in
-    let f = i.follows in
-    let ts = i.tokens in
-    let stops = file_err c (finish f.state) (ap ended_file (sym is) ∙ same_end bytes ts b (ended_file r) f e) in
-    subst (λ (at : ℕ). IsNoText bytes c at) (place_end bytes ts)
-    (text_refused bytes ts c (length ts) (all_spelled bytes last b i end) (state_end_refused bytes ts f.state c f.reached stops))
-
--- ---- answers
-
-refused_at : (bytes : List ℕ) (c : SyntaxCause) (at : ℕ) → IsNoText bytes c at → IsCauseOf bytes (error_at c at)
-refused_at bytes unknown_block at h = h
-refused_at bytes repeated_block at h = h
-refused_at bytes other_condition_type at h = h
-refused_at bytes wrong_syntax at h = h
-refused_at bytes missing_rules at h = h
-
-pub refused_as : (bytes : List ℕ) (c : SyntaxCause) (at : ℕ) (e : SyntaxError) → e ≡ error_at c at → IsNoText bytes c at → IsCauseOf bytes e
-refused_as bytes c at e is h = subst (IsCauseOf bytes) (sym is) (refused_at bytes c at h)
+    go : (r : Result FileText SyntaxRefusal) → ended_file r ≡ mapped_file (finish f.state) → EndAnswers SpellFile AreRefusedFor ws r
+    go (Ok file) same = file_ok (file_view file) (finish f.state) same (λ t to is. (t, file_sound ws t (read_to ws f.state (Ok t) f.reached to), is_file file t is))
+    go (Err refusal) same =
+        let c = cause_of refusal in
+        refused_sound ws c (length ws) (read_to ws f.state (Err c) f.reached (file_err c (finish f.state) same))

@@ -1,4 +1,5 @@
 pub mod View
 pub mod Flat
 pub mod States
+pub mod Reader
 pub mod Answers

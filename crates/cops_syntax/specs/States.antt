@@ -1,5 +1,5 @@
 -- What the reader holds, as lists.
-use Rattle.std.specs.Prelude.{ℕ, List, map, reverse, Bool, true, false, Option, Some, None, option_map, Result, Ok, Err}
+use Rattle.std.specs.Prelude.{List, map, reverse, Bool, true, false, Option, Some, None, option_map, Result, Ok, Err}
 use Rattle.file_text.specs.Grammar as grammar
 use Rattle.file_text.specs.Refusals.{SyntaxCause, unknown_block, repeated_block, other_condition_type, wrong_syntax, missing_rules}
 use Rattle.cops_syntax.specs.Flat as flat
@@ -18,8 +18,6 @@ use Rattle.cops_syntax.specs.declared.blocks.SyntaxRefusal.TheVariants.{Syntax, 
 use Rattle.cops_syntax.specs.declared.blocks.Stage.{Stage}
 use Rattle.cops_syntax.specs.declared.blocks.Stage.TheVariants.{Outside, Title, TypeWord, TypeEnd, Variables, Rules}
 use Rattle.cops_syntax.specs.declared.blocks.Blocks.{Blocks}
-use Rattle.cops_syntax.specs.declared.reader.SyntaxError.{SyntaxError}
-use Rattle.cops_syntax.specs.declared.reader.SyntaxError.TheVariants as error
 use Rattle.cops_syntax.specs.View.{name_view, names_view, nodes_view}
 
 abbrev pub word_view : Word → grammar.Word
@@ -102,11 +100,3 @@ file_view f = record { condition_type = f.condition_type; variables = names_view
 abbrev pub ended_file : Result FileText SyntaxRefusal → Result flat.File SyntaxCause
 ended_file (Ok f) = Ok (file_view f)
 ended_file (Err refusal) = Err (cause_of refusal)
-
--- the refusal at its place
-abbrev pub error_at : SyntaxCause → ℕ → SyntaxError
-error_at wrong_syntax at = error.Syntax at
-error_at unknown_block at = error.UnknownBlock at
-error_at repeated_block at = error.RepeatedBlock at
-error_at other_condition_type at = error.ConditionTypeOther at
-error_at missing_rules at = error.MissingRules at

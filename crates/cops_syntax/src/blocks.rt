@@ -10,16 +10,33 @@ use crate::tree::{FileText, Name, RuleText};
 use crate::word::Word;
 use file_text::ConditionType;
 use std::alloc::{AllocError, Global};
-use std::mem;
+use std::{fmt, mem};
 
-/// Why a word may not stand where it does.
-#[derive(Clone, Copy)]
+/// Why a word may not stand where it does, or the words may not end.
+#[derive(Clone, Copy, Debug)]
 pub enum SyntaxRefusal {
+    /// A token that continues no text of the grammar, or an end that comes too early.
     Syntax,
+    /// A block's title that is none of the three words.
     UnknownBlock,
+    /// A block's title that an earlier block has.
     RepeatedBlock,
+    /// A condition type that is neither `ORIENTED` nor `JOIN`.
     ConditionTypeOther,
+    /// Whole blocks of which none has rules.
     MissingRules,
+}
+
+impl fmt::Display for SyntaxRefusal {
+    fn fmt<W: fmt::Write>(&self, f: &mut fmt::Formatter<W>) -> fmt::Result {
+        f.write_str(match self {
+            SyntaxRefusal::Syntax => "syntax",
+            SyntaxRefusal::UnknownBlock => "unknown block",
+            SyntaxRefusal::RepeatedBlock => "repeated block",
+            SyntaxRefusal::ConditionTypeOther => "condition type other",
+            SyntaxRefusal::MissingRules => "missing rules",
+        })
+    }
 }
 
 // Where in a block the next word stands.

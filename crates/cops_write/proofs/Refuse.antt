@@ -1,12 +1,13 @@
 -- A written tree is not refused where the tree that it is alike is not.
 use Rattle.std.proofs.Common.{◌≡◌, ℕ, suc, Bool, true, false, List, [], ◌∷◌, ◌++◌, length, Option, None, Some, refl, sym, ap, ap₂, ◌∙◌, subst}
 use Rattle.std.specs.Prelude.{◌==◌, ◌&&◌, ◌||◌, if◌then◌else◌, not, nat_le}
+use Rattle.std.specs.Option.{option_or}
 use Rattle.file_text.specs.Syntax.{Phrase, Phrases, word, call, none, more, count, ConditionTree, Guard, RuleTree}
 use Rattle.cops_names.specs.NameTable.{number_of}
 use Rattle.cops_names.specs.NameLists.{is_among, with_name}
 use Rattle.cops_read.specs.Meaning.{with_symbol, sides, phrases_of_rule}
 use Rattle.cops_read.specs.Uses.{Spot, spots, spots_of_all, Side, side_of, Use, Event, use_of, bar_at, uses_from, term_events, condition_events, guard_events, rule_events, rules_events}
-use Rattle.cops_read.specs.Refusals.{MeaningCause, cause_or, limit_cause, variable_cause, symbol_cause, known_symbol_cause, arity_in, arity_differs, variable_with_arguments, left_variable, too_many_variables, first_or, symbols_used, variables_used, cause_at, event_cause, first_refusal}
+use Rattle.cops_read.specs.Refusals.{MeaningCause, limit_cause, variable_cause, symbol_cause, known_symbol_cause, arity_in, arity_differs, variable_with_arguments, left_variable, too_many_variables, first_or, symbols_used, variables_used, cause_at, event_cause, first_refusal}
 use Rattle.cops_write.proofs.Trees.{Alike, AreAlike, ConditionsAlike, GuardsAlike, RulesAlike}
 use Rattle.cops_write.proofs.Agree.{Names, Agree, AgreeAll, RulesAgree}
 use Rattle.cops_write.proofs.SameText.{has_guard, some_guard}
@@ -201,7 +202,7 @@ module _ (block other : Names) (oriented : Bool) where
       ∙ ap (λ (name : List ℕ). known_symbol_cause table v (arity_in table (number_of table name))) l.spot.text
 
   cause_fine : (limit more_limit x y z w : Option MeaningCause) (b c : Bool) → limit ≡ more_limit → b ≡ c → (x ≡ None → y ≡ None) → z ≡ w
-      → cause_or limit (if b then x else z) ≡ None → cause_or more_limit (if c then y else w) ≡ None
+      → option_or limit (if b then x else z) ≡ None → option_or more_limit (if c then y else w) ≡ None
   cause_fine (Some k) n x y z w b c e f i j h = absurd cc
   cause_fine None (Some k) x y z w b c e f i j h = absurd cc
   cause_fine None None x y z w true true e f i j h = i h

@@ -5,6 +5,7 @@ use Rattle.std.proofs.lemmas.Bool.{le-ltb, lt-leb, and_right}
 use Rattle.std.proofs.lemmas.List.Quantifiers.{position-Some}
 use Rattle.std.proofs.lemmas.Option.{slice_get-get_or}
 use Rattle.std.specs.Str.{bytes_eq}
+use Rattle.std.specs.Option.{option_or}
 use Rattle.file_text.specs.Syntax.{Phrase, Phrases, word, call, none, more, count, Node, ConditionTree, RuleTree, conditions_of, Guard}
 use Rattle.rewriting.specs.Terms.{Term, var, app, Terms, nil, cons, IsVariable}
 use Rattle.rewriting.specs.Rules.{Condition, Rule}
@@ -14,7 +15,7 @@ use Rattle.cops_names.proofs.Lists.{Extends, extends_refl, extends_trans, extend
 use Rattle.cops_read.specs.Meaning.{phrases_of_rule, sides, rule_variables, with_variables, with_all_variables, with_symbols, with_all_symbols, with_rule_symbols, IsSymbolOf, IsTermOf, AreTermsOf, AreConditionsOf, IsRuleOf, AreRulesOf}
 use Rattle.cops_read.specs.Uses.{Use, Side, side_of}
 use Rattle.cops_read.specs.Refusals.{MeaningCause, limit_cause, variable_cause, symbol_cause, known_symbol_cause, arity_in, first_or, cause_at}
-use Rattle.cops_read.specs.Steps.{or_refusal, nodes, all_nodes, use_at, term_refusal, terms_refusal}
+use Rattle.cops_read.specs.Steps.{nodes, all_nodes, use_at, term_refusal, terms_refusal}
 use Rattle.cops_read.specs.RuleSteps.{bar_refusal, side_refusal, conditions_refusal, rule_refusal, rules_refusal}
 use Rattle.cops_read.proofs.Growth.{symbols_extend, all_symbols_extend, variables_extend, all_variables_extend, rule_symbols_extend}
 
@@ -90,8 +91,8 @@ module _ (block : Names) (whole : Table) (few : length whole < 1000) where
   passes : (c : Option MeaningCause) (at : ℕ) (others : Option (MeaningCause × ℕ)) → c ≡ None → others ≡ None → first_or c at others ≡ None
   passes c at others h k = ap (λ (c : Option MeaningCause). first_or c at others) h ∙ k
 
-  both_pass : (a b : Option (MeaningCause × ℕ)) → a ≡ None → b ≡ None → or_refusal a b ≡ None
-  both_pass a b h k = ap (λ (a : Option (MeaningCause × ℕ)). or_refusal a b) h ∙ k
+  both_pass : (a b : Option (MeaningCause × ℕ)) → a ≡ None → b ≡ None → option_or a b ≡ None
+  both_pass a b h k = ap (λ (a : Option (MeaningCause × ℕ)). option_or a b) h ∙ k
 
   module _ (vars : Names) (few_vars : length vars < 100) (side : Side) (rule : side.rule ≤ 1000) (condition : side.condition ≤ 20) where
     mutual

@@ -1,16 +1,18 @@
 -- The first refusal among the identifiers of a query is the one that is found part by part.
-use Rattle.std.proofs.Common.{◌≡◌, ℕ, suc, ◌+◌, Bool, true, false, if◌then◌else◌, List, [], ◌∷◌, ◌++◌, length, Option, Some, None, refl, sym, ap, ap₂, subst, ◌∙◌, arith, append_assoc, append-nil}
+use Rattle.std.proofs.Common.{◌≡◌, ℕ, suc, ◌+◌, Bool, true, false, if◌then◌else◌, List, [], ◌∷◌, ◌++◌, length, Option, None, refl, sym, ap, ap₂, subst, ◌∙◌, arith, append_assoc, append-nil}
+use Rattle.std.specs.Option.{option_or}
 use Rattle.file_text.specs.Syntax.{Phrase, Phrases, word, call, none, more, count, ConditionTree}
 use Rattle.cops_names.specs.NameLists.{is_among, with_name}
 use Rattle.cops_read.specs.Meaning.{with_variables, with_all_variables, sides}
 use Rattle.cops_read.specs.Uses.{Spot, spots, spots_of_all, Side, side_of, Use, Event, use_of, bar_at, uses_from, term_events, condition_events}
-use Rattle.cops_read.specs.Refusals.{variables_used}
+use Rattle.cops_read.specs.Refusals.{variables_used, first_or}
 use Rattle.cops_read.specs.Steps.{nodes}
+use Rattle.cops_read.proofs.Firsts.{or_assoc, or_same, none_first, none_then, first_or_or, no_cause}
 use Rattle.cops_read.proofs.Events.{uses_after, spots_length}
 use Rattle.query_text.specs.Grammar.{QueryTree, conditions_of}
-use Rattle.query_text.specs.Meaning.{QueryCause, first_or, cause_at, first_refusal, variables_of, refusal_of}
+use Rattle.query_text.specs.Meaning.{QueryCause, cause_at, first_refusal, variables_of, refusal_of}
 use Rattle.query_text.proofs.Facts.{clear, used_both}
-use Rattle.query_terms.specs.Steps.{or_refusal, term_refusal, terms_refusal}
+use Rattle.query_terms.specs.Steps.{term_refusal, terms_refusal}
 use Rattle.query_terms.specs.Conditions.{side_refusal, condition_refusal, conditions_refusal}
 
 abbrev Refused : Type 0
@@ -19,49 +21,24 @@ Refused = Option (QueryCause × ℕ)
 abbrev Names : Type 0
 Names = List (List ℕ)
 
-or_assoc : (a b c : Refused) → or_refusal (or_refusal a b) c ≡ or_refusal a (or_refusal b c)
-or_assoc None b c = refl
-or_assoc (Some r) b c = refl
-
-first_or_or : (c : Option QueryCause) (at : ℕ) (a b : Refused) → first_or c at (or_refusal a b) ≡ or_refusal (first_or c at a) b
-first_or_or None at a b = refl
-first_or_or (Some cause) at a b = refl
-
--- equal firsts, and equal others where there is no first
-or_same : (a b x y : Refused) → a ≡ b → (b ≡ None → x ≡ y) → or_refusal a x ≡ or_refusal b y
-or_same a None x y h g = ap (λ (o : Refused). or_refusal o x) h ∙ g refl
-or_same a (Some r) x y h g = ap (λ (o : Refused). or_refusal o x) h
-
-none_first : (a b : Refused) → or_refusal a b ≡ None → a ≡ None
-none_first None b h = refl
-none_first (Some r) b h = h
-
-none_then : (a b : Refused) → or_refusal a b ≡ None → b ≡ None
-none_then None b h = h
-none_then (Some r) b h = cc
-
-no_cause : (c : Option QueryCause) (at : ℕ) (o : Refused) → first_or c at o ≡ None → c ≡ None
-no_cause None at o h = refl
-no_cause (Some c) at o h = cc
-
 module _ (block : Names) (table : List (List ℕ × ℕ)) where
-  refusal_after : (front xs ys : List Event) → first_refusal block table front (xs ++ ys) ≡ or_refusal (first_refusal block table front xs) (first_refusal block table (front ++ xs) ys)
+  refusal_after : (front xs ys : List Event) → first_refusal block table front (xs ++ ys) ≡ option_or (first_refusal block table front xs) (first_refusal block table (front ++ xs) ys)
   refusal_after front [] ys = ap (λ (f : List Event). first_refusal block table f ys) (sym (append-nil front))
   refusal_after front (use_of u ∷ xs) ys =
       ap (first_or (cause_at block table (variables_used block 1 [] front) u) u.spot.node.name.at) (refusal_after (front ++ use_of u ∷ []) xs ys)
       ∙ first_or_or (cause_at block table (variables_used block 1 [] front) u) u.spot.node.name.at _ _
-      ∙ ap (λ (f : List Event). or_refusal (first_or (cause_at block table (variables_used block 1 [] front) u) u.spot.node.name.at
+      ∙ ap (λ (f : List Event). option_or (first_or (cause_at block table (variables_used block 1 [] front) u) u.spot.node.name.at
       (first_refusal block table (front ++ use_of u ∷ []) xs)) (first_refusal block table f ys)) (append_assoc front (use_of u ∷ []) xs)
   refusal_after front (bar_at at ∷ xs) ys =
       refusal_after (front ++ bar_at at ∷ []) xs ys
-      ∙ ap (λ (f : List Event). or_refusal (first_refusal block table (front ++ bar_at at ∷ []) xs) (first_refusal block table f ys)) (append_assoc front (bar_at at ∷ []) xs)
+      ∙ ap (λ (f : List Event). option_or (first_refusal block table (front ++ bar_at at ∷ []) xs) (first_refusal block table f ys)) (append_assoc front (bar_at at ∷ []) xs)
 
   -- these events are refused as told, and where they are not they add this to the variables
   pub record IsPart (es : List Event) (refused : Names → Refused) (names_with : Names → Names) : Type 0 where
     pub refusal : (front : List Event) → first_refusal block table front es ≡ refused (variables_used block 1 [] front)
     pub variables : (names : Names) → refused names ≡ None → variables_used block 1 names es ≡ names_with names
 
-  part_then : (xs ys : List Event) (f g : Names → Refused) (v w : Names → Names) → IsPart xs f v → IsPart ys g w → IsPart (xs ++ ys) (λ names. or_refusal (f names) (g (v names))) (λ names. w (v names))
+  part_then : (xs ys : List Event) (f g : Names → Refused) (v w : Names → Names) → IsPart xs f v → IsPart ys g w → IsPart (xs ++ ys) (λ names. option_or (f names) (g (v names))) (λ names. w (v names))
   part_then xs ys f g v w p q = record {
     refusal = λ front.
         let names = variables_used block 1 [] front in
@@ -113,7 +90,7 @@ module _ (block : Names) (table : List (List ℕ × ℕ)) where
         let whole = part_then (use_of u ∷ []) (uses_from (side_at k) (suc (suc before)) (spots_of_all (suc depth) 1 ts))
         (λ names. first_or (cause_at block table names u) f.at None) (λ names. terms_refusal block table names k (suc depth) (suc before) ts)
         (λ names. names) (λ names. with_all_variables block names ts) (part_head k s (suc before) refl) (part_terms k (suc depth) 1 (suc before) ts) in
-        part_as _ _ (λ names. or_refusal (first_or (cause_at block table names u) f.at None) (terms_refusal block table names k (suc depth) (suc before) ts))
+        part_as _ _ (λ names. option_or (first_or (cause_at block table names u) f.at None) (terms_refusal block table names k (suc depth) (suc before) ts))
         (λ names. term_refusal block table names k depth before (call f ts)) (λ names. with_variables block names (call f ts)) refl
         (λ names.
         sym (first_or_or (cause_at block table names u) f.at None (terms_refusal block table names k (suc depth) (suc before) ts))
@@ -132,7 +109,7 @@ module _ (block : Names) (table : List (List ℕ × ℕ)) where
         let whole = part_then first later (λ names. term_refusal block table names k depth before t) (λ names. terms_refusal block table names k depth (before + nodes t) ts)
         (λ names. with_variables block names t) (λ names. with_all_variables block names ts) (part_term k depth argument before t) (part_terms k depth (suc argument) (before + nodes t) ts) in
         part_as (first ++ later) (uses_from (side_at k) (suc before) (spots_of_all depth argument (more t ts)))
-        (λ names. or_refusal (term_refusal block table names k depth before t) (terms_refusal block table (with_variables block names t) k depth (before + nodes t) ts))
+        (λ names. option_or (term_refusal block table names k depth before t) (terms_refusal block table (with_variables block names t) k depth (before + nodes t) ts))
         (λ names. terms_refusal block table names k depth before (more t ts)) (λ names. with_all_variables block names (more t ts)) split (λ names. refl) whole
 
   part_side : (k : ℕ) (p : Phrase) → IsPart (term_events (side_at k) p) (λ names. side_refusal block table names k p) (λ names. with_variables block names p)
@@ -146,14 +123,14 @@ module _ (block : Names) (table : List (List ℕ × ℕ)) where
       (λ names. with_variables block names c.right) (λ names. with_all_variables block names (sides cs)) (part_side number c.right) (part_conditions (suc number) cs) in
       let whole = part_then (term_events (side_at number) c.left) (term_events (side_at number) c.right ++ condition_events 1 (suc number) cs)
       (λ names. side_refusal block table names number c.left)
-      (λ names. or_refusal (side_refusal block table names number c.right) (conditions_refusal block table (with_variables block names c.right) (suc number) cs))
+      (λ names. option_or (side_refusal block table names number c.right) (conditions_refusal block table (with_variables block names c.right) (suc number) cs))
       (λ names. with_variables block names c.left) (λ names. with_all_variables block (with_variables block names c.right) (sides cs)) (part_side number c.left) right in
       part_as _ (condition_events 1 number (c ∷ cs))
-      (λ names. or_refusal (side_refusal block table names number c.left) (or_refusal (side_refusal block table (with_variables block names c.left) number c.right)
+      (λ names. option_or (side_refusal block table names number c.left) (option_or (side_refusal block table (with_variables block names c.left) number c.right)
       (conditions_refusal block table (with_variables block (with_variables block names c.left) c.right) (suc number) cs)))
       (λ names. conditions_refusal block table names number (c ∷ cs)) (λ names. with_all_variables block names (sides (c ∷ cs))) refl
       (λ names. sym (or_assoc (side_refusal block table names number c.left) (side_refusal block table (with_variables block names c.left) number c.right) _)
-      ∙ ap (λ (m : ℕ). or_refusal (condition_refusal block table names number c) (conditions_refusal block table (with_variables block (with_variables block names c.left) c.right) m cs))
+      ∙ ap (λ (m : ℕ). option_or (condition_refusal block table names number c) (conditions_refusal block table (with_variables block (with_variables block names c.left) c.right) m cs))
       (let e : suc number ≡ number + 1 = omega arith in e)) whole
 
 pub refusal_is : (table : List (List ℕ × ℕ)) (q : QueryTree) → refusal_of table q ≡ conditions_refusal (variables_of q) table [] 1 (conditions_of q)

@@ -8,7 +8,6 @@ use Rattle.cops_names.specs.NameLists.{with_names}
 use Rattle.query_text.specs.Grammar.{QueryTree, conditions_of}
 use Rattle.query_text.specs.Meaning.{variables_of, refusal_of, IsMeantBy}
 use Rattle.query_trees.specs.declared.tree.QueryText.{QueryText}
-use Rattle.query_trees.specs.declared.reader.QueryTreeError.TheVariants as text
 use Rattle.query_trees.specs.Answers.{IsTreeOf}
 use Rattle.query_terms.specs.Steps.{Tells}
 use Rattle.query_terms.specs.Conditions.{conditions_refusal, AreConditionsRead}

@@ -9,8 +9,9 @@ use Rattle.cops_read.specs.declared.errors.Count.{Count}
 use Rattle.cops_read.specs.declared.errors.Count.TheVariants.{Rules, Conditions, Arity, Nodes, Variables, Symbols}
 use Rattle.query_text.specs.Meaning.{too_many_conditions, too_deep, too_many_nodes, variable_with_arguments, unknown_name, too_many_variables, arity_differs}
 use Rattle.query_text.specs.Query.{IsQuery, IsNoQuery, join_system, no_tokens, wrong_syntax, no_meaning}
-use Rattle.query_trees.specs.declared.reader.QueryTreeError.{QueryTreeError}
-use Rattle.query_trees.specs.declared.reader.QueryTreeError.TheVariants as text
+use Rattle.cops_syntax.specs.declared.reader.TextError.{TextError}
+use Rattle.cops_syntax.specs.declared.reader.TextError.TheVariants as text
+use Rattle.query_trees.specs.declared.reader.NoQuery.{NoQuery}
 use Rattle.query_terms.specs.declared.errors.MeaningError.{MeaningError}
 use Rattle.query_terms.specs.declared.errors.MeaningError.TheVariants as meaning
 use Rattle.query_terms.specs.declared.reader.Query.{Query}
@@ -18,20 +19,20 @@ use Rattle.query_terms.specs.declared.reader.QueryError.{QueryError}
 use Rattle.query_terms.specs.declared.reader.QueryError.TheVariants.{JoinSystem, BadByte, IdTooLong, CommentNotClosed, Syntax, TooMany, TooDeep, VariableWithArguments, UnknownName, ArityDiffers, NoMemory}
 
 -- what the refusals of the parts are to the reader of queries
-abbrev pub text_error : QueryTreeError → QueryError
+abbrev pub text_error : TextError NoQuery → QueryError
 text_error (text.BadByte at) = BadByte at
 text_error (text.IdTooLong at) = IdTooLong at
 text_error (text.CommentNotClosed at) = CommentNotClosed at
-text_error (text.Syntax at) = Syntax at
+text_error (text.Refused cause at) = Syntax at
 text_error text.NoMemory = NoMemory
 
 abbrev pub meaning_error : MeaningError → QueryError
-meaning_error (meaning.TooManyConditions at) = TooMany Conditions 20 at
+meaning_error (meaning.TooManyConditions at) = TooMany Conditions (most_of Conditions) at
 meaning_error (meaning.TooDeep at) = TooDeep at
-meaning_error (meaning.TooManyNodes at) = TooMany Nodes 2000 at
+meaning_error (meaning.TooManyNodes at) = TooMany Nodes (most_of Nodes) at
 meaning_error (meaning.VariableWithArguments at) = VariableWithArguments at
 meaning_error (meaning.UnknownName at) = UnknownName at
-meaning_error (meaning.TooManyVariables at) = TooMany Variables 100 at
+meaning_error (meaning.TooManyVariables at) = TooMany Variables (most_of Variables) at
 meaning_error (meaning.ArityDiffers at) = ArityDiffers at
 meaning_error meaning.NoMemory = NoMemory
 

@@ -1,12 +1,15 @@
 //! Queries of a system, read from bytes: conditions and the names of their variables, or why a text is none.
 ghost use Rattle.std.specs.Prelude.{◌≡◌};
+ghost use Rattle.cops_read.specs.Counts.{most_of};
 ghost use Rattle.query_terms.specs.Queries.{QueryAnswers, text_error, meaning_error};
+ghost use Rattle.query_terms.specs.declared.reader.QueryError.TheVariants.{TooMany};
 
 use crate::errors::MeaningError;
 use crate::meanings::read_meaning;
 use cops_names::Names;
 use cops_read::Count;
-use query_trees::{QueryTreeError, read_query_tree};
+use cops_syntax::TextError;
+use query_trees::{NoQuery, read_query_tree};
 use std::alloc::Global;
 use term_core::{Cond, System};
 use thiserror::Error;
@@ -55,17 +58,27 @@ pub enum QueryError {
     NoMemory,
 }
 
-impl From<QueryTreeError> for QueryError {
+impl From<TextError<NoQuery>> for QueryError {
     ghost from_gives = { λ e s. s ≡ text_error e };
 
-    fn from(error: QueryTreeError) -> Self {
+    fn from(error: TextError<NoQuery>) -> Self {
         match error {
-            QueryTreeError::BadByte { at } => QueryError::BadByte { at },
-            QueryTreeError::IdTooLong { at } => QueryError::IdTooLong { at },
-            QueryTreeError::CommentNotClosed { at } => QueryError::CommentNotClosed { at },
-            QueryTreeError::Syntax { at } => QueryError::Syntax { at },
-            QueryTreeError::NoMemory => QueryError::NoMemory,
+            TextError::BadByte { at } => QueryError::BadByte { at },
+            TextError::IdTooLong { at } => QueryError::IdTooLong { at },
+            TextError::CommentNotClosed { at } => QueryError::CommentNotClosed { at },
+            TextError::Refused { at, .. } => QueryError::Syntax { at },
+            TextError::NoMemory => QueryError::NoMemory,
         }
+    }
+}
+
+fn too_many(what: Count, at: usize) -> QueryError
+    ensures { result ≡ TooMany what (most_of what) at }
+{
+    QueryError::TooMany {
+        what,
+        limit: what.limit(),
+        at,
     }
 }
 
@@ -74,24 +87,12 @@ impl From<MeaningError> for QueryError {
 
     fn from(error: MeaningError) -> Self {
         match error {
-            MeaningError::TooManyConditions { at } => QueryError::TooMany {
-                what: Count::Conditions,
-                limit: 20,
-                at,
-            },
+            MeaningError::TooManyConditions { at } => too_many(Count::Conditions, at),
             MeaningError::TooDeep { at } => QueryError::TooDeep { at },
-            MeaningError::TooManyNodes { at } => QueryError::TooMany {
-                what: Count::Nodes,
-                limit: 2000,
-                at,
-            },
+            MeaningError::TooManyNodes { at } => too_many(Count::Nodes, at),
             MeaningError::VariableWithArguments { at } => QueryError::VariableWithArguments { at },
             MeaningError::UnknownName { at } => QueryError::UnknownName { at },
-            MeaningError::TooManyVariables { at } => QueryError::TooMany {
-                what: Count::Variables,
-                limit: 100,
-                at,
-            },
+            MeaningError::TooManyVariables { at } => too_many(Count::Variables, at),
             MeaningError::ArityDiffers { at } => QueryError::ArityDiffers { at },
             MeaningError::NoMemory => QueryError::NoMemory,
         }

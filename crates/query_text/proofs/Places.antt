@@ -16,7 +16,8 @@ use Rattle.cops_read.specs.Uses.{Event, place}
 use Rattle.cops_read.proofs.Places.{EventsWithin, conditions_within}
 use Rattle.query_text.specs.Grammar.{QueryTree, QueryParts, conditions_of, spelled_block, spelled_conditions, spelled_query}
 use Rattle.query_text.specs.Texts.{IsQueryText, IsNoQueryText}
-use Rattle.query_text.specs.Meaning.{QueryCause, variables_of, query_events, event_cause, first_or, first_refusal}
+use Rattle.cops_read.specs.Refusals.{first_or}
+use Rattle.query_text.specs.Meaning.{QueryCause, variables_of, query_events, event_cause, first_refusal}
 use Rattle.query_text.specs.Query.{MeansNothing}
 use Rattle.query_text.proofs.Machine.{dummy, header}
 

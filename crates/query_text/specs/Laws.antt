@@ -7,6 +7,7 @@ use Rattle.rewriting.specs.Variables.{variables_of}
 use Rattle.rewriting.specs.Systems.{CountsFrom, Each}
 use Rattle.certificates.specs.Soundness.{AreConditionsOver}
 use Rattle.certificates.specs.Sizes.{DoConditionsFit}
+use Rattle.cops_read.specs.Bounds.{most_conditions, most_variables}
 use Rattle.cops_read.specs.Limits.{IsSmall}
 use Rattle.query_text.specs.Grammar.{QueryTree}
 use Rattle.query_text.specs.Texts.{IsQueryText, IsNoQueryText}
@@ -53,10 +54,10 @@ pub record IsWithinLimits (symbols : List (List ℕ × ℕ)) (cs : List Conditio
   pub over : AreConditionsOver (map (λ s. s.1) symbols) cs
   pub small : Each IsSmall (sides cs)
   pub fit : DoConditionsFit cs
-  pub few_conditions : length cs ≤ 20
+  pub few_conditions : length cs ≤ most_conditions
   pub numbered : CountsFrom 0 (variables_of (sides cs))
   pub named : length names ≡ length (variables_of (sides cs))
-  pub few_variables : length names ≤ 100
+  pub few_variables : length names ≤ most_variables
 
 abbrev pub QueriesAreWithinLimits : Type 0
 QueriesAreWithinLimits = (sys : System) (symbols : List (List ℕ × ℕ)) (bytes : List ℕ) (cs : List Condition) (names : List (List ℕ)) → IsQuery sys symbols bytes cs names → IsWithinLimits symbols cs names

@@ -1,6 +1,6 @@
 use Rattle.cops_read.specs.Answers.{ReadAnswers}
 use Rattle.cops_read.proofs.Readings.{no_tree, read_from}
-use Rattle.cops_read.proofs.Tells.{handed}
+use Rattle.cops_read.proofs.Firsts.{handed}
 use Rattle.cops_read.proofs.read_system.Goals as goal
 use Rattle.cops_read.specs.Steps.{read_error_of}
 

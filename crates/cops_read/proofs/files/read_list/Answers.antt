@@ -9,7 +9,7 @@ use Rattle.cops_names.specs.NameLists.{with_names}
 use Rattle.cops_read.specs.Meaning.{variables_of}
 use Rattle.cops_read.specs.File.{IsSystemOf}
 use Rattle.cops_read.specs.RuleSteps.{ListAnswers}
-use Rattle.cops_read.proofs.Tells.{handed}
+use Rattle.cops_read.proofs.Firsts.{handed}
 use Rattle.cops_read.proofs.Wholes.{rules_told, few_arguments, rules_sound, rules_counted, file_read}
 use Rattle.cops_read.proofs.files.read_list.Goals as goal
 

@@ -2,7 +2,7 @@ use Rattle.std.proofs.Common.{◌∙◌, arith, add-one}
 use Rattle.cops_syntax.specs.View.{IsCondition}
 use Rattle.cops_read.specs.RuleSteps.{ConditionsAnswers}
 use Rattle.cops_read.proofs.Repeats.{next_condition, conditions_length, conditions_fail, conditions_step, conditions_end_here}
-use Rattle.cops_read.proofs.Tells.{handed}
+use Rattle.cops_read.proofs.Firsts.{handed}
 use Rattle.cops_read.proofs.rules.read_conditions.Goals as goal
 
 pub read_condition-requires-clause-text : goal.read_condition-requires-clause-text

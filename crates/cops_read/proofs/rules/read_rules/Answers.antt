@@ -4,7 +4,7 @@ use Rattle.std.specs.Vec.Iter.{into_iter_items}
 use Rattle.cops_syntax.specs.View.{IsRule}
 use Rattle.cops_read.specs.RuleSteps.{RulesAnswers}
 use Rattle.cops_read.proofs.Repeats.{rule_taken, all_left, rules_length, rules_fail, rules_step_as, rules_end_here}
-use Rattle.cops_read.proofs.Tells.{handed}
+use Rattle.cops_read.proofs.Firsts.{handed}
 use Rattle.cops_read.proofs.rules.read_rules.Goals as goal
 
 pub read_rule-requires-clause-text : goal.read_rule-requires-clause-text

@@ -3,7 +3,7 @@ use Rattle.cops_read.specs.Uses.{side_of}
 use Rattle.cops_read.specs.RuleSteps.{SideAnswers}
 use Rattle.term_core.specs.View.{view}
 use Rattle.cops_read.proofs.Parts.{whole_list, side_read}
-use Rattle.cops_read.proofs.Tells.{handed}
+use Rattle.cops_read.proofs.Firsts.{handed}
 use Rattle.cops_read.proofs.rules.read_side.Goals as goal
 
 pub read_term-requires-clause-there : goal.read_term-requires-clause-there

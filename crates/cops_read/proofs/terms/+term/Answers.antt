@@ -1,23 +1,14 @@
-use Rattle.std.proofs.Common.{◌≡◌, ℕ, ◌+◌, ◌<◌, ◌++◌, ◌∙◌, false, true, List, length, get_or, refl, ap, drop, arith, add-one}
+use Rattle.std.proofs.Common.{◌≡◌, ◌∙◌, false, true, length, ap, arith, add-one}
 use Rattle.std.proofs.lemmas.Bool.{lt-ltb}
-use Rattle.std.proofs.lemmas.Option.{slice_get_read}
-use Rattle.file_text.specs.Syntax.{Phrase, count, Node, flat, flat_all}
-use Rattle.cops_syntax.specs.View.{node_view, nodes_view}
-use Rattle.cops_syntax.specs.declared.tree.Node as program
+use Rattle.file_text.specs.Syntax.{count, Node}
+use Rattle.cops_syntax.specs.View.{node_view}
 use Rattle.cops_read.specs.Steps.{TermAnswers, ArgumentsAnswers}
 use Rattle.cops_read.specs.Heads.{side_at, used_at}
-use Rattle.cops_read.proofs.Phrases.{next_phrase, head_of, head_is, behind_head, arguments_of, count_is, stands_within}
-use Rattle.cops_read.proofs.Tells.{handed}
+use Rattle.cops_read.proofs.Phrases.{next_phrase, here, later, arguments_of, count_is, stands_within}
+use Rattle.cops_read.proofs.Firsts.{handed}
 use Rattle.cops_read.proofs.Within.{is_within}
 use Rattle.cops_read.proofs.Walks.{head_fails, arguments_fail, whole_variable, whole_symbol, nodes_here, loop_fails, loop_step, loop_end}
 use Rattle.cops_read.proofs.terms.+term.Goals as goal
-
--- the identifier at a place is the first of the phrase
-here : (ns : List program.Node) (i : ℕ) (n : program.Node) (p : Phrase) (rest : List Node) → i < length ns → n ≡ get_or ns i n → nodes_view (drop i ns) ≡ flat p ++ rest → node_view n ≡ head_of p
-here ns i n p rest l e h = head_is ns i n p rest (slice_get_read ns (length ns) i n refl l e) h
-
-later : (ns : List program.Node) (i : ℕ) (p : Phrase) (rest : List Node) → nodes_view (drop i ns) ≡ flat p ++ rest → nodes_view (drop (i + 1) ns) ≡ flat_all (arguments_of p) ++ rest
-later ns i p rest h = rw add-one (behind_head ns i p rest h)
 
 pub read_term-returns-in_err-number-clause-term : goal.read_term-returns-in_err-number-clause-term
 read_term-returns-in_err-number-clause-term t c p rest h =

@@ -2,6 +2,7 @@ use Rattle.std.proofs.Common.{◌≡◌, ◌+◌, ◌*◌, ◌-◌, ◌≤◌, �
 use Rattle.file_text.specs.Syntax.{Phrases, count, Node, flat_all}
 use Rattle.cops_syntax.specs.View.{nodes_view}
 use Rattle.cops_read.specs.Heads.{side_at}
+use Rattle.cops_read.specs.Bounds.{most_variables}
 use Rattle.cops_read.proofs.Walks.{Loop}
 use Rattle.cops_read.proofs.terms.+term.Given as goal
 
@@ -11,7 +12,7 @@ invariant-read_arguments-arguments l = record {
       → Loop l.fn.scope.block l.fn.scope.names.symbols l.fn.scope.variables (side_at l.first) l.first.depth l.first.before l.nodes ps rest l.argument l.scope.names.symbols l.scope.variables l.terms.items l.before;
   block : l.scope.block ≡ l.fn.scope.block;
   rules : l.scope.names.variables ≡ l.fn.scope.names.variables;
-  few : length l.scope.variables ≤ 100;
+  few : length l.scope.variables ≤ most_variables;
 }
 
 abbrev pub decreases-read_term : goal.decreases-read_term
