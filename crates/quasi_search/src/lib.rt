@@ -108,7 +108,7 @@ pub fn search_quasi_over(
     }
 }
 
-/// Searches ending_of (MayEndLast for) a certificate with a measure. First there is to be an entry for each overlap, with the first valid evidence
+/// Searches for a certificate with a measure. First there is to be an entry for each overlap, with the first valid evidence
 /// among caps and grown automata, common reducts of its sides, and two reducts of the left side of a condition that show that
 /// it is never met. Caps and each automaton cost a unit. Reducts are looked for in lists of what a term reaches in 5 steps with
 /// condition depth 2, a unit for each term that is listed; common ones cost no more, and each two of a condition a unit. The
