@@ -9,7 +9,9 @@ use Rattle.quasi_space.specs.Endings.{MayEndLast}
 use Rattle.portfolio.specs.StepAnswers.{behind_ending}
 
 pub overlaps_behind-requires-clause-steps : goal.overlaps_behind-requires-clause-steps
-overlaps_behind-requires-clause-steps c = subst (AllSimplify c.args.sys.now (map simp_view c.args.steps.items)) (sym (c.in_ok-prepared.ensures ∙ c.in_ok-indexed.ensures)) c.requires.steps
+overlaps_behind-requires-clause-steps c =
+    subst (λ ss. AllSimplify c.args.sys.now (map simp_view ss) c.in_ok-prepared.prepared) (sym c.deref.ensures.value)
+    (subst (AllSimplify c.args.sys.now (map simp_view c.args.steps.items)) (sym (c.in_ok-prepared.ensures ∙ c.in_ok-indexed.ensures)) c.requires.steps)
 
 pub returns-clause-searched : goal.returns-clause-searched
 returns-clause-searched c =
