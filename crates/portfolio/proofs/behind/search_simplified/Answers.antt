@@ -19,19 +19,19 @@ pub returns-in_ok-end-in-Ok-Steps-clause-searched : goal.returns-in_ok-end-in-Ok
 returns-in_ok-end-in-Ok-Steps-clause-searched c =
     some_steps c.args.names.now c.args.sys.now c.args.budget.now c.find_steps.new.budget c.search_last_system.new.budget c.in-Ok-Steps.steps c.in-Ok-Steps.last c.is_empty.result c.is_empty.ensures c.if-is_empty.false
     (subst (λ a. FindAnswers c.args.sys.now c.args.budget.now c.find_steps.new.budget (Ok a)) c.in-Ok-Steps.field-0-is c.in-Ok-Steps.ensures)
-    c.in_ok-end.end c.in_ok-end.ensures.searched c.outcome_of.result c.outcome_of.ensures
+    c.in_ok-end-in-Ok-Steps.end c.in_ok-end-in-Ok-Steps.ensures.searched c.outcome_of.result c.outcome_of.ensures
 
 pub returns-in_ok-end-in-Ok-Steps-clause-kept : goal.returns-in_ok-end-in-Ok-Steps-clause-kept
 returns-in_ok-end-in-Ok-Steps-clause-kept c =
     kept_behind c.args.names.now c.args.sys.now c.args.budget.now c.find_steps.new.budget c.search_last_system.new.budget (map simp_view c.in-Ok-Steps.steps.items) c.in-Ok-Steps.last
     (subst (λ a. FindAnswers c.args.sys.now c.args.budget.now c.find_steps.new.budget (Ok a)) c.in-Ok-Steps.field-0-is c.in-Ok-Steps.ensures)
-    c.in_ok-end.ensures.kept
+    c.in_ok-end-in-Ok-Steps.ensures.kept
 
 pub returns-in_err-end-in-Ok-Steps-clause-kept : goal.returns-in_err-end-in-Ok-Steps-clause-kept
 returns-in_err-end-in-Ok-Steps-clause-kept c =
     kept_behind c.args.names.now c.args.sys.now c.args.budget.now c.find_steps.new.budget c.search_last_system.new.budget (map simp_view c.in-Ok-Steps.steps.items) c.in-Ok-Steps.last
     (subst (λ a. FindAnswers c.args.sys.now c.args.budget.now c.find_steps.new.budget (Ok a)) c.in-Ok-Steps.field-0-is c.in-Ok-Steps.ensures)
-    c.in_err-end.ensures.kept
+    c.in_err-end-in-Ok-Steps.ensures.kept
 
 pub returns-in-Ok-Spent-clause-searched : goal.returns-in-Ok-Spent-clause-searched
 returns-in-Ok-Spent-clause-searched c =
