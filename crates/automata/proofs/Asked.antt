@@ -2,9 +2,7 @@
 -- bring the term to its state.
 use Rattle.std.proofs.Common.{ℕ, zero, suc, ◌≡◌, ◌+◌, ◌<◌, ◌≤◌, Bool, true, false, nat_eq, if◌then◌else◌, List, [], ◌∷◌, Option, Some, All, Contains, length, slice_get, refl, sym, ap, ◌∙◌, arith}
 use Rattle.std.proofs.lemmas.List.Elements.{All-nil, All-cons, All-head, All-tail, All-append, All-same, Contains-push, Contains-append_left, Contains-append_right}
-use Rattle.rewriting.specs.Terms.{Term, var, app, Terms, nil, cons, count}
-use Rattle.rewriting.specs.Signatures.{Signature, IsOver, AreOver}
-use Rattle.rewriting.specs.Rules.{Rule}
+use Rattle.rewriting.specs.Prelude.{Term, var, app, Terms, nil, cons, count, Signature, IsOver, AreOver, Rule}
 use Rattle.certificates.specs.Evidence.{Transition}
 use Rattle.automata.specs.Runs.{Moves, IsHead, Reach, ReachAll, at, ReachBy, ReachAllBy}
 use Rattle.automata.specs.Closed.{state_of}

@@ -2,10 +2,7 @@
 use Rattle.std.proofs.Common.{ℕ, zero, suc, ◌≡◌, ◌+◌, ◌<◌, ◌≤◌, List, [], Option, None, Some, All, Contains, replicate, refl, sym, ap, ◌∙◌, subst, arith}
 use Rattle.std.proofs.lemmas.List.Elements.{All-nil, All-replicate, All-weaker, All-contains, Contains-push}
 use Rattle.std.proofs.lemmas.List.{length-replicate}
-use Rattle.rewriting.specs.Terms.{Term, var, app}
-use Rattle.rewriting.specs.Rules.{Rule, System, rule_at}
-use Rattle.rewriting.specs.Systems.{IsWellFormed}
-use Rattle.rewriting.specs.Variables.{variable_occurrences}
+use Rattle.rewriting.specs.Prelude.{Term, var, app, Rule, System, rule_at, IsWellFormed, variable_occurrences}
 use Rattle.certificates.specs.Evidence.{Transition, Automaton}
 use Rattle.automata.specs.Runs.{Symbols, IsHead, Has, ReachBy}
 use Rattle.automata.specs.Closed.{IsChoice, state_of, IsKept, HasOver, IsClosed, AcceptsAll}

@@ -1,23 +1,15 @@
 -- A closed automaton keeps what terms reach; so conditions whose right side it excludes are never met.
 use Rattle.std.proofs.Common.{ℕ, zero, suc, ◌≡◌, inl, inr, List, [], ◌∷◌, Option, None, Some, replicate, slice_get, refl, sym, subst}
-use Rattle.rewriting.specs.Terms.{Term, var, app, Terms, nil, cons, count}
-use Rattle.rewriting.specs.Substitutions.{Substitution, apply, values_of}
-use Rattle.rewriting.specs.Signatures.{IsOver, AreOver, AreValuesOver}
-use Rattle.rewriting.specs.Rules.{Condition, System}
-use Rattle.rewriting.specs.Relations.{Relation, Star, done, more}
-use Rattle.rewriting.specs.Reduction.{Rewrites, Meets, Steps}
-use Rattle.rewriting.specs.Infeasibility.{IsInfeasible}
+use Rattle.rewriting.specs.Prelude.{Term, var, app, Terms, nil, cons, count, Substitution, apply, values_of, IsOver, AreOver, AreValuesOver, Condition, System, Relation, Star, done, more}
+use Rattle.rewriting.specs.Prelude.{Rewrites, Meets, Steps, IsInfeasible, variable_occurrences}
 use Rattle.rewriting.proofs.Closures.{Star-mono}
 use Rattle.rewriting.proofs.Opened.{Open, OpenAny, opened}
 use Rattle.rewriting.proofs.Levels.{Contracts, level, level_of_step}
-use Rattle.certificates.specs.Evidence.{Automaton}
-use Rattle.certificates.specs.Judging.{hypothesis_at}
-use Rattle.certificates.specs.Reasons.{EvidenceReason}
+use Rattle.certificates.specs.Prelude.{Automaton, hypothesis_at, EvidenceReason}
 use Rattle.automata.specs.Runs.{Reach, ReachAll, at, Runs, RunsFrom0}
 use Rattle.automata.specs.Closed.{state_of, Includes, IsKept, HasOver, IsClosed, AcceptsAll, Excludes}
 use Rattle.automata.specs.Evidence.{IsAccepted, IsExclusionJudged, IsConditionJudged, not_any, misses, closure_fails, right_side, JudgedByAutomaton}
 use Rattle.automata.proofs.Splits.{split, joined, reach-mono, choice_of, state_has}
-use Rattle.rewriting.specs.Variables.{variable_occurrences}
 
 -- every term over the symbols reaches the state 0
 abbrev plain_at : System → Automaton → ℕ → ℕ → Type 0

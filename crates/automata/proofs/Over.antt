@@ -1,9 +1,7 @@
 -- Runs of a term over the symbols of a signature are by transitions under these symbols.
 use Rattle.std.proofs.Common.{ℕ, ◌≡◌, List, [], ◌∷◌, Option, None, Some, length, slice_get, sym, ap, suc, ◌∙◌}
-use Rattle.rewriting.specs.Terms.{Term, var, app, Terms, nil, cons, count}
-use Rattle.rewriting.specs.Signatures.{Signature, IsOver, AreOver}
-use Rattle.certificates.specs.Evidence.{Automaton}
-use Rattle.certificates.specs.Reasons.{EvidenceReason, auto_wide_right, auto_reaches}
+use Rattle.rewriting.specs.Prelude.{Term, var, app, Terms, nil, cons, count, Signature, IsOver, AreOver}
+use Rattle.certificates.specs.Prelude.{Automaton, EvidenceReason, auto_wide_right, auto_reaches}
 use Rattle.automata.specs.Runs.{Moves, Has, Reach, ReachAll, ReachBy, ReachAllBy, at}
 use Rattle.automata.specs.Evidence.{IsExclusionJudged}
 use Rattle.automata.specs.Laws.{AreRunsSame}

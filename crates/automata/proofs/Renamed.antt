@@ -1,13 +1,7 @@
 -- Conditions whose variables are renamed have the same judgement by an automaton: runs do not look at the names of variables.
 use Rattle.std.proofs.Common.{ℕ, ◌≡◌, inl, inr, ◌<◌, ◌^◌, suc, zero, List, [], ◌∷◌, ◌++◌, Option, None, Some, length, slice_get, refl, sym, ap, ◌∙◌, subst}
-use Rattle.rewriting.specs.Terms.{Term, Terms, var, app, nil, cons}
-use Rattle.rewriting.specs.Substitutions.{apply, apply_all}
-use Rattle.rewriting.specs.Rules.{Condition, System}
-use Rattle.rewriting.specs.Overlaps.{condition_under, conditions_under}
-use Rattle.rewriting.specs.Variables.{variable_occurrences, variable_occurrences_of}
-use Rattle.certificates.specs.Evidence.{Automaton}
-use Rattle.certificates.specs.Judging.{hypothesis_at}
-use Rattle.certificates.specs.Reasons.{EvidenceReason, auto_wide_right, auto_reaches}
+use Rattle.rewriting.specs.Prelude.{Term, Terms, var, app, nil, cons, apply, apply_all, Condition, System, condition_under, conditions_under, variable_occurrences, variable_occurrences_of}
+use Rattle.certificates.specs.Prelude.{Automaton, hypothesis_at, EvidenceReason, auto_wide_right, auto_reaches}
 use Rattle.automata.specs.Runs.{Moves, Symbols, Has, Reach, ReachAll, at, ReachBy, ReachAllBy}
 use Rattle.automata.specs.Closed.{IsWide, Excludes}
 use Rattle.automata.specs.Evidence.{IsAccepted, IsExclusionJudged, IsConditionJudged, not_any, misses, closure_fails, right_side, JudgedByAutomaton}

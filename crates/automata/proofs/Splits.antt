@@ -1,9 +1,7 @@
 -- Runs of instances: taken apart into a run of the term by states for its variable occurrences, and put together again.
 use Rattle.std.proofs.Common.{ℕ, suc, ◌≡◌, ◌<◌, Bool, true, false, nat_eq, if◌then◌else◌, List, [], ◌∷◌, ◌++◌, None, All, length, refl, sym, ap, subst, eqb-true}
 use Rattle.std.proofs.lemmas.List.Elements.{All-nil, All-cons}
-use Rattle.rewriting.specs.Terms.{Term, var, app, Terms, nil, cons}
-use Rattle.rewriting.specs.Substitutions.{Substitution, apply, apply_all}
-use Rattle.rewriting.specs.Variables.{variable_occurrences, variable_occurrences_of}
+use Rattle.rewriting.specs.Prelude.{Term, var, app, Terms, nil, cons, Substitution, apply, apply_all, variable_occurrences, variable_occurrences_of}
 use Rattle.certificates.specs.Evidence.{Automaton}
 use Rattle.automata.specs.Runs.{Moves, Symbols, Has, IsState, Reach, ReachAll, at, Runs, ReachBy, ReachAllBy}
 use Rattle.automata.specs.Closed.{IsChoice, state_of}

@@ -5,13 +5,9 @@ use Rattle.std.proofs.lemmas.Option.{slice_get_within}
 use Rattle.std.proofs.lemmas.List.Elements.{All-nil, All-cons, All-head, All-tail}
 use native.Mathlib.Decide.{ℕ_discrete, dec_lt, map_dec}
 use Rattle.general_lemmas.proofs.Decisions.{dec_and, same_numbers}
-use Rattle.rewriting.specs.Terms.{Term, var, app, Terms, nil, cons}
-use Rattle.rewriting.specs.Rules.{Rule, Condition, System, rule_at}
+use Rattle.rewriting.specs.Prelude.{Term, var, app, Terms, nil, cons, Rule, Condition, System, rule_at, variable_occurrences}
 use Rattle.rewriting.proofs.Search.{FirstBelow, search_below, FirstRule, search_rules, decided}
-use Rattle.rewriting.specs.Variables.{variable_occurrences}
-use Rattle.certificates.specs.Evidence.{Transition, Automaton}
-use Rattle.certificates.specs.Judging.{hypothesis_at}
-use Rattle.certificates.specs.Reasons.{EvidenceReason, auto_number, auto_any, auto_misses, auto_wide, auto_not_closed, auto_wide_right, auto_reaches}
+use Rattle.certificates.specs.Prelude.{Transition, Automaton, hypothesis_at, EvidenceReason, auto_number, auto_any, auto_misses, auto_wide, auto_not_closed, auto_wide_right, auto_reaches}
 use Rattle.automata.specs.Runs.{Symbols, HasArity, IsHead, Has, Reach, ReachAll, at, ReachBy, ReachAllBy, IsAccepting}
 use Rattle.automata.specs.Closed.{IsChoice, state_of, Includes, IsKept, IsRuleKept, HasOver, IsClosed, IsEarlierChoice, IsFirstOpen, IsWide, AreNarrow, IsFirstWide, AcceptsAll, Excludes}
 use Rattle.automata.specs.Evidence.{IsAccepted, IsClosureJudged, IsExclusionJudged, IsConditionJudged, not_any, misses, closure_fails, right_side, JudgedByAutomaton}

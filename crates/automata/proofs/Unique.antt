@@ -1,13 +1,9 @@
 -- An automaton has one judgement: its reasons exclude each other, and there is one first reason of a kind.
 use Rattle.std.proofs.Common.{ℕ, ◌≡◌, inl, inr, List, Option, None, Some, refl, sym, ◌∙◌, subst}
-use Rattle.rewriting.specs.Terms.{Term}
-use Rattle.rewriting.specs.Positions.{IsBefore}
-use Rattle.rewriting.specs.Rules.{Condition, System}
+use Rattle.rewriting.specs.Prelude.{Term, IsBefore, Condition, System}
 use Rattle.rewriting.proofs.Before.{Ordered, comes_first, is_same, comes_last, order_positions}
 use Rattle.rewriting.proofs.Conditions.{Order, is_smaller, is_equal, is_greater, order}
-use Rattle.certificates.specs.Evidence.{Automaton}
-use Rattle.certificates.specs.Judging.{hypothesis_at}
-use Rattle.certificates.specs.Reasons.{EvidenceReason, auto_wide, auto_not_closed, auto_wide_right, auto_reaches}
+use Rattle.certificates.specs.Prelude.{Automaton, hypothesis_at, EvidenceReason, auto_wide, auto_not_closed, auto_wide_right, auto_reaches}
 use Rattle.automata.specs.Runs.{Symbols}
 use Rattle.automata.specs.Closed.{IsClosed, IsEarlierChoice, IsFirstOpen, IsWide, AreNarrow, IsFirstWide, Excludes}
 use Rattle.automata.specs.Evidence.{IsClosureJudged, IsExclusionJudged, IsConditionJudged, not_any, misses, closure_fails, right_side, JudgedByAutomaton}

@@ -2,10 +2,7 @@
 -- sets of descendants and sets of normal forms, 1998, and Felgenhauer and Thiemann, Reachability, confluence, and termination
 -- analysis with state-compatible automata, 2017). The conditions of rules play no part.
 use Rattle.std.specs.Prelude.{ℕ, ◌≡◌, ◌<◌, ◌⊎◌, ◌^◌, nat_eq, if◌then◌else◌, List, [], ◌∷◌, Option, None, Some, All, length, replicate, slice_get}
-use Rattle.rewriting.specs.Terms.{Term, var, app}
-use Rattle.rewriting.specs.Positions.{IsBefore}
-use Rattle.rewriting.specs.Rules.{Rule, System, rule_at}
-use Rattle.rewriting.specs.Variables.{variable_occurrences}
+use Rattle.rewriting.specs.Prelude.{Term, var, app, IsBefore, Rule, System, rule_at, variable_occurrences}
 use Rattle.certificates.specs.Evidence.{Automaton}
 use Rattle.automata.specs.Runs.{Moves, Symbols, Has, Reach, at, ReachBy, IsAccepting}
 

@@ -1,10 +1,7 @@
 -- When an automaton shows that a condition is never met, and why it does not.
 use Rattle.std.specs.Prelude.{ℕ, ◌≡◌, ◌⊎◌, List, Option, None, Some}
-use Rattle.rewriting.specs.Terms.{Term}
-use Rattle.rewriting.specs.Rules.{Condition, System}
-use Rattle.certificates.specs.Evidence.{Automaton}
-use Rattle.certificates.specs.Judging.{hypothesis_at}
-use Rattle.certificates.specs.Reasons.{EvidenceReason, auto_number, auto_any, auto_misses, auto_wide, auto_not_closed, auto_wide_right, auto_reaches}
+use Rattle.rewriting.specs.Prelude.{Term, Condition, System}
+use Rattle.certificates.specs.Prelude.{Automaton, hypothesis_at, EvidenceReason, auto_number, auto_any, auto_misses, auto_wide, auto_not_closed, auto_wide_right, auto_reaches}
 use Rattle.automata.specs.Runs.{Symbols, RunsFrom0, IsAccepting}
 use Rattle.automata.specs.Closed.{IsClosed, IsFirstOpen, IsWide, AreNarrow, IsFirstWide, HasOver, AcceptsAll, Excludes}
 

@@ -1,11 +1,7 @@
 -- The least automaton that accepts a term and is closed under the rules of a system: states stand for the subterms of the
 -- term and of the right sides (after Genet 1998).
 use Rattle.std.specs.Prelude.{ℕ, zero, suc, ◌≡◌, ◌⊎◌, ◌+◌, ◌<◌, ◌^◌, List, [], ◌∷◌, ◌++◌, Option, None, Some, All, Contains, length, replicate, slice_get}
-use Rattle.rewriting.specs.Lists.{IsSorted}
-use Rattle.rewriting.specs.Terms.{Term, var, app, Terms, nil, cons}
-use Rattle.rewriting.specs.Positions.{IsBefore}
-use Rattle.rewriting.specs.Rules.{Rule, System, rule_at}
-use Rattle.rewriting.specs.Variables.{variable_occurrences}
+use Rattle.rewriting.specs.Prelude.{IsSorted, Term, var, app, Terms, nil, cons, IsBefore, Rule, System, rule_at, variable_occurrences}
 use Rattle.certificates.specs.Evidence.{Transition, Automaton}
 use Rattle.automata.specs.Runs.{Moves, IsHead, ReachBy}
 use Rattle.automata.specs.Closed.{IsChoice, state_of}

@@ -1,13 +1,7 @@
 -- Laws of tree automata.
 use Rattle.std.specs.Prelude.{ℕ, ◌≡◌, ◌↔◌, List, Option, None, Some}
-use Rattle.rewriting.specs.Terms.{Term}
-use Rattle.rewriting.specs.Signatures.{Signature, IsOver}
-use Rattle.rewriting.specs.Rules.{Condition, System}
-use Rattle.rewriting.specs.Systems.{IsWellFormed}
-use Rattle.rewriting.specs.Reduction.{Reaches}
-use Rattle.rewriting.specs.Infeasibility.{IsInfeasible}
-use Rattle.certificates.specs.Evidence.{Automaton}
-use Rattle.certificates.specs.Reasons.{EvidenceReason}
+use Rattle.rewriting.specs.Prelude.{Term, Signature, IsOver, Condition, System, IsWellFormed, Reaches, IsInfeasible}
+use Rattle.certificates.specs.Prelude.{Automaton, EvidenceReason}
 use Rattle.automata.specs.Runs.{Runs, RunsFrom0}
 use Rattle.automata.specs.Closed.{IsClosed, HasOver, AcceptsAll}
 use Rattle.automata.specs.Evidence.{IsAccepted, IsExclusionJudged, JudgedByAutomaton}

@@ -1,7 +1,6 @@
 -- Tree automata: which states a term reaches (after Comon and others, Tree Automata Techniques and Applications, chapter 1).
 use Rattle.std.specs.Prelude.{ℕ, ◌≡◌, ◌<◌, List, [], ◌∷◌, ◌++◌, Option, None, Some, All, Contains, length, slice_get}
-use Rattle.rewriting.specs.Terms.{Term, var, app, Terms, nil, cons}
-use Rattle.rewriting.specs.Signatures.{Signature}
+use Rattle.rewriting.specs.Prelude.{Term, var, app, Terms, nil, cons, Signature}
 use Rattle.certificates.specs.Evidence.{Automaton}
 
 -- transitions as a relation: under a symbol, or for a variable, the states of the arguments, and the state that they lead to

@@ -2,9 +2,7 @@
 use Rattle.std.proofs.Common.{◌≡◌, ℕ, ◌<◌, ◌≤◌, ◌⊎◌, inl, inr, refl, sym, subst, List, [], length, replicate, Option, Some, None, arith}
 use Rattle.std.specs.Prelude.{Contains, slice_get}
 use Rattle.std.proofs.lemmas.Option.{slice_get_within}
-use Rattle.rewriting.specs.Terms.{Term, var, app}
-use Rattle.rewriting.specs.Rules.{Rule, System}
-use Rattle.rewriting.specs.Variables.{variable_occurrences}
+use Rattle.rewriting.specs.Prelude.{Term, var, app, Rule, System, variable_occurrences}
 use Rattle.certificates.specs.Evidence.{Transition}
 use Rattle.automata.specs.Runs.{Has, ReachBy}
 use Rattle.automata.specs.Closed.{state_of}

@@ -1,10 +1,9 @@
 -- The order of transitions, and what keeps a list in it.
 use Rattle.std.proofs.Common.{◌≡◌, ℕ, zero, suc, ◌<◌, ◌⊎◌, inl, inr, sym, ◌∙◌, subst, List, [], ◌∷◌, ◌++◌, take, drop, Option, Some, None, arith}
 use Rattle.std.specs.Prelude.{slice_get}
-use Rattle.rewriting.specs.Positions.{IsBefore}
+use Rattle.rewriting.specs.Prelude.{IsBefore, IsBeforeAll, IsSorted}
 use Rattle.rewriting.proofs.Before.{before_before}
 use Rattle.certificates.specs.Evidence.{Transition}
-use Rattle.rewriting.specs.Lists.{IsBeforeAll, IsSorted}
 use Rattle.automata.specs.Growth.{IsHeadBefore, IsTransitionBefore}
 use Rattle.automaton_grow.specs.Placing.{AreBefore}
 

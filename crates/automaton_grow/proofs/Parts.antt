@@ -6,10 +6,8 @@ use Rattle.std.proofs.lemmas.List.Elements.{Contains-append_left, Contains-appen
 use Rattle.std.proofs.lemmas.Option.{slice_get_within}
 use Rattle.std.proofs.lemmas.List.{append-nil}
 use Rattle.rewriting.specs.Terms as terms
-use Rattle.rewriting.specs.Terms.{var, app}
+use Rattle.rewriting.specs.Prelude.{var, app, Signature, variable_occurrences, IsSorted}
 use Rattle.rewriting.specs.Rules as math
-use Rattle.rewriting.specs.Signatures.{Signature}
-use Rattle.rewriting.specs.Variables.{variable_occurrences}
 use Rattle.certificates.specs.Evidence as evidence
 use Rattle.certificates.specs.Evidence.{Automaton}
 use Rattle.cert_model.specs.declared.evidence.Transition.{Transition}
@@ -18,7 +16,6 @@ use Rattle.automata.specs.Runs.{Has}
 use Rattle.automata.proofs.Asked.{by-mono, contains_head}
 use Rattle.automaton_runs.specs.Counted.{under_all}
 use Rattle.automata.specs.Closed.{state_of}
-use Rattle.rewriting.specs.Lists.{IsSorted}
 use Rattle.automata.specs.Growth.{grown, inside, moves, first_state, state_count, AreLeast, IsTransitionBefore}
 use Rattle.automaton_runs.specs.Arrivals.{arrival_view, AreArrivals}
 use Rattle.automaton_runs.specs.declared.runs.Arrival.{Arrival}

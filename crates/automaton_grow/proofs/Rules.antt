@@ -4,11 +4,8 @@ use Rattle.std.specs.Prelude.{slice_get}
 use Rattle.std.proofs.Common.{add_assoc}
 use Rattle.std.proofs.lemmas.Option.{slice_get_within}
 use Rattle.general_lemmas.proofs.Places.{slice_get-map_read}
-use Rattle.rewriting.specs.Terms.{Term, var, app, size, Fits}
-use Rattle.rewriting.specs.Signatures.{Signature}
+use Rattle.rewriting.specs.Prelude.{Term, var, app, size, Fits, Signature, AreRules, IsSystem, condition_count, DoSidesFit, variable_occurrences}
 use Rattle.rewriting.specs.Rules as math
-use Rattle.rewriting.specs.Systems.{AreRules, IsSystem, condition_count, DoSidesFit}
-use Rattle.rewriting.specs.Variables.{variable_occurrences}
 use Rattle.automata.specs.Growth.{inner, proper, first_state, state_count}
 use Rattle.term_core.specs.RuleView.{rule_view}
 use Rattle.term_core.specs.declared.systems.Rule.{Rule}

@@ -2,8 +2,7 @@
 use Rattle.std.proofs.Common.{◌≡◌, ℕ, zero, suc, ◌+◌, ◌<◌, ◌≤◌, ◌⊎◌, inl, inr, refl, sym, ap, ◌∙◌, subst, List, [], ◌∷◌, Some, Bool, true, false, arith}
 use Rattle.std.specs.Prelude.{Contains, All, slice_get, nat_eq, if◌then◌else◌}
 use Rattle.std.proofs.lemmas.List.Elements.{All-nil, All-head, All-replicate, All-contains}
-use Rattle.rewriting.specs.Terms.{Term, var, app}
-use Rattle.rewriting.specs.Rules.{Rule, System}
+use Rattle.rewriting.specs.Prelude.{Term, var, app, Rule, System, variable_occurrences}
 use Rattle.certificates.specs.Evidence.{Transition}
 use Rattle.automata.specs.Runs.{ReachBy}
 use Rattle.automata.specs.Closed.{state_of}
@@ -12,7 +11,6 @@ use Rattle.automata.proofs.Asked.{state_below, inside_states, grown_states, befo
 use Rattle.automaton_grow.specs.Growing.{IsBasic, for_symbol, for_variables, for_term, twins, twins_of, IsAskedByRule}
 use Rattle.automaton_grow.proofs.Adding.{contains_cases, contains_none}
 use Rattle.std.proofs.Common.{eqb-true, eq-eqb}
-use Rattle.rewriting.specs.Variables.{variable_occurrences}
 
 -- where a twin comes from
 pub record IsTwin (p q : ℕ) (ds : List Transition) (d : Transition) : Type 0 where

@@ -1,8 +1,6 @@
 -- What the whole of growing answers.
 use Rattle.std.proofs.Common.{Ok, Err, Result, IfOk}
-use Rattle.rewriting.specs.Terms.{Term}
-use Rattle.rewriting.specs.Rules.{System}
-use Rattle.rewriting.specs.Systems.{IsWellFormed}
+use Rattle.rewriting.specs.Prelude.{Term, System, IsWellFormed}
 use Rattle.automata.specs.Laws.{IsWellGrown}
 use Rattle.automata.proofs.Grown.{grown_well}
 use Rattle.cert_model.specs.declared.evidence.Automaton.{Automaton}

@@ -1,7 +1,6 @@
 -- What growing an automaton answers.
 use Rattle.std.specs.Prelude.{ℕ, ◌≡◌, ◌≤◌, length, Some, Result, Ok, Err}
-use Rattle.rewriting.specs.Terms.{Term}
-use Rattle.rewriting.specs.Rules.{Rule, System, rule_at}
+use Rattle.rewriting.specs.Prelude.{Term, Rule, System, rule_at}
 use Rattle.automata.specs.Growth.{IsGrowthOf, AreStatesMany, IsTooWide, IsFirstTooWide, AreTransitionsMany}
 use Rattle.cert_model.specs.EvidenceView.{automaton_view}
 use Rattle.cert_model.specs.declared.evidence.Automaton.{Automaton}

@@ -1,9 +1,6 @@
 -- One round of growth: what a set of transitions asks for, and sets of transitions with what was added to them.
 use Rattle.std.specs.Prelude.{ℕ, ◌≡◌, ◌⊎◌, ◌<◌, ◌≤◌, nat_eq, if◌then◌else◌, List, [], ◌∷◌, None, Some, Contains, length, replicate, slice_get, Result, Ok, Err}
-use Rattle.rewriting.specs.Lists.{IsSorted}
-use Rattle.rewriting.specs.Terms.{Term, var, app}
-use Rattle.rewriting.specs.Rules.{Rule, System}
-use Rattle.rewriting.specs.Variables.{variable_occurrences}
+use Rattle.rewriting.specs.Prelude.{IsSorted, Term, var, app, Rule, System, variable_occurrences}
 use Rattle.certificates.specs.Evidence.{Transition, Automaton}
 use Rattle.automata.specs.Runs.{ReachBy}
 use Rattle.automata.specs.Closed.{IsChoice, state_of}

@@ -1,8 +1,6 @@
 -- The limits on states and choices, rule by rule.
 use Rattle.std.specs.Prelude.{ℕ, suc, ◌≡◌, ◌<◌, ◌≤◌, ◌^◌, List, length, slice_get, Option, None, Some, Result, Ok, Err}
-use Rattle.rewriting.specs.Terms.{Term}
-use Rattle.rewriting.specs.Rules.{Rule, System}
-use Rattle.rewriting.specs.Variables.{variable_occurrences}
+use Rattle.rewriting.specs.Prelude.{Term, Rule, System, variable_occurrences}
 use Rattle.automata.specs.Growth.{proper_before, state_count, AreStatesMany}
 use Rattle.automaton_grow.specs.declared.GrowError.{GrowError}
 use Rattle.automaton_grow.specs.declared.GrowError.TheVariants.{TooWide, TooManyStates, TooManyTransitions, NoMemory}

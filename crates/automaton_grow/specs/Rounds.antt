@@ -1,9 +1,7 @@
 -- What the parts of a round answer.
 use Rattle.std.specs.Prelude.{ℕ, ◌≡◌, ◌<◌, ◌≤◌, ◌⊎◌, List, [], Contains, length, map, replicate, slice_get, None, Some, Result, Ok, Err, Vec}
 use Rattle.std.specs.Global.{Global}
-use Rattle.rewriting.specs.Terms.{Term}
-use Rattle.rewriting.specs.Rules.{Rule, System}
-use Rattle.rewriting.specs.Signatures.{Signature}
+use Rattle.rewriting.specs.Prelude.{Term, Rule, System, Signature}
 use Rattle.certificates.specs.Evidence as evidence
 use Rattle.cert_model.specs.declared.evidence.Transition.{Transition}
 use Rattle.cert_model.specs.declared.evidence.Automaton.{Automaton}

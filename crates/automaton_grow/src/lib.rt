@@ -2,8 +2,7 @@
 #![tactic(auto)]
 
 ghost use Rattle.std.specs.Prelude.{◌≡◌, ◌≤◌, [], ◌∷◌, map, length, IfOk};
-ghost use Rattle.rewriting.specs.Terms.{Fits};
-ghost use Rattle.rewriting.specs.Systems.{IsSystem};
+ghost use Rattle.rewriting.specs.Prelude.{Fits, IsSystem};
 ghost use Rattle.automata.specs.Growth.{state_count};
 ghost use Rattle.automata.specs.Growth as growth;
 ghost use Rattle.automata.specs.Laws.{IsWellGrown};

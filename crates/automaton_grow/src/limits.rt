@@ -1,10 +1,8 @@
 //! The limits of growth: on the states of the automaton, and on the choices of states for a left side.
 ghost use Rattle.std.specs.Prelude.{◌<◌, ◌≤◌, ◌+◌, ◌^◌, ◌↔◌, IsTrue, IfOk, map, length};
-ghost use Rattle.rewriting.specs.Terms.{Fits};
-ghost use Rattle.term_core.specs.View.{view};
-ghost use Rattle.term_core.specs.RuleView.{rule_view};
+ghost use Rattle.rewriting.specs.Prelude.{Fits, DoSidesFit};
+ghost use Rattle.term_core.specs.Prelude.{view, rule_view};
 ghost use Rattle.automaton_grow.specs.Limits.{all_proper, CountAnswers, StatesAnswer, WidthAnswers, IsWideFor};
-ghost use Rattle.rewriting.specs.Systems.{DoSidesFit};
 
 use crate::GrowError;
 use crate::sides::{inner, proper};

@@ -1,12 +1,8 @@
 //! The transitions that growth starts from, and one round, which adds what the rules ask for where their left sides arrive.
 ghost use Rattle.std.specs.Prelude.{◌≡◌, ◌<◌, ◌≤◌, ◌+◌, ◌^◌, map, length, Contains};
-ghost use Rattle.rewriting.specs.Terms.{Fits, size};
-ghost use Rattle.rewriting.specs.Systems.{IsSystem};
-ghost use Rattle.rewriting.specs.Variables.{variable_occurrences};
-ghost use Rattle.rewriting.specs.Lists.{IsSorted};
+ghost use Rattle.rewriting.specs.Prelude.{Fits, size, IsSystem, variable_occurrences, IsSorted};
 ghost use Rattle.automata.specs.Growth.{state_count, IsTransitionBefore};
-ghost use Rattle.term_core.specs.View.{view};
-ghost use Rattle.term_core.specs.RuleView.{rule_view};
+ghost use Rattle.term_core.specs.Prelude.{view, rule_view};
 ghost use Rattle.cert_model.specs.EvidenceView.{transition_view, automaton_view};
 ghost use Rattle.automaton_runs.specs.Counted.{under_all};
 ghost use Rattle.automaton_runs.specs.Arrivals.{arrival_view};

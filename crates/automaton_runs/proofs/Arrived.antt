@@ -2,14 +2,12 @@
 use Rattle.std.proofs.Common.{◌≡◌, ◌↔◌, inl, inr, ⊎_elim, ℕ, ◌+◌, ◌<◌, ◌≤◌, List, [], ◌∷◌, ◌++◌, map, length, get_or, AllPairs, Some, slice_get, refl, ap, sym, subst, ◌∙◌, append_assoc, arith}
 use Rattle.std.proofs.lemmas.Bool.{cases_lt}
 use Rattle.std.proofs.lemmas.Option.{same_Some, slice_get_within, slice_get-get_or, get_or_from_slice_get}
-use Rattle.rewriting.specs.Terms.{Term}
-use Rattle.rewriting.specs.Positions.{IsBefore}
+use Rattle.rewriting.specs.Prelude.{Term, IsBefore, IsAmong}
 use Rattle.automata.specs.Runs.{ReachBy}
 use Rattle.automata.specs.Closed.{IsChoice}
 use Rattle.number_sets.specs.Relation.{Relates, row_of}
 use Rattle.number_sets.specs.declared.rows.NumberRelation.{NumberRelation}
 use Rattle.automaton_runs.specs.Counted.{Indexed, Finds}
-use Rattle.rewriting.specs.Lists.{IsAmong}
 use Rattle.automaton_runs.specs.Reached.{AreWhere}
 use Rattle.automaton_runs.specs.Arrivals.{IsArrivalBefore, AreArrivals, AreBatchArrivals, HaveBatchArrivals, IsFrontArrival, AreFrontArrivals}
 use Rattle.automaton_runs.specs.Choices.{Choices, Batch, Holds, choice_of, AreChoices}

@@ -2,8 +2,7 @@
 use Rattle.std.proofs.Common.{◌≡◌, ℕ, zero, suc, ◌+◌, ◌-◌, ◌*◌, ◌<◌, ◌≤◌, inl, inr, ⊎_elim, List, [], ◌∷◌, ◌++◌, map, length, get_or, take, drop, AllPairs, Some, slice_get, Vec, Global, refl, ap, ap₂, sym, subst, ◌∙◌, length-append, suc-mul, arith}
 use Rattle.std.proofs.lemmas.List.{length-map, get_or-map, drop_more}
 use Rattle.std.proofs.lemmas.Option.{get_or_from_slice_get, slice_get_within}
-use Rattle.rewriting.specs.Positions.{IsBefore}
-use Rattle.rewriting.specs.Lists.{IsAmong}
+use Rattle.rewriting.specs.Prelude.{IsBefore, IsAmong}
 use Rattle.rewriting.proofs.Lists.{among_left, among_right, among_either, among_map, among_of_map}
 use Rattle.automaton_runs.specs.Choices.{as_lists, before_each, choices_of, AreOf}
 use Rattle.automaton_runs.specs.Possible.{AreAscending}

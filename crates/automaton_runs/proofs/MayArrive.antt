@@ -6,12 +6,11 @@ use Rattle.std.proofs.lemmas.Option.{slice_get_within, slice_get-get_or, same_So
 use Rattle.std.proofs.lemmas.List.{get_or_append_left, get_or-append-add}
 use Rattle.general_lemmas.proofs.Places.{slice_get-append_left, slice_get-append_right}
 use Rattle.rewriting.specs.Terms as math
-use Rattle.rewriting.specs.Positions.{IsBefore}
+use Rattle.rewriting.specs.Prelude.{IsBefore, IsAmong}
 use Rattle.automata.specs.Runs.{Reach}
 use Rattle.term_core.specs.View.{view, views}
 use Rattle.term_core.specs.declared.terms.Term.{Term, Var, Fun}
 use Rattle.term_core.proofs.Views.{view-Var, view-Fun}
-use Rattle.rewriting.specs.Lists.{IsAmong}
 use Rattle.rewriting.proofs.Lists.{among_either, among_left, among_right}
 use Rattle.number_sets.specs.Relation.{row_of, Relates}
 use Rattle.number_sets.specs.declared.rows.NumberRelation.{NumberRelation}

@@ -3,8 +3,7 @@ use Rattle.std.proofs.Common.{◌≡◌, ◌↔◌, ℕ, zero, suc, ◌+◌, ◌
 use Rattle.std.proofs.lemmas.List.{take-append-drop}
 use Rattle.general_lemmas.proofs.Places.{take_read}
 use Rattle.rewriting.specs.Terms as math
-use Rattle.rewriting.specs.Terms.{size, size_all}
-use Rattle.rewriting.specs.Variables.{variable_occurrences, variable_occurrences_of}
+use Rattle.rewriting.specs.Prelude.{size, size_all, variable_occurrences, variable_occurrences_of}
 use Rattle.automata.specs.Runs.{Reach, at, ReachBy}
 use Rattle.automata.specs.Closed.{state_of}
 use Rattle.term_core.specs.View.{view, views}

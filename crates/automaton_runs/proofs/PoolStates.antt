@@ -3,9 +3,7 @@ use Rattle.std.proofs.Common.{◌≡◌, ◌↔◌, ◌⊎◌, inl, inr, ⊎_eli
 use Rattle.std.proofs.lemmas.Bool.{false≢true, or_cases, or_right, or_left}
 use Rattle.std.proofs.lemmas.List.Elements.{All-head}
 use Rattle.std.proofs.lemmas.Option.{get_or_from_slice_get, slice_get_within}
-use Rattle.rewriting.specs.Terms.{Term, Terms, var, app, nil, cons}
-use Rattle.rewriting.specs.Lists.{IsAmong}
-use Rattle.rewriting.specs.Variables.{variable_occurrences, variable_occurrences_of}
+use Rattle.rewriting.specs.Prelude.{Term, Terms, var, app, nil, cons, IsAmong, variable_occurrences, variable_occurrences_of}
 use Rattle.rewriting.proofs.Lists.{among_left, among_right, among_either}
 use Rattle.certificates.specs.Evidence.{Transition}
 use Rattle.automata.specs.Runs.{ReachBy, ReachAllBy}

@@ -1,9 +1,7 @@
 -- The arrivals of a term: choices of states for its variable occurrences, each with a state that the term reaches by it.
 use Rattle.std.specs.Prelude.{ℕ, ◌≡◌, ◌<◌, ◌⊎◌, ◌++◌, List, Some, slice_get, Contains}
 use Rattle.std.specs.List.{AllPairs}
-use Rattle.rewriting.specs.Terms.{Term}
-use Rattle.rewriting.specs.Positions.{IsBefore}
-use Rattle.rewriting.specs.Lists.{IsAmong}
+use Rattle.rewriting.specs.Prelude.{Term, IsBefore, IsAmong}
 use Rattle.automata.specs.Runs.{ReachBy}
 use Rattle.automata.specs.Closed.{IsChoice}
 use Rattle.automaton_runs.specs.Counted.{Indexed, Finds}

@@ -1,7 +1,6 @@
 -- A term with its variable occurrences numbered.
 use Rattle.std.specs.Prelude.{ℕ, ◌+◌, length}
-use Rattle.rewriting.specs.Terms.{Term, var, app, Terms, nil, cons}
-use Rattle.rewriting.specs.Variables.{variable_occurrences}
+use Rattle.rewriting.specs.Prelude.{Term, var, app, Terms, nil, cons, variable_occurrences}
 
 -- the term with the numbers from i on for its variables as they occur, from left to right
 abbrev mutual

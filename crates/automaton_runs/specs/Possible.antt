@@ -1,10 +1,8 @@
 -- Fronts of choices by which a term may arrive: behind a front any states of the pools are possible at the same time.
 use Rattle.std.specs.Prelude.{ℕ, ◌≡◌, ◌<◌, ◌++◌, List, Some, slice_get, AllPairs}
 use Rattle.std.specs.List.{AllZip}
-use Rattle.rewriting.specs.Terms.{Term}
-use Rattle.rewriting.specs.Positions.{IsBefore}
+use Rattle.rewriting.specs.Prelude.{Term, IsBefore, IsAmong}
 use Rattle.automata.specs.Runs.{Reach, ReachBy}
-use Rattle.rewriting.specs.Lists.{IsAmong}
 use Rattle.number_sets.specs.Relation.{Relates}
 use Rattle.number_sets.specs.declared.rows.NumberRelation.{NumberRelation}
 use Rattle.automaton_runs.specs.Counted.{Indexed, Finds}

@@ -1,11 +1,10 @@
 -- The states that a term reaches by the choices of a batch.
 use Rattle.std.specs.Prelude.{ℕ, ◌≡◌, ◌↔◌, List, [], ◌∷◌, Some, filter}
 use Rattle.std.specs.List.{AllZip}
-use Rattle.rewriting.specs.Terms.{Term}
+use Rattle.rewriting.specs.Prelude.{Term, IsAmong}
 use Rattle.certificates.specs.Evidence.{Transition}
 use Rattle.automata.specs.Runs.{Reach, at}
 use Rattle.automata.specs.Closed.{state_of}
-use Rattle.rewriting.specs.Lists.{IsAmong}
 use Rattle.number_sets.specs.Relation.{Relates}
 use Rattle.number_sets.specs.declared.rows.NumberRelation.{NumberRelation}
 use Rattle.automaton_runs.specs.Counted.{Indexed, Finds}

@@ -2,11 +2,10 @@
 ghost use Rattle.std.specs.Prelude.{◌≡◌, ◌↔◌, ◌⊎◌, ℕ, length, IfOk, OnOk, IsTrue};
 ghost use Rattle.std.specs.List.{AllZip};
 ghost use Rattle.rewriting.specs.Terms as math;
-ghost use Rattle.rewriting.specs.Variables.{variable_occurrences};
+ghost use Rattle.rewriting.specs.Prelude.{variable_occurrences, IsAmong};
 ghost use Rattle.automata.specs.Runs.{ReachBy};
 ghost use Rattle.cert_model.specs.EvidenceView.{transition_view};
 ghost use Rattle.term_core.specs.View.{view};
-ghost use Rattle.rewriting.specs.Lists.{IsAmong};
 ghost use Rattle.number_sets.specs.Sets.{members};
 ghost use Rattle.number_sets.specs.Relation.{Relates};
 ghost use Rattle.automaton_runs.specs.Choices.{occurrences_of};

@@ -1,8 +1,7 @@
 //! The arrivals of a term: its choices of states for variable occurrences, each with a state that the term reaches by it.
 ghost use Rattle.std.specs.Prelude.{◌≡◌, ◌≤◌, ◌^◌, ◌++◌, [], length, AllPairs, IfOk, OnOk, map};
 ghost use Rattle.rewriting.specs.Terms as math;
-ghost use Rattle.rewriting.specs.Positions.{IsBefore};
-ghost use Rattle.rewriting.specs.Variables.{variable_occurrences};
+ghost use Rattle.rewriting.specs.Prelude.{IsBefore, variable_occurrences};
 ghost use Rattle.term_core.specs.View.{view};
 ghost use Rattle.automaton_runs.specs.Arrivals.{arrival_view, AreArrivals, HaveBatchArrivals};
 ghost use Rattle.automaton_runs.specs.Choices.{AreChoices, occurrences_of};

@@ -1,7 +1,6 @@
 -- Instances of caps, and what numbers in the holes make of them.
 use Rattle.std.proofs.Common.{ℕ, ◌≡◌, ◌+◌, ◌<◌, ◌≤◌, refl, sym, ap, ap₂, ◌∙◌, arith}
-use Rattle.rewriting.specs.Terms.{Term, var, app, Terms, nil, cons}
-use Rattle.rewriting.specs.Substitutions.{Substitution, apply, apply_all}
+use Rattle.rewriting.specs.Prelude.{Term, var, app, Terms, nil, cons, Substitution, apply, apply_all}
 use Rattle.rewriting.proofs.Conditions.{Order, is_smaller, is_equal, is_greater, order}
 use Rattle.caps.specs.Caps.{Cap, hole, kept, node, Caps, no_caps, caps, holes, holes_in, filled, all_filled}
 

@@ -1,11 +1,7 @@
 -- The laws of caps from what steps keep.
 use Rattle.std.proofs.Common.{ℕ, ◌≡◌, refl, sym, ap, ap₂, ◌∙◌, subst, List, [], ◌∷◌}
-use Rattle.rewriting.specs.Terms.{Term, var, app, Terms, nil, cons}
-use Rattle.rewriting.specs.Substitutions.{Substitution, apply, apply_all, values_of, Matches}
-use Rattle.rewriting.specs.Unifiers.{even, odd}
-use Rattle.rewriting.specs.Rules.{Condition, System, left_sides, right_sides}
-use Rattle.rewriting.specs.Reduction.{Reaches, Meets, Steps}
-use Rattle.rewriting.specs.Infeasibility.{IsInfeasible}
+use Rattle.rewriting.specs.Prelude.{Term, var, app, Terms, nil, cons, Substitution, apply, apply_all, values_of, Matches, even, odd, Condition, System, left_sides, right_sides, Reaches}
+use Rattle.rewriting.specs.Prelude.{Meets, Steps, IsInfeasible}
 use Rattle.rewriting.proofs.Closures.{Star-mono}
 use Rattle.rewriting.proofs.Unifiers.{both, apply-even, apply-odd}
 use Rattle.unifier_run.specs.Run.{clash}

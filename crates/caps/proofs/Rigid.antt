@@ -1,13 +1,6 @@
 -- The laws of rigid caps, where no left side is a variable, and of two caps that clash.
 use Rattle.std.proofs.Common.{ℕ, ◌≡◌, ◌<◌, true, refl, sym, ap, ◌∙◌, subst}
-use Rattle.rewriting.specs.Terms.{Term, var, app, nil, cons, IsVariable}
-use Rattle.rewriting.specs.Substitutions.{Substitution, apply}
-use Rattle.rewriting.specs.Variables.{occurs}
-use Rattle.rewriting.specs.Unifiers.{even, odd}
-use Rattle.rewriting.specs.Rules.{System}
-use Rattle.rewriting.specs.Systems.{IsWellFormed}
-use Rattle.rewriting.specs.Reduction.{Reaches}
-use Rattle.rewriting.specs.Confluence.{AreApart}
+use Rattle.rewriting.specs.Prelude.{Term, var, app, nil, cons, IsVariable, Substitution, apply, occurs, even, odd, System, IsWellFormed, Reaches, AreApart}
 use Rattle.rewriting.proofs.Unifiers.{both, apply-even, apply-odd}
 use Rattle.unifier_run.specs.Run.{clash}
 use Rattle.unifier_run.proofs.General.{no_unifier}

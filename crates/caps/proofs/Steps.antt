@@ -1,13 +1,8 @@
 -- What caps have as instances, steps keep.
 use Rattle.std.proofs.Common.{ℕ, zero, suc, ◌≡◌, inl, inr, true, refl, sym, ap, ◌∙◌, subst, eq-eqb}
 use Rattle.std.proofs.lemmas.Bool.{or_left, or_right}
-use Rattle.rewriting.specs.Terms.{Term, var, app, Terms, nil, cons}
-use Rattle.rewriting.specs.Substitutions.{Substitution, apply, apply_all, compose}
-use Rattle.rewriting.specs.Variables.{occurs, occurs_in}
-use Rattle.rewriting.specs.Unifiers.{even, odd}
-use Rattle.rewriting.specs.Rules.{Rule, System}
-use Rattle.rewriting.specs.Relations.{Relation, Star, done, more}
-use Rattle.rewriting.specs.Reduction.{Rewrites}
+use Rattle.rewriting.specs.Prelude.{Term, var, app, Terms, nil, cons, Substitution, apply, apply_all, compose, occurs, occurs_in, even, odd, Rule, System, Relation, Star, done, more}
+use Rattle.rewriting.specs.Prelude.{Rewrites}
 use Rattle.rewriting.proofs.Instances.{apply-apply, inj_app}
 use Rattle.rewriting.proofs.Unifiers.{both, apply-even, apply-odd}
 use Rattle.rewriting.proofs.Opened.{Open, OpenAny, opened}

@@ -1,9 +1,6 @@
 -- Each term has a cap, or a run inside passes the size; so conditions have a judgement, and two terms an outcome.
 use Rattle.std.proofs.Common.{ℕ, ◌≡◌, ◌≢◌, ◌+◌, ◌⊎◌, inl, inr, refl, sym, ap, ◌∙◌, suc, List, [], ◌∷◌, Option, None, Some}
-use Rattle.rewriting.specs.Terms.{Term, var, app, Terms, nil, cons, count}
-use Rattle.rewriting.specs.Substitutions.{Substitution, apply, apply_all}
-use Rattle.rewriting.specs.Unifiers.{even, odd}
-use Rattle.rewriting.specs.Rules.{Condition, System, left_sides, right_sides}
+use Rattle.rewriting.specs.Prelude.{Term, var, app, Terms, nil, cons, count, Substitution, apply, apply_all, even, odd, Condition, System, left_sides, right_sides}
 use Rattle.certificates.specs.Reasons.{EvidenceReason, tcap_unifies, tcap_large}
 use Rattle.unifier_run.specs.Run.{Outcome, unifier, clash, too_large, IsOutcome}
 use Rattle.unifier_run.specs.Irreducible.{DoRulesClash, IsFirstRule}

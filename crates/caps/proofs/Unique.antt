@@ -1,9 +1,6 @@
 -- A term has at most one cap, conditions have one judgement, and two terms one outcome.
 use Rattle.std.proofs.Common.{ℕ, ◌≡◌, ◌⊎◌, inl, inr, refl, sym, ap, ap₂, ◌∙◌, subst, subst₂, List, Option, None, Some}
-use Rattle.rewriting.specs.Terms.{Term, var, app, Terms, nil, cons}
-use Rattle.rewriting.specs.Substitutions.{apply, apply_all}
-use Rattle.rewriting.specs.Unifiers.{even, odd}
-use Rattle.rewriting.specs.Rules.{Condition, Rule, System, rule_at, left_sides, right_sides}
+use Rattle.rewriting.specs.Prelude.{Term, var, app, Terms, nil, cons, apply, apply_all, even, odd, Condition, Rule, System, rule_at, left_sides, right_sides}
 use Rattle.rewriting.proofs.Conditions.{Order, is_smaller, is_equal, is_greater, order}
 use Rattle.certificates.specs.Reasons.{EvidenceReason, tcap_unifies, tcap_large}
 use Rattle.unifier_run.specs.Run.{Binding, Outcome, unifier, clash, too_large, IsOutcome}

@@ -1,9 +1,7 @@
 -- Caps: terms with holes that everything which a term reaches is an instance of (after Giesl, Thiemann and
 -- Schneider-Kamp 2005, and Sternagel and Sternagel 2016).
 use Rattle.std.specs.Prelude.{ℕ, suc, ◌≡◌, ◌+◌, ◌⊎◌, max, List, length}
-use Rattle.rewriting.specs.Terms.{Term, var, app, Terms, nil, cons}
-use Rattle.rewriting.specs.Substitutions.{Substitution}
-use Rattle.rewriting.specs.Rules.{System}
+use Rattle.rewriting.specs.Prelude.{Term, var, app, Terms, nil, cons, Substitution, System}
 use Rattle.unifier_run.specs.Run.{Binding, unifier, too_large}
 use Rattle.unifier_run.specs.Irreducible.{DoRulesClash, IsFirstRule}
 

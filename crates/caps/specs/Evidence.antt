@@ -1,9 +1,6 @@
 -- What caps show: that conditions are never met, and that two terms have no common reduct.
 use Rattle.std.specs.Prelude.{ℕ, ◌⊎◌, max, List, Option, None, Some}
-use Rattle.rewriting.specs.Terms.{Term, var, nil, cons}
-use Rattle.rewriting.specs.Substitutions.{apply, apply_all}
-use Rattle.rewriting.specs.Unifiers.{even, odd}
-use Rattle.rewriting.specs.Rules.{Condition, System, left_sides, right_sides}
+use Rattle.rewriting.specs.Prelude.{Term, var, nil, cons, apply, apply_all, even, odd, Condition, System, left_sides, right_sides}
 use Rattle.unifier_run.specs.Run.{Binding, Outcome, unifier, clash, too_large, IsOutcome}
 use Rattle.certificates.specs.Reasons.{EvidenceReason, tcap_unifies, tcap_large}
 use Rattle.caps.specs.Caps.{Cap, Caps, kept, any, all_filled, past, frozen_from, IsCapOf, AreCapsOf, IsCapLarge, AreCapsLarge}

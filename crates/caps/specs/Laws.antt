@@ -1,13 +1,6 @@
 -- Laws of caps.
 use Rattle.std.specs.Prelude.{ℕ, ◌≡◌, ◌<◌, List, true, Option, None}
-use Rattle.rewriting.specs.Terms.{Term, var}
-use Rattle.rewriting.specs.Substitutions.{Substitution, apply, Matches}
-use Rattle.rewriting.specs.Variables.{occurs}
-use Rattle.rewriting.specs.Rules.{Condition, System}
-use Rattle.rewriting.specs.Systems.{IsWellFormed}
-use Rattle.rewriting.specs.Reduction.{Reaches}
-use Rattle.rewriting.specs.Infeasibility.{IsInfeasible}
-use Rattle.rewriting.specs.Confluence.{AreApart}
+use Rattle.rewriting.specs.Prelude.{Term, var, Substitution, apply, Matches, occurs, Condition, System, IsWellFormed, Reaches, IsInfeasible, AreApart}
 use Rattle.certificates.specs.Reasons.{EvidenceReason}
 use Rattle.unifier_run.specs.Run.{Outcome, clash}
 use Rattle.caps.specs.Caps.{Cap, any, kept, filled, IsCapOf, IsCapLarge}

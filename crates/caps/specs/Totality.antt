@@ -1,7 +1,6 @@
 -- Caps and what they show: for each question there is an answer.
 use Rattle.std.specs.Prelude.{ℕ, ◌⊎◌, List, Option}
-use Rattle.rewriting.specs.Terms.{Term}
-use Rattle.rewriting.specs.Rules.{Condition, System}
+use Rattle.rewriting.specs.Prelude.{Term, Condition, System}
 use Rattle.certificates.specs.Reasons.{EvidenceReason}
 use Rattle.unifier_run.specs.Run.{Outcome}
 use Rattle.caps.specs.Caps.{Cap, IsCapOf, IsCapLarge}

@@ -2,27 +2,20 @@
 use Rattle.std.proofs.Common.{◌≡◌, ℕ, ◌-◌, List, [], ◌∷◌, ◌++◌, map, ap, ◌∙◌, arith}
 use Rattle.std.specs.Prelude.{slice_get}
 use Rattle.std.proofs.lemmas.Option.{slice_get-map}
-use Rattle.rewriting.specs.Terms.{Term, Terms, var, app, nil, cons}
-use Rattle.rewriting.specs.Signatures.{IsOver, AreOver}
-use Rattle.rewriting.specs.Rules.{System}
-use Rattle.rewriting.specs.Systems.{IsSystem}
+use Rattle.rewriting.specs.Prelude.{Term, Terms, var, app, nil, cons, IsOver, AreOver, System, IsSystem}
 use Rattle.rewriting.proofs.Laws.{well_formed}
-use Rattle.certificates.specs.Derivations.{Derivation, no_steps, first_step, Step, by_rule, by_hypothesis, Derivations, no_derivations, first_derivation}
-use Rattle.certificates.specs.Evidence.{PairEvidence, trivial_pair, infeasible_pair, conflicting_pair, joined_pair, unfeasible_pair}
-use Rattle.certificates.specs.Certificates.{PairEntry, Apartness, by_normal_forms, by_rigid_caps, Peak, Simplification, Certificate, ortho_certificate, quasi_certificate, peak_certificate, simplified_certificate}
+use Rattle.certificates.specs.Prelude.{Derivation, no_steps, first_step, Step, by_rule, by_hypothesis, Derivations, no_derivations, first_derivation, PairEvidence, trivial_pair}
+use Rattle.certificates.specs.Prelude.{infeasible_pair, conflicting_pair, joined_pair, unfeasible_pair, PairEntry, Apartness, by_normal_forms, by_rigid_caps, Peak, Simplification}
+use Rattle.certificates.specs.Prelude.{Certificate, ortho_certificate, quasi_certificate, peak_certificate, simplified_certificate, IsShort, AreStepsShort, IsStepShort, AreShort}
 use Rattle.simplifications.specs.Simplifying.{AllSimplify}
 use Rattle.simplifications.proofs.Levels.{keep_levels}
 use Rattle.simplifications.proofs.Systems.{steps_make}
-use Rattle.certificates.specs.Sizes.{IsShort, AreStepsShort, IsStepShort, AreShort}
 use Rattle.valid_certificates.specs.Entries.{IsPairShort, ArePairsShort}
 use Rattle.noncon_check.specs.Judges.{AreFew}
 use Rattle.cert_check.specs.Kinds.{CanPeakBeJudged, CanBeJudged}
 use Rattle.cert_openings.specs.Openings.{Opening, ortho_opening, quasi_opening, simplified_opening, certificate_for}
 use Rattle.cops_names.specs.NameTable.{NameTable}
-use Rattle.cert_grammar.specs.Words.{IsSpelt, AreSpelt}
-use Rattle.cert_grammar.specs.Limits.{AreSteps, IsStep, AreDerivations, IsDerivation}
-use Rattle.cert_grammar.specs.EvidenceText.{IsEvidence, ArePairs}
-use Rattle.cert_grammar.specs.CertificateText.{IsApart, IsWithin}
+use Rattle.cert_grammar.specs.Prelude.{IsSpelt, AreSpelt, AreSteps, IsStep, AreDerivations, IsDerivation, IsEvidence, ArePairs, IsApart, IsWithin}
 
 -- the symbols stay behind good steps
 pub same_symbols : (sys last : System) (steps : List Simplification) → IsSystem sys → AllSimplify sys steps last → last.arities ≡ sys.arities

@@ -1,7 +1,6 @@
 -- A yes to the system is one to its file.
 use Rattle.std.proofs.Common.{Result, Ok, Err}
-use Rattle.rewriting.specs.Rules.{System}
-use Rattle.rewriting.specs.Confluence.{IsConfluent}
+use Rattle.rewriting.specs.Prelude.{System, IsConfluent}
 use Rattle.join_systems.specs.FileRelation.{IsFromFile, IsFileConfluent}
 use Rattle.join_systems.specs.Laws.{FilesAreConfluent}
 use Rattle.cert_check.specs.Answers.{OnYes}

@@ -1,13 +1,9 @@
 -- What is judged of a body, behind steps, is judged of the certificate before them.
 use Rattle.std.proofs.Common.{◌≡◌, ℕ, suc, inl, inr, refl, sym, subst, List, map, Result, Ok, Err}
 use Rattle.std.specs.Prelude.{OnOk}
-use Rattle.rewriting.specs.Terms.{Term}
-use Rattle.rewriting.specs.Rules.{System}
-use Rattle.rewriting.specs.Systems.{IsSystem}
-use Rattle.rewriting.specs.Confluence.{IsConfluent}
+use Rattle.rewriting.specs.Prelude.{Term, System, IsSystem, IsConfluent}
 use Rattle.rewriting.proofs.Laws.{well_formed}
-use Rattle.certificates.specs.Certificates.{Peak, Simplification, Certificate, ortho_certificate, quasi_certificate, peak_certificate, simplified_certificate}
-use Rattle.certificates.specs.Reasons.{Rejection}
+use Rattle.certificates.specs.Prelude.{Peak, Simplification, Certificate, ortho_certificate, quasi_certificate, peak_certificate, simplified_certificate, Rejection}
 use Rattle.cert_model.specs.CertificateView.{simp_view}
 use Rattle.cert_model.specs.ReasonView.{rejected_view}
 use Rattle.cert_model.specs.declared.model.Simp.{Simp}

@@ -1,10 +1,7 @@
 -- The answer to a text with steps, from that to its body.
 use Rattle.std.proofs.Common.{◌≡◌, ℕ, List, [], map, Option, None, Some, Result, Ok, Err, inl, inr, sym, subst, ◌∙◌}
-use Rattle.rewriting.specs.Rules.{System}
-use Rattle.rewriting.specs.Systems.{IsSystem}
-use Rattle.rewriting.specs.Confluence.{IsConfluent}
-use Rattle.certificates.specs.Certificates.{PairEntry, Simplification, Certificate, simplified_certificate}
-use Rattle.certificates.specs.Reasons.{Rejection}
+use Rattle.rewriting.specs.Prelude.{System, IsSystem, IsConfluent}
+use Rattle.certificates.specs.Prelude.{PairEntry, Simplification, Certificate, simplified_certificate, Rejection}
 use Rattle.simplifications.specs.Simplifying.{AllSimplify}
 use Rattle.valid_certificates.specs.Certificates.{IsStepRejected}
 use Rattle.valid_certificates.specs.CarriedBack.{IsPeakApart}
@@ -13,8 +10,7 @@ use Rattle.cert_model.specs.CertificateView.{simp_view}
 use Rattle.cert_model.specs.ReasonView.{rejected_view}
 use Rattle.cert_model.specs.declared.model.Simp.{Simp}
 use Rattle.cert_model.specs.declared.reasons.Rejected as reasons
-use Rattle.cert_grammar.specs.CertificateText.{IsCertificateText}
-use Rattle.cert_grammar.specs.Versions.{Version, CanSimplify}
+use Rattle.cert_grammar.specs.Prelude.{IsCertificateText, Version, CanSimplify}
 use Rattle.cert_openings.specs.Openings.{Opening, ortho_opening, quasi_opening, simplified_opening, certificate_for}
 use Rattle.cert_words.specs.CertRefusals.{IsRefusedAs}
 use Rattle.cert_words.specs.declared.error.CertError.{CertError}

@@ -8,9 +8,8 @@ use Rattle.tallies.specs.Tally.{Tally, IsQuasiTally}
 use Rattle.cops_names.specs.NameTable.{NameTable}
 use Rattle.cert_model.specs.ReasonView.{rejected_view}
 use Rattle.cert_model.specs.declared.reasons.Rejected as reasons
-use Rattle.cert_grammar.specs.CertificateText.{IsCertificateText}
+use Rattle.cert_grammar.specs.Prelude.{IsCertificateText, syntax, unknown_name, wrong_arity, bad_number, bad_share, too_many, too_deep}
 use Rattle.cert_sharing.specs.SharedLaws.{NeverBoth}
-use Rattle.cert_grammar.specs.Marks.{syntax, unknown_name, wrong_arity, bad_number, bad_share, too_many, too_deep}
 use Rattle.cert_words.specs.CertRefusals.{IsRefusedAs}
 use Rattle.cert_words.specs.Words.{counted_view}
 use Rattle.cert_words.specs.declared.error.CertError.{CertError}

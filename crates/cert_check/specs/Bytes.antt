@@ -1,8 +1,7 @@
 -- What the check of a certificate's text answers.
 use Rattle.std.specs.Prelude.{◌≡◌, ◌≢◌, ◌⊎◌, List, ℕ, Option, None, Some, Result, Ok, Err, map}
 use Rattle.rewriting.specs.Rules.{System}
-use Rattle.certificates.specs.Certificates.{PairEntry, Simplification, Peak, Certificate, simplified_certificate}
-use Rattle.certificates.specs.Reasons.{Rejection}
+use Rattle.certificates.specs.Prelude.{PairEntry, Simplification, Peak, Certificate, simplified_certificate, Rejection}
 use Rattle.simplifications.specs.Simplifying.{AllSimplify}
 use Rattle.valid_certificates.specs.Certificates.{IsValid, IsRejected}
 use Rattle.valid_certificates.specs.Peaks.{IsValidPeak, IsPeakRejected}

@@ -1,10 +1,6 @@
 -- The kinds of certificates: what they show, and which can be judged.
-use Rattle.rewriting.specs.Terms.{Fits}
-use Rattle.rewriting.specs.Signatures.{IsOver}
-use Rattle.rewriting.specs.Rules.{System}
-use Rattle.certificates.specs.Certificates.{Peak, Certificate, ortho_certificate, quasi_certificate, peak_certificate, simplified_certificate}
-use Rattle.certificates.specs.Reasons.{Rejection, simplification_fails}
-use Rattle.certificates.specs.Sizes.{IsShort}
+use Rattle.rewriting.specs.Prelude.{Fits, IsOver, System}
+use Rattle.certificates.specs.Prelude.{Peak, Certificate, ortho_certificate, quasi_certificate, peak_certificate, simplified_certificate, Rejection, simplification_fails, IsShort}
 use Rattle.simplifications.specs.Simplifying.{AllSimplify}
 use Rattle.valid_certificates.specs.Entries.{ArePairsShort}
 use Rattle.noncon_check.specs.Judges.{AreFew}

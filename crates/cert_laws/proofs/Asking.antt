@@ -1,16 +1,17 @@
 -- What the marks of a certificate's parts ask: numbers that stand in a word of their length, and whatever is asked of the answer
 -- and of shared automata is allowed.
 use Rattle.std.proofs.Common.{ℕ, suc, ◌+◌, ◌≤◌, List, [], ◌∷◌, ◌++◌, length, drop, Option, Some, None, length-append, arith}
-use Rattle.rewriting.specs.Terms.{Term, var, app, Terms, nil, cons, size}
-use Rattle.rewriting.specs.Positions.{Position}
-use Rattle.rewriting.specs.Unraveling.{Head, file, auxiliary}
-use Rattle.certificates.specs.Derivations.{Derivation, no_steps, first_step, Step, by_rule, by_hypothesis, Derivations, no_derivations, first_derivation}
-use Rattle.certificates.specs.Evidence.{Transition, Automaton, InfeasibilityEvidence, by_caps, by_automaton, PairEvidence, trivial_pair, infeasible_pair, conflicting_pair, joined_pair, unfeasible_pair}
-use Rattle.certificates.specs.Certificates.{PairEntry, LinearEntry, MeasureCertificate, linear_measure, precedence_measure, Redex, Apartness, by_normal_forms, by_rigid_caps, Peak, Simplification, dropped, inlined}
-use Rattle.cert_grammar.specs.Versions.{Uses, in_full, by_number}
-use Rattle.cert_grammar.specs.Marks.{Naming, Share, automaton_begins, is_use, is_light, Demand, in_range, fits_answer, shares, Mark, mark_text, demands_of}
-use Rattle.cert_grammar.specs.WordMarks.{numeral, dotted, are_places, places_text, term_marks, arguments_marks, further_marks, steps_marks, step_marks, derivations_marks, derivation_marks}
-use Rattle.cert_grammar.specs.CertificateMarks.{automaton_marks, heads_marks, measure_marks, simplifications_marks, accepting_marks, further_states_marks, states_marks, head_marks, transitions_marks, infeasibility_marks, evidence_marks, pairs_marks, coefficients_marks, measured_marks, entries_marks, redexes_marks, apart_marks, peak_marks}
+use Rattle.rewriting.specs.Prelude.{Term, var, app, Terms, nil, cons, size, Position, Head, file, auxiliary}
+use Rattle.certificates.specs.Prelude.{Derivation, no_steps, first_step, Step, by_rule, by_hypothesis, Derivations, no_derivations, first_derivation, Transition, Automaton}
+use Rattle.certificates.specs.Prelude.{InfeasibilityEvidence, by_caps, by_automaton, PairEvidence, trivial_pair, infeasible_pair, conflicting_pair, joined_pair, unfeasible_pair, PairEntry}
+use Rattle.certificates.specs.Prelude.{LinearEntry, MeasureCertificate, linear_measure, precedence_measure, Redex, Apartness, by_normal_forms, by_rigid_caps, Peak, Simplification, dropped}
+use Rattle.certificates.specs.Prelude.{inlined}
+use Rattle.cert_grammar.specs.Prelude.{Uses, in_full, by_number, Naming, Share, automaton_begins, is_use, is_light, Demand, in_range, fits_answer, shares, Mark, mark_text, demands_of}
+use Rattle.cert_grammar.specs.Prelude.{dotted, are_places, places_text, term_marks, arguments_marks, further_marks, steps_marks, step_marks, derivations_marks, derivation_marks}
+use Rattle.cert_grammar.specs.Prelude.{automaton_marks, heads_marks, measure_marks, simplifications_marks, accepting_marks, further_states_marks, states_marks, head_marks}
+use Rattle.cert_grammar.specs.Prelude.{transitions_marks, infeasibility_marks, evidence_marks, pairs_marks, coefficients_marks, measured_marks, entries_marks, redexes_marks, apart_marks}
+use Rattle.cert_grammar.specs.Prelude.{peak_marks}
+use Rattle.cert_grammar.specs.WordMarks.{numeral}
 
 -- a number that is judged stands in a word of this length; the answer and shared automata are asked for where that is allowed
 abbrev pub Asks : Type 0 → (Share → Type 0) → ℕ → Demand → Type 0

@@ -1,8 +1,7 @@
 -- What the reader that stops at the first refusal answers, where shared automata are not judged.
 use Rattle.std.specs.Prelude.{ℕ, List}
 use Rattle.cops_names.specs.NameTable.{NameTable}
-use Rattle.cert_grammar.specs.Refusals.{IsPlainText, IsPlainlyRefused}
-use Rattle.cert_grammar.specs.FirstRefusal.{Reading, accepted, refused}
+use Rattle.cert_grammar.specs.Prelude.{IsPlainText, IsPlainlyRefused, Reading, accepted, refused}
 
 -- the bytes are the text of a certificate, or this is their refusal
 abbrev pub IsAnswerFor : NameTable → List ℕ → Reading → Type 0

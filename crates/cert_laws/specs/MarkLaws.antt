@@ -1,7 +1,6 @@
 -- Laws of the marks of texts: the grammar is deterministic.
 use Rattle.std.specs.Prelude.{ℕ, List, [], ◌∷◌}
-use Rattle.cert_grammar.specs.Marks.{Mark}
-use Rattle.cert_grammar.specs.Refusals.{Skeleton, marks_of, GoesTo}
+use Rattle.cert_grammar.specs.Prelude.{Mark, Skeleton, marks_of, GoesTo}
 
 -- bytes go along the marks up to some mark
 abbrev pub GoesAlong : List Mark → List ℕ → Type 0

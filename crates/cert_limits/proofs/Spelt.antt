@@ -2,9 +2,7 @@
 use Rattle.std.proofs.Common.{◌≡◌, ◌≤◌, ◌-◌, ℕ, List, map, Vec, Global, sym, ap, ◌∙◌, subst, vec_len}
 use Rattle.std.proofs.lemmas.List.{length-map}
 use Rattle.rewriting.specs.Terms.{app, count}
-use Rattle.certificates.specs.Derivations.{by_rule, by_hypothesis, derivation_of, derivations_of}
-use Rattle.certificates.specs.Judging.{derivation_count}
-use Rattle.certificates.specs.Sizes.{step_count}
+use Rattle.certificates.specs.Prelude.{by_rule, by_hypothesis, derivation_of, derivations_of, derivation_count, step_count}
 use Rattle.certificates.proofs.Sizes.{steps_counted, derivations_counted}
 use Rattle.term_core.specs.View.{view, views}
 use Rattle.term_core.specs.declared.terms.Term.{Term, Var, Fun}
@@ -14,8 +12,7 @@ use Rattle.cert_model.specs.DerivationView.{derivation_view, step_view}
 use Rattle.cert_model.specs.declared.derivations.Derivation.{Derivation}
 use Rattle.cert_model.specs.declared.derivations.Step.{Step, Rule, Hyp}
 use Rattle.cops_names.specs.NameTable.{NameTable}
-use Rattle.cert_grammar.specs.Words.{largest, IsNamed, IsSpelt, AreSpelt, ArePlaces}
-use Rattle.cert_grammar.specs.Limits.{IsDerivation, IsStep, AreSteps, AreDerivations}
+use Rattle.cert_grammar.specs.Prelude.{largest, IsNamed, IsSpelt, AreSpelt, ArePlaces, IsDerivation, IsStep, AreSteps, AreDerivations}
 use Rattle.cert_grammar.proofs.Views.{step_of_rule, step_of_hypothesis, derivation_of_steps}
 
 module _ (names : NameTable) (t : Term) where

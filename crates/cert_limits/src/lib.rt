@@ -4,8 +4,7 @@
 
 ghost use Rattle.std.specs.Prelude.{◌≤◌, ◌↔◌, IsTrue, IfOk, length};
 ghost use Rattle.cert_model.specs.CertificateView.{certificate_view};
-ghost use Rattle.cert_grammar.specs.Versions.{second_version};
-ghost use Rattle.cert_grammar.specs.CertificateText.{certificate_text, CanBeSpelt};
+ghost use Rattle.cert_grammar.specs.Prelude.{second_version, certificate_text, CanBeSpelt};
 
 mod evidence_limits;
 mod step_limits;

@@ -1,8 +1,7 @@
 //! Whether numbers, symbols, terms and positions can be spelt.
 ghost use Rattle.std.specs.Prelude.{◌≤◌, ◌↔◌, ℕ, List, IsTrue};
 ghost use Rattle.term_core.specs.View.{view, views};
-ghost use Rattle.cert_grammar.specs.Words.{largest, IsNamed, IsSpelt, AreSpelt, ArePlaces};
-ghost use Rattle.cert_grammar.specs.EvidenceText.{IsName, AreAtMost};
+ghost use Rattle.cert_grammar.specs.Prelude.{largest, IsNamed, IsSpelt, AreSpelt, ArePlaces, IsName, AreAtMost};
 
 use cert_grammar::is_identifier;
 use cops_names::Names;

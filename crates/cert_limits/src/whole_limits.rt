@@ -3,8 +3,8 @@ ghost use Rattle.std.specs.Prelude.{◌↔◌, ◌∷◌, [], IsTrue, map};
 ghost use Rattle.term_core.specs.HeadView.{head_view};
 ghost use Rattle.cert_model.specs.CertificateView.{pair_entry_view, linear_entry_view, measure_view, redex_view, apart_view, peak_view, simp_view, certificate_view};
 ghost use Rattle.certificates.specs.Certificates.{ortho_certificate, peak_certificate};
-ghost use Rattle.cert_grammar.specs.CertificateText.{IsMeasured, AreEntries, AreHeads, IsMeasure, AreRedexEntries, IsApart, AreSimplifications, IsWithin};
-ghost use Rattle.cert_grammar.specs.Versions.{second_version, IsUnsimplified, IsOfVersion};
+ghost use Rattle.cert_grammar.specs.Prelude.{IsMeasured, AreEntries, AreHeads, IsMeasure, AreRedexEntries, IsApart, AreSimplifications, IsWithin, second_version, IsUnsimplified};
+ghost use Rattle.cert_grammar.specs.Prelude.{IsOfVersion};
 
 use crate::evidence_limits::{are_pairs, is_infeasibility};
 use crate::step_limits::is_derivation;

@@ -1,14 +1,11 @@
 -- One entry more, and the last line.
 use Rattle.std.proofs.Common.{◌≡◌, ◌⊎◌, inl, inr, ℕ, zero, suc, ◌+◌, ◌-◌, ◌≤◌, slice_get, Some, ◌<◌, cond, List, [], ◌∷◌, ◌++◌, length, refl, sym, ap, ◌∙◌, subst, codes, decimal, append_assoc, append-nil, length-append, arith}
 use Rattle.general_lemmas.proofs.Lists.{three_parts}
-use Rattle.certificates.specs.Evidence.{Automaton}
-use Rattle.certificates.specs.Certificates.{PairEntry, Certificate}
+use Rattle.certificates.specs.Prelude.{Automaton, PairEntry, Certificate}
 use Rattle.cops_names.specs.NameTable.{NameTable}
-use Rattle.cert_grammar.specs.Words.{position_text}
-use Rattle.cert_grammar.specs.Versions.{Version, first_version, second_version, Uses, IsUnsimplified, CanSimplify, IsOfVersion, used_by_evidence, used_by_pairs, used_by_steps, automata_of}
-use Rattle.cert_grammar.specs.SharedText.{is_among, texts_of, with_new, shared_by, uses_of, unfolded_length, AllNew, AreAutomata}
-use Rattle.cert_grammar.specs.EvidenceText.{automaton_text, evidence_text, pairs_text, ArePairs}
-use Rattle.cert_grammar.specs.CertificateText.{measure_text, simplifications_text, heading_text, body_text, answer_line, certificate_text, IsWithin, IsShared, IsCertificateText}
+use Rattle.cert_grammar.specs.Prelude.{position_text, Version, first_version, second_version, Uses, IsUnsimplified, CanSimplify, IsOfVersion, used_by_evidence, used_by_pairs, used_by_steps}
+use Rattle.cert_grammar.specs.Prelude.{automata_of, is_among, texts_of, with_new, shared_by, uses_of, unfolded_length, AllNew, AreAutomata, automaton_text, evidence_text, pairs_text}
+use Rattle.cert_grammar.specs.Prelude.{ArePairs, measure_text, simplifications_text, heading_text, body_text, answer_line, certificate_text, IsWithin, IsShared, IsCertificateText}
 use Rattle.cert_sharing.proofs.FirstUses.{told, pick, pick_number, numbered}
 use Rattle.cert_sharing.proofs.SpeltShares.{shared_are}
 use Rattle.cert_openings.specs.Openings.{Opening, ortho_opening, quasi_opening, simplified_opening, certificate_for, uses_with, AreLeft, IsRead, Takes}

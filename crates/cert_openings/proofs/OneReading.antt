@@ -2,16 +2,10 @@
 use Rattle.std.proofs.Common.{◌≡◌, ◌⊎◌, inl, inr, ℕ, suc, ◌+◌, Bool, true, List, [], ◌∷◌, ◌++◌, length, Option, Some, None, refl, sym, ap, ◌∙◌, subst, codes, arith}
 use Rattle.std.proofs.lemmas.List.{append_cancel_left, length-append}
 use Rattle.general_lemmas.proofs.Lists.{three_parts}
-use Rattle.certificates.specs.Evidence.{Automaton}
-use Rattle.certificates.specs.Certificates.{PairEntry, Simplification, Certificate}
+use Rattle.certificates.specs.Prelude.{Automaton, PairEntry, Simplification, Certificate}
 use Rattle.cops_names.specs.NameTable.{NameTable}
-use Rattle.cert_grammar.specs.Words.{name_of}
-use Rattle.cert_grammar.specs.Versions.{Version, first_version, second_version, Uses, version_of, IsOfVersion, automata_of}
-use Rattle.cert_grammar.specs.SharedText.{texts_of, shared_by}
-use Rattle.cert_grammar.specs.Marks.{Mark, marks_text}
-use Rattle.cert_grammar.specs.CertificateMarks.{certificate_marks}
-use Rattle.cert_grammar.specs.CertificateText.{heading_text, body_text, answer_line}
-use Rattle.cert_grammar.specs.Refusals.{HaveNames, Skeleton}
+use Rattle.cert_grammar.specs.Prelude.{name_of, Version, first_version, second_version, Uses, version_of, IsOfVersion, automata_of, texts_of, shared_by, Mark, marks_text, certificate_marks}
+use Rattle.cert_grammar.specs.Prelude.{heading_text, body_text, answer_line, HaveNames, Skeleton}
 use Rattle.cert_laws.proofs.AlikeWhole.{alike_skeletons}
 use Rattle.cert_laws.proofs.OneAnswer.{closes_all}
 use Rattle.cert_laws.proofs.SpeltWhole.{answer_of, spelt_alone, spelt_answered}

@@ -1,18 +1,11 @@
 -- A read opening, with entries behind it, by its marks: they pass, and so do its shared automata.
 use Rattle.std.proofs.Common.{◌≡◌, ◌⊎◌, inl, inr, ℕ, suc, ◌≤◌, Bool, true, false, cond, List, [], ◌∷◌, ◌++◌, length, map, Option, Some, None, refl, sym, ap, ◌∙◌, subst, codes, length-append, arith}
 use Rattle.general_lemmas.proofs.Lists.{three_parts}
-use Rattle.certificates.specs.Evidence.{Automaton}
-use Rattle.certificates.specs.Certificates.{PairEntry, Certificate}
+use Rattle.certificates.specs.Prelude.{Automaton, PairEntry, Certificate}
 use Rattle.cops_names.specs.NameTable.{NameTable}
-use Rattle.cert_grammar.specs.Words.{largest, name_of}
-use Rattle.cert_grammar.specs.Versions.{Version, first_version, second_version, Uses, in_full, by_number, version_of, IsOfVersion, automata_of}
-use Rattle.cert_grammar.specs.SharedText.{same_bytes, is_among, texts_of, shared_by, place_among, number_in, unfolded_length, AllNew}
-use Rattle.cert_grammar.specs.EvidenceText.{automaton_text}
-use Rattle.cert_grammar.specs.Marks.{is_answer, Naming, Mark, fixed, marks_text}
-use Rattle.cert_grammar.specs.CertificateMarks.{answer_marks, heading_marks, automata_marks, body_marks, closing}
-use Rattle.cert_grammar.specs.CertificateText.{heading_text, body_text}
-use Rattle.cert_grammar.specs.Sharing.{Shared, nothing_shared, PassShares}
-use Rattle.cert_grammar.specs.Refusals.{HaveNames, Skeleton, marks_of}
+use Rattle.cert_grammar.specs.Prelude.{largest, name_of, Version, first_version, second_version, Uses, in_full, by_number, version_of, IsOfVersion, automata_of, same_bytes, is_among}
+use Rattle.cert_grammar.specs.Prelude.{texts_of, shared_by, place_among, number_in, unfolded_length, AllNew, automaton_text, is_answer, Naming, Mark, fixed, marks_text, answer_marks}
+use Rattle.cert_grammar.specs.Prelude.{heading_marks, automata_marks, body_marks, closing, heading_text, body_text, Shared, nothing_shared, PassShares, HaveNames, Skeleton, marks_of}
 use Rattle.cert_laws.proofs.Spelt.{Spells, put_fixed, put_both, have_both}
 use Rattle.cert_laws.proofs.SpeltWhole.{AreShort, HasHeading, answer_of, spelt_heading, spelt_body}
 use Rattle.cert_sharing.proofs.FirstUses.{InOrder, AreAmong, texts_both, texts_length, among_more}

@@ -1,14 +1,9 @@
 -- Laws of openings, and of entries that are read one by one.
 use Rattle.std.specs.Prelude.{ℕ, suc, ◌-◌, slice_get, Some, ◌≡◌, ◌<◌, ◌≤◌, ◌+◌, List, [], ◌∷◌, ◌++◌, length, codes}
-use Rattle.certificates.specs.Evidence.{Automaton}
-use Rattle.certificates.specs.Certificates.{PairEntry, Certificate}
+use Rattle.certificates.specs.Prelude.{Automaton, PairEntry, Certificate}
 use Rattle.cops_names.specs.NameTable.{NameTable}
-use Rattle.cert_grammar.specs.Versions.{Version, used_by_evidence}
-use Rattle.cert_grammar.specs.SharedText.{texts_of, with_new, shared_by, number_in, AllNew}
-use Rattle.cert_grammar.specs.EvidenceText.{pairs_text, ArePairs}
-use Rattle.cert_grammar.specs.Marks.{CertificateCause}
-use Rattle.cert_grammar.specs.CertificateText.{IsCertificateText}
-use Rattle.cert_grammar.specs.Refusals.{IsCertificateRefused}
+use Rattle.cert_grammar.specs.Prelude.{Version, used_by_evidence, texts_of, with_new, shared_by, number_in, AllNew, pairs_text, ArePairs, CertificateCause, IsCertificateText}
+use Rattle.cert_grammar.specs.Prelude.{IsCertificateRefused}
 use Rattle.cert_openings.specs.Openings.{Opening, certificate_for, uses_with, IsRead, Takes, IsOpened, IsOpeningEnd, IsPeak}
 
 -- a text whose opening is read is refused behind it, if it is

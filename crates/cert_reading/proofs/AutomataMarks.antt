@@ -2,12 +2,8 @@
 use Rattle.std.proofs.Common.{◌≡◌, ◌<◌, ◌+◌, ◌-◌, ◌≤◌, ℕ, suc, Bool, List, [], ◌∷◌, ◌++◌, Option, map, sym, ap, ◌∙◌, subst, arith, append_assoc}
 use Rattle.std.proofs.lemmas.List.{append-nil}
 use Rattle.certificates.specs.Evidence.{Automaton}
-use Rattle.cert_grammar.specs.Marks.{Naming, Mark}
-use Rattle.cert_grammar.specs.CertificateMarks.{automata_marks}
-use Rattle.cert_grammar.specs.Sharing.{Shared}
-use Rattle.cert_grammar.specs.Items.{Item, automata_left, behind_automata, simplified}
+use Rattle.cert_grammar.specs.Prelude.{Naming, Mark, automata_marks, Shared, Item, automata_left, behind_automata, simplified, automaton_marks}
 use Rattle.cert_sharing.proofs.UseMarks.{automaton_behind}
-use Rattle.cert_grammar.specs.CertificateMarks.{automaton_marks}
 use Rattle.cert_words.specs.Walks.{BeginsAnew, AreWithoutStates}
 use Rattle.cert_reading.specs.Shared.{sealed_marks, ArePlainAutomata}
 

@@ -1,8 +1,7 @@
 -- What is chosen past the last text, and of one text.
 use Rattle.std.proofs.Common.{◌≤◌, ℕ, zero, suc, List, [], ◌∷◌, length, codes, arith}
 use Rattle.cops_names.specs.NameTable.{NameTable}
-use Rattle.cert_grammar.specs.Marks.{Naming, Mark, fixed}
-use Rattle.cert_grammar.specs.Items.{Item}
+use Rattle.cert_grammar.specs.Prelude.{Naming, Mark, fixed, Item}
 use Rattle.cert_words.specs.declared.reading.Reading.{Reading}
 use Rattle.cert_words.specs.Choices.{Choice, Chosen}
 use Rattle.cert_words.specs.Walks.{Reads}

@@ -1,15 +1,10 @@
 -- Behind the entries of a measure, where an overlap or the last line begins, the text goes on as behind nothing.
 use Rattle.std.proofs.Common.{◌≡◌, inl, inr, ◌+◌, ◌-◌, ℕ, suc, List, [], ◌∷◌, ◌++◌, length, codes, max, arith, Option, Some, None, refl, sym, ap, ◌∙◌, subst}
 use Rattle.cops_names.specs.NameTable.{NameTable}
-use Rattle.cert_grammar.specs.Words.{name_of}
-use Rattle.cert_grammar.specs.Marks.{CertificateCause, syntax, Naming, Mark}
-use Rattle.cert_grammar.specs.Items.{Item, Lead, keyword, leads, pair_or_end, pairs_from, space, between, any_number}
-use Rattle.cert_grammar.specs.Versions.{Version, first_version, second_version, HasMeasure}
+use Rattle.cert_grammar.specs.Prelude.{name_of, CertificateCause, syntax, Naming, Mark, Item, Lead, keyword, leads, pair_or_end, pairs_from, space, between, any_number, Version}
+use Rattle.cert_grammar.specs.Prelude.{first_version, second_version, HasMeasure, is_few, entries, first_there, longest, Left, Step, accepts, refuses, goes_on, step, step_lead, Shared}
+use Rattle.cert_grammar.specs.Prelude.{behind_marks, PassShares, after_step, shared_step}
 use Rattle.certificates.specs.Certificates.{MeasureCertificate, linear_measure, precedence_measure}
-use Rattle.cert_grammar.specs.Marks.{is_few, entries}
-use Rattle.cert_grammar.specs.FirstRefusal.{first_there, longest, Left, Step, accepts, refuses, goes_on, step, step_lead}
-use Rattle.cert_grammar.specs.Sharing.{Shared, behind_marks, PassShares}
-use Rattle.cert_grammar.specs.SharedReader.{after_step, shared_step}
 use Rattle.cert_shares.specs.SharesView.{with_begun}
 use Rattle.cert_openings.specs.Openings.{BeginsEntry}
 use Rattle.cert_words.specs.declared.error.CertError.{CertError}

@@ -1,7 +1,6 @@
 -- The kinds of evidence, with what is behind their words.
 use Rattle.std.proofs.Common.{◌≡◌, List, [], ◌∷◌, codes, map, refl}
-use Rattle.cert_grammar.specs.Versions.{Version, first_version, second_version}
-use Rattle.cert_grammar.specs.Items.{space, line, any_number, derivations_left, text, leads, evidence, infeasibility}
+use Rattle.cert_grammar.specs.Prelude.{Version, first_version, second_version, space, line, any_number, derivations_left, text, leads, evidence, infeasibility}
 use Rattle.cert_words.specs.Choices.{Choice, lead_of}
 use Rattle.cert_reading.specs.Uses.{use_between, use_item}
 

@@ -1,7 +1,6 @@
 -- The first words stand before the entries.
 use Rattle.std.proofs.Common.{ℕ, Bool, List, [], ◌∷◌, Option}
-use Rattle.cert_grammar.specs.Versions.{Version}
-use Rattle.cert_grammar.specs.Items.{opening, heading, simplified, body}
+use Rattle.cert_grammar.specs.Prelude.{Version, opening, heading, simplified, body}
 use Rattle.cert_reading.specs.Stops.{BeforeEntries}
 use Rattle.cert_reading.proofs.Opening.{other_item}
 

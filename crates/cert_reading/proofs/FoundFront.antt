@@ -3,21 +3,14 @@
 use Rattle.std.proofs.Common.{◌≡◌, ◌⊎◌, inl, inr, ℕ, zero, suc, ◌+◌, ◌≤◌, Bool, true, false, List, [], ◌∷◌, ◌++◌, length, map, drop, Option, Some, None, codes, refl, sym, ap, ◌∙◌, subst, arith}
 use Rattle.std.proofs.lemmas.List.{drop_at}
 use Rattle.general_lemmas.proofs.Lists.{three_parts}
-use Rattle.certificates.specs.Evidence.{Automaton}
-use Rattle.certificates.specs.Evidence.{InfeasibilityEvidence, by_caps, by_automaton, PairEvidence, infeasible_pair}
-use Rattle.certificates.specs.Certificates.{PairEntry, Redex, Apartness, by_normal_forms, by_rigid_caps, Simplification, dropped, inlined, Certificate, ortho_certificate, quasi_certificate, peak_certificate, simplified_certificate}
+use Rattle.certificates.specs.Prelude.{Automaton, InfeasibilityEvidence, by_caps, by_automaton, PairEvidence, infeasible_pair, PairEntry, Redex, Apartness, by_normal_forms, by_rigid_caps}
+use Rattle.certificates.specs.Prelude.{Simplification, dropped, inlined, Certificate, ortho_certificate, quasi_certificate, peak_certificate, simplified_certificate}
 use Rattle.cops_names.specs.NameTable.{NameTable}
-use Rattle.cert_grammar.specs.Words.{largest, name_of}
-use Rattle.cert_grammar.specs.Versions.{Version, first_version, second_version, Uses, in_full, by_number, version_of, used_by, used_by_evidence, used_by_pairs, used_by_redexes, used_by_apart, used_by_steps, automata_of}
-use Rattle.cert_grammar.specs.EvidenceText.{automaton_text}
-use Rattle.cert_grammar.specs.SharedText.{texts_of, with_new, shared_by, place_among, number_in, unfolded_length, AllNew, AreAutomata}
-use Rattle.cert_grammar.specs.CertificateText.{heading_text, body_text, IsWithin}
+use Rattle.cert_grammar.specs.Prelude.{largest, name_of, Version, first_version, second_version, Uses, in_full, by_number, version_of, used_by, used_by_evidence, used_by_pairs}
+use Rattle.cert_grammar.specs.Prelude.{used_by_redexes, used_by_apart, used_by_steps, automata_of, automaton_text, texts_of, with_new, shared_by, place_among, number_in, unfolded_length}
+use Rattle.cert_grammar.specs.Prelude.{AllNew, AreAutomata, heading_text, body_text, IsWithin, is_few, is_answer, Naming, Mark, fixed, marks_text, number_for, automata_marks, answer_marks}
+use Rattle.cert_grammar.specs.Prelude.{heading_marks, body_marks, Pass, Shared, nothing_shared, behind_marks, PassShares}
 use Rattle.cert_grammar.specs.Marks as marks
-use Rattle.cert_grammar.specs.Marks.{is_few, is_answer, Naming, Mark, fixed, marks_text}
-use Rattle.cert_grammar.specs.WordMarks.{number_for}
-use Rattle.cert_grammar.specs.CertificateMarks.{automata_marks, answer_marks, heading_marks, body_marks}
-use Rattle.cert_grammar.specs.Refusals.{Pass}
-use Rattle.cert_grammar.specs.Sharing.{Shared, nothing_shared, behind_marks, PassShares}
 use Rattle.cert_laws.proofs.PassTerms.{range_met, few_met, pass_append}
 use Rattle.cert_laws.proofs.PassEvidence.{AllOf}
 use Rattle.cert_laws.proofs.Spelt.{put_both}

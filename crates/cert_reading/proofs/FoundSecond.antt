@@ -1,20 +1,15 @@
 -- A certificate that is read along its marks is that of its text, in either version.
 use Rattle.std.proofs.Common.{◌≡◌, ◌⊎◌, inl, inr, ◌≤◌, ℕ, zero, suc, Bool, true, false, List, [], ◌∷◌, ◌++◌, length, map, drop, Option, Some, None, codes, refl, sym, ap, ◌∙◌, subst, arith}
 use Rattle.std.proofs.lemmas.List.{append-nil}
-use Rattle.certificates.specs.Evidence.{Automaton, InfeasibilityEvidence, by_caps, by_automaton, PairEvidence, trivial_pair, infeasible_pair, conflicting_pair, joined_pair, unfeasible_pair}
-use Rattle.certificates.specs.Certificates.{PairEntry, Redex, Apartness, by_normal_forms, by_rigid_caps, Simplification, dropped, inlined, Certificate, ortho_certificate, quasi_certificate, peak_certificate, simplified_certificate}
+use Rattle.certificates.specs.Prelude.{Automaton, InfeasibilityEvidence, by_caps, by_automaton, PairEvidence, trivial_pair, infeasible_pair, conflicting_pair, joined_pair, unfeasible_pair}
+use Rattle.certificates.specs.Prelude.{PairEntry, Redex, Apartness, by_normal_forms, by_rigid_caps, Simplification, dropped, inlined, Certificate, ortho_certificate, quasi_certificate}
+use Rattle.certificates.specs.Prelude.{peak_certificate, simplified_certificate}
 use Rattle.cops_names.specs.NameTable.{NameTable}
-use Rattle.cert_grammar.specs.Words.{largest, name_of}
-use Rattle.cert_grammar.specs.Versions.{Version, first_version, second_version, Uses, in_full, by_number, used_by, used_by_evidence, used_by_pairs, used_by_redexes, used_by_apart, used_by_steps, automata_of}
-use Rattle.cert_grammar.specs.EvidenceText.{automaton_text}
-use Rattle.cert_grammar.specs.SharedText.{texts_of, with_new, shared_by, place_among, number_in, unfolded_length, AllNew, AreAutomata}
-use Rattle.cert_grammar.specs.Refusals.{Pass}
-use Rattle.cert_grammar.specs.CertificateText.{certificate_text, heading_text, body_text, answer_line, IsWithin, CanBeSpelt, IsVersionText, IsCertificateText}
+use Rattle.cert_grammar.specs.Prelude.{largest, name_of, Version, first_version, second_version, Uses, in_full, by_number, used_by, used_by_evidence, used_by_pairs, used_by_redexes}
+use Rattle.cert_grammar.specs.Prelude.{used_by_apart, used_by_steps, automata_of, automaton_text, texts_of, with_new, shared_by, place_among, number_in, unfolded_length, AllNew}
+use Rattle.cert_grammar.specs.Prelude.{AreAutomata, Pass, certificate_text, heading_text, body_text, answer_line, IsWithin, CanBeSpelt, IsVersionText, IsCertificateText, Naming, is_few}
+use Rattle.cert_grammar.specs.Prelude.{marks_text, automata_marks, heading_marks, body_marks, certificate_marks, closing, Shared, nothing_shared, PassShares, opening}
 use Rattle.cert_grammar.specs.Marks as marks
-use Rattle.cert_grammar.specs.Marks.{Naming, is_few, marks_text}
-use Rattle.cert_grammar.specs.CertificateMarks.{automata_marks, heading_marks, body_marks, certificate_marks, closing}
-use Rattle.cert_grammar.specs.Sharing.{Shared, nothing_shared, PassShares}
-use Rattle.cert_grammar.specs.Items.{opening}
 use Rattle.cert_laws.proofs.PassTerms.{range_met, few_met}
 use Rattle.cert_laws.proofs.PassEvidence.{AllOf}
 use Rattle.cert_laws.proofs.SpeltWhole.{AreShort, spelt_alone, spelt_answered}

@@ -2,14 +2,11 @@
 use Rattle.std.proofs.Common.{◌≡◌, ◌+◌, ℕ, suc, List, [], ◌∷◌, ◌++◌, length, map, codes, refl, sym, ap, ◌∙◌, arith, subst, append_assoc}
 use Rattle.std.proofs.lemmas.List.{append-nil}
 use Rattle.rewriting.specs.Unraveling.{Head}
-use Rattle.certificates.specs.Certificates.{PairEntry, LinearEntry, Redex, Simplification, dropped, inlined}
-use Rattle.cert_grammar.specs.Words.{largest}
-use Rattle.certificates.specs.Evidence.{Automaton}
-use Rattle.cert_grammar.specs.Versions.{Version, Uses}
+use Rattle.certificates.specs.Prelude.{PairEntry, LinearEntry, Redex, Simplification, dropped, inlined, Automaton}
+use Rattle.cert_grammar.specs.Prelude.{largest, Version, Uses, Naming, Mark, fixed, word, numbers, pairs, redexes, in_range, is_few, number, position, coefficients_marks, entries_marks}
+use Rattle.cert_grammar.specs.Prelude.{heads_marks, simplifications_marks, infeasibility_marks, evidence_marks, pairs_marks, redexes_marks}
 use Rattle.cert_reading.specs.Plain.{HasUsed, EvidenceUses, PairsUse, RedexesUse, StepsUse}
-use Rattle.cert_grammar.specs.Marks.{Naming, Mark, fixed, word, numbers, pairs, redexes, in_range, is_few}
-use Rattle.cert_grammar.specs.WordMarks.{numeral, number, position}
-use Rattle.cert_grammar.specs.CertificateMarks.{coefficients_marks, entries_marks, heads_marks, simplifications_marks, infeasibility_marks, evidence_marks, pairs_marks, redexes_marks}
+use Rattle.cert_grammar.specs.WordMarks.{numeral}
 
 abbrev pub coefficient_marks : ℕ → ℕ → List Mark
 coefficient_marks n k = fixed (codes " ") ∷ word (numeral k) (in_range 0 0 (suc largest) k ∷ is_few numbers n ∷ []) ∷ []

@@ -1,11 +1,9 @@
 -- The words of an opening, which are refused where they stand.
 use Rattle.std.proofs.Common.{◌≡◌, inl, inr, ◌<◌, ◌==◌, ℕ, suc, Bool, true, false, List, [], ◌∷◌, Option, Some, None, codes, IfSome, IsTrue, refl, sym, ap, ◌∙◌, subst, arith, eqb-true}
 use Rattle.cops_names.specs.NameTable.{NameTable}
-use Rattle.cert_grammar.specs.Versions.{Version, first_version, second_version}
-use Rattle.cert_grammar.specs.Marks.{fits_answer, is_answer, syntax, word}
-use Rattle.cert_grammar.specs.Items.{Item, Lead, keyword, leads, pair_or_end, heading, shared_line, body, between, line, any_number, pairs_from, entries_from, heads_from, measured_name, measured_condition, head_name, coefficients_behind}
-use Rattle.cert_grammar.specs.FirstRefusal.{is_there, first_there}
-use Rattle.cert_grammar.specs.Sharing.{Shared}
+use Rattle.cert_grammar.specs.Prelude.{Version, first_version, second_version, fits_answer, is_answer, syntax, word, Item, Lead, keyword, leads, pair_or_end, heading, shared_line, body}
+use Rattle.cert_grammar.specs.Prelude.{between, line, any_number, pairs_from, entries_from, heads_from, measured_name, measured_condition, head_name, coefficients_behind, is_there}
+use Rattle.cert_grammar.specs.Prelude.{first_there, Shared}
 use Rattle.cert_openings.specs.Openings.{BeginsEntry}
 use Rattle.cert_words.specs.declared.error.CertError.{CertError}
 use Rattle.cert_words.specs.declared.error.CertError.TheVariants.{CertSyntax}

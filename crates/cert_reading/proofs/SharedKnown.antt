@@ -2,14 +2,8 @@
 use Rattle.std.proofs.Common.{◌≡◌, ◌≤◌, ℕ, List, [], ◌∷◌, length, codes, None, sym, ap, ◌∙◌, subst}
 use Rattle.certificates.specs.Evidence.{Automaton}
 use Rattle.cops_names.specs.NameTable.{NameTable}
-use Rattle.cert_grammar.specs.Words.{name_of}
-use Rattle.cert_grammar.specs.Versions.{second_version}
-use Rattle.cert_grammar.specs.Marks.{Mark, fixed, shared_automata, marks_text}
-use Rattle.cert_grammar.specs.WordMarks.{number_for}
-use Rattle.cert_grammar.specs.CertificateMarks.{automata_marks}
-use Rattle.cert_grammar.specs.SharedText.{texts_of, AllNew, AreAutomata}
-use Rattle.cert_grammar.specs.Sharing.{Shared, behind_marks, PassShares}
-use Rattle.cert_grammar.specs.Items.{Item}
+use Rattle.cert_grammar.specs.Prelude.{name_of, second_version, Mark, fixed, shared_automata, marks_text, number_for, automata_marks, texts_of, AllNew, AreAutomata, Shared, behind_marks}
+use Rattle.cert_grammar.specs.Prelude.{PassShares, Item}
 use Rattle.cert_sharing.proofs.UseMarks.{state, AreStill, still_marks, pass_split, behind_both, marked_texts, automata_behind, automata_new}
 use Rattle.cert_sharing.proofs.SpeltShares.{marked_are}
 use Rattle.cert_words.specs.declared.reading.Reading.{Reading}

@@ -2,14 +2,10 @@
 use Rattle.std.proofs.Common.{inl, inr, codes, ◌≡◌, ◌≤◌, ℕ, suc, List, [], ◌∷◌, ◌++◌, Option, Some, None, IfSome, refl, sym, ◌∙◌, subst, arith}
 use Rattle.std.proofs.lemmas.List.{append-nil}
 use Rattle.cops_names.specs.NameTable.{NameTable}
-use Rattle.cert_grammar.specs.Words.{name_of}
-use Rattle.cert_grammar.specs.Marks.{CertificateCause, Naming, Mark}
-use Rattle.cert_grammar.specs.Items.{Item, between, line, pairs_from}
-use Rattle.cert_grammar.specs.Versions.{Version}
+use Rattle.cert_grammar.specs.Prelude.{name_of, CertificateCause, Naming, Mark, Item, between, line, pairs_from, Version, Shared}
 use Rattle.cert_words.specs.declared.error.CertError.{CertError}
 use Rattle.cert_words.specs.declared.reading.Reading.{Reading}
 use Rattle.cert_words.specs.Words.{told}
-use Rattle.cert_grammar.specs.Sharing.{Shared}
 use Rattle.cert_words.specs.Walks.{left_at, Walks, tagged, AreFound, Keeps, Run, IsStuckAt, IsStuckBehind, IsStopped, ReadsOn, Reads}
 use Rattle.cert_words.proofs.Walking.{walks_then, walks_shorter, stops_then, run_then, framed_on, front_then, open_before, read_run}
 use Rattle.cert_reading.specs.Stops.{Place, IsStoppedWhere, ReadsOnWhere, ReadsWhere, Anywhere, lowest, IsBehind, AreBehind, WithinOpening, WithinEntry}

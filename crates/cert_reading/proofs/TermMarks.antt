@@ -2,8 +2,7 @@
 use Rattle.std.proofs.Common.{◌≡◌, ◌<◌, ◌+◌, ℕ, suc, List, [], ◌∷◌, ◌++◌, length, codes, refl, sym, ap, ◌∙◌, arith, append_assoc}
 use Rattle.std.proofs.lemmas.List.{append-nil}
 use Rattle.rewriting.specs.Terms.{Term, app, terms_of, count, size, size_all}
-use Rattle.cert_grammar.specs.Marks.{Naming, has_arity, Mark, fixed, symbol, behind}
-use Rattle.cert_grammar.specs.WordMarks.{is_node, term_marks, arguments_marks, further_marks}
+use Rattle.cert_grammar.specs.Prelude.{Naming, has_arity, Mark, fixed, symbol, behind, is_node, term_marks, arguments_marks, further_marks}
 use Rattle.cert_words.specs.Nodes.{inner_marks}
 
 -- arguments with a comma behind each

@@ -2,13 +2,7 @@
 use Rattle.std.proofs.Common.{◌≡◌, ◌≤◌, ◌-◌, ℕ, List, [], ◌∷◌, ◌++◌, length, codes, slice_get, Option, Some, None, sym, ap, ◌∙◌, arith}
 use Rattle.certificates.specs.Evidence.{Automaton}
 use Rattle.cops_names.specs.NameTable.{NameTable}
-use Rattle.cert_grammar.specs.Words.{name_of}
-use Rattle.cert_grammar.specs.Versions.{Version, first_version, second_version}
-use Rattle.cert_grammar.specs.Marks.{Naming, Mark, fixed}
-use Rattle.cert_grammar.specs.CertificateMarks.{use_mark}
-use Rattle.cert_grammar.specs.SharedText.{texts_of, number_in, AllNew}
-use Rattle.cert_grammar.specs.Sharing.{Shared}
-use Rattle.cert_grammar.specs.Items.{Item}
+use Rattle.cert_grammar.specs.Prelude.{name_of, Version, first_version, second_version, Naming, Mark, fixed, use_mark, texts_of, number_in, AllNew, Shared, Item}
 use Rattle.cert_sharing.proofs.FirstUses.{texts_length, pick, pick_number}
 use Rattle.cert_sharing.proofs.UseMarks.{Counts, counts_still, counts_both, counts_put, counts_use}
 use Rattle.cert_openings.proofs.Entries.{pick_stands}

@@ -1,8 +1,6 @@
 -- Where a measure goes on with a symbol, or ends.
 use Rattle.std.specs.Prelude.{◌≡◌, ℕ, List, [], ◌∷◌, codes}
-use Rattle.cert_grammar.specs.Versions.{Version}
-use Rattle.cert_grammar.specs.Marks.{entries, is_few}
-use Rattle.cert_grammar.specs.Items.{Item, keyword, name_lead, numeral_lead, is_short, space, between, any_number, pair_or_end, leads}
+use Rattle.cert_grammar.specs.Prelude.{Version, entries, is_few, Item, keyword, name_lead, numeral_lead, is_short, space, between, any_number, pair_or_end, leads}
 use Rattle.cert_openings.specs.Openings.{BeginsEntry}
 use Rattle.cert_reading.specs.Stops.{IsBehind, WithinOpening}
 

@@ -1,8 +1,8 @@
 -- What the marks of values do not show: transitions from variables have no states, and an automaton that is used by its number
 -- is the one with that number.
 use Rattle.std.specs.Prelude.{◌≡◌, ◌≤◌, ◌-◌, ℕ, List, [], ◌∷◌, length, slice_get, Some}
-use Rattle.certificates.specs.Evidence.{Automaton, InfeasibilityEvidence, by_caps, by_automaton, PairEvidence, infeasible_pair}
-use Rattle.certificates.specs.Certificates.{PairEntry, Redex, Apartness, by_normal_forms, by_rigid_caps, Simplification, dropped, inlined, Certificate, ortho_certificate, quasi_certificate, peak_certificate, simplified_certificate}
+use Rattle.certificates.specs.Prelude.{Automaton, InfeasibilityEvidence, by_caps, by_automaton, PairEvidence, infeasible_pair, PairEntry, Redex, Apartness, by_normal_forms, by_rigid_caps}
+use Rattle.certificates.specs.Prelude.{Simplification, dropped, inlined, Certificate, ortho_certificate, quasi_certificate, peak_certificate, simplified_certificate}
 use Rattle.cert_grammar.specs.Versions.{Version, HasMeasure, CanSimplify, first_version, second_version}
 use Rattle.cert_words.specs.Walks.{AreWithoutStates}
 

@@ -2,12 +2,9 @@
 use Rattle.std.specs.Prelude.{◌≡◌, suc, List, [], ◌∷◌, ◌++◌, length, codes}
 use Rattle.certificates.specs.Evidence.{Automaton}
 use Rattle.cops_names.specs.NameTable.{NameTable}
-use Rattle.cert_grammar.specs.Words.{largest}
-use Rattle.cert_grammar.specs.Marks.{Naming, states, transitions, shared_automata, automaton_ends, in_range, is_few, shares, Mark, fixed, word, closed}
-use Rattle.cert_grammar.specs.WordMarks.{numeral, number_for}
-use Rattle.cert_grammar.specs.CertificateMarks.{accepting_marks, transitions_marks, automaton_marks, automata_marks}
-use Rattle.cert_grammar.specs.SharedText.{texts_of, AllNew}
-use Rattle.cert_grammar.specs.Sharing.{Shared}
+use Rattle.cert_grammar.specs.Prelude.{largest, Naming, states, transitions, shared_automata, automaton_ends, in_range, is_few, shares, Mark, fixed, word, closed, number_for}
+use Rattle.cert_grammar.specs.Prelude.{accepting_marks, transitions_marks, automaton_marks, automata_marks, texts_of, AllNew, Shared}
+use Rattle.cert_grammar.specs.WordMarks.{numeral}
 use Rattle.cert_words.specs.Walks.{AreWithoutStates}
 
 -- the marks of an automaton behind its first word

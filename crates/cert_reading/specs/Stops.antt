@@ -1,10 +1,8 @@
 -- How far a reader has come where it refuses a text.
 use Rattle.std.specs.Prelude.{◌++◌, codes, ◌≡◌, ◌⊎◌, ◌≤◌, ◌<◌, ℕ, suc, List, [], ◌∷◌, length, Option, Some, None}
 use Rattle.cops_names.specs.NameTable.{NameTable}
-use Rattle.cert_grammar.specs.Marks.{CertificateCause, Naming, Mark}
-use Rattle.cert_grammar.specs.Items.{Item, between, line, pairs_from, entries_from, heads_from}
-use Rattle.cert_grammar.specs.Versions.{Version, first_version, second_version}
-use Rattle.cert_grammar.specs.Sharing.{Shared, behind_marks, PassShares}
+use Rattle.cert_grammar.specs.Prelude.{CertificateCause, Naming, Mark, Item, between, line, pairs_from, entries_from, heads_from, Version, first_version, second_version, Shared}
+use Rattle.cert_grammar.specs.Prelude.{behind_marks, PassShares}
 use Rattle.cert_shares.specs.SharesView.{with_begun}
 use Rattle.cert_openings.specs.Openings.{BeginsEntry}
 use Rattle.cert_words.specs.declared.error.CertError.{CertError}

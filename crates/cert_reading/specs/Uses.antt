@@ -3,8 +3,7 @@ use Rattle.std.specs.Prelude.{◌≡◌, ◌≤◌, ℕ, List, [], length, map, 
 use Rattle.certificates.specs.Evidence.{Automaton}
 use Rattle.cops_names.specs.NameTable.{NameTable}
 use Rattle.cert_model.specs.EvidenceView.{automaton_view}
-use Rattle.cert_grammar.specs.Versions.{Version, first_version, second_version, Uses}
-use Rattle.cert_grammar.specs.Items.{Item, Between, space, line, states_line, shared_use}
+use Rattle.cert_grammar.specs.Prelude.{Version, first_version, second_version, Uses, Item, Between, space, line, states_line, shared_use}
 use Rattle.cert_openings.specs.Openings.{uses_with}
 use Rattle.cert_words.specs.declared.reading.Reading.{Reading}
 use Rattle.cert_reading.specs.declared.uses.Uses as code

@@ -1,11 +1,8 @@
 -- A certificate that is read, of either version.
 use Rattle.std.specs.Prelude.{◌≡◌, ℕ, Bool, List, [], ◌∷◌, Option, None}
-use Rattle.certificates.specs.Evidence.{Automaton}
-use Rattle.certificates.specs.Certificates.{Certificate}
+use Rattle.certificates.specs.Prelude.{Automaton, Certificate}
 use Rattle.cops_names.specs.NameTable.{NameTable}
-use Rattle.cert_grammar.specs.Versions.{Version, first_version, second_version}
-use Rattle.cert_grammar.specs.CertificateMarks.{certificate_marks}
-use Rattle.cert_grammar.specs.Items.{opening}
+use Rattle.cert_grammar.specs.Prelude.{Version, first_version, second_version, certificate_marks, opening}
 use Rattle.cert_openings.specs.Openings.{uses_with}
 use Rattle.cert_words.specs.declared.reading.Reading.{Reading}
 use Rattle.cert_reading.specs.Shared.{ArePlainAutomata}

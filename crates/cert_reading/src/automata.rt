@@ -3,8 +3,7 @@
 ghost use Rattle.std.specs.Prelude.{◌≡◌, ◌++◌, ℕ, [], ◌∷◌, None, map, length, codes};
 ghost use Rattle.cops_names.specs.NameTable.{NameTable, number_of};
 ghost use Rattle.cert_model.specs.EvidenceView.{transition_view, automaton_view};
-ghost use Rattle.cert_grammar.specs.Words.{name_of};
-ghost use Rattle.cert_grammar.specs.Marks.{has_arity, fixed, behind};
+ghost use Rattle.cert_grammar.specs.Prelude.{name_of, has_arity, fixed, behind};
 ghost use Rattle.cert_grammar.specs.CertificateMarks as marks;
 ghost use Rattle.cert_grammar.specs.Items as spec;
 ghost use Rattle.cert_words.specs.Walks.{Reads, HasNoStates, AreWithoutStates};

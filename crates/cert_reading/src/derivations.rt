@@ -2,12 +2,9 @@
 
 ghost use Rattle.std.specs.Prelude.{◌≡◌, ◌≤◌, ◌++◌, ℕ, suc, [], ◌∷◌, None, map, codes};
 ghost use Rattle.cops_names.specs.NameTable.{NameTable};
-ghost use Rattle.certificates.specs.Derivations.{derivations_of};
-ghost use Rattle.certificates.specs.Judging.{derivation_count};
-ghost use Rattle.certificates.specs.Sizes.{step_count};
+ghost use Rattle.certificates.specs.Prelude.{derivations_of, derivation_count, step_count};
 ghost use Rattle.cert_model.specs.DerivationView.{derivation_view, step_view};
-ghost use Rattle.cert_grammar.specs.Words.{largest};
-ghost use Rattle.cert_grammar.specs.Marks.{in_range, fixed, word};
+ghost use Rattle.cert_grammar.specs.Prelude.{largest, in_range, fixed, word};
 ghost use Rattle.cert_grammar.specs.WordMarks as marks;
 ghost use Rattle.cert_grammar.specs.Items as spec;
 ghost use Rattle.cert_words.specs.Walks.{Reads};

@@ -4,10 +4,8 @@ ghost use Rattle.std.specs.Prelude.{◌≡◌, ◌≤◌, ◌++◌, ℕ, suc, []
 ghost use Rattle.cops_names.specs.NameTable.{NameTable};
 ghost use Rattle.cert_model.specs.CertificateView.{head_view, linear_entry_view, measure_view};
 ghost use Rattle.cert_openings.specs.Openings.{BeginsEntry};
-ghost use Rattle.cert_grammar.specs.Marks.{is_few, entries, fixed, word};
-ghost use Rattle.cert_grammar.specs.CertificateMarks.{coefficients_marks, measured_marks, entries_marks, heads_marks, measure_marks};
-ghost use Rattle.cert_grammar.specs.Versions.{Version, HasMeasure, first_version, second_version};
-ghost use Rattle.cert_grammar.specs.Items.{Item};
+ghost use Rattle.cert_grammar.specs.Prelude.{is_few, entries, fixed, word, coefficients_marks, measured_marks, entries_marks, heads_marks, measure_marks, Version, HasMeasure, first_version};
+ghost use Rattle.cert_grammar.specs.Prelude.{second_version, Item};
 ghost use Rattle.cert_grammar.specs.Items as spec;
 ghost use Rattle.cert_words.specs.Walks.{Reads};
 ghost use Rattle.cert_reading.specs.Stops.{ReadsWhere, WithinOpening};

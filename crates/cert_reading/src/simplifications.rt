@@ -3,9 +3,7 @@
 ghost use Rattle.std.specs.Prelude.{◌≡◌, ℕ, [], ◌∷◌, None, map, length};
 ghost use Rattle.cert_model.specs.EvidenceView.{automaton_view};
 ghost use Rattle.cert_model.specs.CertificateView.{simp_view};
-ghost use Rattle.cert_grammar.specs.Versions.{second_version, by_number};
-ghost use Rattle.cert_grammar.specs.SharedText.{number_in};
-ghost use Rattle.cert_grammar.specs.CertificateMarks.{simplifications_marks};
+ghost use Rattle.cert_grammar.specs.Prelude.{second_version, by_number, number_in, simplifications_marks};
 ghost use Rattle.cert_grammar.specs.Items as spec;
 ghost use Rattle.cert_words.specs.Walks.{Reads};
 ghost use Rattle.cert_reading.specs.Plain.{StepsUse};

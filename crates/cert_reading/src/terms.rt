@@ -4,10 +4,8 @@ ghost use Rattle.std.specs.Prelude.{◌≡◌, ◌≤◌, ◌<◌, ◌+◌, ◌+
 ghost use Rattle.cops_names.specs.NameTable.{number_of};
 ghost use Rattle.rewriting.specs.Terms.{size, size_all};
 ghost use Rattle.term_core.specs.View.{view, views};
-ghost use Rattle.cert_grammar.specs.Words.{name_of};
-ghost use Rattle.cert_grammar.specs.Marks.{fixed};
+ghost use Rattle.cert_grammar.specs.Prelude.{name_of, fixed, Frame, with_next};
 ghost use Rattle.cert_grammar.specs.WordMarks as marks;
-ghost use Rattle.cert_grammar.specs.Items.{Frame, with_next};
 ghost use Rattle.cert_grammar.specs.Items as spec;
 ghost use Rattle.cert_words.specs.Walks.{Reads};
 ghost use Rattle.cert_words.specs.Nodes.{inner_marks};

@@ -3,8 +3,7 @@
 ghost use Rattle.std.specs.Prelude.{◌≡◌, ◌≤◌, ◌-◌, ℕ, List, [], ◌∷◌, None, Some, map, length, slice_get};
 ghost use Rattle.cops_names.specs.NameTable.{NameTable};
 ghost use Rattle.cert_model.specs.EvidenceView.{automaton_view};
-ghost use Rattle.cert_grammar.specs.CertificateMarks.{use_marks};
-ghost use Rattle.cert_grammar.specs.Items.{Item};
+ghost use Rattle.cert_grammar.specs.Prelude.{use_marks, Item};
 ghost use Rattle.cert_grammar.specs.Items as spec;
 ghost use Rattle.cert_words.specs.Walks.{Reads};
 ghost use Rattle.cert_reading.specs.Plain.{IsUsed};

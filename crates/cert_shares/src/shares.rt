@@ -1,7 +1,6 @@
 //! The shared automata of a text, as they are read: which texts stand there already, how far their uses have come, and what they unfold to.
 ghost use Rattle.std.specs.Prelude.{◌≡◌, IfOk, OnOk, OnErr, length, take};
-ghost use Rattle.cert_grammar.specs.Sharing.{nothing_shared, holds};
-ghost use Rattle.cert_grammar.specs.Marks.{automaton_ends, all_used};
+ghost use Rattle.cert_grammar.specs.Prelude.{nothing_shared, holds, automaton_ends, all_used};
 ghost use Rattle.cert_shares.specs.SharesView.{with_begun, behind_end, IsJudged};
 
 use cert_grammar::MOST_UNFOLDED;

@@ -2,12 +2,10 @@
 use Rattle.std.proofs.Common.{◌≡◌, inl, inr, ℕ, zero, suc, ◌+◌, ◌*◌, ◌<◌, true, List, [], ◌∷◌, ◌++◌, length, drop, Option, Some, None, refl, sym, ap, ◌∙◌, subst, arith, length-append}
 use Rattle.std.proofs.lemmas.List.{append-nil}
 use Rattle.cops_names.specs.NameTable.{NameTable}
-use Rattle.cert_grammar.specs.Marks.{CertificateCause, syntax, Mark, mark_text, marks_text, demands_of, verdict}
-use Rattle.cert_grammar.specs.Sharing.{Shared, nothing_shared, share_verdict, behind_mark, behind_marks, PassShares}
-use Rattle.cert_grammar.specs.Refusals.{GoesTo, IsPlainlyRefused, IsRefusedShared, IsCertificateRefused}
-use Rattle.cert_grammar.specs.Items.{Item, opening, Lead, leads}
-use Rattle.cert_grammar.specs.FirstRefusal.{is_there, first_there, longest, taken, mark_of, items_of, Left, refuses, behind_lead, judged, step_lead, step, Reading, accepted, refused, whole_text}
-use Rattle.cert_grammar.specs.SharedReader.{SharedStep, ends, further, shared_judged, after_step, shared_step, shared_reading, read_shared, read_text}
+use Rattle.cert_grammar.specs.Prelude.{CertificateCause, syntax, Mark, mark_text, marks_text, demands_of, verdict, Shared, nothing_shared, share_verdict, behind_mark, behind_marks}
+use Rattle.cert_grammar.specs.Prelude.{PassShares, GoesTo, IsPlainlyRefused, IsRefusedShared, IsCertificateRefused, Item, opening, Lead, leads, is_there, first_there, longest, taken}
+use Rattle.cert_grammar.specs.Prelude.{mark_of, items_of, Left, refuses, behind_lead, judged, step_lead, step, Reading, accepted, refused, whole_text, SharedStep, ends, further}
+use Rattle.cert_grammar.specs.Prelude.{shared_judged, after_step, shared_step, shared_reading, read_shared, read_text}
 use Rattle.cert_laws.proofs.LeadTables.{In}
 use Rattle.cert_laws.proofs.OneRefusal.{passed_anywhere}
 use Rattle.cert_laws.proofs.Spelt.{text_both, pass_both}

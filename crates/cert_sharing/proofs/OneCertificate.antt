@@ -1,22 +1,17 @@
 -- Bytes are the text of one certificate at most.
 use Rattle.std.proofs.Common.{◌≡◌, ◌⊎◌, inl, inr, ℕ, suc, Bool, true, false, List, [], ◌∷◌, ◌++◌, length, codes, Option, Some, None, refl, sym, ap, ◌∙◌, arith}
 use Rattle.std.proofs.lemmas.List.{append_cancel_left}
-use Rattle.rewriting.specs.Positions.{Position}
-use Rattle.rewriting.specs.Unraveling.{Head, file, auxiliary}
-use Rattle.certificates.specs.Derivations.{Derivation}
-use Rattle.certificates.specs.Evidence.{Automaton, InfeasibilityEvidence, by_caps, by_automaton, PairEvidence, trivial_pair, infeasible_pair, conflicting_pair, joined_pair, unfeasible_pair}
-use Rattle.certificates.specs.Certificates.{PairEntry, LinearEntry, MeasureCertificate, linear_measure, precedence_measure, Redex, Apartness, by_normal_forms, by_rigid_caps, Peak, Simplification, dropped, inlined, Certificate, ortho_certificate, quasi_certificate, peak_certificate, simplified_certificate}
+use Rattle.rewriting.specs.Prelude.{Position, Head, file, auxiliary}
+use Rattle.certificates.specs.Prelude.{Derivation, Automaton, InfeasibilityEvidence, by_caps, by_automaton, PairEvidence, trivial_pair, infeasible_pair, conflicting_pair, joined_pair}
+use Rattle.certificates.specs.Prelude.{unfeasible_pair, PairEntry, LinearEntry, MeasureCertificate, linear_measure, precedence_measure, Redex, Apartness, by_normal_forms, by_rigid_caps}
+use Rattle.certificates.specs.Prelude.{Peak, Simplification, dropped, inlined, Certificate, ortho_certificate, quasi_certificate, peak_certificate, simplified_certificate}
 use Rattle.cops_names.specs.NameTable.{NameTable}
-use Rattle.cert_grammar.specs.Words.{name_of}
-use Rattle.cert_grammar.specs.Versions.{Version, first_version, second_version, Uses, in_full, by_number, used_by, used_by_evidence, used_by_pairs, used_by_redexes, used_by_apart, used_by_steps, automata_of}
-use Rattle.cert_grammar.specs.EvidenceText.{automaton_text, IsAutomaton}
-use Rattle.cert_grammar.specs.CertificateText.{IsMeasured, AreEntries, AreHeads, IsMeasure, IsWithin, IsCertificateText}
-use Rattle.cert_grammar.specs.Marks.{Naming, shares, automaton_ends, Mark, fixed, closed, mark_text, marks_text}
-use Rattle.cert_grammar.specs.WordMarks.{term_marks, derivation_marks}
-use Rattle.cert_grammar.specs.CertificateMarks.{closing, use_marks, automaton_marks, automata_marks, infeasibility_marks, evidence_marks, pairs_marks, coefficients_marks, measured_marks, entries_marks, heads_marks, measure_marks, redexes_marks, apart_marks, simplifications_marks, body_marks, answer_marks, certificate_marks}
-use Rattle.cert_grammar.specs.SharedText.{is_among, texts_of, shared_by, number_in, uses_of, AreAutomata}
-use Rattle.cert_grammar.specs.Sharing.{text_at}
-use Rattle.cert_grammar.specs.Refusals.{Skeleton}
+use Rattle.cert_grammar.specs.Prelude.{name_of, Version, first_version, second_version, Uses, in_full, by_number, used_by, used_by_evidence, used_by_pairs, used_by_redexes, used_by_apart}
+use Rattle.cert_grammar.specs.Prelude.{used_by_steps, automata_of, automaton_text, IsAutomaton, IsMeasured, AreEntries, AreHeads, IsMeasure, IsWithin, IsCertificateText, Naming, shares}
+use Rattle.cert_grammar.specs.Prelude.{automaton_ends, Mark, fixed, closed, mark_text, marks_text, term_marks, derivation_marks, closing, use_marks, automaton_marks, automata_marks}
+use Rattle.cert_grammar.specs.Prelude.{infeasibility_marks, evidence_marks, pairs_marks, coefficients_marks, measured_marks, entries_marks, heads_marks, measure_marks, redexes_marks}
+use Rattle.cert_grammar.specs.Prelude.{apart_marks, simplifications_marks, body_marks, answer_marks, certificate_marks, is_among, texts_of, shared_by, number_in, uses_of, AreAutomata}
+use Rattle.cert_grammar.specs.Prelude.{text_at, Skeleton}
 use Rattle.cert_laws.specs.MarkLaws.{Alike, ended, same, parted}
 use Rattle.cert_laws.proofs.Along.{differ}
 use Rattle.cert_laws.proofs.AlikeEvidence.{alike_automata}

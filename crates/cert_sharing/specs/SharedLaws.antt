@@ -2,13 +2,8 @@
 use Rattle.std.specs.Prelude.{◌≡◌, ◌⊎◌, ◌≤◌, ℕ, List, length}
 use Rattle.certificates.specs.Certificates.{Certificate}
 use Rattle.cops_names.specs.NameTable.{NameTable}
-use Rattle.cert_grammar.specs.CertificateText.{certificate_text, CanBeSpelt, IsCertificateText}
-use Rattle.cert_grammar.specs.Versions.{second_version}
-use Rattle.cert_grammar.specs.Marks.{CertificateCause}
-use Rattle.cert_grammar.specs.Sharing.{nothing_shared, PassShares}
-use Rattle.cert_grammar.specs.FirstRefusal.{Reading, accepted, refused}
-use Rattle.cert_grammar.specs.SharedReader.{read_text}
-use Rattle.cert_grammar.specs.Refusals.{Skeleton, marks_of, skeleton_text, Pass, IsCertificateRefused}
+use Rattle.cert_grammar.specs.Prelude.{certificate_text, CanBeSpelt, IsCertificateText, second_version, CertificateCause, nothing_shared, PassShares, Reading, accepted, refused, read_text}
+use Rattle.cert_grammar.specs.Prelude.{Skeleton, marks_of, skeleton_text, Pass, IsCertificateRefused}
 
 -- a text of the grammar in which all demands are met
 abbrev pub IsMetText : NameTable → List ℕ → Type 0

@@ -1,9 +1,7 @@
 -- Worked texts, and what each is answered.
 use Rattle.std.specs.Prelude.{◌≡◌, ℕ, List, [], ◌∷◌, ◌++◌, codes}
 use Rattle.cops_names.specs.NameTable.{NameTable}
-use Rattle.cert_grammar.specs.Marks.{syntax, unknown_name, wrong_arity, bad_number, bad_share, too_many, entries, shared_automata}
-use Rattle.cert_grammar.specs.FirstRefusal.{accepted, refused}
-use Rattle.cert_grammar.specs.SharedReader.{read_text}
+use Rattle.cert_grammar.specs.Prelude.{syntax, unknown_name, wrong_arity, bad_number, bad_share, too_many, entries, shared_automata, accepted, refused, read_text}
 
 abbrev pub no_names : NameTable
 no_names = record { symbols = []; variables = [] }

@@ -2,21 +2,14 @@
 use Rattle.std.proofs.Common.{◌≡◌, inl, inr, ◌≤◌, ◌==◌, ℕ, zero, suc, List, [], ◌∷◌, ◌++◌, length, drop, take, Option, Some, None, IfSome, IfNone, refl, sym, ap, ◌∙◌, subst, arith, eqb-true}
 use Rattle.std.proofs.lemmas.List.{length_push}
 use Rattle.std.proofs.Math.Seq.{take-append_seam}
-use Rattle.certificates.specs.Evidence.{Automaton}
+use Rattle.certificates.specs.Prelude.{Automaton, Certificate, quasi_certificate}
 use Rattle.certificates.specs.Certificates as math
-use Rattle.certificates.specs.Certificates.{Certificate, quasi_certificate}
 use Rattle.cops_names.specs.NameTable.{NameTable}
 use Rattle.cert_model.specs.declared.model.PairEntry.{PairEntry}
 use Rattle.cert_model.specs.CertificateView.{pair_entry_view}
-use Rattle.cert_grammar.specs.Words.{name_of}
-use Rattle.cert_grammar.specs.Versions.{Version, first_version, second_version, CanSimplify}
-use Rattle.cert_grammar.specs.CertificateMarks.{pairs_marks, closing}
-use Rattle.cert_grammar.specs.CertificateText.{IsCertificateText}
-use Rattle.cert_grammar.specs.Marks.{CertificateCause, syntax, bad_share, Naming, Mark}
-use Rattle.cert_grammar.specs.Refusals.{IsCertificateRefused}
+use Rattle.cert_grammar.specs.Prelude.{name_of, Version, first_version, second_version, CanSimplify, pairs_marks, closing, IsCertificateText, CertificateCause, syntax, bad_share, Naming}
+use Rattle.cert_grammar.specs.Prelude.{Mark, IsCertificateRefused, Item, pairs_from, Shared, nothing_shared}
 use Rattle.cert_grammar.specs.Items as Items
-use Rattle.cert_grammar.specs.Items.{Item, pairs_from}
-use Rattle.cert_grammar.specs.Sharing.{Shared, nothing_shared}
 use Rattle.cert_sharing.proofs.FirstUses.{texts_length}
 use Rattle.cert_sharing.proofs.Whole.{never_both}
 use Rattle.cert_openings.specs.Openings.{BeginsEntry, Opening, ortho_opening, quasi_opening, simplified_opening, certificate_for, uses_with, IsRead}

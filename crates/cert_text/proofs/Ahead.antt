@@ -2,15 +2,11 @@
 use Rattle.std.proofs.Common.{◌≡◌, ◌⊎◌, inl, inr, ◌<◌, ℕ, suc, List, [], ◌∷◌, ◌++◌, take, Option, Some, None, codes, refl, sym, ap, ◌∙◌, subst, arith, append_assoc}
 use Rattle.std.proofs.lemmas.List.{append_cancel_left}
 use Rattle.cops_names.specs.NameTable.{NameTable}
-use Rattle.cert_grammar.specs.Marks.{CertificateCause, Demand, Mark, fixed, word, mark_text, marks_text, demands_of, verdict}
-use Rattle.cert_grammar.specs.Refusals.{Pass}
-use Rattle.cert_grammar.specs.Items.{Item, between, line, pairs_from, entries_from, heads_from, Lead, text, check, at_once, keyword, numeral_lead, position_lead, variable_lead, name_lead, leads}
-use Rattle.cert_grammar.specs.Versions.{Version, first_version, second_version}
+use Rattle.cert_grammar.specs.Prelude.{CertificateCause, Demand, Mark, fixed, word, mark_text, marks_text, demands_of, verdict, Pass, Item, between, line, pairs_from, entries_from}
+use Rattle.cert_grammar.specs.Prelude.{heads_from, Lead, text, check, at_once, keyword, numeral_lead, position_lead, variable_lead, name_lead, leads, Version, first_version, second_version}
+use Rattle.cert_grammar.specs.Prelude.{mode_of, first_there, taken, mark_of, items_of, Left, behind_lead, judged, step_lead, Reading as Answer, Shared, share_verdict, behind_mark}
+use Rattle.cert_grammar.specs.Prelude.{behind_marks, PassShares, ends, further}
 use Rattle.cert_grammar.specs.FirstRefusal as machine
-use Rattle.cert_grammar.specs.FirstRefusal.{mode_of, first_there, taken, mark_of, items_of, Left, behind_lead, judged, step_lead}
-use Rattle.cert_grammar.specs.FirstRefusal.{Reading as Answer}
-use Rattle.cert_grammar.specs.Sharing.{Shared, share_verdict, behind_mark, behind_marks, PassShares}
-use Rattle.cert_grammar.specs.SharedReader.{ends, further}
 use Rattle.cert_grammar.proofs.ScanLaws.{IsWordOf}
 use Rattle.cert_laws.proofs.LeadTables.{In}
 use Rattle.cert_laws.proofs.OneRefusal.{passed_anywhere}

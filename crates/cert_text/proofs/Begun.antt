@@ -3,13 +3,8 @@ use Rattle.std.proofs.Common.{◌≡◌, inl, ℕ, Bool, true, false, cond, List
 use Rattle.std.proofs.lemmas.List.{append-nil, append_cancel_left}
 use Rattle.certificates.specs.Evidence.{Automaton}
 use Rattle.cops_names.specs.NameTable.{NameTable}
-use Rattle.cert_grammar.specs.Words.{name_of}
-use Rattle.cert_grammar.specs.Versions.{Version, first_version, second_version, Uses, in_full, by_number, version_of}
-use Rattle.cert_grammar.specs.Marks.{CertificateCause, Naming, Mark, fixed, marks_text}
-use Rattle.cert_grammar.specs.CertificateMarks.{body_marks, answer_marks, heading_marks, closing}
-use Rattle.cert_grammar.specs.Refusals.{Pass}
-use Rattle.cert_grammar.specs.Items.{Item, opening, heading}
-use Rattle.cert_grammar.specs.Sharing.{nothing_shared, behind_marks, PassShares}
+use Rattle.cert_grammar.specs.Prelude.{name_of, Version, first_version, second_version, Uses, in_full, by_number, version_of, CertificateCause, Naming, Mark, fixed, marks_text, body_marks}
+use Rattle.cert_grammar.specs.Prelude.{answer_marks, heading_marks, closing, Pass, Item, opening, heading, nothing_shared, behind_marks, PassShares}
 use Rattle.cert_laws.proofs.Paths.{Takes, Path}
 use Rattle.cert_laws.proofs.Reached.{Moves, moves_path}
 use Rattle.cert_laws.proofs.SkeletonPaths.{skeleton_path}

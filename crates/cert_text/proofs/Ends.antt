@@ -1,17 +1,15 @@
 -- The marks of an opening and of entries end in bytes.
 use Rattle.std.proofs.Common.{◌≡◌, ◌+◌, arith, ℕ, suc, Bool, true, List, [], ◌∷◌, ◌++◌, length, Option, codes, refl, sym, ap, ◌∙◌, subst, append_assoc}
 use Rattle.std.proofs.lemmas.List.{append-nil}
-use Rattle.certificates.specs.Derivations.{Derivation, no_steps, first_step, Step, by_rule, by_hypothesis, Derivations, no_derivations, first_derivation}
-use Rattle.certificates.specs.Judging.{derivation_count}
-use Rattle.certificates.specs.Sizes.{step_count}
-use Rattle.certificates.specs.Evidence.{Transition, Automaton, InfeasibilityEvidence, by_caps, by_automaton, PairEvidence, trivial_pair, infeasible_pair, conflicting_pair, joined_pair, unfeasible_pair}
-use Rattle.certificates.specs.Certificates.{PairEntry}
-use Rattle.cert_grammar.specs.Words.{largest}
-use Rattle.cert_grammar.specs.Marks.{Naming, steps, states, transitions, fits_answer, in_range, is_few, is_shallow, simplifications, automaton_begins, shares, Mark, fixed, word}
+use Rattle.certificates.specs.Prelude.{Derivation, no_steps, first_step, Step, by_rule, by_hypothesis, Derivations, no_derivations, first_derivation, derivation_count, step_count}
+use Rattle.certificates.specs.Prelude.{Transition, Automaton, InfeasibilityEvidence, by_caps, by_automaton, PairEvidence, trivial_pair, infeasible_pair, conflicting_pair, joined_pair}
+use Rattle.certificates.specs.Prelude.{unfeasible_pair, PairEntry}
+use Rattle.cert_grammar.specs.Prelude.{largest, Naming, steps, states, transitions, fits_answer, in_range, is_few, is_shallow, simplifications, automaton_begins, shares, Mark, fixed, word}
+use Rattle.cert_grammar.specs.Prelude.{number, number_for, position, steps_mark, rule_mark, steps_marks, step_marks, derivations_marks, derivation_marks, state, accepting_marks, head_marks}
+use Rattle.cert_grammar.specs.Prelude.{transitions_marks, automaton_marks, use_mark, infeasibility_marks, evidence_marks, pairs_marks, measure_marks, simplifications_marks, body_marks}
+use Rattle.cert_grammar.specs.Prelude.{answer_marks, heading_marks, Uses, in_full, by_number}
 use Rattle.cert_grammar.specs.Marks as marks
-use Rattle.cert_grammar.specs.WordMarks.{numeral, number, number_for, position, steps_mark, rule_mark, steps_marks, step_marks, derivations_marks, derivation_marks}
-use Rattle.cert_grammar.specs.CertificateMarks.{state, accepting_marks, head_marks, transitions_marks, automaton_marks, use_mark, infeasibility_marks, evidence_marks, pairs_marks, measure_marks, simplifications_marks, body_marks, answer_marks, heading_marks}
-use Rattle.cert_grammar.specs.Versions.{Uses, in_full, by_number}
+use Rattle.cert_grammar.specs.WordMarks.{numeral}
 use Rattle.cert_openings.specs.Openings.{Opening, ortho_opening, quasi_opening, simplified_opening, certificate_for}
 use Rattle.cert_openings.proofs.OpeningMarks.{opening_marks, EndsInBytes, ends_behind, opening_ends}
 use Rattle.cert_reading.proofs.ListMarks.{pair_line_by}

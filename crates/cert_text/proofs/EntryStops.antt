@@ -2,17 +2,11 @@
 use Rattle.std.proofs.Common.{◌≡◌, ◌⊎◌, inl, inr, ◌<◌, ◌≤◌, ℕ, suc, List, [], ◌∷◌, ◌++◌, length, drop, codes, refl, sym, ap, ◌∙◌, subst, arith, append_assoc, length-append}
 use Rattle.std.proofs.lemmas.Bool.{cases_lt}
 use Rattle.std.proofs.lemmas.List.{append-nil}
-use Rattle.certificates.specs.Evidence.{Automaton}
-use Rattle.certificates.specs.Certificates.{PairEntry}
+use Rattle.certificates.specs.Prelude.{Automaton, PairEntry}
 use Rattle.cops_names.specs.NameTable.{NameTable}
-use Rattle.cert_grammar.specs.Words.{name_of}
-use Rattle.cert_grammar.specs.Versions.{Version, first_version, second_version}
-use Rattle.cert_grammar.specs.Marks.{all_used, Demand, shares, CertificateCause, Mark, fixed, word, marks_text}
-use Rattle.cert_grammar.specs.CertificateMarks.{pairs_marks, answer_marks, heading_marks, body_marks, certificate_marks, closing}
-use Rattle.cert_grammar.specs.Refusals.{Skeleton, HaveNames}
-use Rattle.cert_grammar.specs.Items.{Item, Lead, keyword, leads, pair_or_end, opening, between, line, pairs_from, entries_from, heads_from}
-use Rattle.cert_grammar.specs.FirstRefusal.{mode_of, taken, mark_of, items_of, Left}
-use Rattle.cert_grammar.specs.Sharing.{Shared, nothing_shared, behind_marks}
+use Rattle.cert_grammar.specs.Prelude.{name_of, Version, first_version, second_version, all_used, Demand, shares, CertificateCause, Mark, fixed, word, marks_text, pairs_marks, answer_marks}
+use Rattle.cert_grammar.specs.Prelude.{heading_marks, body_marks, certificate_marks, closing, Skeleton, HaveNames, Item, Lead, keyword, leads, pair_or_end, opening, between, line}
+use Rattle.cert_grammar.specs.Prelude.{pairs_from, entries_from, heads_from, mode_of, taken, mark_of, items_of, Left, Shared, nothing_shared, behind_marks}
 use Rattle.cert_grammar.proofs.ScanLaws.{IsWordOf}
 use Rattle.cert_laws.proofs.LeadTables.{In}
 use Rattle.cert_laws.proofs.Paths.{Takes, Path, text_is, first_sound}

@@ -1,17 +1,10 @@
 -- Texts that are read up to a body, or behind the word of its kind.
 use Rattle.std.proofs.Common.{◌≡◌, ℕ, Bool, List, [], ◌∷◌, ◌++◌, length, Option, Some, None, codes, refl, sym, ap, ◌∙◌, subst, arith, append_assoc}
 use Rattle.std.proofs.lemmas.List.{append-nil}
-use Rattle.certificates.specs.Evidence.{Automaton}
-use Rattle.certificates.specs.Certificates.{PairEntry, Simplification, Certificate, simplified_certificate}
+use Rattle.certificates.specs.Prelude.{Automaton, PairEntry, Simplification, Certificate, simplified_certificate}
 use Rattle.cops_names.specs.NameTable.{NameTable}
-use Rattle.cert_grammar.specs.Words.{name_of}
-use Rattle.cert_grammar.specs.Versions.{Version, first_version, second_version, Uses}
-use Rattle.cert_grammar.specs.SharedText.{number_in}
-use Rattle.cert_grammar.specs.Marks.{CertificateCause, Naming, Mark, fixed, marks_text}
-use Rattle.cert_grammar.specs.CertificateMarks.{answer_marks, heading_marks, body_marks, closing, certificate_marks}
-use Rattle.cert_grammar.specs.Refusals.{HaveNames}
-use Rattle.cert_grammar.specs.Items.{Item, opening, between, line}
-use Rattle.cert_grammar.specs.Sharing.{Shared, nothing_shared}
+use Rattle.cert_grammar.specs.Prelude.{name_of, Version, first_version, second_version, Uses, number_in, CertificateCause, Naming, Mark, fixed, marks_text, answer_marks, heading_marks}
+use Rattle.cert_grammar.specs.Prelude.{body_marks, closing, certificate_marks, HaveNames, Item, opening, between, line, Shared, nothing_shared}
 use Rattle.cert_laws.proofs.Along.{have_append}
 use Rattle.cert_laws.proofs.Spelt.{text_both}
 use Rattle.cert_sharing.proofs.UseMarks.{AreStill, counts_still}

@@ -1,10 +1,7 @@
 -- The item below the others, up to the end of an opening.
 use Rattle.std.proofs.Common.{◌≡◌, ◌⊎◌, inl, inr, ℕ, zero, suc, Bool, true, false, List, [], ◌∷◌, ◌++◌, Option, codes, refl, sym, ap, ◌∙◌, subst}
-use Rattle.cert_grammar.specs.Versions.{Version, first_version, second_version}
-use Rattle.cert_grammar.specs.Marks.{Demand, all_used, shares, Mark, fixed, word}
-use Rattle.cert_grammar.specs.CertificateMarks.{closing}
-use Rattle.cert_grammar.specs.Scans.{value}
-use Rattle.cert_grammar.specs.Items.{Item, shared_line, shared_count, automata_left, automaton_end, simplified, body, between, line, pairs_from, entries_from, heads_from, measure, leads, behind_automata, body_leads}
+use Rattle.cert_grammar.specs.Prelude.{Version, first_version, second_version, Demand, all_used, shares, Mark, fixed, word, closing, value, Item, shared_line, shared_count, automata_left}
+use Rattle.cert_grammar.specs.Prelude.{automaton_end, simplified, body, between, line, pairs_from, entries_from, heads_from, measure, leads, behind_automata, body_leads}
 use Rattle.cert_laws.proofs.Paths.{Takes, Path}
 use Rattle.cert_reading.specs.Stops.{lowest, BeginsList}
 use Rattle.cert_reading.proofs.Opening.{same_item}

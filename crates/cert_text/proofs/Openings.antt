@@ -1,19 +1,13 @@
 -- A text that is read up to its entries, or a whole peak.
 use Rattle.std.proofs.Common.{◌≡◌, inl, inr, ℕ, suc, Bool, true, false, List, [], ◌∷◌, ◌++◌, length, drop, Option, Some, None, Result, Ok, Err, IfOk, codes, refl, sym, ap, ◌∙◌, subst, arith, append_assoc}
 use Rattle.std.proofs.lemmas.List.{append-nil}
-use Rattle.certificates.specs.Evidence.{Automaton}
-use Rattle.certificates.specs.Certificates.{MeasureCertificate, linear_measure, precedence_measure, Simplification, Apartness, Peak, Certificate, peak_certificate}
+use Rattle.certificates.specs.Prelude.{Automaton, MeasureCertificate, linear_measure, precedence_measure, Simplification, Apartness, Peak, Certificate, peak_certificate}
 use Rattle.cops_names.specs.NameTable.{NameTable}
-use Rattle.cert_grammar.specs.Words.{name_of, largest}
-use Rattle.cert_grammar.specs.Versions.{Version, first_version, second_version, in_full, by_number, HasMeasure, IsUnsimplified}
-use Rattle.cert_grammar.specs.SharedText.{number_in}
-use Rattle.cert_grammar.specs.CertificateText.{IsCertificateText}
-use Rattle.cert_grammar.specs.Marks.{in_range, is_few, simplifications, Mark, fixed, word}
+use Rattle.cert_grammar.specs.Prelude.{name_of, largest, Version, first_version, second_version, in_full, by_number, HasMeasure, IsUnsimplified, number_in, IsCertificateText, in_range}
+use Rattle.cert_grammar.specs.Prelude.{is_few, simplifications, Mark, fixed, word, answer_marks, heading_marks, measure_marks, peak_marks, simplifications_marks, closing, certificate_marks}
+use Rattle.cert_grammar.specs.Prelude.{Item, pairs_from, Shared, nothing_shared}
 use Rattle.cert_grammar.specs.WordMarks.{numeral}
-use Rattle.cert_grammar.specs.CertificateMarks.{answer_marks, heading_marks, measure_marks, peak_marks, simplifications_marks, closing, certificate_marks}
 use Rattle.cert_grammar.specs.Items as Items
-use Rattle.cert_grammar.specs.Items.{Item, pairs_from}
-use Rattle.cert_grammar.specs.Sharing.{Shared, nothing_shared}
 use Rattle.cert_sharing.proofs.UseMarks.{AreStill, Counts, counts_still, counts_both, counts_body, measure_still}
 use Rattle.cert_sharing.proofs.Whole.{never_both}
 use Rattle.cert_openings.specs.Laws.{IsReadTo}

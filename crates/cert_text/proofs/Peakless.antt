@@ -1,13 +1,12 @@
 -- No mark of an opening is the word of a peak.
 use Rattle.std.proofs.Common.{◌≡◌, ℕ, suc, Bool, true, false, ◌==◌, ◌&&◌, List, [], ◌∷◌, ◌++◌, length, Option, Some, None, refl, sym, ap, ◌∙◌, codes, eqb-true}
 use Rattle.rewriting.specs.Unraveling.{Head, file, auxiliary}
-use Rattle.certificates.specs.Evidence.{Transition, Automaton, InfeasibilityEvidence, by_caps, by_automaton}
-use Rattle.certificates.specs.Certificates.{LinearEntry, MeasureCertificate, linear_measure, precedence_measure, Simplification, dropped, inlined}
-use Rattle.cert_grammar.specs.Versions.{Uses, in_full, by_number}
-use Rattle.cert_grammar.specs.Marks.{Naming, automaton_ends, has_arity, shares, Mark, fixed, word, symbol, behind, closed}
+use Rattle.certificates.specs.Prelude.{Transition, Automaton, InfeasibilityEvidence, by_caps, by_automaton, LinearEntry, MeasureCertificate, linear_measure, precedence_measure}
+use Rattle.certificates.specs.Prelude.{Simplification, dropped, inlined}
+use Rattle.cert_grammar.specs.Prelude.{Uses, in_full, by_number, Naming, automaton_ends, has_arity, shares, Mark, fixed, word, symbol, behind, closed, accepting_marks, further_states_marks}
+use Rattle.cert_grammar.specs.Prelude.{states_marks, head_marks, transitions_marks, automaton_marks, infeasibility_marks, coefficients_marks, measured_marks, entries_marks, heads_marks}
+use Rattle.cert_grammar.specs.Prelude.{measure_marks, simplifications_marks, body_marks, answer_marks, automata_marks, heading_marks, Mode, number_begins, next}
 use Rattle.cert_grammar.specs.WordMarks.{numeral}
-use Rattle.cert_grammar.specs.CertificateMarks.{accepting_marks, further_states_marks, states_marks, head_marks, transitions_marks, automaton_marks, infeasibility_marks, coefficients_marks, measured_marks, entries_marks, heads_marks, measure_marks, simplifications_marks, body_marks, answer_marks, automata_marks, heading_marks}
-use Rattle.cert_grammar.specs.Scans.{Mode, number_begins, next}
 use Rattle.cert_grammar.proofs.ScanLaws.{IsWordOf}
 use Rattle.cert_grammar.proofs.ScanWords.{number_word}
 use Rattle.cert_openings.specs.Openings.{Opening, ortho_opening, quasi_opening, simplified_opening, certificate_for}

@@ -2,15 +2,9 @@
 use Rattle.std.proofs.Common.{◌≡◌, ◌+◌, ◌-◌, ◌==◌, ℕ, Bool, true, false, List, [], ◌∷◌, length, drop, Option, Some, refl, sym, ap, ◌∙◌, subst, arith, length-append}
 use Rattle.std.proofs.lemmas.Bool.{eqb-true, false≢true}
 use Rattle.std.proofs.lemmas.List.{nil_from_length}
-use Rattle.certificates.specs.Evidence.{Automaton}
-use Rattle.certificates.specs.Certificates.{PairEntry}
+use Rattle.certificates.specs.Prelude.{Automaton, PairEntry}
 use Rattle.cops_names.specs.NameTable.{NameTable}
-use Rattle.cert_grammar.specs.Words.{name_of}
-use Rattle.cert_grammar.specs.Versions.{Version}
-use Rattle.cert_grammar.specs.Refusals.{IsCertificateRefused}
-use Rattle.cert_grammar.specs.Marks.{CertificateCause, syntax, Naming, Mark, marks_text}
-use Rattle.cert_grammar.specs.Items.{Item, opening}
-use Rattle.cert_grammar.specs.Sharing.{Shared, nothing_shared, behind_marks}
+use Rattle.cert_grammar.specs.Prelude.{name_of, Version, IsCertificateRefused, CertificateCause, syntax, Naming, Mark, marks_text, Item, opening, Shared, nothing_shared, behind_marks}
 use Rattle.cert_openings.specs.Openings.{Opening, certificate_for, uses_with}
 use Rattle.cert_openings.specs.Laws.{IsReadTo}
 use Rattle.cert_words.specs.declared.error.CertError.{CertError}

@@ -2,13 +2,12 @@
 -- shared: behind the shared automata there are as many.
 use Rattle.std.proofs.Common.{◌≡◌, ◌+◌, ◌==◌, ℕ, suc, Bool, true, false, List, [], ◌∷◌, ◌++◌, length, Option, Some, None, codes, refl, sym, ap, ◌∙◌, subst, arith, append_assoc, length-append}
 use Rattle.std.proofs.lemmas.List.{append_cancel_left}
-use Rattle.certificates.specs.Evidence.{Automaton, InfeasibilityEvidence, by_caps, by_automaton, PairEvidence, trivial_pair, infeasible_pair, conflicting_pair, joined_pair, unfeasible_pair}
-use Rattle.certificates.specs.Certificates.{PairEntry, Simplification, dropped, inlined}
-use Rattle.cert_grammar.specs.Versions.{Uses, in_full, by_number, version_of}
-use Rattle.cert_grammar.specs.Marks.{Naming, automaton_ends, shares, is_few, Mark, fixed, word, closed, mark_text}
+use Rattle.certificates.specs.Prelude.{Automaton, InfeasibilityEvidence, by_caps, by_automaton, PairEvidence, trivial_pair, infeasible_pair, conflicting_pair, joined_pair, unfeasible_pair}
+use Rattle.certificates.specs.Prelude.{PairEntry, Simplification, dropped, inlined}
+use Rattle.cert_grammar.specs.Prelude.{Uses, in_full, by_number, version_of, Naming, automaton_ends, shares, is_few, Mark, fixed, word, closed, mark_text, number, number_for, position}
+use Rattle.cert_grammar.specs.Prelude.{automaton_marks, automata_marks, infeasibility_marks, evidence_marks, pairs_marks, measure_marks, simplifications_marks, body_marks, answer_marks}
+use Rattle.cert_grammar.specs.Prelude.{heading_marks}
 use Rattle.cert_grammar.specs.Marks as marks
-use Rattle.cert_grammar.specs.WordMarks.{number, number_for, position}
-use Rattle.cert_grammar.specs.CertificateMarks.{automaton_marks, automata_marks, infeasibility_marks, evidence_marks, pairs_marks, measure_marks, simplifications_marks, body_marks, answer_marks, heading_marks}
 use Rattle.cert_sharing.proofs.UseMarks.{AreStill, behind_states, behind_states_still}
 use Rattle.cert_openings.specs.Openings.{Opening, ortho_opening, quasi_opening, simplified_opening, certificate_for}
 use Rattle.cert_openings.proofs.Lines.{bytes_apart}

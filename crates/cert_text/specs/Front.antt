@@ -1,16 +1,11 @@
 -- What is known of a text that is read up to its body, or behind the word of the body's kind.
 use Rattle.std.specs.Prelude.{◌≡◌, ℕ, suc, Bool, List, [], ◌∷◌, ◌++◌, length, Option, None, Some, codes}
-use Rattle.certificates.specs.Evidence.{Automaton}
-use Rattle.certificates.specs.Certificates.{Simplification}
+use Rattle.certificates.specs.Prelude.{Automaton, Simplification}
 use Rattle.cops_names.specs.NameTable.{NameTable}
-use Rattle.cert_grammar.specs.Words.{largest}
-use Rattle.cert_grammar.specs.Versions.{Version, second_version, Uses}
-use Rattle.cert_grammar.specs.Marks.{in_range, is_few, simplifications, Naming, Mark, fixed, word}
+use Rattle.cert_grammar.specs.Prelude.{largest, Version, second_version, Uses, in_range, is_few, simplifications, Naming, Mark, fixed, word, simplifications_marks, answer_marks}
+use Rattle.cert_grammar.specs.Prelude.{heading_marks, Item, nothing_shared}
 use Rattle.cert_grammar.specs.WordMarks.{numeral}
-use Rattle.cert_grammar.specs.CertificateMarks.{simplifications_marks, answer_marks, heading_marks}
 use Rattle.cert_grammar.specs.Items as Items
-use Rattle.cert_grammar.specs.Items.{Item}
-use Rattle.cert_grammar.specs.Sharing.{nothing_shared}
 use Rattle.cert_openings.specs.Openings.{Opening, simplified_opening, uses_with}
 use Rattle.cert_words.specs.declared.reading.Reading.{Reading}
 use Rattle.cert_reading.specs.declared.headings.Kind.{Kind}

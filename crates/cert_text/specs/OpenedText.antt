@@ -3,9 +3,7 @@ use Rattle.std.specs.Prelude.{◌≡◌, ◌≤◌, ◌<◌, ℕ, List, Some, ma
 use Rattle.certificates.specs.Certificates.{Simplification, Certificate, peak_certificate, simplified_certificate}
 use Rattle.cops_names.specs.NameTable.{NameTable}
 use Rattle.cert_model.specs.CertificateView.{measure_view, peak_view, simp_view}
-use Rattle.cert_grammar.specs.CertificateText.{IsCertificateText}
-use Rattle.cert_grammar.specs.Refusals.{IsCertificateRefused}
-use Rattle.cert_grammar.specs.Marks.{CertificateCause}
+use Rattle.cert_grammar.specs.Prelude.{IsCertificateText, IsCertificateRefused, CertificateCause}
 use Rattle.cert_openings.specs.Openings.{Opening, ortho_opening, quasi_opening, simplified_opening, IsOpeningEnd, IsOpened}
 use Rattle.cert_words.specs.declared.error.CertError.{CertError}
 use Rattle.cert_words.specs.Words.{told}

@@ -4,8 +4,7 @@ ghost use Rattle.certificates.specs.Certificates as math;
 ghost use Rattle.cops_names.specs.NameTable.{NameTable};
 ghost use Rattle.cert_model.specs.CertificateView.{certificate_view};
 ghost use Rattle.cert_writing.specs.Written.{GrewByFront};
-ghost use Rattle.cert_grammar.specs.Versions.{second_version};
-ghost use Rattle.cert_grammar.specs.CertificateText.{certificate_text, CanBeSpelt, IsCertificateText};
+ghost use Rattle.cert_grammar.specs.Prelude.{second_version, certificate_text, CanBeSpelt, IsCertificateText};
 
 use cert_model::Certificate;
 use cert_writing::{Writer, put_certificate};

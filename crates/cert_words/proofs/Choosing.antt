@@ -2,10 +2,7 @@
 use Rattle.std.proofs.Common.{subst, ◌≡◌, ◌<◌, ◌≤◌, ℕ, zero, suc, false, List, [], ◌∷◌, length, map, get_or, max, Some, None, refl, ap, arith}
 use Rattle.std.proofs.lemmas.List.{length-map}
 use Rattle.cops_names.specs.NameTable.{NameTable}
-use Rattle.cert_grammar.specs.Marks.{fixed}
-use Rattle.cert_grammar.specs.Scans.{spelling, scan}
-use Rattle.cert_grammar.specs.Items.{Item}
-use Rattle.cert_grammar.specs.FirstRefusal.{is_there, first_there, longest}
+use Rattle.cert_grammar.specs.Prelude.{fixed, spelling, scan, Item, is_there, first_there, longest}
 use Rattle.cert_words.specs.declared.error.CertError.{CertError}
 use Rattle.cert_words.specs.declared.reading.Reading.{Reading}
 use Rattle.cert_words.specs.declared.leads.Lead as code

@@ -1,9 +1,7 @@
 -- Nodes, and what stands behind them.
 use Rattle.std.proofs.Common.{◌≡◌, ◌+◌, ℕ, suc, List, [], ◌∷◌, Some, length, refl, ap, zero, ◌≤◌, ◌-◌, arith}
 use Rattle.cops_names.specs.NameTable.{NameTable}
-use Rattle.cert_grammar.specs.Marks.{Naming, Mark}
-use Rattle.cert_grammar.specs.WordMarks.{is_node}
-use Rattle.cert_grammar.specs.Items.{Frame, Item, name_lead, variable_lead, leads, node, name_behind, term_behind}
+use Rattle.cert_grammar.specs.Prelude.{Naming, Mark, is_node, Frame, Item, name_lead, variable_lead, leads, node, name_behind, term_behind}
 use Rattle.cert_words.specs.declared.error.CertError.{CertError}
 use Rattle.cert_words.specs.declared.reading.Reading.{Reading}
 use Rattle.cert_words.specs.declared.nodes.Node.{Node}

@@ -2,15 +2,10 @@
 use Rattle.std.proofs.Common.{◌≡◌, ◌≤◌, ◌-◌, nat_le, nat_lt, ℕ, suc, Bool, true, false, not, cond, ◌&&◌, List, [], ◌∷◌, ◌++◌, length, take, Option, Some, None, refl, sym, ap, ◌∙◌, subst, arith, length-append}
 use Rattle.std.proofs.Math.Seq.{take-append_seam}
 use Rattle.cops_names.specs.NameTable.{NameTable}
-use Rattle.cert_grammar.specs.Words.{largest, name_of}
-use Rattle.cert_grammar.specs.Marks.{CertificateCause, bad_share, too_many, unfolded, automaton_begins, automaton_ends, is_use, is_light, all_used, Demand, shares, Naming, Mark, word, closed, marks_text, verdict}
+use Rattle.cert_grammar.specs.Prelude.{largest, name_of, CertificateCause, bad_share, too_many, unfolded, automaton_begins, automaton_ends, is_use, is_light, all_used, Demand, shares}
+use Rattle.cert_grammar.specs.Prelude.{Naming, Mark, word, closed, marks_text, verdict, use_mark, value, Item, Lead, at_once, keyword, numeral_lead, is_short, leads, is_among, Shared}
+use Rattle.cert_grammar.specs.Prelude.{holds, first_of, share_verdict, share_effect, behind_marks, PassShares, is_there, first_there}
 use Rattle.cert_grammar.specs.WordMarks.{numeral}
-use Rattle.cert_grammar.specs.CertificateMarks.{use_mark}
-use Rattle.cert_grammar.specs.Scans.{value}
-use Rattle.cert_grammar.specs.Items.{Item, Lead, at_once, keyword, numeral_lead, is_short, leads}
-use Rattle.cert_grammar.specs.SharedText.{is_among}
-use Rattle.cert_grammar.specs.Sharing.{Shared, holds, first_of, share_verdict, share_effect, behind_marks, PassShares}
-use Rattle.cert_grammar.specs.FirstRefusal.{is_there, first_there}
 use Rattle.cert_shares.specs.SharesView.{with_begun, behind_end}
 use Rattle.cert_sharing.proofs.UseMarks.{behind_both, pass_join, alone_met, two_met}
 use Rattle.cert_words.specs.declared.error.CertError.{CertError}

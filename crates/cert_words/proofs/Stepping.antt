@@ -4,15 +4,13 @@ use Rattle.std.proofs.lemmas.Bool.{lt-leb, le-leb, lt-ltb, le-ltb, and_parts}
 use Rattle.std.specs.Option.{option_and_then}
 use Rattle.std.proofs.Math.Seq.{drop-append_seam}
 use Rattle.cops_names.specs.NameTable.{NameTable, number_of, arity_at}
-use Rattle.cert_grammar.specs.Words.{largest, name_of, IsIdentifier}
-use Rattle.cert_grammar.specs.Marks.{is_number, Counted, limit, counted_as, CertificateCause, syntax, unknown_name, wrong_arity, bad_number, too_many, too_deep, has_arity, in_range, is_few, is_shallow, Naming, Demand, meets, Mark, fixed, word, symbol, behind, demands_of, verdict}
-use Rattle.cert_grammar.specs.WordMarks.{numeral, are_places, places_text, position}
-use Rattle.cert_grammar.specs.Scans.{Mode, bar_begins, number_begins, name_begins, place_begins, scan, is_word, value, places}
-use Rattle.cert_grammar.specs.Items.{Item, Lead, text, check, keyword, numeral_lead, position_lead, variable_lead, name_lead, is_short, leads}
-use Rattle.cert_grammar.specs.FirstRefusal.{is_there, taken, mark_of, items_of, longest, first_there, Left, Step, goes_on, behind_lead, judged, step, step_lead}
-use Rattle.cert_grammar.specs.Sharing.{Shared, share_verdict, behind_mark}
+use Rattle.cert_grammar.specs.Prelude.{largest, name_of, IsIdentifier, is_number, Counted, limit, counted_as, CertificateCause, syntax, unknown_name, wrong_arity, bad_number, too_many}
+use Rattle.cert_grammar.specs.Prelude.{too_deep, has_arity, in_range, is_few, is_shallow, Naming, Demand, meets, Mark, fixed, word, symbol, behind, demands_of, verdict, are_places}
+use Rattle.cert_grammar.specs.Prelude.{places_text, position, Mode, bar_begins, number_begins, name_begins, place_begins, scan, is_word, value, places, Item, Lead, text, check, keyword}
+use Rattle.cert_grammar.specs.Prelude.{numeral_lead, position_lead, variable_lead, name_lead, is_short, leads, is_there, taken, mark_of, items_of, longest, first_there, Left, Step, goes_on}
+use Rattle.cert_grammar.specs.Prelude.{behind_lead, judged, step, step_lead, Shared, share_verdict, behind_mark, ends, next_lead, shared_judged, behind_lead_shared, after_step}
+use Rattle.cert_grammar.specs.WordMarks.{numeral}
 use Rattle.cert_grammar.specs.FirstRefusal as machine
-use Rattle.cert_grammar.specs.SharedReader.{ends, next_lead, shared_judged, behind_lead_shared, after_step}
 use Rattle.cert_shares.specs.SharesView.{with_begun}
 use Rattle.cert_sharing.proofs.UseMarks.{IsStill, still_marks, still_pass, places_still}
 use Rattle.cert_grammar.proofs.ScanLaws.{IsWordOf, scanned}

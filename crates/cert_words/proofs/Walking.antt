@@ -2,12 +2,9 @@
 use Rattle.std.proofs.Common.{◌≡◌, ◌≤◌, ◌-◌, ℕ, List, [], ◌∷◌, ◌++◌, length, Option, Some, None, refl, sym, ap, ◌∙◌, subst, arith, append_assoc, length-drop}
 use Rattle.std.proofs.lemmas.List.{append-nil}
 use Rattle.cops_names.specs.NameTable.{NameTable}
-use Rattle.cert_grammar.specs.Words.{name_of}
-use Rattle.cert_grammar.specs.Marks.{CertificateCause, Naming, Mark, fixed, word, symbol, behind, closed, demands_of}
-use Rattle.cert_grammar.specs.Items.{Item, Lead}
-use Rattle.cert_grammar.specs.FirstRefusal.{taken, Left, goes_on, behind_lead, judged, step_lead, step_items}
-use Rattle.cert_grammar.specs.Sharing.{Shared, share_verdict, behind_mark, behind_marks, PassShares}
-use Rattle.cert_grammar.specs.SharedReader.{next_lead, further, shared_judged, behind_lead_shared, after_step, shared_step}
+use Rattle.cert_grammar.specs.Prelude.{name_of, CertificateCause, Naming, Mark, fixed, word, symbol, behind, closed, demands_of, Item, Lead, taken, Left, goes_on, behind_lead, judged}
+use Rattle.cert_grammar.specs.Prelude.{step_lead, step_items, Shared, share_verdict, behind_mark, behind_marks, PassShares, next_lead, further, shared_judged, behind_lead_shared}
+use Rattle.cert_grammar.specs.Prelude.{after_step, shared_step}
 use Rattle.cert_shares.specs.SharesView.{with_begun}
 use Rattle.cert_sharing.proofs.UseMarks.{behind_both, pass_join}
 use Rattle.cert_sharing.proofs.OneShared.{shares_anywhere}

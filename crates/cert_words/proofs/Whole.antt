@@ -1,15 +1,12 @@
 -- A text that is read whole, or refused.
 use Rattle.std.proofs.Common.{◌≡◌, ◌-◌, ℕ, List, [], ◌∷◌, ◌++◌, length, drop, Option, Some, None, refl, sym, ap, ◌∙◌, subst, arith, append_assoc}
 use Rattle.cops_names.specs.NameTable.{NameTable}
-use Rattle.cert_grammar.specs.Marks.{CertificateCause, Mark, mark_text, marks_text, demands_of, verdict}
-use Rattle.cert_grammar.specs.Refusals.{Pass, IsCertificateRefused}
-use Rattle.cert_grammar.specs.Items.{Item, opening, Lead, leads}
-use Rattle.cert_grammar.specs.FirstRefusal.{taken, Left, goes_on, behind_lead, judged, step_lead, step_items}
+use Rattle.cert_grammar.specs.Prelude.{CertificateCause, Mark, mark_text, marks_text, demands_of, verdict, Pass, IsCertificateRefused, Item, opening, Lead, leads, taken, Left, goes_on}
+use Rattle.cert_grammar.specs.Prelude.{behind_lead, judged, step_lead, step_items, Shared, nothing_shared, behind_mark, behind_marks, PassShares}
 use Rattle.cert_laws.proofs.OneRefusal.{passed_anywhere}
 use Rattle.cert_laws.proofs.Paths.{first_sound}
 use Rattle.cert_laws.proofs.FirstRefusals.{move_text}
 use Rattle.cert_sharing.proofs.ExactShared.{At, IsSharedStepOf, shared_step_is}
-use Rattle.cert_grammar.specs.Sharing.{Shared, nothing_shared, behind_mark, behind_marks, PassShares}
 use Rattle.cert_words.specs.Walks.{left_at, StepsOver, Walks, RefusesAt}
 use Rattle.cert_words.proofs.Walking.{goes_where, step_on}
 

@@ -3,8 +3,7 @@ use Rattle.std.specs.Prelude.{ℕ, List}
 use Rattle.cops_names.specs.NameTable.{NameTable}
 use Rattle.cert_words.specs.declared.error.CertError.{CertError}
 use Rattle.cert_words.specs.declared.error.CertError.TheVariants.{CertSyntax, UnknownName, WrongArity, BadNumber, BadShare, CertTooDeep, TooMany, NoMemory}
-use Rattle.cert_grammar.specs.Marks.{syntax, unknown_name, wrong_arity, bad_number, bad_share, too_many, too_deep}
-use Rattle.cert_grammar.specs.Refusals.{IsCertificateRefused}
+use Rattle.cert_grammar.specs.Prelude.{syntax, unknown_name, wrong_arity, bad_number, bad_share, too_many, too_deep, IsCertificateRefused}
 use Rattle.cert_words.specs.Words.{counted_view}
 
 -- the refusal of the bytes, and its place; memory may be refused at any text

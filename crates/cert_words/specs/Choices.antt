@@ -1,11 +1,9 @@
 -- One of some texts with which an item can begin.
 use Rattle.std.specs.Prelude.{◌≡◌, ℕ, zero, suc, List, [], ◌∷◌, Some, false}
 use Rattle.cops_names.specs.NameTable.{NameTable}
-use Rattle.cert_grammar.specs.Marks.{fixed}
-use Rattle.cert_grammar.specs.Items.{Item, Lead, text}
+use Rattle.cert_grammar.specs.Prelude.{fixed, Item, Lead, text, is_there}
 use Rattle.cert_words.specs.declared.error.CertError.{CertError}
 use Rattle.cert_words.specs.declared.reading.Reading.{Reading}
-use Rattle.cert_grammar.specs.FirstRefusal.{is_there}
 use Rattle.cert_words.specs.Words.{IsLeadRead}
 use Rattle.cert_words.specs.Walks.{Reads}
 

@@ -1,12 +1,9 @@
 -- What the code reads of nodes.
 use Rattle.std.specs.Prelude.{◌≡◌, ◌<◌, ◌≤◌, ◌+◌, ℕ, suc, List, [], ◌∷◌, ◌++◌, codes, Option, Some, None}
 use Rattle.cops_names.specs.NameTable.{NameTable, number_of}
-use Rattle.cert_grammar.specs.Words.{largest, name_of}
+use Rattle.cert_grammar.specs.Prelude.{largest, name_of, in_range, Naming, Mark, word, symbol, is_node, term_marks, further_marks, value, Item}
 use Rattle.rewriting.specs.Terms.{Terms, nil, cons, size}
-use Rattle.cert_grammar.specs.Marks.{in_range, Naming, Mark, word, symbol}
-use Rattle.cert_grammar.specs.WordMarks.{numeral, is_node, term_marks, further_marks}
-use Rattle.cert_grammar.specs.Scans.{value}
-use Rattle.cert_grammar.specs.Items.{Item}
+use Rattle.cert_grammar.specs.WordMarks.{numeral}
 use Rattle.cert_words.specs.declared.reading.Reading.{Reading}
 use Rattle.cert_words.specs.declared.nodes.Node.{Node}
 use Rattle.cert_words.specs.declared.nodes.Node.TheVariants.{Symbol, Variable}

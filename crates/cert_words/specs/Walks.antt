@@ -3,15 +3,9 @@ use Rattle.std.specs.Prelude.{◌≡◌, ◌≤◌, ◌-◌, nat_le, nat_lt, ◌
 use Rattle.std.specs.Global.{Global}
 use Rattle.certificates.specs.Evidence.{Transition}
 use Rattle.cops_names.specs.NameTable.{NameTable, number_of}
-use Rattle.cert_grammar.specs.Words.{name_of}
-use Rattle.cert_grammar.specs.Marks.{CertificateCause, Naming, Mark, fixed, word, symbol, behind, closed, marks_text, verdict}
-use Rattle.cert_grammar.specs.WordMarks.{are_places}
-use Rattle.cert_grammar.specs.Scans.{value}
-use Rattle.cert_grammar.specs.Items.{Item, Lead, leads}
+use Rattle.cert_grammar.specs.Prelude.{name_of, CertificateCause, Naming, Mark, fixed, word, symbol, behind, closed, marks_text, verdict, are_places, value, Item, Lead, leads, first_there}
+use Rattle.cert_grammar.specs.Prelude.{taken, mark_of, Left, goes_on, step, Shared, behind_marks, PassShares, ends, shared_step}
 use Rattle.cert_grammar.specs.FirstRefusal as machine
-use Rattle.cert_grammar.specs.FirstRefusal.{first_there, taken, mark_of, Left, goes_on, step}
-use Rattle.cert_grammar.specs.Sharing.{Shared, behind_marks, PassShares}
-use Rattle.cert_grammar.specs.SharedReader.{ends, shared_step}
 use Rattle.cert_shares.specs.SharesView.{with_begun}
 use Rattle.cert_words.specs.declared.error.CertError.{CertError}
 use Rattle.cert_words.specs.declared.reading.Reading.{Reading}

@@ -8,10 +8,10 @@ use Rattle.cert_words.specs.declared.error.CertCount as counts
 use Rattle.cert_words.specs.declared.error.CertCount.TheVariants as counting
 use Rattle.cert_words.specs.declared.error.CertError as errors
 use Rattle.cert_words.specs.declared.error.CertError.TheVariants as refusing
-use Rattle.cert_grammar.specs.Marks.{Counted, pairs, entries, numbers, steps, redexes, states, transitions, nodes, shared_automata, unfolded, CertificateCause, syntax, unknown_name, wrong_arity, bad_number, bad_share, too_many, too_deep}
-use Rattle.cert_grammar.specs.Items.{Lead, text, check, keyword, numeral_lead, position_lead, variable_lead, name_lead, is_short}
-use Rattle.cert_grammar.specs.FirstRefusal.{is_there, taken}
-use Rattle.cert_grammar.specs.Scans.{Mode, spelling, bar_begins, number_begins, number_zero, number_more, place_begins, place_root, place_number, place_zero, place_more, name_begins, name_dash, name_equals, name_more}
+use Rattle.cert_grammar.specs.Prelude.{Counted, pairs, entries, numbers, steps, redexes, states, transitions, nodes, shared_automata, unfolded, CertificateCause, syntax, unknown_name}
+use Rattle.cert_grammar.specs.Prelude.{wrong_arity, bad_number, bad_share, too_many, too_deep, Lead, text, check, keyword, numeral_lead, position_lead, variable_lead, name_lead, is_short}
+use Rattle.cert_grammar.specs.Prelude.{is_there, taken, Mode, spelling, bar_begins, number_begins, number_zero, number_more, place_begins, place_root, place_number, place_zero, place_more}
+use Rattle.cert_grammar.specs.Prelude.{name_begins, name_dash, name_equals, name_more}
 
 abbrev pub mode_view : mode.Mode → Mode
 mode_view (reading.Spelling left) = spelling left.now

@@ -2,10 +2,7 @@
 
 ghost use Rattle.std.specs.Prelude.{◌≡◌, ◌≤◌, ◌+◌, ℕ, true, false, List, [], ◌∷◌, None, length, codes, MatchOption};
 ghost use Rattle.cops_names.specs.NameTable.{NameTable};
-ghost use Rattle.cert_grammar.specs.Words.{name_of};
-ghost use Rattle.cert_grammar.specs.Marks.{meets, verdict, has_arity, fixed, behind};
-ghost use Rattle.cert_grammar.specs.WordMarks.{is_node};
-ghost use Rattle.cert_grammar.specs.Items.{Item, leads};
+ghost use Rattle.cert_grammar.specs.Prelude.{name_of, meets, verdict, has_arity, fixed, behind, is_node, Item, leads};
 ghost use Rattle.cert_grammar.specs.Items as spec;
 ghost use Rattle.cert_words.specs.Words.{told};
 ghost use Rattle.cert_words.specs.Walks.{Reads};

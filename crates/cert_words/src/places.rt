@@ -2,9 +2,7 @@
 
 ghost use Rattle.std.specs.Prelude.{◌≡◌, ◌≤◌, ◌+◌, ◌-◌, ℕ, List, [], ◌∷◌, length};
 ghost use Rattle.cops_names.specs.NameTable.{NameTable};
-ghost use Rattle.cert_grammar.specs.WordMarks.{position, places_text};
-ghost use Rattle.cert_grammar.specs.Scans.{places};
-ghost use Rattle.cert_grammar.specs.Items.{Item, leads};
+ghost use Rattle.cert_grammar.specs.Prelude.{position, places_text, places, Item, leads};
 ghost use Rattle.cert_grammar.specs.Items as spec;
 ghost use Rattle.cert_words.specs.Walks.{Reads, IsPlaces};
 

@@ -2,11 +2,8 @@
 
 ghost use Rattle.std.specs.Prelude.{◌≡◌, ◌++◌, ℕ, suc, List, [], ◌∷◌, None, length, true, IfSome};
 ghost use Rattle.cops_names.specs.NameTable.{NameTable};
-ghost use Rattle.cert_grammar.specs.Words.{name_of};
-ghost use Rattle.cert_grammar.specs.Marks.{Naming, Mark, word, closed, automaton_begins, automaton_ends, is_use, is_light, all_used, shares};
-ghost use Rattle.cert_grammar.specs.CertificateMarks.{use_mark};
-ghost use Rattle.cert_grammar.specs.Sharing.{holds, share_effect};
-ghost use Rattle.cert_grammar.specs.Items.{Item, leads, is_short};
+ghost use Rattle.cert_grammar.specs.Prelude.{name_of, Naming, Mark, word, closed, automaton_begins, automaton_ends, is_use, is_light, all_used, shares, use_mark, holds, share_effect, Item};
+ghost use Rattle.cert_grammar.specs.Prelude.{leads, is_short};
 ghost use Rattle.cert_grammar.specs.Items as spec;
 ghost use Rattle.cert_words.specs.declared.reading.Reading as read;
 ghost use Rattle.cert_words.specs.Words.{told};

@@ -2,11 +2,9 @@
 
 ghost use Rattle.std.specs.Prelude.{◌≡◌, ◌≤◌, ◌<◌, ◌++◌, ◌-◌, ℕ, suc, true, false, List, [], ◌∷◌, None, Some, length, IfSome, IfNone};
 ghost use Rattle.cops_names.specs.NameTable.{NameTable, number_of, arity_at};
-ghost use Rattle.cert_grammar.specs.Words.{largest, name_of};
-ghost use Rattle.cert_grammar.specs.Marks.{is_number, meets, has_arity, in_range, is_few, is_shallow, all_used, shares, Counted, counted_as, simplifications, fixed, word, symbol, behind};
-ghost use Rattle.cert_grammar.specs.Marks.{limit as most_of};
-ghost use Rattle.cert_grammar.specs.WordMarks.{numeral, position};
-ghost use Rattle.cert_grammar.specs.Items.{Item, leads};
+ghost use Rattle.cert_grammar.specs.Prelude.{largest, name_of, is_number, meets, has_arity, in_range, is_few, is_shallow, all_used, shares, Counted, counted_as, simplifications, fixed};
+ghost use Rattle.cert_grammar.specs.Prelude.{word, symbol, behind, limit as most_of, position, Item, leads};
+ghost use Rattle.cert_grammar.specs.WordMarks.{numeral};
 ghost use Rattle.cert_grammar.specs.Items as spec;
 ghost use Rattle.cert_words.specs.Words.{counted_view, told};
 ghost use Rattle.cert_words.specs.Walks.{Reads, IsStuckAt, IsWithin};

@@ -7,13 +7,10 @@ use Rattle.std.specs.List.{list_any, position_or_len}
 use Rattle.std.specs.Str.{bytes_eq}
 use Rattle.std.proofs.lemmas.List.Sums.{prefix_len-le-length}
 use Rattle.std.proofs.lemmas.List.{length-map}
-use Rattle.certificates.specs.Evidence.{Automaton}
-use Rattle.certificates.specs.Certificates.{Certificate}
+use Rattle.certificates.specs.Prelude.{Automaton, Certificate}
 use Rattle.cops_names.specs.NameTable.{NameTable}
-use Rattle.cert_grammar.specs.EvidenceText.{automaton_text}
-use Rattle.cert_grammar.specs.SharedText.{is_among, place_among, texts_of, with_new, shared_by, number_in, unfolded_length}
-use Rattle.cert_grammar.specs.Versions.{second_version, by_number}
-use Rattle.cert_grammar.specs.CertificateText.{automata_text, body_text, certificate_text}
+use Rattle.cert_grammar.specs.Prelude.{automaton_text, is_among, place_among, texts_of, with_new, shared_by, number_in, unfolded_length, second_version, by_number, automata_text, body_text}
+use Rattle.cert_grammar.specs.Prelude.{certificate_text}
 use Rattle.cert_shares.proofs.Ends.{same_eq, any_among, texts_if}
 use Rattle.cert_writing.specs.Written.{greatest, IsCounted}
 use Rattle.cert_writing.specs.SharedAutomata.{with_text, with_texts, joined}

@@ -2,8 +2,7 @@
 use Rattle.std.proofs.Common.{◌≡◌, List, ◌∷◌, ◌++◌, refl}
 use Rattle.certificates.specs.Certificates.{Simplification, dropped, inlined}
 use Rattle.cops_names.specs.NameTable.{NameTable}
-use Rattle.cert_grammar.specs.Versions.{Uses}
-use Rattle.cert_grammar.specs.CertificateText.{simplifications_text}
+use Rattle.cert_grammar.specs.Prelude.{Uses, simplifications_text}
 use Rattle.cert_writing.specs.WrittenParts.{step_text}
 
 pub steps_first : (names : NameTable) (uses : Uses) (s : Simplification) (ss : List Simplification) → simplifications_text names uses (s ∷ ss) ≡ step_text names uses s ++ simplifications_text names uses ss

@@ -3,18 +3,15 @@ use Rattle.std.proofs.Common.{◌≡◌, ◌≤◌, ◌-◌, ℕ, List, ◌∷�
 use Rattle.std.proofs.lemmas.List.{length-map}
 use Rattle.std.specs.Global.{Vec}
 use Rattle.certificates.specs.Derivations as math
-use Rattle.certificates.specs.Derivations.{derivation_of, derivations_of}
+use Rattle.certificates.specs.Prelude.{derivation_of, derivations_of, derivation_count, step_count}
 use Rattle.cert_model.specs.declared.derivations.Derivation.{Derivation}
 use Rattle.cert_model.specs.declared.derivations.Step.{Step, Rule}
 use Rattle.cert_model.specs.DerivationView.{derivation_view, step_view}
 use Rattle.term_core.specs.declared.terms.Term.{Term}
 use Rattle.term_core.specs.View.{view, views}
 use Rattle.cops_names.specs.NameTable.{NameTable}
-use Rattle.cert_grammar.specs.Words.{term_text, arguments_text, further_text}
-use Rattle.certificates.specs.Judging.{derivation_count}
-use Rattle.certificates.specs.Sizes.{step_count}
+use Rattle.cert_grammar.specs.Prelude.{term_text, arguments_text, further_text, steps_line, rule_line, steps_text, step_text, derivations_text, derivation_text}
 use Rattle.certificates.proofs.Sizes.{steps_counted, derivations_counted}
-use Rattle.cert_grammar.specs.Steps.{steps_line, rule_line, steps_text, step_text, derivations_text, derivation_text}
 use Rattle.cert_grammar.proofs.Views.{step_of_rule, derivation_of_steps}
 use Rattle.cert_writing.proofs.Writing.{Leads, InParts, first_and_others}
 

@@ -5,8 +5,7 @@ use Rattle.certificates.specs.Evidence as math
 use Rattle.certificates.specs.Certificates.{Simplification, dropped, inlined}
 use Rattle.cert_model.specs.declared.evidence.Automaton.{Automaton}
 use Rattle.cert_model.specs.EvidenceView.{automaton_view}
-use Rattle.cert_grammar.specs.SharedText.{is_among}
-use Rattle.cert_grammar.specs.Versions.{used_by}
+use Rattle.cert_grammar.specs.Prelude.{is_among, used_by}
 use Rattle.cert_writing.specs.declared.numbers.AutomatonTexts.TheInside.{Inside}
 
 -- the automata that are lent

@@ -1,13 +1,9 @@
 -- The texts of the members of a certificate's lists.
 use Rattle.std.specs.Prelude.{ℕ, List, ◌++◌, decimal, codes}
-use Rattle.certificates.specs.Evidence.{Transition}
-use Rattle.certificates.specs.Certificates.{PairEntry, LinearEntry, Redex, Simplification, dropped, inlined}
+use Rattle.certificates.specs.Prelude.{Transition, PairEntry, LinearEntry, Redex, Simplification, dropped, inlined}
 use Rattle.rewriting.specs.Unraveling.{Head}
 use Rattle.cops_names.specs.NameTable.{NameTable}
-use Rattle.cert_grammar.specs.Words.{position_text}
-use Rattle.cert_grammar.specs.EvidenceText.{numbers_text, head_text, infeasibility_text, evidence_text}
-use Rattle.cert_grammar.specs.Versions.{Uses}
-use Rattle.cert_grammar.specs.CertificateText.{measured_text}
+use Rattle.cert_grammar.specs.Prelude.{position_text, numbers_text, head_text, infeasibility_text, evidence_text, Uses, measured_text}
 
 abbrev pub transition_text : NameTable → Transition → List ℕ
 transition_text names t = head_text names t.symbol t.arguments ++ (codes " " ++ (decimal t.target ++ codes "\n"))

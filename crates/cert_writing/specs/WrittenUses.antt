@@ -1,9 +1,7 @@
 -- How the writer writes uses of automata.
 use Rattle.cops_names.specs.NameTable.{NameTable}
-use Rattle.cert_grammar.specs.EvidenceText.{automaton_text}
-use Rattle.cert_grammar.specs.SharedText.{place_among}
+use Rattle.cert_grammar.specs.Prelude.{automaton_text, place_among, in_full, by_number}
 use Rattle.cert_grammar.specs.Versions as versions
-use Rattle.cert_grammar.specs.Versions.{in_full, by_number}
 use Rattle.cert_writing.specs.declared.written_evidence.Uses.{Uses}
 use Rattle.cert_writing.specs.declared.written_evidence.Uses.TheVariants.{InFull, ByNumber}
 

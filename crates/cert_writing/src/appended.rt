@@ -3,10 +3,7 @@ ghost use Rattle.std.specs.Prelude.{◌≡◌, ◌++◌, false, OnOk, OnErr};
 ghost use Rattle.term_core.specs.View.{view};
 ghost use Rattle.cert_model.specs.DerivationView.{derivation_view};
 ghost use Rattle.cert_model.specs.EvidenceView.{inf_evidence_view};
-ghost use Rattle.cert_grammar.specs.Words.{term_text};
-ghost use Rattle.cert_grammar.specs.Steps.{derivation_text};
-ghost use Rattle.cert_grammar.specs.Versions.{in_full};
-ghost use Rattle.cert_grammar.specs.EvidenceText.{infeasibility_text};
+ghost use Rattle.cert_grammar.specs.Prelude.{term_text, derivation_text, in_full, infeasibility_text};
 ghost use Rattle.cert_writing.specs.Written.{GrewByFront};
 
 use crate::output::Writer;

@@ -2,10 +2,7 @@
 ghost use Rattle.std.specs.Prelude.{◌≡◌, [], IfOk, OnOk, length, min};
 ghost use Rattle.cert_model.specs.EvidenceView.{automaton_view};
 ghost use Rattle.cert_model.specs.CertificateView.{certificate_view};
-ghost use Rattle.cert_grammar.specs.EvidenceText.{automaton_text};
-ghost use Rattle.cert_grammar.specs.SharedText.{place_among, texts_of, shared_by, unfolded_length};
-ghost use Rattle.cert_grammar.specs.Versions.{automata_of};
-ghost use Rattle.cert_grammar.specs.CertificateText.{automata_text};
+ghost use Rattle.cert_grammar.specs.Prelude.{automaton_text, place_among, texts_of, shared_by, unfolded_length, automata_of, automata_text};
 ghost use Rattle.cert_writing.specs.SharedAutomata.{seen, joined, with_text, with_texts};
 ghost use Rattle.cert_writing.specs.Written.{greatest};
 

@@ -4,8 +4,8 @@ ghost use Rattle.term_core.specs.HeadView.{head_view};
 ghost use Rattle.cert_model.specs.CertificateView.{linear_entry_view, measure_view, redex_view, apart_view, peak_view, simp_view, certificate_view};
 ghost use Rattle.cert_writing.specs.Written.{greatest};
 ghost use Rattle.cert_writing.specs.WrittenParts.{entry_text, head_line_text, redex_text, step_text};
-ghost use Rattle.cert_grammar.specs.CertificateText.{measured_text, entries_text, heads_text, measure_text, redexes_text, apart_text, peak_text, simplifications_text, body_text, certificate_text};
-ghost use Rattle.cert_grammar.specs.Versions.{second_version};
+ghost use Rattle.cert_grammar.specs.Prelude.{measured_text, entries_text, heads_text, measure_text, redexes_text, apart_text, peak_text, simplifications_text, body_text, certificate_text};
+ghost use Rattle.cert_grammar.specs.Prelude.{second_version};
 ghost use Rattle.cert_writing.specs.WrittenUses.{uses_view};
 ghost use Rattle.cert_writing.specs.SharedAutomata.{joined};
 

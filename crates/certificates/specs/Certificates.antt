@@ -1,8 +1,6 @@
 -- Certificates of confluence and of its failure.
 use Rattle.std.specs.Prelude.{ℕ, List}
-use Rattle.rewriting.specs.Terms.{Term}
-use Rattle.rewriting.specs.Positions.{Position}
-use Rattle.rewriting.specs.Unraveling.{Head}
+use Rattle.rewriting.specs.Prelude.{Term, Position, Head}
 use Rattle.certificates.specs.Derivations.{Derivation}
 use Rattle.certificates.specs.Evidence.{InfeasibilityEvidence, PairEvidence}
 

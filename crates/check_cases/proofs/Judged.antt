@@ -1,7 +1,6 @@
 -- A certificate of a text can be judged behind steps.
 use Rattle.std.proofs.Common.{◌≡◌, List, map, subst, sym, ◌∙◌}
-use Rattle.rewriting.specs.Rules.{System}
-use Rattle.rewriting.specs.Systems.{IsSystem}
+use Rattle.rewriting.specs.Prelude.{System, IsSystem}
 use Rattle.certificates.specs.Certificates.{Simplification, Certificate, simplified_certificate}
 use Rattle.simplifications.proofs.Systems.{steps_make}
 use Rattle.cops_names.specs.NameTable.{NameTable}

@@ -3,10 +3,8 @@ use Rattle.std.proofs.Common.{ℕ, suc, ◌≡◌, ◌+◌, ◌<◌, ◌≤◌, 
 use Rattle.std.proofs.lemmas.List.{length-map, map_push, length-replicate}
 use Rattle.std.proofs.lemmas.List.Elements.{All-get_or, All-replicate}
 use Rattle.std.proofs.lemmas.Option.{slice_get-map, slice_get-get_or, slice_get_within, get_or_from_slice_get}
-use Rattle.rewriting.specs.Rules.{System}
-use Rattle.rewriting.specs.Systems.{IsSystem}
+use Rattle.rewriting.specs.Prelude.{System, IsSystem, heads, unraveled}
 use Rattle.rewriting.specs.Unraveling as math
-use Rattle.rewriting.specs.Unraveling.{heads, unraveled}
 use Rattle.rewriting.proofs.Laws.{well_formed}
 use Rattle.certificates.specs.Certificates as certificates
 use Rattle.interpretations.specs.Linear.{Interpretation, AreNumbersGood}

@@ -1,11 +1,9 @@
 -- A check: its words, that what was read and judged is what it answers, and what is said of that.
 use Rattle.std.proofs.Common.{◌≡◌, ℕ, ◌≤◌, ◌<◌, List, length, Option, Some, None, Result, Ok, Err, inl, inr, refl, sym, ap, subst, arith}
 use Rattle.std.specs.Prelude.{IfSome, IsErrOf, option_map}
-use Rattle.rewriting.specs.Rules.{System}
-use Rattle.rewriting.specs.Confluence.{IsConfluent}
+use Rattle.rewriting.specs.Prelude.{System, IsConfluent}
 use Rattle.join_systems.specs.FileRelation.{IsFromFile, IsFileConfluent}
-use Rattle.certificates.specs.Certificates.{Certificate, ortho_certificate, quasi_certificate, peak_certificate, simplified_certificate}
-use Rattle.certificates.specs.Reasons.{Rejection, simplification_fails}
+use Rattle.certificates.specs.Prelude.{Certificate, ortho_certificate, quasi_certificate, peak_certificate, simplified_certificate, Rejection, simplification_fails}
 use Rattle.valid_certificates.specs.CarriedBack.{IsPeakApart}
 use Rattle.cops_names.specs.NameTable.{NameTable}
 use Rattle.cc_io.specs.Faults.{Rose}

@@ -1,8 +1,6 @@
 -- A valid certificate that can be written shows what it is for, behind steps or without.
 use Rattle.std.proofs.Common.{◌≡◌, ◌∙◌, List, map}
-use Rattle.rewriting.specs.Rules.{System}
-use Rattle.rewriting.specs.Systems.{IsSystem}
-use Rattle.rewriting.specs.Confluence.{IsConfluent}
+use Rattle.rewriting.specs.Prelude.{System, IsSystem, IsConfluent}
 use Rattle.rewriting.proofs.Laws.{well_formed}
 use Rattle.join_systems.specs.FileRelation.{IsFromFile}
 use Rattle.join_systems.specs.Laws.{FilesAreConfluent}

@@ -3,8 +3,7 @@ use Rattle.std.proofs.Common.{◌≡◌, ◌⊎◌, ℕ, zero, suc, List, [], �
 use Rattle.std.proofs.lemmas.List.{append-nil, append_cancel_left}
 use Rattle.cc_io.specs.Bytes.{appended}
 use Rattle.certificates.specs.Certificates.{Certificate, ortho_certificate, quasi_certificate, peak_certificate, simplified_certificate}
-use Rattle.cert_grammar.specs.Versions.{second_version}
-use Rattle.cert_grammar.specs.CertificateText.{answer_line, certificate_text}
+use Rattle.cert_grammar.specs.Prelude.{second_version, answer_line, certificate_text}
 use Rattle.cert_check.specs.Kinds.{verdict_of}
 use Rattle.run_parts.specs.Devices.{SinkRun}
 use Rattle.run_parts.specs.Taken.{TakesWhole, TakesPart}

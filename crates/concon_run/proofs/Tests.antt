@@ -17,8 +17,7 @@ use Rattle.cops_read.specs.File.{IsFile, no_tokens, no_tree, no_meaning}
 use Rattle.cops_read.specs.declared.errors.ReadError.{ReadError}
 use Rattle.cops_read.specs.declared.errors.ReadError.TheVariants as unread
 use Rattle.cops_write.specs.Text.{system_text}
-use Rattle.cert_grammar.specs.Versions.{second_version}
-use Rattle.cert_grammar.specs.CertificateText.{certificate_text, CanBeSpelt, IsCertificateText}
+use Rattle.cert_grammar.specs.Prelude.{second_version, certificate_text, CanBeSpelt, IsCertificateText}
 use Rattle.cert_sharing.specs.SharedLaws.{NeverBoth}
 use Rattle.cert_model.specs.CertificateView.{certificate_view}
 use Rattle.cert_model.specs.declared.model.Certificate.{Certificate}

@@ -1,8 +1,7 @@
 -- The command check: its words, what it may answer and why, the texts of that, and what each answer means.
 use Rattle.std.specs.Prelude.{◌≡◌, ◌⊎◌, ℕ, List, [], ◌∷◌, Option, Some, None, codes}
 use Rattle.rewriting.specs.Rules.{System}
-use Rattle.certificates.specs.Certificates.{Certificate, ortho_certificate, quasi_certificate, peak_certificate, simplified_certificate}
-use Rattle.certificates.specs.Reasons.{Rejection, simplification_fails}
+use Rattle.certificates.specs.Prelude.{Certificate, ortho_certificate, quasi_certificate, peak_certificate, simplified_certificate, Rejection, simplification_fails}
 use Rattle.valid_certificates.specs.Certificates.{IsValid, IsRejected}
 use Rattle.valid_certificates.specs.CarriedBack.{IsPeakApart}
 use Rattle.cert_check.specs.Kinds.{verdict_of}

@@ -1,16 +1,10 @@
 -- The command query: its words, what it may answer and why, the texts of that, and what each answer means.
 use Rattle.std.specs.Prelude.{◌≡◌, ◌⊎◌, ◌≤◌, ◌++◌, ℕ, List, [], ◌∷◌, length, codes}
-use Rattle.rewriting.specs.Terms.{Term}
-use Rattle.rewriting.specs.Rules.{Condition, System}
-use Rattle.rewriting.specs.Infeasibility.{IsInfeasible}
-use Rattle.certificates.specs.Derivations.{Derivation}
-use Rattle.certificates.specs.Evidence.{InfeasibilityEvidence}
+use Rattle.rewriting.specs.Prelude.{Term, Condition, System, IsInfeasible}
+use Rattle.certificates.specs.Prelude.{Derivation, InfeasibilityEvidence}
 use Rattle.first_found.specs.Spaces.{IsDearer}
 use Rattle.cops_names.specs.NameTable.{NameTable}
-use Rattle.cert_grammar.specs.Words.{term_text}
-use Rattle.cert_grammar.specs.Steps.{derivation_text}
-use Rattle.cert_grammar.specs.Versions.{in_full}
-use Rattle.cert_grammar.specs.EvidenceText.{infeasibility_text}
+use Rattle.cert_grammar.specs.Prelude.{term_text, derivation_text, in_full, infeasibility_text}
 use Rattle.query_text.specs.Query as text
 use Rattle.query_space.specs.Items.{QueryAnswer, never_met, met_by, IsGoodAnswer}
 use Rattle.query_space.specs.Space.{query_space, IsHeld, IsQueryPrice}

@@ -1,7 +1,6 @@
 -- What the bytes of FILE are: the text of a system, or refused.
 use Rattle.std.specs.Prelude.{ℕ, List}
-use Rattle.rewriting.specs.Rules.{System}
-use Rattle.rewriting.specs.Confluence.{IsConfluent}
+use Rattle.rewriting.specs.Prelude.{System, IsConfluent}
 use Rattle.join_systems.specs.FileRelation.{IsFileConfluent}
 use Rattle.certificates.specs.Certificates.{Certificate}
 use Rattle.valid_certificates.specs.CarriedBack.{IsPeakApart}

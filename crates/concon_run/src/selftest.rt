@@ -3,8 +3,7 @@
 ghost use Rattle.std.specs.Prelude.{◌≡◌, ◌≤◌, ℕ, [], IfOk, IfSome, IfNone, MatchOption, decimal};
 ghost use Rattle.certificates.specs.Certificates as math;
 ghost use Rattle.valid_certificates.specs.Certificates.{IsValid};
-ghost use Rattle.cert_grammar.specs.Versions.{second_version};
-ghost use Rattle.cert_grammar.specs.CertificateText.{CanBeSpelt};
+ghost use Rattle.cert_grammar.specs.Prelude.{second_version, CanBeSpelt};
 ghost use Rattle.cert_model.specs.CertificateView.{certificate_view};
 ghost use Rattle.cert_check.specs.Kinds.{verdict_of, CanBeJudged};
 ghost use Rattle.search_spaces.specs.Ortho.{ortho_space};

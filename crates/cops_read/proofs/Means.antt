@@ -7,8 +7,7 @@ use Rattle.std.proofs.lemmas.Bool.Decides.{nat_tests}
 use Rattle.std.proofs.lemmas.Option.{slice_get-get_or}
 use Rattle.std.proofs.lemmas.List.Quantifiers.{position-Some}
 use Rattle.file_text.specs.Syntax.{Phrase, Phrases, word, call, none, more, count, ConditionTree, RuleTree, conditions_of, FileTree, has_type}
-use Rattle.rewriting.specs.Terms.{Term, var, app, Terms, nil, cons}
-use Rattle.rewriting.specs.Rules.{Condition, Rule, System, system_of}
+use Rattle.rewriting.specs.Prelude.{Term, var, app, Terms, nil, cons, Condition, Rule, System, system_of}
 use Rattle.cops_names.specs.NameTable.{NameTable, number_of}
 use Rattle.cops_names.specs.NameLists.{is_among, with_name}
 use Rattle.cops_read.specs.Meaning.{with_symbol, sides, phrases_of_rule, variables_of, with_variables, with_all_variables, with_symbols, with_all_symbols, with_rule_symbols, rule_variables, IsSymbolOf, IsTermOf, AreTermsOf, AreConditionsOf, IsRuleOf, AreRulesOf}

@@ -4,9 +4,7 @@ use Rattle.std.proofs.lemmas.List.Elements.{All-head, All-tail}
 use Rattle.std.proofs.Math.Nat.{max-le}
 use Rattle.std.proofs.lemmas.List.{length-map}
 use Rattle.file_text.specs.Syntax.{Guard, RuleTree, FileTree, has_type}
-use Rattle.rewriting.specs.Terms.{Fits, depth}
-use Rattle.rewriting.specs.Rules.{Condition, Rule, System, sides}
-use Rattle.rewriting.specs.Systems.{Each, IsSystem, condition_count}
+use Rattle.rewriting.specs.Prelude.{Fits, depth, Condition, Rule, System, sides, Each, IsSystem, condition_count}
 use Rattle.rewriting.proofs.Laws.{well_formed}
 use Rattle.cops_names.specs.NameTable.{NameTable}
 use Rattle.join_systems.specs.Joined.{join_of, joined, IsJoined, DoJoinsFit, DoAllJoinsFit}

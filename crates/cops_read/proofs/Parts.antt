@@ -6,8 +6,7 @@ use Rattle.file_text.specs.Syntax.{Phrase, ConditionTree, Guard, RuleTree, condi
 use Rattle.cops_syntax.specs.View.{nodes_view, IsTerm}
 use Rattle.cops_syntax.specs.declared.tree.Node as program
 use Rattle.rewriting.specs.Terms as math
-use Rattle.term_core.specs.View.{view}
-use Rattle.term_core.specs.RuleView.{condition_view}
+use Rattle.term_core.specs.Prelude.{view, condition_view}
 use Rattle.term_core.specs.declared.terms.Term.{Term}
 use Rattle.term_core.specs.declared.systems.Cond.{Cond}
 use Rattle.cops_read.specs.Meaning.{sides, with_symbols, with_all_symbols, with_variables, with_all_variables, rule_variables, IsTermOf, AreConditionsOf}

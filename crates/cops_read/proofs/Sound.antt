@@ -11,13 +11,11 @@ use Rattle.std.proofs.lemmas.List.Elements.{All-head, All-tail}
 use Rattle.std.proofs.lemmas.Slice.Eq.{bytes_eq-Decides}
 use Rattle.file_text.specs.Syntax.{Phrase, Phrases, word, call, none, more, count, ConditionTree, RuleTree, conditions_of, FileTree, has_type}
 use Rattle.rewriting.specs.Terms as terms
-use Rattle.rewriting.specs.Terms.{Term, var, app, Terms, nil, cons, Fits}
+use Rattle.rewriting.specs.Prelude.{Term, var, app, Terms, nil, cons, Fits, IsOver, AreOver, Condition, Rule, System, Each, terms_of_rule, CountsFrom, IsRule, AreRules, condition_count}
+use Rattle.rewriting.specs.Prelude.{IsSystem}
 use Rattle.rewriting.specs.Variables as math
-use Rattle.rewriting.specs.Signatures.{IsOver, AreOver}
-use Rattle.rewriting.specs.Rules.{Condition, Rule, System}
 use Rattle.rewriting.specs.Rules as rules
 use Rattle.rewriting.specs.Systems as systems
-use Rattle.rewriting.specs.Systems.{Each, terms_of_rule, CountsFrom, IsRule, AreRules, condition_count, IsSystem}
 use Rattle.cops_names.specs.NameTable.{NameTable}
 use Rattle.cops_names.specs.NameLists.{is_among, name_index, with_name}
 use Rattle.cops_read.specs.Meaning.{sides, phrases_of_rule, variables_of, with_variables, with_all_variables, rule_variables, IsTermOf, AreTermsOf, AreConditionsOf, IsRuleOf, AreRulesOf}

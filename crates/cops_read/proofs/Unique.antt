@@ -2,8 +2,7 @@
 use Rattle.std.proofs.Common.{◌≡◌, ℕ, List, [], ◌∷◌, map, refl, sym, ap, ap₂, subst, ◌∙◌, length}
 use Rattle.std.proofs.lemmas.Bool.{both_ways}
 use Rattle.file_text.specs.Syntax.{Phrase, Phrases, word, call, none, more, ConditionTree, RuleTree, conditions_of, FileTree}
-use Rattle.rewriting.specs.Terms.{Term, var, app, Terms, nil, cons}
-use Rattle.rewriting.specs.Rules.{Condition, Rule, System}
+use Rattle.rewriting.specs.Prelude.{Term, var, app, Terms, nil, cons, Condition, Rule, System}
 use Rattle.rewriting.proofs.Once.{same_some}
 use Rattle.cops_names.specs.NameTable.{NameTable}
 use Rattle.cops_read.specs.Meaning.{variables_of, IsTermOf, AreTermsOf, AreConditionsOf, IsRuleOf, AreRulesOf}

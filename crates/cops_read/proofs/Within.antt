@@ -5,10 +5,8 @@ use Rattle.std.proofs.lemmas.Bool.Decides.{nat_tests}
 use Rattle.std.proofs.lemmas.List.Elements.{All-nil, All-cons, All-push}
 use Rattle.std.specs.Option.{option_or}
 use Rattle.file_text.specs.Syntax.{Phrase, Phrases, word, call, none, more, count, ConditionTree, Guard, RuleTree, conditions_of, guarded, FileTree, has_type}
-use Rattle.rewriting.specs.Terms.{Term, var, app, Terms, nil, cons, size, size_all, depth, depth_all, IsVariable}
-use Rattle.rewriting.specs.Rules.{Condition, Rule, System}
+use Rattle.rewriting.specs.Prelude.{Term, var, app, Terms, nil, cons, size, size_all, depth, depth_all, IsVariable, Condition, Rule, System, Each}
 use Rattle.rewriting.specs.Rules as rules
-use Rattle.rewriting.specs.Systems.{Each}
 use Rattle.cops_names.specs.NameTable.{NameTable, number_of}
 use Rattle.cops_names.specs.NameLists.{is_among, with_name}
 use Rattle.cops_read.specs.Meaning.{with_symbol, sides, phrases_of_rule, variables_of, with_variables, with_all_variables, with_symbols, with_all_symbols, with_rule_symbols, rule_variables, IsTermOf, AreTermsOf, AreConditionsOf, IsRuleOf, AreRulesOf}

@@ -1,7 +1,6 @@
 -- What a reader of a file answers, and laws of files.
 use Rattle.std.specs.Prelude.{◌≡◌, ◌≤◌, ◌⊎◌, ℕ, List, length, map, All, Result, Ok, Err}
-use Rattle.rewriting.specs.Rules.{System}
-use Rattle.rewriting.specs.Systems.{IsSystem}
+use Rattle.rewriting.specs.Prelude.{System, IsSystem}
 use Rattle.join_systems.specs.FileRelation.{IsFromFile}
 use Rattle.file_text.specs.Syntax.{has_type}
 use Rattle.file_text.specs.Tokens.{bad_byte, long_id, open_comment}

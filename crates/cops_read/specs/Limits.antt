@@ -1,8 +1,6 @@
 -- The limits that what a file spells keeps.
 use Rattle.std.specs.Prelude.{◌≡◌, ◌≤◌, ℕ, Bool, false, [], length, All}
-use Rattle.rewriting.specs.Terms.{Term, IsVariable, size, depth}
-use Rattle.rewriting.specs.Rules.{Rule, System}
-use Rattle.rewriting.specs.Systems.{Each, terms_of_rule}
+use Rattle.rewriting.specs.Prelude.{Term, IsVariable, size, depth, Rule, System, Each, terms_of_rule}
 use Rattle.cops_names.specs.NameTable.{NameTable}
 use Rattle.join_systems.specs.Joined.{IsJoined}
 use Rattle.join_names.specs.Fresh.{with_join_names}

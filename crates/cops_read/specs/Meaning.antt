@@ -1,8 +1,7 @@
 -- Which system, with which names, the syntax tree of a file means.
 use Rattle.std.specs.Prelude.{◌≡◌, ℕ, true, false, if◌then◌else◌, List, [], ◌∷◌, ◌++◌, map, Some, is_some, option_map, slice_get}
 use Rattle.file_text.specs.Syntax.{Phrase, Phrases, word, call, none, more, count, ConditionTree, RuleTree, conditions_of, FileTree}
-use Rattle.rewriting.specs.Terms.{Term, var, app, Terms, nil, cons}
-use Rattle.rewriting.specs.Rules.{Condition, Rule}
+use Rattle.rewriting.specs.Prelude.{Term, var, app, Terms, nil, cons, Condition, Rule}
 use Rattle.cops_names.specs.NameLists.{name_index, is_among, with_name, with_names}
 use Rattle.cops_names.specs.NameTable.{number_of}
 

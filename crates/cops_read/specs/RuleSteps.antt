@@ -6,8 +6,7 @@ use Rattle.std.specs.Global.{Vec}
 use Rattle.file_text.specs.Syntax.{Phrase, ConditionTree, RuleTree, conditions_of, FileTree}
 use Rattle.rewriting.specs.Terms as math
 use Rattle.rewriting.specs.Rules as rules
-use Rattle.term_core.specs.View.{view}
-use Rattle.term_core.specs.RuleView.{rule_view, condition_view}
+use Rattle.term_core.specs.Prelude.{view, rule_view, condition_view}
 use Rattle.term_core.specs.declared.terms.Term.{Term}
 use Rattle.term_core.specs.declared.systems.Cond.{Cond}
 use Rattle.term_core.specs.declared.systems.Rule.{Rule}

@@ -6,9 +6,7 @@ use Rattle.std.proofs.lemmas.Bool.{false_from_ne_true, or_right, or_left, or_cas
 use Rattle.std.proofs.lemmas.Slice.Eq.{bytes_eq-Decides}
 use Rattle.file_text.specs.Syntax.{Phrase, Phrases, word, call, none, more, ConditionTree, Guard, RuleTree, conditions_of}
 use Rattle.file_text.proofs.Names.{IsName}
-use Rattle.rewriting.specs.Terms.{Term, var, app, Terms, nil, cons}
-use Rattle.rewriting.specs.Rules.{Rule}
-use Rattle.rewriting.specs.Systems.{terms_of_rule}
+use Rattle.rewriting.specs.Prelude.{Term, var, app, Terms, nil, cons, Rule, terms_of_rule}
 use Rattle.cops_names.specs.NameLists.{is_among, with_name, with_names}
 use Rattle.cops_read.specs.Meaning.{sides, phrases_of_rule, with_variables, with_all_variables, rule_variables, IsTermOf, AreTermsOf, AreRulesOf}
 use Rattle.cops_read.proofs.Sound.{terms_are}

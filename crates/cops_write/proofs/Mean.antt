@@ -3,9 +3,7 @@ use Rattle.std.proofs.Common.{◌≡◌, ℕ, suc, Bool, List, [], ◌∷◌, ma
 use Rattle.std.specs.Prelude.{if◌then◌else◌}
 use Rattle.std.proofs.lemmas.Bool.{cond-false}
 use Rattle.file_text.specs.Syntax.{Name, Phrase, Phrases, word, call, none, more, count, ConditionTree, Guard, RuleTree, conditions_of, guarded}
-use Rattle.rewriting.specs.Terms.{Term, var, app, Terms, nil, cons}
-use Rattle.rewriting.specs.Rules.{Condition, Rule}
-use Rattle.rewriting.specs.Systems.{terms_of_rule}
+use Rattle.rewriting.specs.Prelude.{Term, var, app, Terms, nil, cons, Condition, Rule, terms_of_rule}
 use Rattle.cops_names.specs.NameTable.{number_of}
 use Rattle.cops_names.specs.NameLists.{name_index, is_among, with_name}
 use Rattle.cops_read.specs.Meaning.{with_symbol, sides, phrases_of_rule, with_variables, with_all_variables, with_symbols, with_all_symbols, rule_variables, with_rule_symbols, IsSymbolOf, IsTermOf, AreTermsOf, AreConditionsOf, IsRuleOf, AreRulesOf}

@@ -1,8 +1,7 @@
 -- Arguments and conditions that are written one after another.
 use Rattle.std.proofs.Common.{◌≡◌, ◌≤◌, ◌-◌, ℕ, List, ◌++◌, map, get_or, take, drop, length, codes, subst, sym}
 use Rattle.term_core.specs.declared.terms.Term.{Term}
-use Rattle.term_core.specs.View.{view, views}
-use Rattle.term_core.specs.RuleView.{condition_view}
+use Rattle.term_core.specs.Prelude.{view, views, condition_view}
 use Rattle.term_core.specs.declared.systems.Cond.{Cond}
 use Rattle.cops_names.specs.NameTable.{NameTable}
 use Rattle.cops_write.specs.Grows.{Grows}

@@ -1,11 +1,9 @@
 -- The rules of a system, gone over one after another.
 use Rattle.std.proofs.Common.{◌≡◌, ◌<◌, ◌≤◌, ◌+◌, ◌-◌, ◌^◌, ℕ, zero, suc, List, [], ◌∷◌, ◌++◌, map, codes, length, get_or, drop, sym, ap, subst, ◌∙◌, arith, add-one, drop-cons}
 use Rattle.rewriting.specs.Rules as math
-use Rattle.rewriting.specs.Signatures.{Signature}
-use Rattle.rewriting.specs.Systems.{AreRules, rule_variables}
+use Rattle.rewriting.specs.Prelude.{Signature, AreRules, rule_variables}
 use Rattle.term_core.specs.declared.systems.Rule.{Rule}
-use Rattle.term_core.specs.RuleView.{rule_view, AreCounted}
-use Rattle.term_core.specs.Numbering.{IsNumbered, numbers_from}
+use Rattle.term_core.specs.Prelude.{rule_view, AreCounted, IsNumbered, numbers_from}
 use Rattle.term_core.proofs.Numbers.{counts_first}
 use Rattle.cops_names.specs.NameTable.{NameTable}
 use Rattle.cops_names.specs.NameLists.{with_name, with_names}

@@ -10,8 +10,7 @@ use Rattle.std.proofs.lemmas.List.Quantifiers.{position-Some}
 use Rattle.std.proofs.lemmas.Slice.Eq.{bytes_eq-Decides}
 use Rattle.general_lemmas.proofs.Places.{slice_get_seam}
 use Rattle.file_text.specs.Syntax.{Phrase, Phrases, word, call, none, more, ConditionTree, Guard, RuleTree, conditions_of}
-use Rattle.rewriting.specs.Terms.{Term, var, app, Terms, nil, cons}
-use Rattle.rewriting.specs.Rules.{Condition, Rule}
+use Rattle.rewriting.specs.Prelude.{Term, var, app, Terms, nil, cons, Condition, Rule}
 use Rattle.cops_names.specs.NameTable.{NameTable, variable_at, number_of}
 use Rattle.cops_names.specs.NameLists.{name_index}
 use Rattle.cops_read.specs.Meaning.{rule_variables, IsTermOf, AreTermsOf, AreConditionsOf, IsRuleOf, AreRulesOf}

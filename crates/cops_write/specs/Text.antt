@@ -1,9 +1,7 @@
 -- The text of a term and of a system, with the names of a table.
 use Rattle.std.specs.Prelude.{ℕ, suc, Bool, if◌then◌else◌, List, [], ◌∷◌, ◌++◌, map, codes, length, nat_lt, unwrap_or}
 use Rattle.std.specs.List.{list_any}
-use Rattle.rewriting.specs.Terms.{Term, var, app, Terms, nil, cons}
-use Rattle.rewriting.specs.Rules.{Condition, Rule, System}
-use Rattle.rewriting.specs.Systems.{rule_variables}
+use Rattle.rewriting.specs.Prelude.{Term, var, app, Terms, nil, cons, Condition, Rule, System, rule_variables}
 use Rattle.cops_names.specs.NameTable.{NameTable, name_at, variable_at}
 use Rattle.cops_names.specs.NameLists.{with_names}
 

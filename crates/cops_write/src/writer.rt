@@ -1,9 +1,7 @@
 //! The text of a system: its condition type, the block of its variables, and its rules with their conditions.
 ghost use Rattle.std.specs.Prelude.{◌≡◌, ◌++◌, ◌<◌, ◌^◌, [], OnOk, OnErr, IfOk, map, length};
 ghost use Rattle.rewriting.specs.Terms.{Fits};
-ghost use Rattle.term_core.specs.View.{view};
-ghost use Rattle.term_core.specs.RuleView.{condition_view, rule_view};
-ghost use Rattle.term_core.specs.Numbering.{IsNumbered};
+ghost use Rattle.term_core.specs.Prelude.{view, condition_view, rule_view, IsNumbered};
 ghost use Rattle.cops_names.specs.NameLists.{with_names};
 ghost use Rattle.cops_write.specs.Grows.{Grows};
 ghost use Rattle.cops_write.specs.Laws.{WrittenIsRead};

@@ -3,13 +3,7 @@ use Rattle.std.proofs.Common.{ℕ, zero, suc, ◌≡◌, ◌≢◌, ◌+◌, ◌
 use Rattle.std.proofs.lemmas.Bool.{cases_lt, eqb-false}
 use Rattle.std.proofs.lemmas.Option.{slice_get_within, slice_get-get_or}
 use Rattle.std.proofs.lemmas.List.{get_or_past, get_or_default}
-use Rattle.rewriting.specs.Lists.{IsAmong}
-use Rattle.rewriting.specs.Terms.{Term, Terms, var, app, IsVariable, Fits}
-use Rattle.rewriting.specs.Positions.{Position, subterm}
-use Rattle.rewriting.specs.Substitutions.{apply_all}
-use Rattle.rewriting.specs.Unifiers.{even, odd}
-use Rattle.rewriting.specs.Rules.{Rule, System, rule_at}
-use Rattle.rewriting.specs.Systems.{IsSystem}
+use Rattle.rewriting.specs.Prelude.{IsAmong, Term, Terms, var, app, IsVariable, Fits, Position, subterm, apply_all, even, odd, Rule, System, rule_at, IsSystem}
 use Rattle.rewriting.proofs.Systems.{numbered_rule}
 use Rattle.rule_index.specs.Roots.{has_root, rules_with_root}
 use Rattle.rule_index.proofs.Walks.{ascending, is_listed, listed_rule, Stands}

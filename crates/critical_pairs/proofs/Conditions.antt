@@ -1,13 +1,8 @@
 -- Conditions of a list, one by one.
 use Rattle.std.proofs.Common.{ℕ, zero, suc, ◌≡◌, ◌<◌, List, [], ◌∷◌, ◌++◌, map, length, get_or, sym, ap, ◌∙◌, subst, arith}
-use Rattle.rewriting.specs.Terms.{Fits}
-use Rattle.rewriting.specs.Substitutions.{Substitution, apply}
+use Rattle.rewriting.specs.Prelude.{Fits, Substitution, apply, sides, Each, conditions_under}
 use Rattle.rewriting.specs.Rules as math
-use Rattle.rewriting.specs.Rules.{sides}
-use Rattle.rewriting.specs.Systems.{Each}
-use Rattle.rewriting.specs.Overlaps.{conditions_under}
-use Rattle.term_core.specs.View.{view}
-use Rattle.term_core.specs.RuleView.{condition_view}
+use Rattle.term_core.specs.Prelude.{view, condition_view}
 use Rattle.term_core.specs.declared.systems.Cond.{Cond}
 
 pub both_fit : (cs : List Cond) (i : ℕ) (c : Cond) → i < length cs → c ≡ get_or cs i c → Each Fits (sides (map condition_view cs)) → Fits (view c.left) × Fits (view c.right)

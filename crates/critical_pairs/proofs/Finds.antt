@@ -1,8 +1,6 @@
 -- What is found where a cursor stands.
 use Rattle.std.proofs.Common.{ℕ, suc, ◌≡◌, ◌∷◌, refl, sym, ap₂, ◌∙◌, subst}
-use Rattle.rewriting.specs.Substitutions.{Bindings}
-use Rattle.rewriting.specs.Rules.{System}
-use Rattle.rewriting.specs.Systems.{IsSystem}
+use Rattle.rewriting.specs.Prelude.{Bindings, System, IsSystem}
 use Rattle.unifier_run.specs.Overlaps.{Triple, Overlap, triple, IsOverlapOf, IsTooLargeAt}
 use Rattle.unifier_run.specs.Triples.{DoesClash}
 use Rattle.critical_pairs.specs.Offers.{Search, DoesPass, IsNext, IsOffered, IsBeyond, IsRefused}

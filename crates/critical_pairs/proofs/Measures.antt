@@ -1,12 +1,8 @@
 -- Nodes and levels of terms, of terms with a part replaced, and of the pair that a substitution makes.
 use Rattle.std.proofs.Common.{ℕ, zero, suc, ◌≡◌, ◌+◌, ◌-◌, ◌<◌, ◌≤◌, ◌⊎◌, ◌↔◌, inl, inr, [], ◌∷◌, length, max, Option, Some, None, is_some, IsTrue, IfSome, IfNone, refl, sym, ap, ◌∙◌, subst, arith}
 use Rattle.std.proofs.lemmas.Bool.{false≢true}
-use Rattle.rewriting.specs.Terms.{Term, Terms, var, app, nil, cons, size, size_all, depth, depth_all, Fits}
-use Rattle.rewriting.specs.Positions.{Position, argument, with_argument, subterm, replace}
-use Rattle.rewriting.specs.Substitutions.{Substitution, apply}
-use Rattle.rewriting.specs.Rules.{Rule, sides}
-use Rattle.rewriting.specs.Systems.{Each}
-use Rattle.rewriting.specs.Overlaps.{CriticalPair, conditions_under}
+use Rattle.rewriting.specs.Prelude.{Term, Terms, var, app, nil, cons, size, size_all, depth, depth_all, Fits, Position, argument, with_argument, subterm, replace, Substitution, apply, Rule}
+use Rattle.rewriting.specs.Prelude.{sides, Each, CriticalPair, conditions_under}
 use Rattle.rewriting.proofs.Positions.{below, within, replace-subterm}
 use Rattle.rewriting.proofs.Places.{subterm-apply}
 use Rattle.unifier_run.specs.Overlaps.{DoesPairFit}

@@ -1,11 +1,7 @@
 -- Overlaps of rules that an earlier system has too are those of its list, with other numbers.
 use Rattle.std.proofs.Common.{ℕ, ◌≡◌, ◌≢◌, ◌<◌, ◌⊎◌, inl, inr, List, [], ◌∷◌, flat_map, Option, Some, None, IsSome, refl, sym, ap, ◌∙◌, subst, subst₂}
-use Rattle.rewriting.specs.Lists.{IsAmong, IsSorted}
+use Rattle.rewriting.specs.Prelude.{IsAmong, IsSorted, Term, Position, IsBefore, subterm, Rule, System, IsPlace, IsCriticalPair, IsEarlierOverlap}
 use Rattle.rewriting.proofs.Lists.{among_either, among_right, before_one}
-use Rattle.rewriting.specs.Terms.{Term}
-use Rattle.rewriting.specs.Positions.{Position, IsBefore, subterm}
-use Rattle.rewriting.specs.Rules.{Rule, System}
-use Rattle.rewriting.specs.Overlaps.{IsPlace, IsCriticalPair, IsEarlierOverlap}
 use Rattle.rule_index.proofs.Flat.{among_flat, among_of_flat, sorted_flat}
 use Rattle.unifier_run.specs.Run.{value, unifier, clash}
 use Rattle.unifier_run.specs.Overlaps.{Triple, Overlap, triple, ComesBefore, IsOutcomeOf, DoesPairFit, IsOverlapOf, AreOverlapsAt, AreOverlaps}

@@ -1,8 +1,7 @@
 -- Triples that are passed over, since their runs clash.
 use Rattle.std.proofs.Common.{◌<◌, length, arith, ◌≡◌, ◌⊎◌, inl, inr, List, [], ◌∷◌, ◌++◌, refl, sym, ap, ◌∙◌, subst, append_assoc}
-use Rattle.rewriting.specs.Lists.{IsAmong}
+use Rattle.rewriting.specs.Prelude.{IsAmong, System}
 use Rattle.rewriting.proofs.Lists.{among_either}
-use Rattle.rewriting.specs.Rules.{System}
 use Rattle.unifier_run.specs.Overlaps.{Triple}
 use Rattle.unifier_run.proofs.Triples.{AreThose}
 use Rattle.unifier_run.specs.Triples.{DoesClash}

@@ -2,10 +2,7 @@
 use Rattle.std.proofs.Common.{ℕ, zero, suc, ◌≡◌, ◌+◌, ◌-◌, ◌<◌, ◌≤◌, List, [], ◌∷◌, ◌++◌, map, length, drop, get_or, slice_get, None, Some, refl, sym, ap, ap₂, ◌∙◌, subst, subst₂, arith, ◌^◌}
 use Rattle.std.proofs.lemmas.Option.{slice_get_within}
 use Rattle.std.proofs.lemmas.List.{drop_all}
-use Rattle.rewriting.specs.Lists.{IsAmong}
-use Rattle.rewriting.specs.Terms.{app, Fits}
-use Rattle.rewriting.specs.Rules.{Rule, System, rule_at}
-use Rattle.rewriting.specs.Systems.{IsSystem}
+use Rattle.rewriting.specs.Prelude.{IsAmong, app, Fits, Rule, System, rule_at, IsSystem}
 use Rattle.rule_index.specs.Roots.{rules_with_root}
 use Rattle.rule_index.proofs.Walks.{ascending, listed_rule}
 use Rattle.unifier_run.specs.Overlaps.{Triple}

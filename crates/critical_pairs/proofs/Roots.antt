@@ -1,10 +1,7 @@
 -- The places of a term, and the triples at them.
 use Rattle.std.proofs.Common.{ℕ, suc, ◌≡◌, ◌-◌, inl, inr, List, [], ◌∷◌, ◌++◌, flat_map, Some, refl, sym, ap, ap₂, ◌∙◌, subst, append_assoc, arith}
 use Rattle.std.proofs.lemmas.List.Concat.{flat_map-append}
-use Rattle.rewriting.specs.Lists.{IsAmong}
-use Rattle.rewriting.specs.Terms.{Term, Terms, var, app, nil, cons}
-use Rattle.rewriting.specs.Positions.{Position, subterm}
-use Rattle.rewriting.specs.Rules.{Rule, System, rule_at}
+use Rattle.rewriting.specs.Prelude.{IsAmong, Term, Terms, var, app, nil, cons, Position, subterm, Rule, System, rule_at}
 use Rattle.rule_index.specs.Parts.{parts}
 use Rattle.rule_index.specs.Levels.{parts_in, parts_among}
 use Rattle.rule_index.proofs.Flat.{among_of_flat}

@@ -1,15 +1,10 @@
 -- What a run of two rules of a system says, where they are renamed apart.
 use Rattle.std.proofs.Common.{ℕ, zero, suc, ◌≡◌, ◌-◌, List, [], ◌∷◌, map, get_or, slice_get, Some, None, IsSome, refl, sym, ap, ◌∙◌, subst, arith}
 use Rattle.std.proofs.lemmas.Option.{none-some, same_Some}
-use Rattle.rewriting.specs.Terms.{Term}
-use Rattle.rewriting.specs.Positions.{Position, subterm}
-use Rattle.rewriting.specs.Substitutions.{apply}
-use Rattle.rewriting.specs.Unifiers.{even, odd}
-use Rattle.rewriting.specs.Rules.{Rule, System, rule_at}
+use Rattle.rewriting.specs.Prelude.{Term, Position, subterm, apply, even, odd, Rule, System, rule_at}
 use Rattle.rewriting.proofs.Places.{subterm-apply}
 use Rattle.unifier_run.specs.Overlaps.{IsTooLargeAt}
-use Rattle.term_core.specs.View.{view}
-use Rattle.term_core.specs.RuleView.{rule_view}
+use Rattle.term_core.specs.Prelude.{view, rule_view}
 use Rattle.term_core.specs.declared.systems.Rule as Program
 use Rattle.prepared_system.specs.Renamed.{rule_under, inner_rules, outer_rules}
 use Rattle.prepared_system.proofs.Renamed.{renamed_rule}

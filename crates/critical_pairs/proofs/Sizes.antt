@@ -3,15 +3,10 @@ use Rattle.std.proofs.Common.{ℕ, zero, suc, ◌≡◌, ◌<◌, ◌≤◌, Lis
 use Rattle.std.proofs.lemmas.Bool.{false≢true}
 use Rattle.std.proofs.lemmas.Option.{none-some, same_Some}
 use Rattle.rewriting.specs.Terms as terms
-use Rattle.rewriting.specs.Terms.{var, app, Terms, nil, cons, size, size_all, depth, depth_all, Fits}
-use Rattle.rewriting.specs.Positions.{Position, argument, subterm}
-use Rattle.rewriting.specs.Substitutions.{Substitution, apply}
+use Rattle.rewriting.specs.Prelude.{var, app, Terms, nil, cons, size, size_all, depth, depth_all, Fits, Position, argument, subterm, Substitution, apply, conditions_under}
 use Rattle.rewriting.specs.Rules as math
-use Rattle.rewriting.specs.Overlaps.{conditions_under}
 use Rattle.rewriting.proofs.Positions.{within, subterm-replace, replaceable}
-use Rattle.term_core.specs.RuleView.{condition_view}
-use Rattle.term_core.specs.SubstView.{ApplyAnswers}
-use Rattle.term_core.specs.Replace.{ReplaceAnswers}
+use Rattle.term_core.specs.Prelude.{condition_view, ApplyAnswers, ReplaceAnswers}
 use Rattle.term_core.specs.declared.terms.Term.{Term}
 use Rattle.term_core.specs.declared.terms.TermError.{TermError}
 use Rattle.term_core.specs.declared.terms.TermError.TheVariants.{NoPosition, TooLarge, NoMemory}

@@ -1,12 +1,7 @@
 -- What a run at a triple says of the system's overlaps.
 use Rattle.std.proofs.Common.{ℕ, suc, ◌≡◌, ◌+◌, ◌<◌, inl, inr, List, [], ◌∷◌, ◌++◌, map, length, Option, Some, refl, sym, ap, ap₂, ◌∙◌, subst, subst₂, arith, ◌^◌, max}
-use Rattle.rewriting.specs.Terms.{Term, Terms, var, app, nil, cons, size, size_all, depth, depth_all, Fits}
-use Rattle.rewriting.specs.Positions.{Position, subterm, replace}
-use Rattle.rewriting.specs.Substitutions.{Substitution, apply, apply_all, compose, Bindings, values_of}
-use Rattle.rewriting.specs.Unifiers.{even, odd}
-use Rattle.rewriting.specs.Rules.{Condition, Rule, System, rule_at, sides}
-use Rattle.rewriting.specs.Systems.{Each, terms_of_rule, IsSystem}
-use Rattle.rewriting.specs.Overlaps.{CriticalPair, IsCriticalPair, conditions_under}
+use Rattle.rewriting.specs.Prelude.{Term, Terms, var, app, nil, cons, size, size_all, depth, depth_all, Fits, Position, subterm, replace, Substitution, apply, apply_all, compose, Bindings}
+use Rattle.rewriting.specs.Prelude.{values_of, even, odd, Condition, Rule, System, rule_at, sides, Each, terms_of_rule, IsSystem, CriticalPair, IsCriticalPair, conditions_under}
 use Rattle.rewriting.proofs.Instances.{apply-apply, apply-agree}
 use Rattle.rewriting.proofs.Positions.{replaceable}
 use Rattle.rewriting.proofs.Places.{subterm-apply}

@@ -2,8 +2,7 @@
 use Rattle.std.proofs.Common.{ℕ, ◌≡◌, List, [], ◌∷◌, ◌++◌, map, flat_map, Option, Some, None, Ok, inl, refl, sym, ap, ◌∙◌, subst}
 use Rattle.std.proofs.lemmas.List.{append-nil}
 use Rattle.std.proofs.lemmas.List.Concat.{flat_map-append}
-use Rattle.rewriting.specs.Positions.{Position}
-use Rattle.rewriting.specs.Rules.{System}
+use Rattle.rewriting.specs.Prelude.{Position, System}
 use Rattle.unifier_run.specs.Overlaps.{Triple, Overlap, triple}
 use Rattle.unifier_run.specs.Triples.{all_triples, DoesClash}
 use Rattle.unifier_run.proofs.Spots.{order_all}

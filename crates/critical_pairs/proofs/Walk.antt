@@ -2,10 +2,7 @@
 use Rattle.std.proofs.Common.{ℕ, suc, ◌≡◌, ◌≢◌, ◌+◌, ◌<◌, ◌≤◌, List, [], ◌∷◌, ◌++◌, map, drop, length, refl, sym, ap, ◌∙◌, subst, arith, ◌^◌, add-one, Option, Some, None, Ok, Err}
 use Rattle.std.proofs.lemmas.List.{drop_all, length-map}
 use Rattle.rewriting.proofs.Lists.{sorted_right}
-use Rattle.rewriting.specs.Rules.{System}
-use Rattle.rewriting.specs.Systems.{IsSystem}
-use Rattle.rewriting.specs.Overlaps.{IsEarlierOverlap}
-use Rattle.rewriting.specs.Lists.{IsAmong, IsSorted}
+use Rattle.rewriting.specs.Prelude.{System, IsSystem, IsEarlierOverlap, IsAmong, IsSorted}
 use Rattle.unifier_run.specs.Overlaps.{Triple, Overlap, triple, IsOverlapOf, AreOverlaps}
 use Rattle.unifier_run.specs.Triples.{all_triples, triples_from, DoesClash}
 use Rattle.critical_pairs.specs.Answers.{OverlapsAnswers, PutAnswers}

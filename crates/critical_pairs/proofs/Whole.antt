@@ -1,10 +1,8 @@
 -- The list of the overlaps that a search offers.
 use Rattle.std.proofs.Common.{suc, ◌≡◌, ◌≤◌, List, [], ◌∷◌, ◌++◌, map, length, refl, sym, ap, ◌∙◌, subst, Err, append_assoc, inr}
 use Rattle.std.proofs.lemmas.List.{append-nil}
-use Rattle.rewriting.specs.Rules.{System}
-use Rattle.rewriting.specs.Overlaps.{IsEarlierOverlap}
+use Rattle.rewriting.specs.Prelude.{System, IsEarlierOverlap, IsAmong}
 use Rattle.unifier_run.specs.Overlaps.{Triple, Overlap, triple, IsOverlapOf, IsTooLargeAt, AreOverlapsAt, AreOverlaps}
-use Rattle.rewriting.specs.Lists.{IsAmong}
 use Rattle.unifier_run.proofs.Triples.{AreInOrder, AreThose, those_append, overlaps_at, overlaps_before}
 use Rattle.unifier_run.proofs.Spots.{has_all, order_all}
 use Rattle.unifier_run.specs.Triples.{all_triples, DoesClash}

@@ -2,16 +2,10 @@
 use Rattle.std.specs.Prelude.{ℕ, ◌≡◌, List, ◌++◌, map, length, Some, Vec, Result, Ok, Err}
 use Rattle.std.specs.Global.{Global}
 use Rattle.rewriting.specs.Terms as terms
-use Rattle.rewriting.specs.Terms.{Fits}
-use Rattle.rewriting.specs.Positions.{Position, replace}
-use Rattle.rewriting.specs.Substitutions.{Substitution, apply}
+use Rattle.rewriting.specs.Prelude.{Fits, Position, replace, Substitution, apply, sides, Each, CriticalPair, condition_under, conditions_under}
 use Rattle.rewriting.specs.Rules as math
-use Rattle.rewriting.specs.Rules.{sides}
-use Rattle.rewriting.specs.Systems.{Each}
-use Rattle.rewriting.specs.Overlaps.{CriticalPair, condition_under, conditions_under}
 use Rattle.unifier_run.specs.Overlaps.{DoesPairFit}
-use Rattle.term_core.specs.View.{view}
-use Rattle.term_core.specs.RuleView.{condition_view}
+use Rattle.term_core.specs.Prelude.{view, condition_view}
 use Rattle.term_core.specs.declared.terms.Term.{Term}
 use Rattle.term_core.specs.declared.terms.TermError.{TermError}
 use Rattle.term_core.specs.declared.terms.TermError.TheVariants.{NoPosition, TooLarge, NoMemory}

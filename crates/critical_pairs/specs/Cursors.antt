@@ -1,9 +1,6 @@
 -- Where a search stands: in an outer rule, at one of its places, before one of the inner rules with the root there.
 use Rattle.std.specs.Prelude.{ℕ, zero, suc, ◌≡◌, ◌≢◌, ◌≤◌, ◌<◌, ◌⊎◌, ◌-◌, List, [], ◌∷◌, ◌++◌, map, length, drop, get_or, slice_get, Option, None, Some, Result, Ok, Err}
-use Rattle.rewriting.specs.Lists.{IsAmong}
-use Rattle.rewriting.specs.Positions.{Position}
-use Rattle.rewriting.specs.Terms.{Term}
-use Rattle.rewriting.specs.Rules.{System}
+use Rattle.rewriting.specs.Prelude.{IsAmong, Position, Term, System}
 use Rattle.rule_index.specs.Roots.{rules_with_root}
 use Rattle.unifier_run.specs.Overlaps.{Triple}
 use Rattle.unifier_run.specs.Triples.{triples_at, counted, triples_from}

@@ -1,8 +1,6 @@
 -- Rules of a system that an earlier system has too, and the overlaps of two such rules.
 use Rattle.std.specs.Prelude.{ℕ, zero, suc, ◌≡◌, ◌<◌, ◌-◌, ◌↔◌, List, [], ◌∷◌, map, get_or, set, Option, None, Some, IsSome}
-use Rattle.rewriting.specs.Lists.{IsAmong, IsSorted}
-use Rattle.rewriting.specs.Rules.{Rule, System, rule_at}
-use Rattle.rewriting.specs.Overlaps.{IsEarlierOverlap}
+use Rattle.rewriting.specs.Prelude.{IsAmong, IsSorted, Rule, System, rule_at, IsEarlierOverlap}
 use Rattle.unifier_run.specs.Overlaps as math
 use Rattle.unifier_run.specs.Overlaps.{Triple, triple, AreOverlaps, AreOverlapsAt}
 use Rattle.critical_pairs.specs.View.{overlap_view}

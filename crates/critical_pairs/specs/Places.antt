@@ -1,8 +1,6 @@
 -- The places of a left side: its positions where no variable stands, in preorder, each with the root of the subterm there.
 use Rattle.std.specs.Prelude.{ℕ, ◌≡◌, ◌-◌, List, [], ◌∷◌, ◌++◌, flat_map, Some}
-use Rattle.rewriting.specs.Terms.{Term, Terms, var, app}
-use Rattle.rewriting.specs.Positions.{Position, subterm}
-use Rattle.rewriting.specs.Rules.{Rule, System, rule_at}
+use Rattle.rewriting.specs.Prelude.{Term, Terms, var, app, Position, subterm, Rule, System, rule_at}
 use Rattle.rule_index.specs.Parts.{Part, parts}
 use Rattle.unifier_run.specs.Overlaps.{Triple}
 use Rattle.unifier_run.specs.Triples.{triples_at, counted}

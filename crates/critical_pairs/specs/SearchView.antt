@@ -1,9 +1,7 @@
 -- The search of the definitions that an `OverlapSearch` stands for.
 use Rattle.std.specs.Prelude.{ℕ, ◌≤◌, List, refl}
 use Rattle.std.specs.Coded.{Coded, code_by, coded×, coded_ℕ, coded_list}
-use Rattle.rewriting.specs.Rules.{System}
-use Rattle.rewriting.specs.Systems.{IsSystem}
-use Rattle.rewriting.specs.Codes.{coded_system}
+use Rattle.rewriting.specs.Prelude.{System, IsSystem, coded_system}
 use Rattle.unifier_run.specs.Overlaps.{Triple}
 use Rattle.critical_pairs.specs.Offers.{Search}
 use Rattle.critical_pairs.specs.Cursors.{rest_of, IsCursor}

@@ -1,10 +1,6 @@
 -- What a run of two rules at a triple answers, and what its unifier makes there.
 use Rattle.std.specs.Prelude.{ℕ, ◌≡◌, List, Option, None, Some, Result, Ok, Err}
-use Rattle.rewriting.specs.Terms.{Term}
-use Rattle.rewriting.specs.Positions.{Position}
-use Rattle.rewriting.specs.Substitutions.{Bindings}
-use Rattle.rewriting.specs.Rules.{Rule, System}
-use Rattle.rewriting.specs.Overlaps.{IsPlace}
+use Rattle.rewriting.specs.Prelude.{Term, Position, Bindings, Rule, System, IsPlace}
 use Rattle.unifier_run.specs.Run.{Binding, unifier}
 use Rattle.unifier_run.specs.Laws.{as_map}
 use Rattle.unifier_run.specs.Overlaps as math

@@ -1,8 +1,7 @@
 -- The overlap of the definitions that an `Overlap` stands for.
 use Rattle.std.specs.Prelude.{map}
 use Rattle.unifier_run.specs.Overlaps as math
-use Rattle.term_core.specs.View.{view}
-use Rattle.term_core.specs.RuleView.{condition_view}
+use Rattle.term_core.specs.Prelude.{view, condition_view}
 use Rattle.critical_pairs.specs.declared.Overlap.{Overlap}
 
 abbrev pub overlap_view : Overlap → math.Overlap

@@ -1,7 +1,6 @@
 //! Where a search for overlaps stands: at an outer rule, a position of its left side, and an inner rule.
 ghost use Rattle.std.specs.Prelude.{◌≡◌, ◌<◌, ◌^◌, [], length};
-ghost use Rattle.rewriting.specs.Terms.{Fits};
-ghost use Rattle.rewriting.specs.Systems.{IsSystem};
+ghost use Rattle.rewriting.specs.Prelude.{Fits, IsSystem};
 ghost use Rattle.rule_index.specs.Roots.{rules_with_root};
 ghost use Rattle.term_core.specs.View.{view};
 ghost use Rattle.critical_pairs.specs.Offers.{DoesPass};

@@ -1,15 +1,9 @@
 //! Whether the terms of a critical pair fit, by measures of instances that are not built.
 ghost use Rattle.std.specs.Prelude.{◌≡◌, ◌+◌, ◌<◌, ◌≤◌, ◌⊎◌, ◌↔◌, IsTrue, IsSome, IfSome, IfNone, Some, map};
 ghost use Rattle.rewriting.specs.Terms as math;
-ghost use Rattle.rewriting.specs.Terms.{Fits};
-ghost use Rattle.rewriting.specs.Positions.{subterm, replace};
-ghost use Rattle.rewriting.specs.Substitutions.{apply, values_of};
-ghost use Rattle.rewriting.specs.Rules.{sides};
-ghost use Rattle.rewriting.specs.Systems.{Each};
-ghost use Rattle.rewriting.specs.Overlaps.{CriticalPair, conditions_under};
+ghost use Rattle.rewriting.specs.Prelude.{Fits, subterm, replace, apply, values_of, sides, Each, CriticalPair, conditions_under};
 ghost use Rattle.unifier_run.specs.Overlaps.{DoesPairFit};
-ghost use Rattle.term_core.specs.View.{view};
-ghost use Rattle.term_core.specs.RuleView.{condition_view, rule_view};
+ghost use Rattle.term_core.specs.Prelude.{view, condition_view, rule_view};
 ghost use Rattle.critical_pairs.specs.Building.{IsMade};
 
 use term_core::{Cond, MAX_DEPTH, MAX_NODES, Rule, Subst, Term, room_after, subterm};

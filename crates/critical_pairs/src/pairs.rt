@@ -1,13 +1,8 @@
 //! The critical pair of two rules that are renamed apart.
 ghost use Rattle.std.specs.Prelude.{◌≡◌, ◌<◌, ◌^◌, IsSome, IfOk, map, length};
 ghost use Rattle.rewriting.specs.Terms as math;
-ghost use Rattle.rewriting.specs.Terms.{Fits};
-ghost use Rattle.rewriting.specs.Positions.{subterm};
-ghost use Rattle.rewriting.specs.Substitutions.{apply, values_of};
-ghost use Rattle.rewriting.specs.Rules.{sides};
-ghost use Rattle.rewriting.specs.Systems.{Each, terms_of_rule};
-ghost use Rattle.term_core.specs.View.{view};
-ghost use Rattle.term_core.specs.RuleView.{condition_view, rule_view};
+ghost use Rattle.rewriting.specs.Prelude.{Fits, subterm, apply, values_of, sides, Each, terms_of_rule};
+ghost use Rattle.term_core.specs.Prelude.{view, condition_view, rule_view};
 ghost use Rattle.critical_pairs.specs.Building.{InstanceAnswers, InstancesAnswers, ContractedAnswers, ConditionsAnswers, PairAnswers};
 
 use crate::Overlap;

@@ -3,16 +3,11 @@ use Rattle.std.proofs.Common.{ℕ, suc, ◌≡◌, inl, inr, ◌+◌, Bool, true
 use Rattle.std.proofs.lemmas.Bool.{false≢true, or_left, or_right, not-true, not-false}
 use Rattle.std.specs.List.{take-map}
 use Rattle.rewriting.specs.Terms as math
-use Rattle.rewriting.specs.Terms.{cons}
-use Rattle.rewriting.specs.Variables.{occurs, occurs_in, variable_occurrences}
-use Rattle.rewriting.specs.Rules.{Condition, left_sides, right_sides, sides}
-use Rattle.rewriting.specs.Classes.{known}
+use Rattle.rewriting.specs.Prelude.{cons, occurs, occurs_in, variable_occurrences, Condition, left_sides, right_sides, sides, known, IsAmong}
 use Rattle.rewriting.proofs.Instances.{or_cases}
 use Rattle.term_core.specs.declared.systems.Cond.{Cond}
 use Rattle.term_core.specs.declared.systems.Rule.{Rule}
-use Rattle.term_core.specs.View.{view}
-use Rattle.term_core.specs.RuleView.{condition_view, rule_view}
-use Rattle.rewriting.specs.Lists.{IsAmong}
+use Rattle.term_core.specs.Prelude.{view, condition_view, rule_view}
 use Rattle.rewriting.proofs.Variables.{occurring}
 use Rattle.certificates.specs.Blames.{IsFirstVariable, IsOld, IsFresh}
 use Rattle.ctrs_classes.specs.Walks.{first_where, same}

@@ -1,8 +1,7 @@
 -- Terms without variables.
 use Rattle.std.proofs.Common.{ℕ, ◌≡◌, ◌∙◌, sym, Bool, true, false, refl, eq-eqb}
 use Rattle.std.proofs.lemmas.Bool.{false≢true, true≢false, or_left, or_right}
-use Rattle.rewriting.specs.Terms.{Term, Terms, var, app, nil, cons}
-use Rattle.rewriting.specs.Variables.{occurs, occurs_in, IsGround}
+use Rattle.rewriting.specs.Prelude.{Term, Terms, var, app, nil, cons, occurs, occurs_in, IsGround}
 use Rattle.rewriting.proofs.Instances.{or_cases}
 use Rattle.ctrs_classes.specs.Walks.{is_open, are_open}
 

@@ -5,14 +5,11 @@ use Rattle.std.proofs.lemmas.Bool.Decides.{leb_tells}
 use Rattle.std.proofs.Math.Dec.{leb}
 use Rattle.std.proofs.lemmas.List.{length-append}
 use Rattle.rewriting.specs.Terms as math
-use Rattle.rewriting.specs.Terms.{var, app, nil, cons}
-use Rattle.rewriting.specs.Variables.{IsLinear, with_new, with_variables, with_variables_of, variable_occurrences, variable_occurrences_of}
+use Rattle.rewriting.specs.Prelude.{var, app, nil, cons, IsLinear, with_new, with_variables, with_variables_of, variable_occurrences, variable_occurrences_of, sides, IsRule, rule_variables}
+use Rattle.rewriting.specs.Prelude.{IsAmong, AreDistinct}
 use Rattle.rewriting.specs.Rules as rules
-use Rattle.rewriting.specs.Rules.{sides}
-use Rattle.rewriting.specs.Systems.{IsRule, rule_variables}
 use Rattle.term_core.specs.Numbering.{numbers_from, AreFirst}
 use Rattle.term_core.proofs.Numbers.{first_leads, next_first, not_next, counts_first}
-use Rattle.rewriting.specs.Lists.{IsAmong, AreDistinct}
 use Rattle.certificates.specs.Blames.{IsFirstRepeated}
 use Rattle.certificates.proofs.Blames.{times, occurrences-times}
 use Rattle.ctrs_classes.specs.Walks.{first_seen}

@@ -6,18 +6,13 @@ use Rattle.std.proofs.lemmas.Option.{slice_get-get_or, slice_get-map, slice_get_
 use Rattle.std.proofs.Math.Dec.{leb}
 use Rattle.std.specs.Prelude.{slice_get}
 use Rattle.std.proofs.lemmas.List.{length-map, drop-map}
-use Rattle.rewriting.specs.Terms.{nil, cons}
-use Rattle.rewriting.specs.Variables.{occurs, occurs_in, IsWithin, variable_occurrences}
+use Rattle.rewriting.specs.Prelude.{nil, cons, occurs, occurs_in, IsWithin, variable_occurrences, Condition, right_sides, sides, rule_at, IsRule, AreRules, IsAt, known}
+use Rattle.rewriting.specs.Prelude.{IsExtendedOrientedRule, IsAmong}
 use Rattle.rewriting.specs.Rules as rules
-use Rattle.rewriting.specs.Rules.{Condition, right_sides, sides, rule_at}
-use Rattle.rewriting.specs.Systems.{IsRule, AreRules}
-use Rattle.rewriting.specs.Classes.{IsAt, known, IsExtendedOrientedRule}
 use Rattle.rewriting.proofs.Instances.{or_cases}
 use Rattle.term_core.specs.declared.systems.Cond.{Cond}
 use Rattle.term_core.specs.declared.systems.Rule.{Rule}
-use Rattle.term_core.specs.View.{view}
-use Rattle.term_core.specs.RuleView.{condition_view, rule_view}
-use Rattle.rewriting.specs.Lists.{IsAmong}
+use Rattle.term_core.specs.Prelude.{view, condition_view, rule_view}
 use Rattle.certificates.specs.Blames.{IsFirstVariable}
 use Rattle.certificates.proofs.Blames.{first_occurs}
 use Rattle.ctrs_classes.specs.Walks.{any_where, first_where, same}

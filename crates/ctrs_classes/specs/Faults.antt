@@ -1,11 +1,8 @@
 -- What the judging of a rule answers.
 use Rattle.std.specs.Prelude.{ℕ, ◌≡◌, ◌<◌, ◌≤◌, Option, None, Some, length, false}
-use Rattle.rewriting.specs.Variables.{occurs_in, IsWithin}
-use Rattle.rewriting.specs.Rules.{Condition, Rule, System}
-use Rattle.rewriting.specs.Classes.{IsAt, known, IsStable}
-use Rattle.certificates.specs.Reasons.{Class}
+use Rattle.rewriting.specs.Prelude.{occurs_in, IsWithin, Condition, Rule, System, IsAt, known, IsStable}
+use Rattle.certificates.specs.Prelude.{Class, IsInClass, IsRuleBlamed, IsFirstVariable, IsFresh, IsUnstable}
 use Rattle.ctrs_classes.specs.declared.rules.Fault.{Fault}
-use Rattle.certificates.specs.Blames.{IsInClass, IsRuleBlamed, IsFirstVariable, IsFresh, IsUnstable}
 
 -- the rule is in the class, or what is at fault
 abbrev pub FaultAnswers : System → Class → Rule → Option Fault → Type 0

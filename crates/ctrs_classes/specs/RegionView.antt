@@ -1,9 +1,7 @@
 -- Whether a variable stands in a region of a rule.
 use Rattle.std.specs.Prelude.{ℕ, Bool, ◌||◌, map}
-use Rattle.rewriting.specs.Variables.{occurs, occurs_in}
-use Rattle.rewriting.specs.Rules.{left_sides, right_sides}
-use Rattle.term_core.specs.View.{view}
-use Rattle.term_core.specs.RuleView.{condition_view}
+use Rattle.rewriting.specs.Prelude.{occurs, occurs_in, left_sides, right_sides}
+use Rattle.term_core.specs.Prelude.{view, condition_view}
 use Rattle.ctrs_classes.specs.declared.regions.Region.{Region}
 
 abbrev pub in_region : Region → ℕ → Bool

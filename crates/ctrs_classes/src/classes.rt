@@ -1,10 +1,8 @@
 //! Whether a conditional system is of a class, and the first rule by which it is not.
 ghost use Rattle.std.specs.Prelude.{◌↔◌, IsTrue};
-ghost use Rattle.rewriting.specs.Systems.{IsRule};
-ghost use Rattle.rewriting.specs.Classes.{IsLeftLinear, IsType3, IsExtendedOriented, IsRightStable, IsDeterministic};
+ghost use Rattle.rewriting.specs.Prelude.{IsRule, IsLeftLinear, IsType3, IsExtendedOriented, IsRightStable, IsDeterministic, EachRule};
 ghost use Rattle.term_core.specs.RuleView.{rule_view};
 ghost use Rattle.cert_model.specs.ReasonView.{class_view};
-ghost use Rattle.rewriting.specs.Rules.{EachRule};
 ghost use Rattle.certificates.specs.Blames.{IsInClass};
 ghost use Rattle.ctrs_classes.specs.Faults.{FaultAnswers};
 ghost use Rattle.ctrs_classes.specs.Answers.{WhyNotAnswers};

@@ -1,11 +1,8 @@
 //! Variables in regions of a rule, its left side and the sides of its first conditions; and the first variable that is repeated.
 ghost use Rattle.std.specs.Prelude.{◌≡◌, ◌+◌, ◌≤◌, ◌&&◌, not, IfOk, map};
-ghost use Rattle.rewriting.specs.Terms.{size, size_all};
+ghost use Rattle.rewriting.specs.Prelude.{size, size_all, left_sides, right_sides, sides, variable_occurrences, variable_occurrences_of};
 ghost use Rattle.rewriting.specs.Variables as math;
-ghost use Rattle.rewriting.specs.Rules.{left_sides, right_sides, sides};
-ghost use Rattle.term_core.specs.View.{view, views};
-ghost use Rattle.term_core.specs.RuleView.{condition_view};
-ghost use Rattle.rewriting.specs.Variables.{variable_occurrences, variable_occurrences_of};
+ghost use Rattle.term_core.specs.Prelude.{view, views, condition_view};
 ghost use Rattle.ctrs_classes.specs.Walks.{SeenAnswers, any_where, are_open, first_where, is_open, same};
 ghost use Rattle.ctrs_classes.specs.RegionView.{in_region};
 

@@ -1,12 +1,8 @@
 //! The conditions that the classes of conditional systems put on a single rule, with what is at fault in a rule that breaks them.
 ghost use Rattle.std.specs.Prelude.{◌≤◌, ◌<◌, ◌↔◌, IsTrue, length};
-ghost use Rattle.rewriting.specs.Systems.{IsRule};
-ghost use Rattle.rewriting.specs.Classes.{IsConstructorTerm, IsStable};
-ghost use Rattle.rewriting.specs.NormalForms.{IsNormalForm};
-ghost use Rattle.rewriting.specs.Variables.{IsGround, IsLinear};
+ghost use Rattle.rewriting.specs.Prelude.{IsRule, IsConstructorTerm, IsStable, IsNormalForm, IsGround, IsLinear};
 ghost use Rattle.certificates.specs.Reasons as reasons;
-ghost use Rattle.term_core.specs.View.{view};
-ghost use Rattle.term_core.specs.RuleView.{condition_view, rule_view};
+ghost use Rattle.term_core.specs.Prelude.{view, condition_view, rule_view};
 ghost use Rattle.ctrs_classes.specs.Faults.{FaultAnswers, UnstableAnswers, UndeterminedAnswers, IsKnownPrefix};
 
 use crate::constructors::is_constructor;

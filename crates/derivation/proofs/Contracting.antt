@@ -1,12 +1,9 @@
 -- Contracting a redex, and steps by hypotheses, from their parts.
 use Rattle.std.proofs.Common.{◌≡◌, ℕ, List, [], Some, None, refl, sym, ◌∙◌, subst, inl, inr}
 use Rattle.rewriting.specs.Terms as math
-use Rattle.rewriting.specs.Positions.{Position, subterm, replace}
-use Rattle.rewriting.specs.Substitutions.{Bindings}
-use Rattle.rewriting.specs.Rules.{Condition}
+use Rattle.rewriting.specs.Prelude.{Position, subterm, replace, Bindings, Condition}
 use Rattle.rewriting.proofs.Positions.{replaceable, replace-twice, subterm-replace}
-use Rattle.certificates.specs.Judging.{HypothesisFails, no_hypothesis, left_differs, large_result, hypothesis_at}
-use Rattle.certificates.specs.Reasons.{StepReason, no_such_hypothesis, no_redex, too_large}
+use Rattle.certificates.specs.Prelude.{HypothesisFails, no_hypothesis, left_differs, large_result, hypothesis_at, StepReason, no_such_hypothesis, no_redex, too_large}
 use Rattle.certificates.proofs.Growth.{part_fits}
 use Rattle.derivation.specs.Judged.{HasNoInstance, IsContracted, HasNoContractum, HasSizeAt}
 

@@ -1,12 +1,9 @@
 -- Judging steps one after another, and conditions one after another.
 use Rattle.std.proofs.Common.{◌≡◌, ℕ, suc, List, [], ◌∷◌, refl, sym, subst, inl, inr}
 use Rattle.rewriting.specs.Terms as math
-use Rattle.rewriting.specs.Substitutions.{Bindings, apply, values_of}
-use Rattle.rewriting.specs.Rules.{Condition, System}
-use Rattle.rewriting.specs.Matching.{IsLeastMatch, HasNoMatch}
-use Rattle.certificates.specs.Derivations.{Derivation, first_step, Step, Derivations, first_derivation}
-use Rattle.certificates.specs.Judging.{ConditionMet, ConditionFails, left_unbound, left_large, derivation_fails, right_differs, Derives, StepsTo, AreMet, FailsFrom, StepFails, FailFrom}
-use Rattle.certificates.specs.Reasons.{StepReason, condition_fails}
+use Rattle.rewriting.specs.Prelude.{Bindings, apply, values_of, Condition, System, IsLeastMatch, HasNoMatch}
+use Rattle.certificates.specs.Prelude.{Derivation, first_step, Step, Derivations, first_derivation, ConditionMet, ConditionFails, left_unbound, left_large, derivation_fails, right_differs}
+use Rattle.certificates.specs.Prelude.{Derives, StepsTo, AreMet, FailsFrom, StepFails, FailFrom, StepReason, condition_fails}
 use Rattle.derivation.specs.Judged.{IsInstance, HasNoInstance}
 
 module _ (sys : System) (hyps : List Condition) where

@@ -2,9 +2,7 @@
 use Rattle.std.proofs.Common.{◌≡◌, ℕ, zero, suc, ◌-◌, ◌<◌, ◌≤◌, List, [], ◌∷◌, map, length, get_or, slice_get, Option, Some, None, is_some, IfSome, option_map, Bor, refl, sym, ap, arith}
 use Rattle.std.proofs.Math.Dec.{ltb}
 use Rattle.std.proofs.lemmas.Bool.{ltb-true, ltb-false}
-use Rattle.rewriting.specs.Rules.{Rule, System, rule_at, sides}
-use Rattle.rewriting.specs.Systems.{IsRule, IsSystem, Each}
-use Rattle.rewriting.specs.Terms.{Fits, cons}
+use Rattle.rewriting.specs.Prelude.{Rule, System, rule_at, sides, IsRule, IsSystem, Each, Fits, cons}
 use Rattle.rewriting.proofs.Systems.{is_rule_at}
 use Rattle.certificates.proofs.Sizes.{conditions_fit}
 use Rattle.term_core.specs.declared.systems.Rule as program

@@ -1,13 +1,10 @@
 -- A step by a rule, from what is found one after another.
 use Rattle.std.proofs.Common.{◌≡◌, ℕ, List, [], length, Some, None, sym, subst, inl, inr}
 use Rattle.rewriting.specs.Terms as math
-use Rattle.rewriting.specs.Positions.{Position}
-use Rattle.rewriting.specs.Substitutions.{Bindings, apply, values_of}
-use Rattle.rewriting.specs.Rules.{Condition, Rule, System, rule_at}
+use Rattle.rewriting.specs.Prelude.{Position, Bindings, apply, values_of, Condition, Rule, System, rule_at}
 use Rattle.rewriting.proofs.Positions.{replaceable}
-use Rattle.certificates.specs.Derivations.{Step, by_rule, Derivations}
-use Rattle.certificates.specs.Judging.{RuleMatches, no_rule, no_position, no_match, count_differs, conditions_fail, right_unbound, result_large, derivation_count, StepsTo, StepFails, AreMet, FailFrom}
-use Rattle.certificates.specs.Reasons.{StepReason, no_such_rule, no_redex, wrong_count}
+use Rattle.certificates.specs.Prelude.{Step, by_rule, Derivations, RuleMatches, no_rule, no_position, no_match, count_differs, conditions_fail, right_unbound, result_large}
+use Rattle.certificates.specs.Prelude.{derivation_count, StepsTo, StepFails, AreMet, FailFrom, StepReason, no_such_rule, no_redex, wrong_count}
 use Rattle.derivation.specs.Judged.{IsMatch, IsUnmatchedAt, IsContracted, HasNoContractum}
 use Rattle.derivation.specs.declared.instances.Found.{Found}
 

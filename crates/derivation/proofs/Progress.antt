@@ -2,13 +2,10 @@
 use Rattle.std.proofs.Common.{◌≡◌, ℕ, suc, ◌+◌, ◌<◌, List, ◌∷◌, map, drop, length, get_or, sym, ap, subst, subst₂, arith}
 use Rattle.general_lemmas.proofs.Places.{map-drop_read}
 use Rattle.rewriting.specs.Terms as math
-use Rattle.rewriting.specs.Substitutions.{Bindings}
-use Rattle.rewriting.specs.Rules.{Condition, System}
+use Rattle.rewriting.specs.Prelude.{Bindings, Condition, System}
 use Rattle.certificates.specs.Derivations as plain
-use Rattle.certificates.specs.Derivations.{derivation_of, derivations_of, first_step, first_derivation}
-use Rattle.certificates.specs.Judging.{StepsTo, StepFails, FailsFrom, FailFrom}
-use Rattle.certificates.specs.Reasons.{StepReason}
-use Rattle.certificates.specs.Sizes.{AreStepsShort, AreShort, DoConditionsFit}
+use Rattle.certificates.specs.Prelude.{derivation_of, derivations_of, first_step, first_derivation, StepsTo, StepFails, FailsFrom, FailFrom, StepReason, AreStepsShort, AreShort}
+use Rattle.certificates.specs.Prelude.{DoConditionsFit}
 use Rattle.term_core.specs.RuleView.{condition_view}
 use Rattle.term_core.specs.declared.systems.Cond.{Cond}
 use Rattle.cert_model.specs.DerivationView.{derivation_view, step_view}

@@ -3,9 +3,7 @@ use Rattle.std.proofs.Common.{◌≡◌, ℕ, zero, suc, List, [], ◌∷◌, ma
 use Rattle.std.proofs.lemmas.List.{length-map}
 use Rattle.term_core.specs.RuleView.{condition_view}
 use Rattle.term_core.specs.declared.systems.Cond.{Cond}
-use Rattle.certificates.specs.Derivations.{by_rule, derivation_of, derivations_of}
-use Rattle.certificates.specs.Judging.{derivation_count}
-use Rattle.certificates.specs.Sizes.{step_count}
+use Rattle.certificates.specs.Prelude.{by_rule, derivation_of, derivations_of, derivation_count, step_count}
 use Rattle.certificates.proofs.Sizes.{steps_counted, derivations_counted}
 use Rattle.cert_model.specs.DerivationView.{derivation_view, step_view}
 use Rattle.cert_model.specs.declared.derivations.Step as program

@@ -2,8 +2,7 @@
 use Rattle.std.proofs.Common.{◌≡◌, ℕ, zero, suc, ◌+◌, ◌≤◌, List, [], ◌∷◌, length, get_or, slice_set, Option, Some, None, IsSome, Vec, Global, refl, sym, ap, ◌∙◌, subst, arith}
 use Rattle.std.proofs.lemmas.Bool.{false≢true}
 use Rattle.rewriting.specs.Terms as math
-use Rattle.rewriting.specs.Terms.{app}
-use Rattle.rewriting.specs.Positions.{argument_of, with_argument, with_argument_of, subterm, replace}
+use Rattle.rewriting.specs.Prelude.{app, argument_of, with_argument, with_argument_of, subterm, replace}
 use Rattle.rewriting.proofs.Positions.{above}
 use Rattle.term_core.specs.View.{view, views}
 use Rattle.term_core.specs.declared.terms.Term.{Term, Fun}

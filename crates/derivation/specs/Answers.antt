@@ -1,11 +1,8 @@
 -- What `replay` answers.
 use Rattle.std.specs.Prelude.{List, Result, Ok, Err}
 use Rattle.rewriting.specs.Terms as math
-use Rattle.rewriting.specs.Rules.{Condition, System}
-use Rattle.rewriting.specs.Signatures.{IsOver}
-use Rattle.certificates.specs.Derivations.{Derivation}
-use Rattle.certificates.specs.Judging.{Derives, IsFirstBad}
-use Rattle.certificates.specs.Soundness.{AreConditionsOver, ReachesUnder}
+use Rattle.rewriting.specs.Prelude.{Condition, System, IsOver}
+use Rattle.certificates.specs.Prelude.{Derivation, Derives, IsFirstBad, AreConditionsOver, ReachesUnder}
 use Rattle.term_core.specs.View.{view}
 use Rattle.term_core.specs.declared.terms.Term.{Term}
 use Rattle.cert_model.specs.ReasonView.{bad_step_view}

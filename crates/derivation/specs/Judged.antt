@@ -1,13 +1,9 @@
 -- What the parts of judging answer.
 use Rattle.std.specs.Prelude.{◌≡◌, ◌⊎◌, ◌≤◌, ℕ, length, Some, None}
 use Rattle.rewriting.specs.Terms as math
-use Rattle.rewriting.specs.Positions.{Position, subterm, replace}
-use Rattle.rewriting.specs.Substitutions.{Bindings, apply, values_of}
-use Rattle.rewriting.specs.Matching.{HasNoMatch, IsLeastMatch, Covers}
+use Rattle.rewriting.specs.Prelude.{Position, subterm, replace, Bindings, apply, values_of, HasNoMatch, IsLeastMatch, Covers, Rule}
 use Rattle.std.specs.FinMap.{empty}
-use Rattle.certificates.specs.Reasons.{StepReason, unbound, too_large}
-use Rattle.rewriting.specs.Rules.{Rule}
-use Rattle.certificates.specs.Sizes.{DoConditionsFit}
+use Rattle.certificates.specs.Prelude.{StepReason, unbound, too_large, DoConditionsFit}
 use Rattle.term_core.specs.View.{view}
 use Rattle.derivation.specs.declared.places.Counted.{Counted}
 use Rattle.derivation.specs.declared.places.Opened.{Opened}

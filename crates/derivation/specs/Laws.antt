@@ -1,10 +1,7 @@
 -- A derivation from a term has one outcome.
 use Rattle.std.specs.Prelude.{◌≡◌, List}
-use Rattle.rewriting.specs.Terms.{Term}
-use Rattle.rewriting.specs.Rules.{Condition, System}
-use Rattle.certificates.specs.Derivations.{Derivation}
-use Rattle.certificates.specs.Judging.{Derives, IsFirstBad}
-use Rattle.certificates.specs.Reasons.{BadStep}
+use Rattle.rewriting.specs.Prelude.{Term, Condition, System}
+use Rattle.certificates.specs.Prelude.{Derivation, Derives, IsFirstBad, BadStep}
 
 -- it has at most one end
 abbrev pub EndsAreUnique : Type 0

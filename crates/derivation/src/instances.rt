@@ -4,8 +4,7 @@ ghost use Rattle.rewriting.specs.Terms as math;
 ghost use Rattle.rewriting.specs.Rules as rules;
 ghost use Rattle.rewriting.specs.Substitutions.{apply};
 ghost use Rattle.certificates.specs.Reasons.{no_redex};
-ghost use Rattle.term_core.specs.View.{view};
-ghost use Rattle.term_core.specs.RuleView.{rule_view};
+ghost use Rattle.term_core.specs.Prelude.{view, rule_view};
 ghost use Rattle.derivation.specs.Errors.{Judged};
 ghost use Rattle.derivation.specs.Judged.{HasNoInstance, IsInstance, IsMatch, IsUnmatchedAt, IsCounted, IsJudgable};
 

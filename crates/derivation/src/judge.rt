@@ -1,13 +1,9 @@
 //! Replaying a derivation step by step, where each condition of a rule is met by a nested derivation.
 ghost use Rattle.std.specs.Prelude.{◌≡◌, ◌≤◌, [], length, IfOk, map};
 ghost use Rattle.rewriting.specs.Matching.{IsLeastMatch, HasNoMatch};
-ghost use Rattle.certificates.specs.Reasons.{condition_fails};
+ghost use Rattle.certificates.specs.Prelude.{condition_fails, derivations_of, Derives, StepsTo, AreMet, FailsFrom, StepFails, FailFrom, DoConditionsFit, IsShort, IsStepShort, AreShort};
 ghost use Rattle.rewriting.specs.Terms as math;
-ghost use Rattle.certificates.specs.Derivations.{derivations_of};
-ghost use Rattle.certificates.specs.Judging.{Derives, StepsTo, AreMet, FailsFrom, StepFails, FailFrom};
-ghost use Rattle.certificates.specs.Sizes.{DoConditionsFit, IsShort, IsStepShort, AreShort};
-ghost use Rattle.term_core.specs.View.{view};
-ghost use Rattle.term_core.specs.RuleView.{condition_view};
+ghost use Rattle.term_core.specs.Prelude.{view, condition_view};
 ghost use Rattle.cert_model.specs.DerivationView.{derivation_view, step_view};
 ghost use Rattle.derivation.specs.Answers.{ReplayAnswers, IsSound};
 ghost use Rattle.derivation.specs.Errors.{Judged};

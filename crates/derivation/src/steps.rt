@@ -2,10 +2,8 @@
 ghost use Rattle.std.specs.Prelude.{◌≡◌, [], Some, IfSome, IfNone, map};
 ghost use Rattle.rewriting.specs.Terms as math;
 ghost use Rattle.rewriting.specs.Positions as position;
-ghost use Rattle.certificates.specs.Judging.{HypothesisStep, HypothesisFails};
-ghost use Rattle.certificates.specs.Sizes.{DoConditionsFit};
-ghost use Rattle.term_core.specs.View.{view};
-ghost use Rattle.term_core.specs.RuleView.{condition_view};
+ghost use Rattle.certificates.specs.Prelude.{HypothesisStep, HypothesisFails, DoConditionsFit};
+ghost use Rattle.term_core.specs.Prelude.{view, condition_view};
 ghost use Rattle.derivation.specs.Errors.{Judged};
 ghost use Rattle.derivation.specs.Judged.{IsCounted, HasSizeAt, IsContracted, HasNoContractum};
 

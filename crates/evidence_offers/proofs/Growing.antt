@@ -2,15 +2,10 @@
 use Rattle.std.proofs.Common.{ℕ, zero, suc, ◌≡◌, ◌<◌, ◌^◌, inl, inr, List, [], ◌∷◌, length, Option, None, Some, Result, Ok, Err, refl, sym, ap, subst, arith}
 use Rattle.std.specs.Prelude.{slice_get}
 use Rattle.std.proofs.lemmas.List.Elements.{All-nil, All-cons}
-use Rattle.rewriting.specs.Terms.{Term, var, Fits}
-use Rattle.rewriting.specs.Rules.{Condition, System}
-use Rattle.rewriting.specs.Variables.{variable_occurrences}
+use Rattle.rewriting.specs.Prelude.{Term, var, Fits, Condition, System, variable_occurrences}
 use Rattle.rewriting.proofs.Once.{same_some}
 use Rattle.certificates.specs.Evidence as math
-use Rattle.certificates.specs.Evidence.{InfeasibilityEvidence, by_automaton}
-use Rattle.certificates.specs.Judging.{hypothesis_at}
-use Rattle.certificates.specs.Reasons.{EvidenceReason}
-use Rattle.certificates.specs.Sizes.{DoConditionsFit}
+use Rattle.certificates.specs.Prelude.{InfeasibilityEvidence, by_automaton, hypothesis_at, EvidenceReason, DoConditionsFit}
 use Rattle.automata.specs.Closed.{AreNarrow, Excludes}
 use Rattle.automata.specs.Evidence.{IsConditionJudged, right_side, JudgedByAutomaton}
 use Rattle.automata.specs.Laws.{IsWellGrown}

@@ -1,7 +1,6 @@
 -- What growth from conditions answers.
 use Rattle.std.specs.Prelude.{ℕ, ◌≡◌, List, Option, None, Some, option_map, Result, Ok, Err}
-use Rattle.rewriting.specs.Terms.{Term}
-use Rattle.rewriting.specs.Rules.{Condition, System}
+use Rattle.rewriting.specs.Prelude.{Term, Condition, System}
 use Rattle.certificates.specs.Evidence as math
 use Rattle.certificates.specs.Judging.{hypothesis_at}
 use Rattle.automata.specs.Evidence.{IsClosureJudged, IsConditionJudged, JudgedByAutomaton}

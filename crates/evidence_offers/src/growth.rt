@@ -3,8 +3,7 @@ ghost use Rattle.std.specs.Prelude.{◌≤◌, None, length, map};
 ghost use Rattle.rewriting.specs.Terms.{Fits};
 ghost use Rattle.automata.specs.Evidence.{IsClosureJudged};
 ghost use Rattle.certificates.specs.Sizes.{DoConditionsFit};
-ghost use Rattle.term_core.specs.View.{view};
-ghost use Rattle.term_core.specs.RuleView.{condition_view};
+ghost use Rattle.term_core.specs.Prelude.{view, condition_view};
 ghost use Rattle.cert_model.specs.EvidenceView.{automaton_view};
 ghost use Rattle.evidence_offers.specs.Growth.{NoAutomatonAnswers, GrownAnswers, ShownAnswers, ValidGrowthAnswers};
 

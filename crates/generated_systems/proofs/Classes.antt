@@ -2,10 +2,8 @@
 use Rattle.std.proofs.Common.{ℕ, zero, suc, ◌≡◌, ◌+◌, ◌<◌, ◌≤◌, ◌||◌, inl, inr, true, false, nat_eq, [], ◌∷◌, sym, subst, arith}
 use Rattle.std.proofs.lemmas.Bool.{or_left}
 use Rattle.general_lemmas.proofs.Numbers.{one_at_most}
-use Rattle.rewriting.specs.Terms.{Term, app, nil, cons}
-use Rattle.rewriting.specs.Variables.{occurs, occurrences, IsWithin, IsGround, IsLinear}
-use Rattle.rewriting.specs.Rules.{Condition, Rule, EachRule}
-use Rattle.rewriting.specs.Classes.{IsAt, known, IsLeftLinearRule, IsType3Rule, IsExtendedOrientedRule, IsDefined, IsConstructorTerm, IsRightStableRule}
+use Rattle.rewriting.specs.Prelude.{Term, app, nil, cons, occurs, occurrences, IsWithin, IsGround, IsLinear, Condition, Rule, EachRule, IsAt, known, IsLeftLinearRule, IsType3Rule}
+use Rattle.rewriting.specs.Prelude.{IsExtendedOrientedRule, IsDefined, IsConstructorTerm, IsRightStableRule}
 use Rattle.rewriting.proofs.Conditions.{no_second}
 use Rattle.generated_systems.specs.Generated.{z, true as yes_term, false as no_term, s_of, p_of, f_of, x, next_of, generated}
 use Rattle.generated_systems.specs.Laws.{GeneratedAreInOrthoClasses}

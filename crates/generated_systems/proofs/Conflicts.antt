@@ -1,9 +1,6 @@
 -- The first valid evidence for an overlap of a generated system is the third that is tried.
 use Rattle.std.proofs.Common.{ℕ, zero, suc, ◌≢◌, ◌+◌, ◌*◌, ◌<◌, inl, inr, [], ◌∷◌, map, None, refl, sym, ap, ◌∙◌, subst, arith}
-use Rattle.rewriting.specs.Terms.{var, app, nil, cons}
-use Rattle.rewriting.specs.Substitutions.{Substitution, apply, apply_all}
-use Rattle.rewriting.specs.Unifiers.{even, odd}
-use Rattle.rewriting.specs.Rules.{Rule, left_sides, right_sides}
+use Rattle.rewriting.specs.Prelude.{var, app, nil, cons, Substitution, apply, apply_all, even, odd, Rule, left_sides, right_sides}
 use Rattle.unifier_run.specs.Run.{unifier, clash, IsOutcome}
 use Rattle.unifier_run.specs.Overlaps.{IsOutcomeOf}
 use Rattle.unifier_run.specs.Irreducible.{DoRulesClash, IsFirstRule}

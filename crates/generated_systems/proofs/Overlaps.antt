@@ -3,14 +3,8 @@ use Rattle.std.proofs.Common.{ℕ, zero, suc, ◌≡◌, ◌≢◌, ◌+◌, ◌
 use Rattle.std.specs.List.{range_with_len}
 use native.Mathlib.Decide.{ℕ_discrete}
 use Rattle.std.proofs.lemmas.List.FromFn.{length-map-range_with_len}
-use Rattle.rewriting.specs.Lists.{IsAmong, IsSorted}
+use Rattle.rewriting.specs.Prelude.{IsAmong, IsSorted, Term, IsVariable, nil, cons, Fits, apply, odd, Position, argument, subterm, Rule, IsPlace}
 use Rattle.rewriting.proofs.Lists.{among_map, among_of_map, before_each, sorted_map}
-use Rattle.rewriting.specs.Terms.{Term, IsVariable, nil, cons, Fits}
-use Rattle.rewriting.specs.Substitutions.{apply}
-use Rattle.rewriting.specs.Unifiers.{odd}
-use Rattle.rewriting.specs.Positions.{Position, argument, subterm}
-use Rattle.rewriting.specs.Rules.{Rule}
-use Rattle.rewriting.specs.Overlaps.{IsPlace}
 use Rattle.rewriting.proofs.Once.{same_some}
 use Rattle.rewriting.proofs.Unifiers.{of_list}
 use Rattle.unifier_run.specs.Run.{clash, value}

@@ -1,9 +1,6 @@
 -- The runs of the rules of a generated system: where the roots differ they clash, and so do pk(z) and pk(s(x)); fk's rules unify.
 use Rattle.std.proofs.Common.{ℕ, ◌≡◌, ◌≢◌, inl, List, [], ◌∷◌, refl, subst, arith}
-use Rattle.rewriting.specs.Terms.{Terms, var, app, nil, cons, Fits}
-use Rattle.rewriting.specs.Substitutions.{apply_all}
-use Rattle.rewriting.specs.Unifiers.{odd}
-use Rattle.rewriting.specs.Rules.{Rule}
+use Rattle.rewriting.specs.Prelude.{Terms, var, app, nil, cons, Fits, apply_all, odd, Rule}
 use Rattle.unifier_run.specs.Run.{Binding, unifier, clash, binding, roots_differ, arguments, no_equation, last_equation, next_equation}
 use Rattle.unifier_run.specs.Overlaps.{IsOutcomeOf}
 use Rattle.unifier_run.proofs.Heads.{heads_clash}

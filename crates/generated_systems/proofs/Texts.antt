@@ -3,13 +3,10 @@ use Rattle.std.proofs.Common.{ℕ, zero, suc, ◌≡◌, ◌+◌, ◌*◌, ◌<�
 use Rattle.std.specs.List.{range_with_len}
 use Rattle.std.proofs.lemmas.Fmt.{length-decimal-le}
 use Rattle.std.proofs.lemmas.List.FromFn.{length-map-range_with_len}
-use Rattle.certificates.specs.Evidence.{Automaton}
-use Rattle.certificates.specs.Certificates.{PairEntry}
+use Rattle.certificates.specs.Prelude.{Automaton, PairEntry}
 use Rattle.cops_names.specs.NameTable.{NameTable}
-use Rattle.cert_grammar.specs.Versions.{second_version, Uses, by_number, used_by_pairs}
-use Rattle.cert_grammar.specs.EvidenceText.{evidence_text, pairs_text, ArePairs}
-use Rattle.cert_grammar.specs.SharedText.{with_new, number_in, unfolded_length}
-use Rattle.cert_grammar.specs.CertificateText.{heading_text, body_text, certificate_text, IsShared}
+use Rattle.cert_grammar.specs.Prelude.{second_version, Uses, by_number, used_by_pairs, evidence_text, pairs_text, ArePairs, with_new, number_in, unfolded_length, heading_text, body_text}
+use Rattle.cert_grammar.specs.Prelude.{certificate_text, IsShared}
 use Rattle.search_spaces.specs.Texts.{most_bytes}
 use Rattle.search_spaces.specs.Entries.{entry_for}
 use Rattle.generated_systems.specs.Certificate.{overlap_for, conflict, generated_entries, generated_certificate}

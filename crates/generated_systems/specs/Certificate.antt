@@ -2,12 +2,9 @@
 -- conditions ask for two results of pk(x).
 use Rattle.std.specs.Prelude.{ℕ, ◌+◌, ◌*◌, List, [], ◌∷◌, map}
 use Rattle.std.specs.List.{range_with_len}
-use Rattle.rewriting.specs.Terms.{Term, var}
-use Rattle.rewriting.specs.Substitutions.{apply}
-use Rattle.rewriting.specs.Unifiers.{odd}
+use Rattle.rewriting.specs.Prelude.{Term, var, apply, odd}
 use Rattle.unifier_run.specs.Overlaps.{Overlap}
-use Rattle.certificates.specs.Evidence.{PairEvidence, conflicting_pair}
-use Rattle.certificates.specs.Certificates.{PairEntry, Certificate, ortho_certificate}
+use Rattle.certificates.specs.Prelude.{PairEvidence, conflicting_pair, PairEntry, Certificate, ortho_certificate}
 use Rattle.search_spaces.specs.Entries.{entry_for}
 use Rattle.generated_systems.specs.Generated.{true, false, p_of, f_of, next_of}
 

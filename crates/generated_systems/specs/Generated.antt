@@ -2,8 +2,7 @@
 -- fk(x) -> fj(x) | pk(x) == false with j = k - 1; for k = 1 the last one is f1(x) -> s(x) | p1(x) == false. Below k counts from 0.
 use Rattle.std.specs.Prelude.{ℕ, zero, suc, ◌+◌, ◌-◌, ◌*◌, List, [], ◌∷◌, ◌++◌, flat_map, replicate, codes, decimal}
 use Rattle.std.specs.List.{range_with_len}
-use Rattle.rewriting.specs.Terms.{Term, var, app, nil, cons}
-use Rattle.rewriting.specs.Rules.{Rule, System, system_of}
+use Rattle.rewriting.specs.Prelude.{Term, var, app, nil, cons, Rule, System, system_of}
 use Rattle.cops_names.specs.NameTable.{NameTable}
 
 -- the symbols by number, in the order in which the rules name them: p1, z, true, s, false, f1, p2, f2, p3, f3, ..

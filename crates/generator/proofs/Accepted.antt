@@ -7,8 +7,7 @@ use Rattle.std.proofs.lemmas.Option.{slice_get-get_or}
 use Rattle.std.specs.Str.{bytes_eq}
 use Rattle.std.specs.Option.{option_or}
 use Rattle.file_text.specs.Syntax.{Phrase, Phrases, word, call, none, more, count, Node, ConditionTree, RuleTree, conditions_of, Guard}
-use Rattle.rewriting.specs.Terms.{Term, var, app, Terms, nil, cons, IsVariable}
-use Rattle.rewriting.specs.Rules.{Condition, Rule}
+use Rattle.rewriting.specs.Prelude.{Term, var, app, Terms, nil, cons, IsVariable, Condition, Rule}
 use Rattle.cops_names.specs.NameTable.{number_of}
 use Rattle.cops_names.specs.NameLists.{is_among}
 use Rattle.cops_names.proofs.Lists.{Extends, extends_refl, extends_trans, extends_position, extends_get}

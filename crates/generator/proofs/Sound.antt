@@ -3,10 +3,7 @@ use Rattle.std.proofs.Common.{◌≡◌, ℕ, zero, suc, ◌+◌, ◌-◌, ◌*�
 use Rattle.std.specs.Prelude.{flat_map, replicate, slice_get}
 use Rattle.std.specs.List.{range_with_len}
 use Rattle.std.proofs.lemmas.List.{length-replicate, map-append}
-use Rattle.rewriting.specs.Terms.{app, nil, cons, Fits}
-use Rattle.rewriting.specs.Signatures.{IsOver}
-use Rattle.rewriting.specs.Rules.{Rule, system_of}
-use Rattle.rewriting.specs.Systems.{IsRule, AreRules, condition_count, IsSystem, rule_variables}
+use Rattle.rewriting.specs.Prelude.{app, nil, cons, Fits, IsOver, Rule, system_of, IsRule, AreRules, condition_count, IsSystem, rule_variables}
 use Rattle.term_core.specs.RuleView.{rule_view, AreCounted}
 use Rattle.term_core.specs.declared.systems.Rule as program
 use Rattle.generated_systems.specs.Generated.{arities, p_symbol, f_symbol, p_of, z, true, s_of, false, x, next_of, rules_for, generated}

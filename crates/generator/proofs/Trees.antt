@@ -5,9 +5,7 @@ use Rattle.std.specs.Fmt.{digits}
 use Rattle.std.specs.List.{range_with_len}
 use Rattle.file_text.specs.declared.ConditionType.TheVariants.{Oriented}
 use Rattle.file_text.specs.Syntax.{Name, Phrase, Phrases, word, call, none, more, count, RuleTree, FileTree}
-use Rattle.rewriting.specs.Terms.{Term, var, app, Terms, nil, cons}
-use Rattle.rewriting.specs.Rules.{Rule}
-use Rattle.rewriting.specs.Systems.{terms_of_rule}
+use Rattle.rewriting.specs.Prelude.{Term, var, app, Terms, nil, cons, Rule, terms_of_rule}
 use Rattle.cops_names.specs.NameTable.{number_of}
 use Rattle.cops_names.proofs.Lists.{Extends, extends_refl, extends_trans}
 use Rattle.cops_read.specs.Meaning.{phrases_of_rule, rule_variables, with_symbol, with_symbols, with_all_symbols, with_rule_symbols, IsSymbolOf, IsTermOf, AreTermsOf, IsRuleOf, AreRulesOf}

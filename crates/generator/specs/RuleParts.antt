@@ -1,9 +1,8 @@
 -- The rules of a generated system, one by one.
 use Rattle.std.specs.Prelude.{◌≡◌, ℕ, List, [], ◌∷◌, ◌++◌, length, map, Some, slice_get}
 use Rattle.rewriting.specs.Terms as math
-use Rattle.rewriting.specs.Terms.{app, nil}
+use Rattle.rewriting.specs.Prelude.{app, nil, rule_variables}
 use Rattle.rewriting.specs.Rules as math_rules
-use Rattle.rewriting.specs.Systems.{rule_variables}
 use Rattle.term_core.specs.RuleView.{rule_view, AreCounted}
 use Rattle.term_core.specs.declared.systems.Rule.{Rule}
 use Rattle.generated_systems.specs.Generated.{rules_for, f_of, p_of, x}

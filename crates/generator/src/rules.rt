@@ -1,8 +1,7 @@
 //! The rules of a generated system.
 ghost use Rattle.std.specs.Prelude.{◌≡◌, ◌<◌, ◌≤◌, IfOk, OnOk, map};
 ghost use Rattle.rewriting.specs.Terms as math;
-ghost use Rattle.term_core.specs.View.{view};
-ghost use Rattle.term_core.specs.RuleView.{rule_view, AreCounted};
+ghost use Rattle.term_core.specs.Prelude.{view, rule_view, AreCounted};
 ghost use Rattle.generated_systems.specs.Generated.{generated, next_of, p_symbol, f_symbol};
 ghost use Rattle.generator.specs.RuleParts.{IsRuleAt, AreAdded, guarded};
 

@@ -1,7 +1,6 @@
 -- The entries that are tried for a symbol: what their numbers are made of, and that none is there twice.
 use Rattle.std.proofs.Common.{ℕ, zero, suc, ◌≡◌, List, ◌∷◌, ◌++◌, replicate, sym, ap, ◌∙◌, subst, arith}
-use Rattle.rewriting.specs.Lists.{IsAmong, AreDistinct}
-use Rattle.rewriting.specs.Unraveling.{Head, file, auxiliary}
+use Rattle.rewriting.specs.Prelude.{IsAmong, AreDistinct, Head, file, auxiliary}
 use Rattle.rewriting.proofs.Lists.{among_middle, among_of_map}
 use Rattle.certificates.specs.Certificates.{LinearEntry}
 use Rattle.measure_grid.specs.Grid.{choices, active_numbers, passive_numbers, constant_numbers, ranges, entries_of}

@@ -2,18 +2,14 @@
 use Rattle.std.proofs.Common.{◌≡◌, ℕ, zero, suc, ◌+◌, ◌-◌, ◌<◌, ◌≤◌, refl, sym, ap, ◌∙◌, subst, List, [], ◌∷◌, ◌++◌, replicate, map, length, get_or, slice_get, option_map, Some, arith, append_assoc, append-nil}
 use Rattle.std.proofs.lemmas.List.{length-replicate, length_push}
 use Rattle.std.proofs.lemmas.Option.{slice_get-get_or}
-use Rattle.rewriting.specs.Terms.{Term, var, app, Terms, nil, cons}
-use Rattle.rewriting.specs.Rules.{System}
-use Rattle.rewriting.specs.Systems.{IsSystem, IsWellFormed}
-use Rattle.rewriting.specs.Unraveling.{Head, file, heads, unraveled}
+use Rattle.rewriting.specs.Prelude.{Term, var, app, Terms, nil, cons, System, IsSystem, IsWellFormed, Head, file, heads, unraveled}
 use Rattle.certificates.specs.Certificates.{LinearEntry}
 use Rattle.interpretations.specs.Linear.{Interpretation, HasShape, AreNumbersGood}
 use Rattle.interpretations.proofs.Bound.{length-heads}
 use Rattle.measure_grid.specs.Dead.{HasEntries, HaveEntries}
 use Rattle.measure_grid.proofs.Dead.{numbers_kept, number_kept, large_part_kept, large_before}
 use Rattle.measure_grid.proofs.Shape.{replicate_at}
-use Rattle.term_core.specs.View.{view}
-use Rattle.term_core.specs.RuleView.{rule_view, AreCounted}
+use Rattle.term_core.specs.Prelude.{view, rule_view, AreCounted}
 use Rattle.term_core.specs.declared.systems.Rule.{Rule}
 use Rattle.linear_interp.specs.Parts.{IsReady, AreReady}
 use Rattle.linear_interp.specs.Falling.{IsSideReady, IsRuleReady}

@@ -5,8 +5,7 @@ use Rattle.std.proofs.lemmas.Bool.{cases_lt}
 use Rattle.std.proofs.lemmas.List.{length_push}
 use Rattle.std.proofs.lemmas.Option.{slice_get_within, slice_get-get_or}
 use Rattle.general_lemmas.proofs.Places.{slice_get-append_left}
-use Rattle.rewriting.specs.Rules.{System}
-use Rattle.rewriting.specs.Unraveling.{heads, unraveled}
+use Rattle.rewriting.specs.Prelude.{System, heads, unraveled}
 use Rattle.certificates.specs.Certificates.{LinearEntry}
 use Rattle.interpretations.specs.Linear.{Interpretation, IsEntry, AreNumbersGood}
 use Rattle.grid_search.specs.Prefix.{IsPrefix}

@@ -1,8 +1,6 @@
 -- What extends a prefix, and the columns that its entries are from.
 use Rattle.std.proofs.Common.{ℕ, zero, suc, ◌≡◌, List, [], ◌∷◌, ◌++◌, map, zip, slice_get, Some, refl, sym, ap, ap₂}
-use Rattle.rewriting.specs.Lists.{IsAmong}
-use Rattle.rewriting.specs.Signatures.{Signature}
-use Rattle.rewriting.specs.Unraveling.{Head}
+use Rattle.rewriting.specs.Prelude.{IsAmong, Signature, Head}
 use Rattle.rewriting.proofs.Lists.{among_of_map}
 use Rattle.certificates.specs.Certificates.{LinearEntry}
 use Rattle.interpretations.specs.Linear.{Interpretation}

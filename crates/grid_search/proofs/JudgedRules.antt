@@ -5,9 +5,7 @@ use Rattle.std.proofs.lemmas.List.{length-map, get_or-map}
 use Rattle.std.proofs.lemmas.Option.{slice_get_within}
 use Rattle.general_lemmas.proofs.Places.{slice_get-map_read}
 use Rattle.rewriting.specs.Rules as math
-use Rattle.rewriting.specs.Rules.{System, rule_at}
-use Rattle.rewriting.specs.Systems.{IsSystem, IsWellFormed}
-use Rattle.rewriting.specs.Unraveling.{unraveled, heads}
+use Rattle.rewriting.specs.Prelude.{System, rule_at, IsSystem, IsWellFormed, unraveled, heads}
 use Rattle.rewriting.proofs.Laws.{well_formed}
 use Rattle.interpretations.specs.Linear.{Interpretation, Falls}
 use Rattle.measure_grid.specs.Dead.{IsDead}

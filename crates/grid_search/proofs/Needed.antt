@@ -2,12 +2,8 @@
 use Rattle.std.proofs.Common.{◌≡◌, ◌≢◌, ℕ, zero, suc, ◌+◌, ◌<◌, ◌≤◌, Bool, true, false, nat_eq, if◌then◌else◌, eqb-true, eq-eqb, refl, sym, ap, ◌∙◌, subst, List, [], ◌∷◌, ◌++◌, length, set, get_or, slice_get, Some, Vec, Global, arith}
 use Rattle.std.proofs.lemmas.Bool.{eqb-false}
 use Rattle.std.proofs.lemmas.Option.{slice_get_within}
-use Rattle.rewriting.specs.Terms.{Term, var, app, Terms, nil, cons}
-use Rattle.rewriting.specs.Signatures.{Signature, IsOver, AreOver}
-use Rattle.rewriting.specs.Rules.{Rule, System}
-use Rattle.rewriting.specs.Systems.{AreRules, IsSystem}
+use Rattle.rewriting.specs.Prelude.{Term, var, app, Terms, nil, cons, Signature, IsOver, AreOver, Rule, System, AreRules, IsSystem, unraveled, heads}
 use Rattle.rewriting.specs.Unraveling as unraveling
-use Rattle.rewriting.specs.Unraveling.{unraveled, heads}
 use Rattle.interpretations.specs.Linear.{Interpretation}
 use Rattle.interpretations.proofs.Bound.{length-heads}
 use Rattle.measure_grid.specs.Dead.{HasEntries, HaveEntries}

@@ -3,11 +3,7 @@ use Rattle.std.proofs.Common.{◌≡◌, ℕ, zero, suc, ◌<◌, ◌≤◌, ◌
 use Rattle.std.proofs.lemmas.Bool.{cases_lt}
 use Rattle.std.proofs.lemmas.List.{length-append}
 use Rattle.std.proofs.lemmas.Option.{slice_get_within}
-use Rattle.rewriting.specs.Terms.{Term, var, app, Terms, nil, cons}
-use Rattle.rewriting.specs.Signatures.{IsOver, AreOver}
-use Rattle.rewriting.specs.Rules.{Rule, System, rule_at}
-use Rattle.rewriting.specs.Systems.{IsWellFormed}
-use Rattle.rewriting.specs.Unraveling.{unraveled, heads}
+use Rattle.rewriting.specs.Prelude.{Term, var, app, Terms, nil, cons, IsOver, AreOver, Rule, System, rule_at, IsWellFormed, unraveled, heads}
 use Rattle.rewriting.proofs.Unraveled.{unraveled_well_formed}
 use Rattle.certificates.specs.Certificates.{LinearEntry}
 use Rattle.interpretations.specs.Size.{DoesUnravelingFit}

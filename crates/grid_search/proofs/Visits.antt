@@ -1,7 +1,6 @@
 -- One visit after the other: what was paid, and where the walk ends.
 use Rattle.std.proofs.Common.{ℕ, ◌≡◌, ◌+◌, ◌⊎◌, inl, List, [], Bool, Ok, map, length, sym, ap, ◌∙◌, subst}
-use Rattle.rewriting.specs.Rules.{System}
-use Rattle.rewriting.specs.Unraveling.{heads}
+use Rattle.rewriting.specs.Prelude.{System, heads}
 use Rattle.certificates.specs.Certificates.{linear_measure}
 use Rattle.interpretations.specs.Judgement.{good}
 use Rattle.interpretations.specs.Judged.{IsInterpretationJudged}

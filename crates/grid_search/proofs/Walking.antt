@@ -2,9 +2,7 @@
 use Rattle.std.proofs.Common.{ℕ, suc, ◌≡◌, ◌+◌, ◌⊎◌, inl, inr, List, [], ◌∷◌, ◌++◌, map, zip, length, slice_get, Some, true, false, refl, sym, ap, ap₂, ◌∙◌, subst, arith}
 use Rattle.std.proofs.lemmas.List.{length-append, same_from_push}
 use Rattle.std.proofs.lemmas.Option.{same_Some, slice_get_within}
-use Rattle.rewriting.specs.Lists.{IsAmong}
-use Rattle.rewriting.specs.Rules.{System}
-use Rattle.rewriting.specs.Unraveling.{Head, heads, unraveled}
+use Rattle.rewriting.specs.Prelude.{IsAmong, System, Head, heads, unraveled}
 use Rattle.rewriting.proofs.Lists.{among_middle}
 use Rattle.certificates.specs.Certificates.{LinearEntry, linear_measure}
 use Rattle.interpretations.specs.Linear.{Interpretation}

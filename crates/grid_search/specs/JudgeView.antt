@@ -1,8 +1,6 @@
 -- The system that a `PrefixJudge` stands for, and what it keeps.
 use Rattle.std.specs.Prelude.{ℕ, suc, ◌≡◌, length}
-use Rattle.rewriting.specs.Rules.{System}
-use Rattle.rewriting.specs.Systems.{IsSystem}
-use Rattle.rewriting.specs.Unraveling.{unraveled, heads}
+use Rattle.rewriting.specs.Prelude.{System, IsSystem, unraveled, heads}
 use Rattle.unravel.specs.Answers.{IsUnraveled}
 use Rattle.grid_search.specs.Needed.{numbers_needing, listed}
 use Rattle.grid_search.specs.declared.prefix.PrefixJudge.TheInside.{Inside}

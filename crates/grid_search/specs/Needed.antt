@@ -1,8 +1,7 @@
 -- The first entries that a rule needs.
 use Rattle.std.specs.Prelude.{ℕ, suc, ◌<◌, max, nat_eq, if◌then◌else◌, List, [], ◌∷◌, map, get_or, Vec}
 use Rattle.std.specs.Global.{Global}
-use Rattle.rewriting.specs.Terms.{Term, var, app, Terms, nil, cons}
-use Rattle.rewriting.specs.Rules.{Rule}
+use Rattle.rewriting.specs.Prelude.{Term, var, app, Terms, nil, cons, Rule}
 
 -- the least number of first entries among which each symbol of the term has one: one more than the greatest symbol
 abbrev mutual

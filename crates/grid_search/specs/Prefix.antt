@@ -1,8 +1,6 @@
 -- The first entries of an interpretation.
 use Rattle.std.specs.Prelude.{ℕ, ◌≡◌, ◌<◌, ◌≤◌, [], ◌∷◌, ◌++◌, length, Result, Ok, Err}
-use Rattle.rewriting.specs.Rules.{System}
-use Rattle.rewriting.specs.Systems.{IsWellFormed}
-use Rattle.rewriting.specs.Unraveling.{heads}
+use Rattle.rewriting.specs.Prelude.{System, IsWellFormed, heads}
 use Rattle.certificates.specs.Certificates.{LinearEntry}
 use Rattle.interpretations.specs.Linear.{Interpretation, IsEntry, AreAllNumbersGood}
 use Rattle.interpretations.specs.Size.{DoesUnravelingFit, IsFirstTooLarge}

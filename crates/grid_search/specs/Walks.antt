@@ -1,7 +1,6 @@
 -- Where a walk through the pruned grid stands.
 use Rattle.std.specs.Prelude.{ℕ, ◌≡◌, ◌+◌, ◌<◌, ◌⊎◌, List, [], ◌∷◌, ◌++◌, length, slice_get, Some, Bool, true, false, Result, Ok, Err}
-use Rattle.rewriting.specs.Rules.{System}
-use Rattle.rewriting.specs.Unraveling.{Head, heads, unraveled}
+use Rattle.rewriting.specs.Prelude.{System, Head, heads, unraveled}
 use Rattle.certificates.specs.Certificates.{LinearEntry}
 use Rattle.interpretations.specs.Linear.{Interpretation}
 use Rattle.interpretations.specs.Judgement.{good}

@@ -1,7 +1,6 @@
 //! How many of the first entries a rule needs for its symbols, and the rules by that number.
 ghost use Rattle.std.specs.Prelude.{◌≡◌, ◌<◌, ◌+◌, ◌++◌, ◌∷◌, ◌^◌, ℕ, [], IfOk, OnOk, if◌then◌else◌, nat_eq, map, length};
-ghost use Rattle.term_core.specs.View.{view};
-ghost use Rattle.term_core.specs.RuleView.{rule_view};
+ghost use Rattle.term_core.specs.Prelude.{view, rule_view};
 ghost use Rattle.grid_search.specs.Needed.{needed, needed_at, DoNeedBelow, numbers_needing, listed};
 
 use std::alloc::Global;

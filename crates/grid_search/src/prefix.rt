@@ -1,8 +1,7 @@
 //! The first entries of an interpretation, judged by the rules all of whose symbols have an entry.
 ghost use Rattle.std.specs.Prelude.{◌≡◌, map};
 ghost use Rattle.rewriting.specs.Rules as math;
-ghost use Rattle.rewriting.specs.Systems.{IsSystem};
-ghost use Rattle.rewriting.specs.Unraveling.{unraveled, heads};
+ghost use Rattle.rewriting.specs.Prelude.{IsSystem, unraveled, heads};
 ghost use Rattle.interpretations.specs.Size.{DoesUnravelingFit};
 ghost use Rattle.term_core.specs.HeadView.{head_view};
 ghost use Rattle.cert_model.specs.CertificateView.{linear_entry_view};

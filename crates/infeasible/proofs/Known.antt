@@ -1,8 +1,7 @@
 -- What is remembered of an automaton.
 use Rattle.std.proofs.Common.{◌≡◌, Option, None, subst, refl}
 use Rattle.rewriting.specs.Rules.{Condition, System}
-use Rattle.certificates.specs.Evidence.{Automaton}
-use Rattle.certificates.specs.Reasons.{EvidenceReason}
+use Rattle.certificates.specs.Prelude.{Automaton, EvidenceReason}
 use Rattle.automata.specs.Evidence.{IsClosureJudged, IsConditionJudged, right_side}
 
 -- it is closed

@@ -1,8 +1,7 @@
 -- What a judge of evidence remembers.
 use Rattle.std.specs.Prelude.{ℕ, List, Option, None, Some, option_map, refl}
 use Rattle.std.specs.Coded.{Coded, code_by, coded×, coded_ℕ, coded_list, coded_option}
-use Rattle.rewriting.specs.Rules.{Condition, System}
-use Rattle.rewriting.specs.Codes.{coded_condition}
+use Rattle.rewriting.specs.Prelude.{Condition, System, coded_condition}
 use Rattle.certificates.specs.Evidence.{Transition, Automaton}
 use Rattle.term_core.specs.RuleView.{condition_view}
 use Rattle.cert_model.specs.EvidenceView.{automaton_view}

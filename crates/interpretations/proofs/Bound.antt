@@ -3,9 +3,8 @@ use Rattle.std.proofs.Common.{◌≡◌, ℕ, zero, suc, ◌+◌, ◌*◌, ◌<�
 use Rattle.std.proofs.Math.Nat.{mul-le-mul_right, mul-lt-mul_of_pos_left}
 use Rattle.std.proofs.lemmas.List.{length-append}
 use Rattle.std.proofs.lemmas.Option.{slice_get_within, slice_get-get_or}
-use Rattle.rewriting.specs.Systems.{IsWellFormed, IsSystem}
-use Rattle.rewriting.specs.Unraveling.{unraveled, heads, file_heads, auxiliary_heads, condition_heads, keeper_arities, all_keeper_arities}
-use Rattle.rewriting.specs.Descents.{IsActive, IsActiveArgument, IsActivePosition, Descends, AreDescentsBounded}
+use Rattle.rewriting.specs.Prelude.{IsWellFormed, IsSystem, unraveled, heads, file_heads, auxiliary_heads, condition_heads, keeper_arities, all_keeper_arities, IsActive, IsActiveArgument}
+use Rattle.rewriting.specs.Prelude.{IsActivePosition, Descends, AreDescentsBounded}
 use Rattle.rewriting.proofs.Common.{Chain, stop, link, Term, var, app, Terms, nil, cons, count, Position, argument, with_argument, argument_of, with_argument_of, subterm, replace, Substitution, apply, values_of, Signature, IsOver, Rule, System, rule_at, Condition, variables, with_variables}
 use Rattle.rewriting.proofs.Positions.{below}
 use Rattle.rewriting.proofs.Unraveled.{argument_of_over, descends_over}

@@ -3,15 +3,12 @@ use Rattle.std.proofs.Common.{◌≡◌, ℕ, zero, suc, ◌^◌, ◌<◌, ◌�
 use native.Mathlib.Decide.{ℕ_discrete}
 use Rattle.std.proofs.lemmas.Bool.{cases_lt}
 use Rattle.general_lemmas.proofs.Numbers.{le_or_lt}
-use Rattle.rewriting.specs.Terms.{Fits}
-use Rattle.rewriting.specs.Unraveling.{unraveled, heads, Head, file, auxiliary}
-use Rattle.rewriting.specs.Descents.{IsActive}
+use Rattle.rewriting.specs.Prelude.{Fits, unraveled, heads, Head, file, auxiliary, IsActive, DoSidesFit}
 use Rattle.rewriting.proofs.Common.{Term, var, app, Terms, nil, cons, Rule, System}
 use Rattle.rewriting.proofs.Decided.{IsDecided, at_most, as_other, both, either, asked, has_part}
 use Rattle.rewriting.proofs.Equality.{fits_decided}
 use Rattle.rewriting.proofs.Search.{FirstBelow, search_below, FirstAt, search_at, decided}
 use Rattle.certificates.specs.Certificates.{LinearEntry}
-use Rattle.rewriting.specs.Systems.{DoSidesFit}
 use Rattle.interpretations.specs.Linear.{Interpretation, constant, coefficient, coefficient_from, IsEntry, AreNumbersGood, IsLarge, Overflows, AreCoefficientsKept, Falls}
 use Rattle.interpretations.specs.Judged.{IsFirstSmaller, IsConstantKept}
 use Rattle.interpretations.proofs.Values.{above, above_all}

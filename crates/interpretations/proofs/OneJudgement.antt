@@ -1,7 +1,6 @@
 -- A linear interpretation has one judgement.
 use Rattle.std.proofs.Common.{◌≡◌, ◌⊎◌, inl, inr, ℕ, suc, ◌<◌, ◌≤◌, Some, length, refl, sym, ap, ap₂, ◌∙◌, subst, arith}
-use Rattle.rewriting.specs.Rules.{Rule, System, rule_at, EachRule}
-use Rattle.rewriting.specs.Unraveling.{unraveled, heads}
+use Rattle.rewriting.specs.Prelude.{Rule, System, rule_at, EachRule, unraveled, heads}
 use Rattle.rewriting.proofs.Conditions.{Order, is_smaller, is_equal, is_greater, order}
 use Rattle.certificates.specs.Reasons.{wrong_shape, wrong_coefficient, overflow_at, smaller_variable, smaller_constant, not_ordered}
 use Rattle.interpretations.specs.Size.{DoesUnravelingFit, IsFirstTooLarge}

@@ -2,9 +2,7 @@
 use Rattle.std.proofs.Common.{◌≡◌, ℕ, zero, suc, ◌+◌, ◌*◌, ◌<◌, ◌≤◌, ◌⊎◌, inl, inr, refl, sym, ap, ◌∙◌, subst, arith, List, [], ◌∷◌, ◌++◌, length, slice_get, Option, Some, None, option_and_then, ◌^◌, Bool, true, false, nat_eq, if◌then◌else◌}
 use Rattle.std.proofs.Math.Nat.{mul-le-mul_right}
 use Rattle.std.proofs.lemmas.Option.{slice_get_within}
-use Rattle.rewriting.specs.Systems.{Each, terms_of_rule, IsWellFormed}
-use Rattle.rewriting.specs.Unraveling.{unraveled, unraveled_from, unraveled_rule, unraveled_rules, keeper, variable_terms}
-use Rattle.rewriting.specs.Descents.{IsActive}
+use Rattle.rewriting.specs.Prelude.{Each, terms_of_rule, IsWellFormed, unraveled, unraveled_from, unraveled_rule, unraveled_rules, keeper, variable_terms, IsActive}
 use Rattle.rewriting.proofs.Common.{Term, var, app, Terms, nil, cons, count, Position, argument, subterm, apply, apply_all, Signature, IsOver, AreOver, Rule, System, rule_at, Condition, sides, variables, with_variables}
 use Rattle.rewriting.proofs.Unraveled.{argument_of_over}
 use Rattle.interpretations.specs.Linear.{Interpretation, number_of, constant, coefficient, coefficient_from, HasShape, AreAllNumbersGood, IsLarge, HasLargePart}

@@ -2,11 +2,9 @@
 use Rattle.std.proofs.Common.{◌≡◌, ℕ, suc, ◌<◌, ◌≤◌, ◌⊎◌, inl, inr, refl, length, arith}
 use Rattle.std.proofs.lemmas.Bool.{cases_lt}
 use Rattle.std.proofs.lemmas.Option.{slice_get_within}
-use Rattle.rewriting.specs.Rules.{System, EachRule}
-use Rattle.rewriting.specs.Unraveling.{unraveled, unraveled_rule, heads}
+use Rattle.rewriting.specs.Prelude.{System, EachRule, unraveled, unraveled_rule, heads}
 use Rattle.rewriting.proofs.Search.{FirstBelow, search_below, FirstAt, search_at, FirstRule, search_rules}
-use Rattle.certificates.specs.Certificates.{LinearEntry}
-use Rattle.certificates.specs.Reasons.{wrong_shape, wrong_coefficient, overflow_at, smaller_variable, smaller_constant}
+use Rattle.certificates.specs.Prelude.{LinearEntry, wrong_shape, wrong_coefficient, overflow_at, smaller_variable, smaller_constant}
 use Rattle.interpretations.specs.Size.{first_keeper, DoesRuleFit, DoesUnravelingFit}
 use Rattle.interpretations.specs.Judgement.{Judgement, good, not_good, unraveling_large}
 use Rattle.interpretations.specs.Linear.{Interpretation, IsEntry, HasShape, AreNumbersGood, AreAllNumbersGood, Falls}

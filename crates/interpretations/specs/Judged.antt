@@ -1,9 +1,7 @@
 -- The judgement of a linear interpretation: good, or the first reason why it is not.
 use Rattle.std.specs.Prelude.{ℕ, suc, ◌≡◌, ◌<◌, ◌≤◌, ◌⊎◌, Some, slice_get, length}
-use Rattle.rewriting.specs.Rules.{Rule, System, rule_at}
-use Rattle.rewriting.specs.Unraveling.{unraveled, heads}
-use Rattle.certificates.specs.Certificates.{LinearEntry}
-use Rattle.certificates.specs.Reasons.{wrong_shape, wrong_coefficient, overflow_at, smaller_variable, smaller_constant, not_ordered}
+use Rattle.rewriting.specs.Prelude.{Rule, System, rule_at, unraveled, heads}
+use Rattle.certificates.specs.Prelude.{LinearEntry, wrong_shape, wrong_coefficient, overflow_at, smaller_variable, smaller_constant, not_ordered}
 use Rattle.interpretations.specs.Size.{DoesUnravelingFit, IsFirstTooLarge}
 use Rattle.interpretations.specs.Judgement.{Judgement, good, not_good, unraveling_large}
 use Rattle.interpretations.specs.Linear.{Interpretation, coefficient, constant, IsEntry, HasShape, AreNumbersGood, AreAllNumbersGood, Overflows, AreCoefficientsKept, Falls, IsGood}

@@ -1,11 +1,6 @@
 -- What holds of every interpretation: a good one bounds descents, and each has exactly one judgement.
 use Rattle.std.specs.Prelude.{◌≡◌}
-use Rattle.rewriting.specs.Terms.{Term}
-use Rattle.rewriting.specs.Signatures.{IsOver}
-use Rattle.rewriting.specs.Rules.{System}
-use Rattle.rewriting.specs.Systems.{IsWellFormed}
-use Rattle.rewriting.specs.Unraveling.{unraveled}
-use Rattle.rewriting.specs.Descents.{IsBounded}
+use Rattle.rewriting.specs.Prelude.{Term, IsOver, System, IsWellFormed, unraveled, IsBounded}
 use Rattle.interpretations.specs.Judgement.{Judgement}
 use Rattle.interpretations.specs.Linear.{Interpretation, constant, IsGood}
 use Rattle.interpretations.specs.Judged.{IsInterpretationJudged}

@@ -1,10 +1,6 @@
 -- Linear interpretations over the natural numbers (Baader and Nipkow, Term Rewriting and All That, chapter 5).
 use Rattle.std.specs.Prelude.{ℕ, suc, ◌≡◌, ◌+◌, ◌*◌, ◌^◌, ◌<◌, ◌≤◌, ◌⊎◌, List, [], nat_eq, if◌then◌else◌, Some, slice_get, option_map, unwrap_or, length}
-use Rattle.rewriting.specs.Terms.{Term, var, app, Terms, nil, cons}
-use Rattle.rewriting.specs.Positions.{Position, subterm}
-use Rattle.rewriting.specs.Rules.{Rule, System, EachRule}
-use Rattle.rewriting.specs.Unraveling.{unraveled, heads}
-use Rattle.rewriting.specs.Descents.{IsActive}
+use Rattle.rewriting.specs.Prelude.{Term, var, app, Terms, nil, cons, Position, subterm, Rule, System, EachRule, unraveled, heads, IsActive}
 use Rattle.certificates.specs.Certificates.{LinearEntry}
 
 -- an interpretation has an entry for each symbol of the unraveled system

@@ -1,8 +1,6 @@
 -- Whether the sides of an unraveled system fit.
 use Rattle.std.specs.Prelude.{ℕ, zero, suc, ◌≡◌, ◌+◌, ◌<◌, Some, length, take}
-use Rattle.rewriting.specs.Rules.{Rule, System, rule_at}
-use Rattle.rewriting.specs.Systems.{DoSidesFit, condition_count}
-use Rattle.rewriting.specs.Unraveling.{unraveled_rule}
+use Rattle.rewriting.specs.Prelude.{Rule, System, rule_at, DoSidesFit, condition_count, unraveled_rule}
 
 -- the number of the first auxiliary symbol of a rule: it stands behind the system's symbols and those for all earlier conditions
 abbrev pub first_keeper : System → ℕ → ℕ

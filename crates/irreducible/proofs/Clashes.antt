@@ -1,7 +1,6 @@
 -- Where a run that does not end in a clash decides.
 use Rattle.std.proofs.Common.{◌≡◌, ◌⊎◌, inl, inr, Ok}
-use Rattle.rewriting.specs.Terms.{Term}
-use Rattle.rewriting.specs.Rules.{System}
+use Rattle.rewriting.specs.Prelude.{Term, System}
 use Rattle.unifier_run.specs.Run.{Outcome, unifier, clash, too_large}
 use Rattle.unifier_run.specs.Irreducible.{DoAllClash, IsFirstOutcome}
 use Rattle.unifier_run.proofs.Unique.{runs_same}

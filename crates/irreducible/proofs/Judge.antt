@@ -1,9 +1,7 @@
 -- Judging the whole from its parts.
 use Rattle.std.proofs.Common.{ℕ, suc, ◌≡◌, ◌<◌, ◌≤◌, ◌⊎◌, inl, inr, [], ◌∷◌, Some, refl, sym, ap, ◌∙◌, subst, arith}
 use Rattle.std.proofs.lemmas.Option.{same_Some}
-use Rattle.rewriting.specs.Terms.{Term, Terms, var, app, IsVariable}
-use Rattle.rewriting.specs.Positions.{Position, subterm, argument, IsBefore}
-use Rattle.rewriting.specs.Rules.{Rule, System}
+use Rattle.rewriting.specs.Prelude.{Term, Terms, var, app, IsVariable, Position, subterm, argument, IsBefore, Rule, System}
 use Rattle.rewriting.proofs.Positions.{within}
 use Rattle.unifier_run.specs.Run.{Outcome, clash}
 use Rattle.unifier_run.specs.Overlaps.{IsOutcomeOf}

@@ -1,18 +1,12 @@
 -- Terms that do not fit, whose first run passes the size, and how many variables a term that fits has.
 use Rattle.std.proofs.Common.{ℕ, zero, suc, ◌≡◌, ◌+◌, ◌*◌, ◌<◌, ◌^◌, ◌⊎◌, inl, inr, Bool, true, false, List, [], ◌∷◌, length, refl, sym, ap, ◌∙◌, subst, arith, slice_get, ◌==◌, map, Vec, Global}
-use Rattle.rewriting.specs.Terms.{Term, IsVariable, Fits}
-use Rattle.rewriting.specs.Positions.{Position, IsBefore}
-use Rattle.rewriting.specs.Substitutions.{apply}
-use Rattle.rewriting.specs.Variables.{with_variables}
-use Rattle.term_core.specs.View.{view}
-use Rattle.term_core.specs.RuleView.{rule_view}
+use Rattle.rewriting.specs.Prelude.{Term, IsVariable, Fits, Position, IsBefore, apply, with_variables, odd, Rule, System}
+use Rattle.term_core.specs.Prelude.{view, rule_view}
 use Rattle.term_core.specs.declared.terms.Term as program
 use Rattle.term_core.specs.declared.terms.Term.{Fun}
 use Rattle.term_core.specs.declared.systems.Rule as program_rules
 use Rattle.term_core.proofs.Views.{view-Fun}
 use Rattle.rewriting.proofs.Lengths.{variables_length}
-use Rattle.rewriting.specs.Unifiers.{odd}
-use Rattle.rewriting.specs.Rules.{Rule, System}
 use Rattle.unifier_run.specs.Run.{clash, too_large, side_too_large, last_equation}
 use Rattle.unifier_run.specs.Overlaps.{IsOutcomeOf}
 use Rattle.unifier_run.specs.Irreducible.{IsTrial, IsFirstOutcome}

@@ -2,12 +2,7 @@
 use Rattle.std.proofs.Common.{ℕ, zero, suc, ◌≡◌, ◌+◌, ◌<◌, ◌≤◌, ◌⊎◌, inl, inr, List, [], ◌∷◌, length, get_or, Some, Vec, Global, Result, Ok, Err, refl, sym, ap, ◌∙◌, subst, arith, add-one}
 use Rattle.general_lemmas.proofs.Numbers.{le_or_next}
 use Rattle.rewriting.specs.Terms as math
-use Rattle.rewriting.specs.Terms.{Terms, var, app, nil, cons, size_all, depth_all, Fits}
-use Rattle.rewriting.specs.Positions.{argument}
-use Rattle.rewriting.specs.Substitutions.{apply, apply_all}
-use Rattle.rewriting.specs.Unifiers.{odd}
-use Rattle.rewriting.specs.Rules.{System}
-use Rattle.rewriting.specs.NormalForms.{IsAbsolutelyIrreducible}
+use Rattle.rewriting.specs.Prelude.{Terms, var, app, nil, cons, size_all, depth_all, Fits, argument, apply, apply_all, odd, System, IsAbsolutelyIrreducible}
 use Rattle.unifier_run.specs.Run.{Binding, value, unifier, too_large}
 use Rattle.unifier_run.specs.Irreducible.{DoAllClash, IsFirstOutcome, DoRulesClash, IsFirstRule}
 use Rattle.unifier_run.proofs.General.{most_general, no_unifier}

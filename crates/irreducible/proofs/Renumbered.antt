@@ -1,10 +1,6 @@
 -- Where variables of a term have other numbers, one to one, the runs by which it is judged have the same outcomes, renamed.
 use Rattle.std.proofs.Common.{ℕ, zero, suc, ◌≡◌, ◌<◌, true, List, [], ◌∷◌, length, Some, Result, Ok, Err, refl, sym, ap, ◌∙◌, subst, subst₂}
-use Rattle.rewriting.specs.Terms.{Term, Terms, var, app, nil, cons, IsVariable}
-use Rattle.rewriting.specs.Positions.{Position, subterm, argument}
-use Rattle.rewriting.specs.Substitutions.{apply, apply_all}
-use Rattle.rewriting.specs.Variables.{occurs}
-use Rattle.rewriting.specs.Rules.{Rule, System}
+use Rattle.rewriting.specs.Prelude.{Term, Terms, var, app, nil, cons, IsVariable, Position, subterm, argument, apply, apply_all, occurs, Rule, System, AreDistinct}
 use Rattle.rewriting.proofs.Positions.{within}
 use Rattle.rewriting.proofs.Places.{subterm-apply}
 use Rattle.rewriting.proofs.Instances.{apply-agree}
@@ -13,7 +9,6 @@ use Rattle.unifier_run.specs.Overlaps.{IsOutcomeOf}
 use Rattle.unifier_run.specs.Irreducible.{IsTrial, DoAllClash, IsFirstOutcome}
 use Rattle.unifier_run.proofs.Renamed.{names, stays, renamed_outcome as outcome_under, runs_with_names}
 use Rattle.unifier_run.proofs.Woven.{woven, woven_evens, woven_odds, woven_one_to_one}
-use Rattle.rewriting.specs.Lists.{AreDistinct}
 use Rattle.renumbering.specs.Rows.{naming}
 use Rattle.renumbering.proofs.Filling.{filling, filling_within, filling_one}
 use Rattle.term_core.specs.declared.terms.NoMemory.{NoMemory}

@@ -1,11 +1,7 @@
 -- The rules tried on a term: those with its root in order; all others clash at once.
 use Rattle.std.proofs.Common.{ℕ, zero, suc, ◌≡◌, ◌+◌, ◌-◌, ◌*◌, ◌<◌, ◌≤◌, ◌⊎◌, inl, inr, Bool, true, false, List, [], map, length, get_or, Some, refl, sym, ap, ◌∙◌, subst, subst₂, arith, eq-eqb, eqb-true}
 use Rattle.std.proofs.lemmas.Bool.{false≢true, cases_lt}
-use Rattle.rewriting.specs.Terms.{Term, var, app, nil, cons, IsVariable, Fits}
-use Rattle.rewriting.specs.Substitutions.{apply, apply_all}
-use Rattle.rewriting.specs.Unifiers.{even, odd}
-use Rattle.rewriting.specs.Rules.{Rule, System, rule_at}
-use Rattle.rewriting.specs.Systems.{IsSystem}
+use Rattle.rewriting.specs.Prelude.{Term, var, app, nil, cons, IsVariable, Fits, apply, apply_all, even, odd, Rule, System, rule_at, IsSystem}
 use Rattle.rewriting.proofs.Systems.{numbered_rule}
 use Rattle.unifier_run.specs.Run.{Outcome, clash, IsOutcome}
 use Rattle.unifier_run.specs.Overlaps.{IsOutcomeOf}
@@ -14,8 +10,7 @@ use Rattle.unifier_run.proofs.Heads.{heads_clash}
 use Rattle.unifier_run.proofs.Renamed.{fits_with_names}
 use Rattle.rule_index.specs.Roots.{has_root, rules_with_root}
 use Rattle.rule_index.proofs.Walks.{ascending, is_listed, listed_rule, Stands}
-use Rattle.term_core.specs.View.{view}
-use Rattle.term_core.specs.RuleView.{rule_view}
+use Rattle.term_core.specs.Prelude.{view, rule_view}
 use Rattle.term_core.specs.declared.systems.Rule as Program
 use Rattle.prepared_system.specs.Renamed.{rule_under, inner_rules}
 use Rattle.prepared_system.proofs.Renamed.{renamed_rule, number_within}

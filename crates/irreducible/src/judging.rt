@@ -1,8 +1,7 @@
 //! The runs by which a term is judged: each of its parts that is no variable against the left sides with the same root.
 ghost use Rattle.std.specs.Prelude.{◌≡◌, true};
 ghost use Rattle.rewriting.specs.Terms as math;
-ghost use Rattle.rewriting.specs.Substitutions.{apply};
-ghost use Rattle.rewriting.specs.Unifiers.{odd};
+ghost use Rattle.rewriting.specs.Prelude.{apply, odd};
 ghost use Rattle.rule_index.specs.Roots.{has_root};
 ghost use Rattle.term_core.specs.View.{view};
 ghost use Rattle.irreducible.specs.Judging.{RootAnswers, JudgeAnswers};

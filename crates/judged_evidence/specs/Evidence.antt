@@ -1,8 +1,7 @@
 -- When evidence that conditions are never met is valid, and why it is not.
 use Rattle.std.specs.Prelude.{List, Option}
 use Rattle.rewriting.specs.Rules.{Condition, System}
-use Rattle.certificates.specs.Evidence.{InfeasibilityEvidence, by_caps, by_automaton}
-use Rattle.certificates.specs.Reasons.{EvidenceReason}
+use Rattle.certificates.specs.Prelude.{InfeasibilityEvidence, by_caps, by_automaton, EvidenceReason}
 use Rattle.caps.specs.Evidence.{JudgedByCaps}
 use Rattle.automata.specs.Evidence.{JudgedByAutomaton}
 

@@ -1,9 +1,7 @@
 -- What judged evidence shows, and that it has one judgement.
 use Rattle.std.specs.Prelude.{◌≡◌, List, Option, None}
-use Rattle.rewriting.specs.Rules.{Condition, System}
-use Rattle.rewriting.specs.Infeasibility.{IsInfeasible}
-use Rattle.certificates.specs.Evidence.{InfeasibilityEvidence}
-use Rattle.certificates.specs.Reasons.{EvidenceReason}
+use Rattle.rewriting.specs.Prelude.{Condition, System, IsInfeasible}
+use Rattle.certificates.specs.Prelude.{InfeasibilityEvidence, EvidenceReason}
 use Rattle.judged_evidence.specs.Evidence.{IsInfeasibilityJudged}
 
 -- conditions for which there is valid evidence are never met

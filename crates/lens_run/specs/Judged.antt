@@ -1,8 +1,7 @@
 -- The page of a certificate that is judged.
 use Rattle.std.specs.Prelude.{◌≡◌, ◌⊎◌, ◌++◌, ℕ, List, codes}
 use Rattle.rewriting.specs.Rules.{System}
-use Rattle.certificates.specs.Certificates.{Certificate}
-use Rattle.certificates.specs.Reasons.{Rejection}
+use Rattle.certificates.specs.Prelude.{Certificate, Rejection}
 use Rattle.valid_certificates.specs.Certificates.{IsValid, IsRejected}
 use Rattle.cert_check.specs.Kinds.{verdict_of}
 use Rattle.cert_check.specs.declared.Verdict.{Verdict}

@@ -6,8 +6,7 @@ use Rattle.rewriting.specs.Rules.{System}
 use Rattle.certificates.specs.Certificates.{Certificate}
 use Rattle.cops_names.specs.NameTable.{NameTable}
 use Rattle.cops_read.specs.File.{FileCause, IsNoFile}
-use Rattle.cert_grammar.specs.Marks.{CertificateCause}
-use Rattle.cert_grammar.specs.Refusals.{IsCertificateRefused}
+use Rattle.cert_grammar.specs.Prelude.{CertificateCause, IsCertificateRefused}
 use Rattle.refusal_texts.specs.Files.{file_cause_words}
 use Rattle.refusal_texts.specs.Certificates.{cert_cause_words}
 use Rattle.run_parts.specs.Bytes.{most_file_bytes, most_cert_bytes, Bytes, told_or_any, SpellsSystem, SpellsCertificate}

@@ -1,8 +1,6 @@
 -- Two systems that are not confluent: one whose overlap does harm, one whose right side has a new variable.
 use Rattle.std.proofs.Common.{◌≡◌, ◌≢◌, ℕ, zero, suc, refl, sym, ap, ◌∙◌, subst, [], ◌∷◌, Some}
-use Rattle.rewriting.specs.Signatures.{IsOver, AreValuesOver}
-use Rattle.rewriting.specs.Confluence.{IsConfluent, AreApart}
-use Rattle.rewriting.specs.Examples.{constant, unary, plain}
+use Rattle.rewriting.specs.Prelude.{IsOver, AreValuesOver, IsConfluent, AreApart, constant, unary, plain}
 use Rattle.rewriting.proofs.Common.{Star, done, more, Term, var, Position, subterm, Substitution, apply, values_of, Rule, System, rule_at, Contraction, Step, Rewrites, Reaches}
 use Rattle.rewriting.proofs.Contexts.{root}
 use Rattle.rewriting.proofs.Levels.{level, step_of_level}

@@ -1,10 +1,8 @@
 -- The Fibonacci system is almost orthogonal: it has no overlap.
 use Rattle.std.proofs.Common.{◌≡◌, ◌≢◌, ℕ, zero, suc, ◌+◌, ◌<◌, ◌≤◌, ◌⊎◌, inl, inr, Bool, true, false, ◌||◌, refl, sym, ◌∙◌, subst, [], ◌∷◌, Some, take, arith, nat_eq, eqb-true, if◌then◌else◌}
 use Rattle.general_lemmas.proofs.Numbers.{one_at_most}
-use Rattle.rewriting.specs.Systems.{IsRuleOver}
-use Rattle.rewriting.specs.Classes.{IsLeftLinearRule, IsType3Rule, IsExtendedOrientedRule, IsRightStableRule, IsDefined, IsAt, known, IsStable}
-use Rattle.rewriting.specs.Overlaps.{IsOverlap}
-use Rattle.rewriting.specs.Examples.{constant, unary, binary, fibonacci}
+use Rattle.rewriting.specs.Prelude.{IsRuleOver, IsLeftLinearRule, IsType3Rule, IsExtendedOrientedRule, IsRightStableRule, IsDefined, IsAt, known, IsStable, IsOverlap, constant, unary}
+use Rattle.rewriting.specs.Prelude.{binary, fibonacci}
 use Rattle.rewriting.proofs.Instances.{or_cases}
 use Rattle.rewriting.proofs.Common.{Term, var, nil, cons, IsVariable, Position, subterm, apply, occurs, occurs_in, IsLinear, IsWithin, IsDisjoint, AreUnifiable, even, odd, Rule, rule_at, left_sides}
 use Rattle.rewriting.proofs.Conditions.{no_second, only, no_condition}

@@ -3,13 +3,9 @@ use Rattle.std.proofs.Common.{◌≡◌, ℕ, zero, suc, ◌+◌, ◌^◌, ◌<�
 use Rattle.std.proofs.lemmas.Bool.{cases_lt, or_left, or_right}
 use Rattle.std.proofs.lemmas.Option.{slice_get_within}
 use Rattle.rewriting.specs.Unraveling as unraveling
-use Rattle.rewriting.specs.Unraveling.{unraveled, heads}
+use Rattle.rewriting.specs.Prelude.{unraveled, heads, rule_at, Term, var, app, Terms, nil, cons, IsRule, AreRules, IsSystem, IsWellFormed, CountsFrom, rule_variables, terms_of_rule}
+use Rattle.rewriting.specs.Prelude.{Signature, IsOver, AreOver, occurs, occurs_in}
 use Rattle.rewriting.specs.Rules as math
-use Rattle.rewriting.specs.Rules.{rule_at}
-use Rattle.rewriting.specs.Terms.{Term, var, app, Terms, nil, cons}
-use Rattle.rewriting.specs.Systems.{IsRule, AreRules, IsSystem, IsWellFormed, CountsFrom, rule_variables, terms_of_rule}
-use Rattle.rewriting.specs.Signatures.{Signature, IsOver, AreOver}
-use Rattle.rewriting.specs.Variables.{occurs, occurs_in}
 use Rattle.rewriting.proofs.Variables.{variables_have_all}
 use Rattle.rewriting.proofs.Unraveled.{unraveled_well_formed}
 use Rattle.rewriting.proofs.Lists.{counted_below}

@@ -7,8 +7,7 @@ use Rattle.general_lemmas.proofs.Places.{slice_get-map_read}
 use Rattle.rewriting.specs.Terms.{Term, var, app, Terms, nil, cons}
 use Rattle.rewriting.specs.Rules as math
 use Rattle.interpretations.specs.Linear.{Interpretation, number_of, coefficient, coefficient_from, Falls, Overflows, IsLarge, HasLargePart}
-use Rattle.term_core.specs.View.{view}
-use Rattle.term_core.specs.RuleView.{rule_view}
+use Rattle.term_core.specs.Prelude.{view, rule_view}
 use Rattle.term_core.specs.declared.systems.Rule.{Rule}
 use Rattle.cert_model.specs.declared.reasons.MeasureReason.TheVariants as reason
 use Rattle.measure.specs.declared.MeasureError.{MeasureError}

@@ -4,8 +4,7 @@ use Rattle.std.proofs.lemmas.List.{length-append, length-map, length-take}
 use Rattle.std.proofs.lemmas.Option.{slice_get_within}
 use Rattle.general_lemmas.proofs.Places.{slice_get-append_left, slice_get-append_right}
 use Rattle.rewriting.specs.Rules as math
-use Rattle.rewriting.specs.Systems.{condition_count, DoSidesFit}
-use Rattle.rewriting.specs.Unraveling.{unraveled, unraveled_rule, unraveled_rules}
+use Rattle.rewriting.specs.Prelude.{condition_count, DoSidesFit, unraveled, unraveled_rule, unraveled_rules}
 use Rattle.interpretations.specs.Judgement.{good, not_good}
 use Rattle.interpretations.specs.Size.{DoesUnravelingFit}
 use Rattle.path_orders.specs.Precedences.{Precedence}

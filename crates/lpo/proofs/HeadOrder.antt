@@ -1,10 +1,7 @@
 -- Heads stand in order, and where one stands is found by halves.
 use Rattle.std.proofs.Common.{ℕ, zero, suc, ◌≡◌, ◌<◌, ◌≤◌, ◌⊎◌, inl, inr, List, [], ◌∷◌, Some, slice_get, sym, subst, arith}
 use Rattle.std.proofs.lemmas.Bool.{cases_lt}
-use Rattle.rewriting.specs.Lists.{AreDistinct, IsSorted}
-use Rattle.rewriting.specs.Rules.{Condition, Rule, System}
-use Rattle.rewriting.specs.Signatures.{Signature}
-use Rattle.rewriting.specs.Unraveling.{Head, file, auxiliary, file_heads, condition_heads, auxiliary_heads, heads}
+use Rattle.rewriting.specs.Prelude.{AreDistinct, IsSorted, Condition, Rule, System, Signature, Head, file, auxiliary, file_heads, condition_heads, auxiliary_heads, heads}
 use Rattle.rewriting.proofs.Lists.{before_each, before_one, sorted_append}
 use Rattle.rewriting.proofs.Members.{place_among}
 use Rattle.path_orders.proofs.Heads.{IsFile, IsAuxiliary, IsConditionOf, files, conditions, auxiliaries}

@@ -2,9 +2,8 @@
 use Rattle.std.proofs.Common.{◌≡◌, ◌+◌, ◌<◌, ◌≤◌, ◌⊎◌, inl, inr, false, ℕ, zero, suc, List, [], ◌∷◌, ◌++◌, length, set, get_or, slice_get, Some, Vec, Global, refl, sym, ap, ◌∙◌, subst, arith}
 use Rattle.std.proofs.lemmas.Bool.{cases_lt, cases_eq}
 use Rattle.std.proofs.lemmas.Option.{slice_get_within}
-use Rattle.rewriting.specs.Lists.{IsAmong}
+use Rattle.rewriting.specs.Prelude.{IsAmong, app}
 use Rattle.rewriting.specs.Rules as math
-use Rattle.rewriting.specs.Terms.{app}
 use Rattle.rewriting.proofs.Lists.{among_left, among_either, among_middle}
 use Rattle.rewriting.proofs.Members.{among_place}
 use Rattle.lpo.specs.Rules.{is_dead_at}

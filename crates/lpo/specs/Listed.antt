@@ -1,8 +1,7 @@
 -- The rules in which symbols occur, as lists of their numbers.
 use Rattle.std.specs.Prelude.{ℕ, ◌≡◌, ◌<◌, ◌⊎◌, Bool, true, false, List, [], map, get_or, slice_get, length, Some, Vec}
 use Rattle.std.specs.Global.{Global}
-use Rattle.rewriting.specs.Lists.{IsAmong}
-use Rattle.rewriting.specs.Terms.{Term, var, app, Terms, nil, cons}
+use Rattle.rewriting.specs.Prelude.{IsAmong, Term, var, app, Terms, nil, cons}
 use Rattle.rewriting.specs.Rules as math
 use Rattle.lpo.specs.Rules.{is_dead_at}
 

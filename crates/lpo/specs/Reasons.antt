@@ -1,8 +1,7 @@
 -- What the functions that look for the first reason answer.
 use Rattle.std.specs.Prelude.{ℕ, suc, ◌≡◌, List, length, Option, None, Some, Result, Ok, Err}
 use Rattle.rewriting.specs.Rules as math
-use Rattle.rewriting.specs.Systems.{DoSidesFit}
-use Rattle.rewriting.specs.Unraveling.{heads, unraveled, unraveled_rules}
+use Rattle.rewriting.specs.Prelude.{DoSidesFit, heads, unraveled, unraveled_rules}
 use Rattle.interpretations.specs.Judgement.{not_good}
 use Rattle.interpretations.specs.Size.{DoesUnravelingFit, IsFirstTooLarge}
 use Rattle.path_orders.specs.Precedences.{Precedence}

@@ -1,8 +1,7 @@
 //! The rules in which each symbol occurs.
 ghost use Rattle.std.specs.Prelude.{◌≡◌, ◌<◌, ◌^◌, ℕ, [], OnOk, IfOk, IsTrue, map, length};
 ghost use Rattle.rewriting.specs.Lists.{IsAmong};
-ghost use Rattle.term_core.specs.View.{view, views};
-ghost use Rattle.term_core.specs.RuleView.{rule_view};
+ghost use Rattle.term_core.specs.Prelude.{view, views, rule_view};
 ghost use Rattle.lpo.specs.Listed.{AreListed, HasSymbol, HaveSymbol, IsNoted, ListedAnswers, OccursAt, listed};
 
 use crate::rules::is_dead;

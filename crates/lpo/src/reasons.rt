@@ -1,13 +1,11 @@
 //! The first reason why a precedence is not good: its shape, and then the rules that come from one rule after the other, so
 //! that the unraveled system never stands as a whole.
 ghost use Rattle.std.specs.Prelude.{Option, List, ◌≡◌, ◌<◌, ◌+◌, ◌^◌, ◌++◌, map, length};
-ghost use Rattle.rewriting.specs.Lists.{IsSorted};
+ghost use Rattle.rewriting.specs.Prelude.{IsSorted, condition_count};
 ghost use Rattle.rewriting.specs.Rules as math;
-ghost use Rattle.rewriting.specs.Systems.{condition_count};
 ghost use Rattle.rewriting.specs.Unraveling as unraveling;
 ghost use Rattle.cert_model.specs.declared.reasons.MeasureReason as spec;
-ghost use Rattle.term_core.specs.HeadView.{head_view};
-ghost use Rattle.term_core.specs.RuleView.{rule_view};
+ghost use Rattle.term_core.specs.Prelude.{head_view, rule_view};
 ghost use Rattle.unravel.specs.RuleAnswers.{DoTermsFit};
 ghost use Rattle.lpo.specs.Places.{ArePlaces};
 ghost use Rattle.lpo.specs.Reasons.{ShapeAnswers, ReasonAnswers, RulesReasonAnswers, FirstReasonAnswers};

@@ -1,7 +1,6 @@
 //! Whether rules are ordered.
 ghost use Rattle.std.specs.Prelude.{◌≡◌, ◌&&◌, map};
-ghost use Rattle.term_core.specs.View.{view, views};
-ghost use Rattle.term_core.specs.RuleView.{rule_view};
+ghost use Rattle.term_core.specs.Prelude.{view, views, rule_view};
 ghost use Rattle.lpo.specs.Places.{are_placed, is_placed};
 ghost use Rattle.lpo.specs.Rules.{DeadAnswers, UnorderedAnswers, is_dead_at, is_ordered_by};
 

@@ -2,11 +2,7 @@
 use Rattle.std.proofs.Common.{◌≡◌, ℕ, zero, suc, ◌⊎◌, inl, inr, true, Some, None, nat_cmp, refl, sym, ap, ◌∙◌, subst, eqb-true}
 use Rattle.std.proofs.lemmas.Bool.{false≢true}
 use Rattle.std.specs.FinMap.{empty, get, get-empty}
-use Rattle.rewriting.specs.Terms.{Term, Terms, var, app, nil, cons}
-use Rattle.rewriting.specs.Positions.{argument}
-use Rattle.rewriting.specs.Substitutions.{Bindings}
-use Rattle.rewriting.specs.Variables.{occurs, occurs_in}
-use Rattle.rewriting.specs.Matching.{Solves, SolvesAll, IsLeastMatch}
+use Rattle.rewriting.specs.Prelude.{Term, Terms, var, app, nil, cons, argument, Bindings, occurs, occurs_in, Solves, SolvesAll, IsLeastMatch}
 use Rattle.rewriting.proofs.Instances.{or_cases}
 use Rattle.rewriting.proofs.LeastMatches.{least_needs}
 use Rattle.term_core.proofs.Arguments.{argument_zero}

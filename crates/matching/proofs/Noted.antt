@@ -4,8 +4,7 @@ use Rattle.std.proofs.lemmas.List.{take_all, drop_all, take-append-le, drop-appe
 use Rattle.std.specs.Ordering.{eq_by_cmp}
 use Rattle.std.specs.Cmp.{nat_cmp_total, Equal-is}
 use Rattle.std.specs.FinMap.{get, insert, remove, get-insert, get-remove, same_map, nat_cmp-IsAntisymmetric}
-use Rattle.rewriting.specs.Terms.{Term}
-use Rattle.rewriting.specs.Substitutions.{Bindings}
+use Rattle.rewriting.specs.Prelude.{Term, Bindings}
 use Rattle.matching.specs.Trails.{without, IsNoted}
 
 without-append : (b : Bindings) (xs ys : List ℕ) → without b (xs ++ ys) ≡ without (without b ys) xs

@@ -1,10 +1,6 @@
 -- No part is an instance of a pattern, by positions.
 use Rattle.std.proofs.Common.{◌≡◌, ℕ, zero, suc, List, [], ◌∷◌, Some, option_and_then, slice_get, refl, subst}
-use Rattle.rewriting.specs.Terms.{Term, Terms, var, app, nil, cons}
-use Rattle.rewriting.specs.Positions.{Position, argument, subterm}
-use Rattle.rewriting.specs.Substitutions.{Matches}
-use Rattle.rewriting.specs.Rules.{Rule, System}
-use Rattle.rewriting.specs.NormalForms.{IsNormalForm}
+use Rattle.rewriting.specs.Prelude.{Term, Terms, var, app, nil, cons, Position, argument, subterm, Matches, Rule, System, IsNormalForm}
 use Rattle.term_core.proofs.Arguments.{argument_zero}
 use Rattle.matching.specs.Lists.{HasNoInstance, NoneHasInstance, HaveNoInstance}
 

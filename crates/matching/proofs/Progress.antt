@@ -1,9 +1,7 @@
 -- Lists of patterns, matched one after another.
 use Rattle.std.proofs.Common.{◌≡◌, suc, List, [], ◌∷◌, length, refl, ap}
 use Rattle.rewriting.specs.Terms as math
-use Rattle.rewriting.specs.Terms.{cons}
-use Rattle.rewriting.specs.Substitutions.{Bindings}
-use Rattle.rewriting.specs.Matching.{Extends, SolvesAll, IsLeastMatch}
+use Rattle.rewriting.specs.Prelude.{cons, Bindings, Extends, SolvesAll, IsLeastMatch}
 use Rattle.rewriting.proofs.LeastMatches.{Solves-extends}
 use Rattle.term_core.specs.View.{views}
 use Rattle.term_core.specs.declared.terms.Term.{Term}

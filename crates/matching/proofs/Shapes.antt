@@ -1,9 +1,7 @@
 -- The symbols of a pattern stand in each of its instances.
 use Rattle.std.proofs.Common.{◌≡◌, List, [], ◌∷◌, length, get_or, drop, take, ◌-◌, ◌↔◌, Vec, Global, ℕ, refl, sym, ap, ◌∙◌, subst, subst₂, ◌≤◌, ◌<◌, arith}
-use Rattle.rewriting.specs.Substitutions.{Substitution, Bindings, Matches, apply, apply_all}
-use Rattle.rewriting.specs.Matching.{HasNoMatch}
+use Rattle.rewriting.specs.Prelude.{Substitution, Bindings, Matches, apply, apply_all, HasNoMatch, Term, Terms, var, app, nil, cons}
 use Rattle.matching.proofs.Unmatched.{no_instance}
-use Rattle.rewriting.specs.Terms.{Term, Terms, var, app, nil, cons}
 use Rattle.term_core.specs.declared.terms.Term as program
 use Rattle.term_core.specs.declared.terms.Term.{Fun}
 use Rattle.term_core.specs.View.{view, views}

@@ -1,7 +1,5 @@
 -- Where the subject is no instance, no extension matches.
-use Rattle.rewriting.specs.Terms.{Term}
-use Rattle.rewriting.specs.Substitutions.{Bindings, Matches, values_of}
-use Rattle.rewriting.specs.Matching.{HasNoMatch}
+use Rattle.rewriting.specs.Prelude.{Term, Bindings, Matches, values_of, HasNoMatch}
 use Rattle.rewriting.proofs.Matching.{solved_instance}
 
 pub no_instance : (b : Bindings) (p s : Term) → (Matches p s → ⊥) → HasNoMatch b p s

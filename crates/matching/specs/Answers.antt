@@ -1,8 +1,7 @@
 -- What matching answers.
 use Rattle.std.specs.Prelude.{Result, Ok, Err}
 use Rattle.rewriting.specs.Terms as math
-use Rattle.rewriting.specs.Substitutions.{Bindings}
-use Rattle.rewriting.specs.Matching.{IsLeastMatch, HasNoMatch}
+use Rattle.rewriting.specs.Prelude.{Bindings, IsLeastMatch, HasNoMatch}
 use Rattle.term_core.specs.declared.terms.NoMemory.{NoMemory}
 use Rattle.matching.specs.declared.Match.{Match}
 use Rattle.matching.specs.declared.Match.TheVariants.{Bound, Unmatched}

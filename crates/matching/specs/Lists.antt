@@ -1,9 +1,6 @@
 -- Matching of lists, and terms of which no part is an instance.
 use Rattle.std.specs.Prelude.{List, [], ◌∷◌}
-use Rattle.rewriting.specs.Terms.{Term, Terms, var, app, nil, cons}
-use Rattle.rewriting.specs.Substitutions.{Bindings, Matches}
-use Rattle.rewriting.specs.Matching.{Extends, SolvesAll}
-use Rattle.rewriting.specs.Rules.{Rule}
+use Rattle.rewriting.specs.Prelude.{Term, Terms, var, app, nil, cons, Bindings, Matches, Extends, SolvesAll, Rule}
 
 -- c is the least extension of b that makes each pattern equal its subject
 pub record AreLeastMatches (b c : Bindings) (patterns subjects : Terms) : Type 0 where

@@ -1,8 +1,7 @@
 //! Whether a term is a normal form of the rules without their conditions.
 ghost use Rattle.std.specs.Prelude.{◌↔◌, IsTrue, map};
 ghost use Rattle.rewriting.specs.NormalForms.{IsNormalForm};
-ghost use Rattle.term_core.specs.View.{view};
-ghost use Rattle.term_core.specs.RuleView.{rule_view};
+ghost use Rattle.term_core.specs.Prelude.{view, rule_view};
 ghost use Rattle.matching.specs.Lists.{HasNoInstance, HaveNoInstance};
 
 use crate::instances::matches;

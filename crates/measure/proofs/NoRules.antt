@@ -1,9 +1,6 @@
 -- Without rules the only descents are moves to arguments, and sizes fall.
 use Rattle.std.proofs.Common.{◌≡◌, inl, inr, ℕ, suc, zero, ◌<◌, [], length, Some, None, slice_get, ap, arith}
-use Rattle.rewriting.specs.Terms.{size, size_all}
-use Rattle.rewriting.specs.Systems.{IsWellFormed}
-use Rattle.rewriting.specs.Descents.{Descends, AreDescentsBounded}
-use Rattle.rewriting.specs.Unraveling.{unraveled, unraveled_rules}
+use Rattle.rewriting.specs.Prelude.{size, size_all, IsWellFormed, Descends, AreDescentsBounded, unraveled, unraveled_rules}
 use Rattle.rewriting.proofs.Common.{Term, var, app, Terms, nil, cons, argument, argument_of, IsOver, Rule, System, rule_at}
 use Rattle.rewriting.proofs.Unraveled.{measure_bounds}
 

@@ -3,8 +3,7 @@
 
 ghost use Rattle.std.specs.Prelude.{◌≡◌};
 ghost use Rattle.rewriting.specs.Rules as math;
-ghost use Rattle.rewriting.specs.Systems.{IsWellFormed};
-ghost use Rattle.rewriting.specs.Descents.{AreDescentsBounded};
+ghost use Rattle.rewriting.specs.Prelude.{IsWellFormed, AreDescentsBounded};
 ghost use Rattle.interpretations.specs.Judgement.{Judgement, good};
 ghost use Rattle.measure.specs.Answers.{ShowsAnswers};
 

@@ -2,9 +2,7 @@
 use Rattle.std.proofs.Common.{ℕ, zero, suc, ◌≡◌, ◌+◌, ◌*◌, ◌^◌, ◌<◌, inl, inr, [], ◌∷◌, ◌++◌, length, slice_get, option_map, unwrap_or, Option, Some, refl, sym, ap, ap₂, subst, arith}
 use Rattle.std.proofs.lemmas.List.{length-append}
 use Rattle.general_lemmas.proofs.Places.{slice_get-append_left}
-use Rattle.rewriting.specs.Terms.{Term, var, app, Terms, nil, cons}
-use Rattle.rewriting.specs.Positions.{Position, argument, argument_of, subterm}
-use Rattle.rewriting.specs.Rules.{Rule, System}
+use Rattle.rewriting.specs.Prelude.{Term, var, app, Terms, nil, cons, Position, argument, argument_of, subterm, Rule, System}
 use Rattle.rewriting.proofs.Positions.{within}
 use Rattle.certificates.specs.Certificates.{LinearEntry}
 use Rattle.interpretations.specs.Linear.{Interpretation, numbers_of, number_of, constant, constant_from, coefficient, coefficient_from, IsLarge, HasLargePart, Overflows, Falls, IsGood}

@@ -1,8 +1,7 @@
 -- The leaves below a prefix are its extensions in the grid.
 use Rattle.std.proofs.Common.{ℕ, zero, suc, ◌≡◌, ◌≤◌, List, [], ◌∷◌, ◌++◌, map, flat_map, zip, replicate, length, refl, sym, ap, ap₂, ◌∙◌, arith, append_assoc, append-nil}
 use Rattle.std.proofs.lemmas.List.{length-append, length-map, map-append}
-use Rattle.rewriting.specs.Rules.{System}
-use Rattle.rewriting.specs.Unraveling.{Head, file, auxiliary, heads, unraveled}
+use Rattle.rewriting.specs.Prelude.{System, Head, file, auxiliary, heads, unraveled}
 use Rattle.certificates.specs.Certificates.{LinearEntry}
 use Rattle.interpretations.specs.Linear.{Interpretation}
 use Rattle.first_found.specs.Trees.{leaves}

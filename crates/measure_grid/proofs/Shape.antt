@@ -3,11 +3,7 @@ use Rattle.std.proofs.Common.{ℕ, zero, suc, ◌≡◌, ◌<◌, ◌≤◌, inl
 use Rattle.std.proofs.Common.{refl, sym, ap, ◌∙◌, subst, arith}
 use Rattle.std.proofs.lemmas.List.{length-replicate}
 use Rattle.std.proofs.lemmas.Option.{slice_get-get_or}
-use Rattle.rewriting.specs.Lists.{IsAmong}
-use Rattle.rewriting.specs.Signatures.{Signature}
-use Rattle.rewriting.specs.Rules.{System}
-use Rattle.rewriting.specs.Unraveling.{Head, file, auxiliary, file_heads, auxiliary_heads, heads, unraveled}
-use Rattle.rewriting.specs.Descents.{IsActive}
+use Rattle.rewriting.specs.Prelude.{IsAmong, Signature, System, Head, file, auxiliary, file_heads, auxiliary_heads, heads, unraveled, IsActive}
 use Rattle.rewriting.proofs.Lists.{among_of_map}
 use Rattle.certificates.specs.Certificates.{LinearEntry}
 use Rattle.interpretations.specs.Linear.{Interpretation, IsEntry, AreAllNumbersGood}

@@ -1,7 +1,6 @@
 -- A grid of linear interpretations.
 use Rattle.std.specs.Prelude.{ℕ, zero, suc, ◌≡◌, List, [], ◌∷◌, map, flat_map, zip, replicate}
-use Rattle.rewriting.specs.Rules.{System}
-use Rattle.rewriting.specs.Unraveling.{Head, file, auxiliary, heads, unraveled}
+use Rattle.rewriting.specs.Prelude.{System, Head, file, auxiliary, heads, unraveled}
 use Rattle.certificates.specs.Certificates.{LinearEntry, MeasureCertificate, linear_measure}
 use Rattle.interpretations.specs.Linear.{Interpretation}
 use Rattle.interpretations.specs.Judgement.{good}

@@ -1,7 +1,6 @@
 -- Laws of the grid, and of the pruned one.
 use Rattle.std.specs.Prelude.{ℕ, ◌≡◌, ◌≤◌, ◌++◌, length}
-use Rattle.rewriting.specs.Lists.{IsAmong}
-use Rattle.rewriting.specs.Rules.{System}
+use Rattle.rewriting.specs.Prelude.{IsAmong, System}
 use Rattle.certificates.specs.Certificates.{MeasureCertificate}
 use Rattle.interpretations.specs.Linear.{Interpretation, HasShape, AreAllNumbersGood, IsGood}
 use Rattle.first_found.specs.Items.{NoneGives, IsFirst, one}

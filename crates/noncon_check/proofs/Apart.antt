@@ -2,16 +2,11 @@
 use Rattle.std.proofs.Common.{◌≡◌, ◌≢◌, inl, inr, ℕ, zero, suc, ◌+◌, ◌<◌, ◌≤◌, List, [], ◌∷◌, ◌++◌, length, drop, slice_get, Option, None, Some, Result, Ok, Err, OnOk, refl, sym, ap, ap₂, ◌∙◌, subst, arith}
 use Rattle.std.proofs.lemmas.Option.{slice_get_within, get_or_from_slice_get}
 use Rattle.std.proofs.lemmas.List.{drop_more}
-use Rattle.rewriting.specs.Signatures.{IsOver}
-use Rattle.rewriting.specs.Systems.{IsSystem, IsWellFormed}
+use Rattle.rewriting.specs.Prelude.{IsOver, IsSystem, IsWellFormed, IsAmong, AreDistinct}
 use Rattle.rewriting.proofs.Common.{Term, System, apply}
 use Rattle.rewriting.proofs.Laws.{well_formed}
-use Rattle.certificates.specs.Certificates.{Apartness, Redex, Peak, by_normal_forms}
-use Rattle.certificates.specs.Evidence.{InfeasibilityEvidence}
-use Rattle.certificates.specs.Judging.{Derives}
-use Rattle.certificates.specs.Reasons.{EvidenceReason, Rejection, redex_extra}
+use Rattle.certificates.specs.Prelude.{Apartness, Redex, Peak, by_normal_forms, InfeasibilityEvidence, Derives, EvidenceReason, Rejection, redex_extra}
 use Rattle.cert_model.specs.ReasonView.{rejected_view}
-use Rattle.rewriting.specs.Lists.{IsAmong, AreDistinct}
 use Rattle.renumbering.specs.Rows.{naming}
 use Rattle.term_core.specs.declared.systems.Rule as program
 use Rattle.validity.specs.declared.CheckError.{CheckError}

@@ -2,12 +2,9 @@
 use Rattle.std.proofs.Common.{ℕ, ◌≡◌, ◌<◌, ◌≤◌, ◌+◌, refl, sym, subst, List, [], ◌∷◌, ◌++◌, flat_map, length, get_or, drop, Option, Result, Ok, Err}
 use Rattle.std.proofs.lemmas.List.{drop_all}
 use Rattle.rewriting.specs.Terms as math
-use Rattle.rewriting.specs.Lists.{IsAmong}
-use Rattle.rewriting.specs.Rules.{System}
+use Rattle.rewriting.specs.Prelude.{IsAmong, System}
 use Rattle.rule_index.specs.Parts.{Part, parts}
-use Rattle.certificates.specs.Certificates.{Redex}
-use Rattle.certificates.specs.Evidence.{InfeasibilityEvidence}
-use Rattle.certificates.specs.Reasons.{EvidenceReason}
+use Rattle.certificates.specs.Prelude.{Redex, InfeasibilityEvidence, EvidenceReason}
 use Rattle.term_core.specs.declared.terms.Term.{Term}
 use Rattle.validity.specs.declared.CheckError.{CheckError}
 use Rattle.valid_certificates.specs.Peaks.{RedexPlace}

@@ -3,18 +3,14 @@ use Rattle.std.proofs.Common.{◌≡◌, ℕ, ◌<◌, List, [], ◌∷◌, leng
 use Rattle.std.proofs.lemmas.Option.{slice_get_within}
 use Rattle.std.proofs.lemmas.List.{length-map}
 use Rattle.std.specs.FinMap.{empty}
-use Rattle.rewriting.specs.Lists.{IsAmong}
-use Rattle.rewriting.specs.Matching.{IsLeastMatch, HasNoMatch}
+use Rattle.rewriting.specs.Prelude.{IsAmong, IsLeastMatch, HasNoMatch, Position, conditions_under}
 use Rattle.rewriting.proofs.Common.{Term, Bindings, Rule, System, rule_at}
 use Rattle.certificates.specs.Certificates as math
 use Rattle.term_core.specs.declared.systems.Rule as program
 use Rattle.cert_model.specs.CertificateView.{redex_view}
 use Rattle.cert_model.specs.declared.model.Redex as program_redex
 use Rattle.rule_index.specs.Parts.{part}
-use Rattle.rewriting.specs.Positions.{Position}
-use Rattle.rewriting.specs.Overlaps.{conditions_under}
-use Rattle.certificates.specs.Evidence.{InfeasibilityEvidence}
-use Rattle.certificates.specs.Reasons.{EvidenceReason}
+use Rattle.certificates.specs.Prelude.{InfeasibilityEvidence, EvidenceReason}
 use Rattle.validity.specs.declared.CheckError.{CheckError}
 use Rattle.valid_certificates.specs.Peaks.{RedexPlace}
 use Rattle.redex_conditions.specs.Judged.{match_or_new, AreJudged, IsJudgedOn}

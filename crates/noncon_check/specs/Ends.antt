@@ -2,9 +2,7 @@
 use Rattle.std.specs.Prelude.{◌≡◌, ℕ, [], List, Result, Ok, Err}
 use Rattle.rewriting.specs.Terms as math
 use Rattle.rewriting.specs.Rules.{System}
-use Rattle.certificates.specs.Certificates.{Peak, Apartness, Redex}
-use Rattle.certificates.specs.Judging.{Derives, IsFirstBad}
-use Rattle.certificates.specs.Reasons.{foreign, first_bad, second_bad, BadStep}
+use Rattle.certificates.specs.Prelude.{Peak, Apartness, Redex, Derives, IsFirstBad, foreign, first_bad, second_bad, BadStep}
 use Rattle.term_core.specs.View.{view}
 use Rattle.term_core.specs.declared.terms.Term.{Term}
 use Rattle.cert_model.specs.ReasonView.{rejected_view}

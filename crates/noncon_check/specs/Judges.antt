@@ -1,8 +1,7 @@
 -- What the redexes of an end are judged by.
 use Rattle.std.specs.Prelude.{ℕ, ◌≡◌, ◌<◌, ◌≤◌, ◌^◌, List, length, map}
-use Rattle.rewriting.specs.Rules.{System}
-use Rattle.rewriting.specs.Systems.{IsSystem}
-use Rattle.term_core.specs.RuleView.{rule_view}
+use Rattle.rewriting.specs.Prelude.{System, IsSystem}
+use Rattle.term_core.specs.Prelude.{rule_view}
 use Rattle.term_core.specs.SystemView.{AreSound}
 use Rattle.term_core.specs.declared.systems.Rule.{Rule}
 use Rattle.certificates.specs.Certificates.{Apartness, by_normal_forms, by_rigid_caps}

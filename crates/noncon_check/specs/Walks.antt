@@ -1,8 +1,6 @@
 -- Entries are taken one by one as redexes are met.
 use Rattle.std.specs.Prelude.{ℕ, suc, ◌≡◌, ◌≢◌, ◌⊎◌, List, [], ◌∷◌, Option, None, Some, slice_get, Result, Ok, Err}
-use Rattle.certificates.specs.Certificates.{Redex}
-use Rattle.certificates.specs.Evidence.{InfeasibilityEvidence}
-use Rattle.certificates.specs.Reasons.{EvidenceReason, Rejection, redex_fails}
+use Rattle.certificates.specs.Prelude.{Redex, InfeasibilityEvidence, EvidenceReason, Rejection, redex_fails}
 use Rattle.cert_model.specs.ReasonView.{rejected_view}
 use Rattle.validity.specs.declared.CheckError.{CheckError}
 use Rattle.validity.specs.declared.CheckError.TheVariants.{Rejected, NoMemory}

@@ -1,7 +1,7 @@
 //! Evidence that the conditions of a rule are never met under the values of a match.
 ghost use Rattle.std.specs.Prelude.{◌≤◌, map};
 ghost use Rattle.rewriting.specs.Overlaps.{conditions_under};
-ghost use Rattle.term_core.specs.RuleView.{condition_view};
+ghost use Rattle.term_core.specs.Prelude.{condition_view};
 ghost use Rattle.term_core.specs.SystemView.{IsSound};
 ghost use Rattle.cert_model.specs.EvidenceView.{inf_evidence_view};
 ghost use Rattle.refuter.specs.Answers.{RefutesAnswers};

@@ -1,11 +1,8 @@
 //! The redexes of an end: wherever a rule matches, the next entry has to show that its conditions are never met there.
 ghost use Rattle.std.specs.Prelude.{◌≡◌, ◌≤◌, ◌∷◌, ◌↔◌, [], Some, IsTrue, MatchOption, IsSome, map, slice_get};
-ghost use Rattle.rewriting.specs.Terms.{size};
-ghost use Rattle.rewriting.specs.Rules.{rule_at};
-ghost use Rattle.rewriting.specs.Overlaps.{conditions_under};
+ghost use Rattle.rewriting.specs.Prelude.{size, rule_at, conditions_under};
 ghost use Rattle.rule_index.specs.Parts as parts;
-ghost use Rattle.term_core.specs.View.{view};
-ghost use Rattle.term_core.specs.RuleView.{condition_view};
+ghost use Rattle.term_core.specs.Prelude.{view, condition_view};
 ghost use Rattle.term_core.specs.SystemView.{IsSound};
 ghost use Rattle.cert_model.specs.CertificateView.{redex_view};
 ghost use Rattle.valid_certificates.specs.Peaks.{entry_place};

@@ -1,13 +1,9 @@
 -- Entries for some places, and then for others.
 use Rattle.std.proofs.Common.{ℕ, ◌≡◌, ◌+◌, ◌<◌, ◌≤◌, inl, Bool, true, false, List, [], ◌∷◌, ◌++◌, map, drop, length, get_or, Some, Result, Ok, Err, refl, sym, ap, ◌∙◌, subst, arith, append_assoc, append-nil}
 use Rattle.std.specs.FinMap.{empty}
-use Rattle.rewriting.specs.Matching.{IsLeastMatch, HasNoMatch}
-use Rattle.rewriting.specs.Rules.{Rule, System, rule_at}
-use Rattle.rewriting.specs.Overlaps.{conditions_under}
-use Rattle.rewriting.specs.Substitutions.{Bindings}
+use Rattle.rewriting.specs.Prelude.{IsLeastMatch, HasNoMatch, Rule, System, rule_at, conditions_under, Bindings}
 use Rattle.rewriting.proofs.Lists.{among_left, among_right}
-use Rattle.certificates.specs.Certificates.{Redex}
-use Rattle.certificates.specs.Evidence.{InfeasibilityEvidence}
+use Rattle.certificates.specs.Prelude.{Redex, InfeasibilityEvidence}
 use Rattle.term_core.specs.declared.terms.NoMemory.{NoMemory}
 use Rattle.valid_certificates.specs.Peaks.{RedexPlace}
 use Rattle.rule_index.specs.Parts.{Part}

@@ -3,16 +3,12 @@ use Rattle.std.proofs.Common.{ℕ, ◌≡◌, ◌+◌, inl, inr, List, [], ◌�
 use Rattle.std.specs.Prelude.{Bool, true, false, nat_eq, if◌then◌else◌}
 use Rattle.std.proofs.lemmas.Bool.{false≢true}
 use Rattle.std.proofs.lemmas.List.{map-append}
-use Rattle.rewriting.specs.Lists.{IsAmong}
-use Rattle.rewriting.specs.Terms.{Term}
-use Rattle.rewriting.specs.Rules.{System}
-use Rattle.rewriting.specs.Systems.{IsWellFormed}
+use Rattle.rewriting.specs.Prelude.{IsAmong, Term, System, IsWellFormed}
 use Rattle.rewriting.proofs.Lists.{among_left, among_right, among_middle}
 use Rattle.unifier_run.specs.Run.{clash}
 use Rattle.caps.specs.Evidence.{IsRigidOutcome}
 use Rattle.certificates.specs.Certificates as math
-use Rattle.certificates.specs.Certificates.{Apartness, by_normal_forms, by_rigid_caps, Certificate}
-use Rattle.certificates.specs.Judging.{Derives}
+use Rattle.certificates.specs.Prelude.{Apartness, by_normal_forms, by_rigid_caps, Certificate, Derives}
 use Rattle.certificates.proofs.Unique.{derives_unique}
 use Rattle.cops_names.specs.NameTable.{NameTable}
 use Rattle.valid_certificates.specs.Certificates.{IsValid}

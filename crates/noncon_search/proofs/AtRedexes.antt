@@ -1,13 +1,7 @@
 -- What is tried for a redex of a numbered term is tried for the redex of the term.
 use Rattle.std.proofs.Common.{ℕ, ◌≡◌, Bool, true, false, if◌then◌else◌, nat_eq, List, [], ◌∷◌, length, None, refl, sym, ap, subst}
-use Rattle.rewriting.specs.Lists.{AreDistinct}
-use Rattle.rewriting.specs.Rules.{Condition, Rule, System, rule_at}
-use Rattle.rewriting.specs.Substitutions.{Bindings, apply}
-use Rattle.rewriting.specs.Overlaps.{conditions_under}
-use Rattle.rewriting.specs.Terms.{Term}
-use Rattle.certificates.specs.Certificates.{Redex}
-use Rattle.certificates.specs.Evidence.{InfeasibilityEvidence}
-use Rattle.certificates.specs.Judging.{RuleMatches}
+use Rattle.rewriting.specs.Prelude.{AreDistinct, Condition, Rule, System, rule_at, Bindings, apply, conditions_under, Term}
+use Rattle.certificates.specs.Prelude.{Redex, InfeasibilityEvidence, RuleMatches}
 use Rattle.renumbering.specs.Rows.{naming}
 use Rattle.renumbering.specs.Spread.{spread}
 use Rattle.renumbering.proofs.Spreads.{spread_one_to_one}

@@ -2,8 +2,7 @@
 use Rattle.std.proofs.Common.{◌≡◌, ◌^◌, inl, inr, Bool, true, false, List, Option, None, Some, Ok, sym, ap, ◌∙◌, arith}
 use Rattle.std.specs.Prelude.{IfSome}
 use Rattle.std.proofs.lemmas.Bool.{false≢true}
-use Rattle.rewriting.specs.Terms.{Term}
-use Rattle.rewriting.specs.Rules.{System}
+use Rattle.rewriting.specs.Prelude.{Term, System}
 use Rattle.unifier_run.specs.Run.{Binding, unifier, clash, too_large}
 use Rattle.caps.specs.Caps.{kept}
 use Rattle.caps.specs.Evidence.{IsRigidOutcome, IsPairLarge}

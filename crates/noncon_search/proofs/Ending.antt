@@ -2,16 +2,14 @@
 use Rattle.std.proofs.Common.{ℕ, ◌≡◌, ◌++◌, inl, inr, List, map, Bor, Option, None, Some, Result, Ok, Err, IsErr, refl, sym, ap₂, subst, arith}
 use Rattle.std.proofs.lemmas.Bool.{false≢true}
 use Rattle.std.proofs.lemmas.Grind.{flat_map-append}
-use Rattle.rewriting.specs.Terms.{Term}
-use Rattle.rewriting.specs.Rules.{System}
+use Rattle.rewriting.specs.Prelude.{Term, System}
 use Rattle.unifier_run.specs.Overlaps as math
 use Rattle.unifier_run.specs.Overlaps.{AreOverlaps}
 use Rattle.certificates.specs.Certificates.{Certificate}
 use Rattle.cops_names.specs.NameTable.{NameTable}
 use Rattle.valid_certificates.specs.Certificates.{IsValid}
 use Rattle.term_core.specs.declared.terms.NoMemory.{NoMemory}
-use Rattle.term_core.specs.View.{view}
-use Rattle.term_core.specs.RuleView.{rule_view}
+use Rattle.term_core.specs.Prelude.{view, rule_view}
 use Rattle.term_core.specs.declared.systems.Rule.{Rule}
 use Rattle.cert_model.specs.CertificateView.{certificate_view}
 use Rattle.critical_pairs.specs.View.{overlap_view}

@@ -2,14 +2,9 @@
 use Rattle.std.proofs.Common.{ℕ, suc, ◌≡◌, ◌+◌, ◌-◌, ◌<◌, ◌≤◌, inl, inr, List, [], ◌∷◌, map, length, Option, None, Some, Result, Ok, Err, sym, ap, ◌∙◌, subst, subst₂, arith}
 use Rattle.std.specs.List.{range_with_len}
 use Rattle.std.proofs.lemmas.List.{length-map}
-use Rattle.rewriting.specs.Overlaps.{conditions_under}
-use Rattle.rewriting.specs.Rules.{Condition, System}
-use Rattle.rewriting.specs.Substitutions.{Substitution}
+use Rattle.rewriting.specs.Prelude.{conditions_under, Condition, System, Substitution}
 use Rattle.rewriting.proofs.Conditions.{length-conditions_under}
-use Rattle.certificates.specs.Evidence.{Automaton, InfeasibilityEvidence, by_automaton}
-use Rattle.certificates.specs.Judging.{hypothesis_at}
-use Rattle.certificates.specs.Reasons.{EvidenceReason}
-use Rattle.certificates.specs.Sizes.{DoConditionsFit}
+use Rattle.certificates.specs.Prelude.{Automaton, InfeasibilityEvidence, by_automaton, hypothesis_at, EvidenceReason, DoConditionsFit}
 use Rattle.term_core.specs.RuleView.{condition_view}
 use Rattle.term_core.specs.declared.systems.Cond.{Cond}
 use Rattle.term_core.specs.declared.terms.NoMemory.{NoMemory}

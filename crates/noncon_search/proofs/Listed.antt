@@ -3,19 +3,13 @@ use Rattle.std.proofs.Common.{ℕ, zero, suc, ◌≡◌, ◌+◌, ◌<◌, inl, 
 use Rattle.std.specs.Prelude.{false, ◌||◌}
 use Rattle.std.proofs.lemmas.List.{take_all}
 use Rattle.std.proofs.lemmas.Bool.{false≢true, or_parts, or_from}
-use Rattle.rewriting.specs.Lists.{IsAmong}
-use Rattle.rewriting.specs.Terms.{Term, Fits}
+use Rattle.rewriting.specs.Prelude.{IsAmong, Term, Fits, System, Signature, AreRules, is_same}
 use Rattle.rewriting.specs.Rules as math_rules
-use Rattle.rewriting.specs.Rules.{System}
-use Rattle.rewriting.specs.Signatures.{Signature}
-use Rattle.rewriting.specs.Systems.{AreRules}
-use Rattle.rewriting.specs.Tests.{is_same}
 use Rattle.rewriting.proofs.Tests.{equal_same}
 use Rattle.certificates.specs.Judging.{Derives}
 use Rattle.unifier_run.specs.Overlaps as math
 use Rattle.unifier_run.specs.Overlaps.{AreOverlaps}
-use Rattle.term_core.specs.View.{view}
-use Rattle.term_core.specs.RuleView.{rule_view}
+use Rattle.term_core.specs.Prelude.{view, rule_view}
 use Rattle.term_core.specs.declared.systems.Rule.{Rule}
 use Rattle.critical_pairs.specs.View.{overlap_view}
 use Rattle.critical_pairs.specs.declared.Overlap.{Overlap}

@@ -1,11 +1,7 @@
 -- Evidence for a redex of a term, as one of two terms.
 use Rattle.std.proofs.Common.{ℕ, ◌≡◌, ◌+◌, inl, inr, List, [], ◌∷◌, ◌++◌, Option, None, refl, sym, subst, arith}
-use Rattle.rewriting.specs.Lists.{IsAmong}
-use Rattle.rewriting.specs.Terms.{Term}
-use Rattle.rewriting.specs.Rules.{Condition, System, rule_at}
-use Rattle.certificates.specs.Certificates.{Redex}
-use Rattle.certificates.specs.Evidence.{InfeasibilityEvidence}
-use Rattle.certificates.specs.Reasons.{EvidenceReason}
+use Rattle.rewriting.specs.Prelude.{IsAmong, Term, Condition, System, rule_at}
+use Rattle.certificates.specs.Prelude.{Redex, InfeasibilityEvidence, EvidenceReason}
 use Rattle.valid_certificates.specs.Peaks.{RedexPlace, AreConditionsAt, IsRedexJudged, chosen}
 use Rattle.first_found.specs.Items.{NoneGives, IsFirst, one}
 use Rattle.first_found.specs.Rows.{AreFirsts}

@@ -1,11 +1,8 @@
 -- What is tried for conditions is tried for renamed ones.
 use Rattle.std.proofs.Common.{ℕ, zero, suc, ◌≡◌, List, [], ◌∷◌, Option, None, Some, option_map, slice_get, refl, sym, ap, ◌∙◌, subst}
-use Rattle.rewriting.specs.Substitutions.{Substitution}
-use Rattle.rewriting.specs.Rules.{Condition, System}
-use Rattle.rewriting.specs.Overlaps.{condition_under, conditions_under}
+use Rattle.rewriting.specs.Prelude.{Substitution, Condition, System, condition_under, conditions_under}
 use Rattle.unifier_run.proofs.Renamed.{names}
-use Rattle.certificates.specs.Evidence.{Automaton, InfeasibilityEvidence, by_automaton}
-use Rattle.certificates.specs.Judging.{hypothesis_at}
+use Rattle.certificates.specs.Prelude.{Automaton, InfeasibilityEvidence, by_automaton, hypothesis_at}
 use Rattle.redex_conditions.proofs.Renaming.{conditions_renamed}
 use Rattle.search_spaces.specs.Grown.{GrowsTo}
 use Rattle.search_spaces.specs.Refuting.{Refuting, try_caps, try_growth, Tries}

@@ -1,8 +1,7 @@
 -- Items one after the other.
 use Rattle.std.proofs.Common.{ℕ, ◌≡◌, ◌+◌, ◌<◌, List, [], ◌∷◌, ◌++◌, append_assoc, append-nil, Result, Ok, Err, IsErr, refl, sym, ap, ◌∙◌, subst, arith}
 use Rattle.std.proofs.lemmas.Bool.{false≢true}
-use Rattle.rewriting.specs.Terms.{Term}
-use Rattle.rewriting.specs.Rules.{System}
+use Rattle.rewriting.specs.Prelude.{Term, System}
 use Rattle.certificates.specs.Certificates as math
 use Rattle.cops_names.specs.NameTable.{NameTable}
 use Rattle.term_core.specs.declared.terms.NoMemory.{NoMemory}

@@ -1,8 +1,7 @@
 -- What the parts of the search answer.
 use Rattle.std.specs.Prelude.{ℕ, ◌≡◌, Bool, true, false, List, map, Option, None, Some, Result, Ok, Err, Vec}
 use Rattle.std.specs.Global.{Global}
-use Rattle.rewriting.specs.Terms.{Term}
-use Rattle.rewriting.specs.Rules.{System}
+use Rattle.rewriting.specs.Prelude.{Term, System}
 use Rattle.unifier_run.specs.Run.{clash}
 use Rattle.caps.specs.Evidence.{IsRigidOutcome}
 use Rattle.certificates.specs.Certificates as math

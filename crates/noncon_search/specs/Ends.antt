@@ -1,7 +1,6 @@
 -- The listed terms of a start, as the ends of peaks.
 use Rattle.std.specs.Prelude.{◌≡◌, ◌⊎◌, ◌^◌, true, false, List, [], ◌∷◌, map, IfSome}
-use Rattle.rewriting.specs.Terms.{Term, var, Fits}
-use Rattle.rewriting.specs.Rules.{System}
+use Rattle.rewriting.specs.Prelude.{Term, var, Fits, System}
 use Rattle.unifier_run.specs.Run.{clash}
 use Rattle.caps.specs.Caps.{kept, IsCapLarge}
 use Rattle.caps.specs.Evidence.{IsRigidOutcome}

@@ -1,14 +1,8 @@
 -- The entries for the redexes of a term whose variables are 0 to n - 1: a rule's variables k without value become n + k.
 use Rattle.std.specs.Prelude.{ℕ, ◌≡◌, true, false, List, ◌++◌, length, Some, Bool, Result, Ok, Err}
 use Rattle.std.specs.FinMap.{empty}
-use Rattle.rewriting.specs.Lists.{IsAmong}
-use Rattle.rewriting.specs.Terms.{Term}
-use Rattle.rewriting.specs.Substitutions.{Bindings}
-use Rattle.rewriting.specs.Matching.{IsLeastMatch}
-use Rattle.rewriting.specs.Rules.{Rule, System, rule_at}
-use Rattle.rewriting.specs.Overlaps.{conditions_under}
-use Rattle.certificates.specs.Evidence.{InfeasibilityEvidence}
-use Rattle.certificates.specs.Certificates.{Redex}
+use Rattle.rewriting.specs.Prelude.{IsAmong, Term, Bindings, IsLeastMatch, Rule, System, rule_at, conditions_under}
+use Rattle.certificates.specs.Prelude.{InfeasibilityEvidence, Redex}
 use Rattle.term_core.specs.declared.terms.NoMemory.{NoMemory}
 use Rattle.valid_certificates.specs.Peaks.{RedexPlace}
 use Rattle.rule_index.specs.Parts.{Part}

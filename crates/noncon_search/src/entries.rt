@@ -1,11 +1,9 @@
 //! The entries for the redexes of a term, one after the other, each with evidence that the conditions of its rule are never met there.
 ghost use Rattle.std.specs.Prelude.{◌≡◌, ◌≤◌, ◌++◌, ◌∷◌, [], OnOk, IsSome, length, map};
-ghost use Rattle.rewriting.specs.Rules.{rule_at};
-ghost use Rattle.rewriting.specs.Overlaps.{conditions_under};
+ghost use Rattle.rewriting.specs.Prelude.{rule_at, conditions_under};
 ghost use Rattle.rule_index.specs.Roots.{rules_at};
 ghost use Rattle.rule_index.specs.Parts as parts;
-ghost use Rattle.term_core.specs.View.{view};
-ghost use Rattle.term_core.specs.RuleView.{condition_view};
+ghost use Rattle.term_core.specs.Prelude.{view, condition_view};
 ghost use Rattle.term_core.specs.SystemView.{IsSound};
 ghost use Rattle.cert_model.specs.CertificateView.{redex_view};
 ghost use Rattle.cert_model.specs.EvidenceView.{inf_evidence_view};

@@ -1,7 +1,6 @@
 -- The answer for a certificate, from those for the classes and for the overlaps, and what a valid one shows.
 use Rattle.std.proofs.Common.{Result, Ok, Err, sym, subst}
-use Rattle.rewriting.specs.Rules.{System}
-use Rattle.rewriting.specs.Classes.{IsLeftLinear, IsType3, IsExtendedOriented}
+use Rattle.rewriting.specs.Prelude.{System, IsLeftLinear, IsType3, IsExtendedOriented}
 use Rattle.certificates.specs.Reasons.{left_linear, type3, extended_oriented, right_stable}
 use Rattle.cert_model.specs.ReasonView.{rejected_view}
 use Rattle.validity.specs.declared.CheckError.{CheckError}

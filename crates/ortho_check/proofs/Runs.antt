@@ -1,9 +1,7 @@
 -- A run over the entries of a certificate: its tally after one more entry, and what it answers in the end.
 use Rattle.std.proofs.Common.{◌≡◌, inl, inr, ℕ, ◌≤◌, List, [], ◌∷◌, ◌++◌, length, map, take, take_all, Result, Ok, Err, refl, sym, ap, subst, subst₂}
 use Rattle.std.specs.Prelude.{OnOk}
-use Rattle.rewriting.specs.Rules.{System}
-use Rattle.rewriting.specs.Systems.{IsSystem}
-use Rattle.rewriting.specs.Confluence.{IsConfluent}
+use Rattle.rewriting.specs.Prelude.{System, IsSystem, IsConfluent}
 use Rattle.rewriting.proofs.Laws.{well_formed}
 use Rattle.certificates.specs.Certificates.{PairEntry}
 use Rattle.cert_model.specs.CertificateView.{pair_entry_view}

@@ -1,9 +1,7 @@
 -- A system with a valid certificate is almost orthogonal.
 use Rattle.std.proofs.Common.{◌≡◌, inl, inr, ℕ, zero, suc, length, take, drop, List, [], ◌∷◌, Some, None, refl, sym, ap, ◌∙◌, subst, subst₂}
 use Rattle.std.proofs.Math.Seq.{take-append_seam, drop-append_seam}
-use Rattle.rewriting.specs.Systems.{IsWellFormed}
-use Rattle.rewriting.specs.Classes.{IsAt}
-use Rattle.rewriting.specs.Overlaps.{IsCriticalPair, condition_under, conditions_under}
+use Rattle.rewriting.specs.Prelude.{IsWellFormed, IsAt, IsCriticalPair, condition_under, conditions_under}
 use Rattle.rewriting.proofs.Common.{Term, Position, Substitution, apply, compose, values_of, even, odd, Condition, Rule, System}
 use Rattle.rewriting.proofs.Instances.{apply-apply}
 use Rattle.rewriting.proofs.Conditions.{length-conditions_under}
@@ -13,10 +11,7 @@ use Rattle.unifier_run.specs.Overlaps.{Overlap}
 use Rattle.caps.specs.Caps.{any}
 use Rattle.caps.specs.Evidence.{IsPairOutcome}
 use Rattle.caps.proofs.Rigid.{caps_apart}
-use Rattle.certificates.specs.Certificates.{PairEntry}
-use Rattle.certificates.specs.Evidence.{PairEvidence, trivial_pair, infeasible_pair, conflicting_pair, joined_pair, unfeasible_pair}
-use Rattle.certificates.specs.Judging.{hypothesis_at}
-use Rattle.certificates.specs.Reasons.{not_allowed}
+use Rattle.certificates.specs.Prelude.{PairEntry, PairEvidence, trivial_pair, infeasible_pair, conflicting_pair, joined_pair, unfeasible_pair, hypothesis_at, not_allowed}
 use Rattle.level_theorem.specs.Evidence.{NeverMeet, IsHarmless, trivial, infeasible, conflict}
 use Rattle.level_theorem.specs.AlmostOrthogonal.{IsAlmostOrthogonal}
 use Rattle.valid_certificates.specs.Kinds.{ortho}

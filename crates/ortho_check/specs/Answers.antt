@@ -1,10 +1,8 @@
 -- What the test of the classes answers.
 use Rattle.std.specs.Prelude.{◌≡◌, List, Result, Ok, Err}
 use Rattle.rewriting.specs.Rules.{System, EachRule}
-use Rattle.certificates.specs.Certificates.{PairEntry}
-use Rattle.certificates.specs.Reasons.{Class, Blame, class_fails}
+use Rattle.certificates.specs.Prelude.{PairEntry, Class, Blame, class_fails, IsInClass}
 use Rattle.cert_model.specs.ReasonView.{rejected_view}
-use Rattle.certificates.specs.Blames.{IsInClass}
 use Rattle.validity.specs.declared.CheckError.{CheckError}
 use Rattle.validity.specs.declared.CheckError.TheVariants.{Rejected, NoMemory}
 use Rattle.valid_certificates.specs.Confluence.{IsInOrthoClasses, IsBlameOf, IsOrthoRejected}

@@ -1,8 +1,6 @@
 -- What a valid certificate shows.
 use Rattle.std.specs.Prelude.{List}
-use Rattle.rewriting.specs.Rules.{System}
-use Rattle.rewriting.specs.Systems.{IsWellFormed}
-use Rattle.rewriting.specs.Confluence.{IsConfluent}
+use Rattle.rewriting.specs.Prelude.{System, IsWellFormed, IsConfluent}
 use Rattle.certificates.specs.Certificates.{PairEntry}
 use Rattle.valid_certificates.specs.Confluence.{IsValidOrtho}
 

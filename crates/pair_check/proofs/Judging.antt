@@ -2,13 +2,10 @@
 use Rattle.std.proofs.Common.{ℕ, zero, suc, ◌≡◌, ◌-◌, List, [], ◌∷◌, map, take, drop, length, Option, None, Some, Result, Ok, Err, sym, ap, ◌∙◌, subst, arith}
 use Rattle.std.proofs.lemmas.List.{take-map, drop-map, take_all, length-drop}
 use Rattle.rewriting.specs.Terms as math
-use Rattle.rewriting.specs.Terms.{Fits}
-use Rattle.rewriting.specs.Rules.{Condition, System}
+use Rattle.rewriting.specs.Prelude.{Fits, Condition, System}
 use Rattle.unifier_run.specs.Overlaps.{Overlap}
-use Rattle.certificates.specs.Derivations.{Derivation}
-use Rattle.certificates.specs.Judging.{Derives, hypothesis_at}
-use Rattle.certificates.specs.Reasons.{EvidenceReason, conflict_left, conflict_unifies, conflict_large, unfeasible_first, unfeasible_second, first_reducible, second_reducible, unfeasible_unifies, unfeasible_large}
-use Rattle.certificates.specs.Sizes.{DoConditionsFit}
+use Rattle.certificates.specs.Prelude.{Derivation, Derives, hypothesis_at, EvidenceReason, conflict_left, conflict_unifies, conflict_large, unfeasible_first, unfeasible_second}
+use Rattle.certificates.specs.Prelude.{first_reducible, second_reducible, unfeasible_unifies, unfeasible_large, DoConditionsFit}
 use Rattle.certificates.proofs.Sizes.{hypothesis_fits}
 use Rattle.term_core.specs.RuleView.{condition_view}
 use Rattle.term_core.specs.declared.systems.Cond as program

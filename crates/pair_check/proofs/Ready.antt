@@ -1,11 +1,7 @@
 -- The terms of an overlap fit, and the conditions of two rules of a system are at most 200.
 use Rattle.std.proofs.Common.{ℕ, zero, suc, ◌≡◌, ◌+◌, ◌≤◌, length, Some, ap, ◌∙◌, arith}
 use Rattle.std.proofs.lemmas.List.{length-append}
-use Rattle.rewriting.specs.Substitutions.{compose}
-use Rattle.rewriting.specs.Unifiers.{even, odd}
-use Rattle.rewriting.specs.Rules.{Rule, System, rule_at}
-use Rattle.rewriting.specs.Systems.{IsSystem}
-use Rattle.rewriting.specs.Overlaps.{conditions_under}
+use Rattle.rewriting.specs.Prelude.{compose, even, odd, Rule, System, rule_at, IsSystem, conditions_under}
 use Rattle.rewriting.proofs.Conditions.{length-conditions_under}
 use Rattle.unifier_run.specs.Run.{value}
 use Rattle.unifier_run.specs.Overlaps.{Overlap, IsOverlapOf}

@@ -4,8 +4,7 @@ use Rattle.std.proofs.lemmas.List.{map_more}
 use Rattle.std.specs.Prelude.{OnOk}
 use Rattle.rewriting.specs.Rules.{System}
 use Rattle.unifier_run.specs.Overlaps.{Overlap, AreOverlaps}
-use Rattle.certificates.specs.Certificates.{PairEntry}
-use Rattle.certificates.specs.Reasons.{Rejection}
+use Rattle.certificates.specs.Prelude.{PairEntry, Rejection}
 use Rattle.cert_model.specs.CertificateView.{pair_entry_view}
 use Rattle.cert_model.specs.ReasonView.{rejected_view}
 use Rattle.cert_model.specs.declared.model.PairEntry as program

@@ -1,8 +1,7 @@
 -- A search for the overlaps of a system that has a list of them.
 use Rattle.std.proofs.Common.{suc, ◌≡◌, ◌≤◌, inl, inr, List, [], ◌∷◌, ◌++◌, length, refl, sym, ap, ◌∙◌, subst, arith, append_assoc}
 use Rattle.std.proofs.lemmas.List.{length-append, append-nil}
-use Rattle.rewriting.specs.Lists.{IsAmong}
-use Rattle.rewriting.specs.Rules.{System}
+use Rattle.rewriting.specs.Prelude.{IsAmong, System}
 use Rattle.unifier_run.specs.Run.{unifier, clash}
 use Rattle.unifier_run.specs.Overlaps.{Triple, Overlap, triple, IsOverlapOf, AreOverlaps}
 use Rattle.unifier_run.specs.Triples.{all_triples, DoesClash}

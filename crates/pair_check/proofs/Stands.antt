@@ -1,13 +1,11 @@
 -- Where a run over entries stands, and what an entry makes of it.
 use Rattle.std.proofs.Common.{ℕ, ◌≡◌, ◌≢◌, ◌+◌, ◌≤◌, inl, inr, refl, true, false, List, [], ◌∷◌, ◌++◌, length, Option, None, Some, Ok, Err, is_some, sym, ap, ◌∙◌, subst, subst₂, arith, append_assoc, add-one}
 use Rattle.std.proofs.lemmas.List.{length-append}
-use Rattle.rewriting.specs.Lists.{IsAmong}
+use Rattle.rewriting.specs.Prelude.{IsAmong, System}
 use Rattle.rewriting.proofs.Lists.{among_middle}
-use Rattle.rewriting.specs.Rules.{System}
 use Rattle.unifier_run.specs.Overlaps as math
 use Rattle.unifier_run.specs.Overlaps.{triple, IsOverlapOf, AreOverlaps}
-use Rattle.certificates.specs.Certificates.{PairEntry}
-use Rattle.certificates.specs.Reasons.{EvidenceReason, Rejection, pair_missing, pair_extra, evidence_fails}
+use Rattle.certificates.specs.Prelude.{PairEntry, EvidenceReason, Rejection, pair_missing, pair_extra, evidence_fails}
 use Rattle.cert_model.specs.ReasonView.{rejected_view}
 use Rattle.cert_model.specs.declared.reasons.Rejected as reasons
 use Rattle.critical_pairs.specs.Offers.{Search, search_of, DoesStay, OfferAnswers}

@@ -1,17 +1,14 @@
 -- What the parts of the judgement of an overlap's evidence answer.
 use Rattle.std.specs.Prelude.{◌≡◌, ◌≢◌, ◌≤◌, List, length, Option, None, Some, Result, Ok, Err}
 use Rattle.rewriting.specs.Terms as math
-use Rattle.rewriting.specs.Terms.{nil, cons, Fits}
-use Rattle.rewriting.specs.Rules.{Condition, System}
+use Rattle.rewriting.specs.Prelude.{nil, cons, Fits, Condition, System}
 use Rattle.unifier_run.specs.Run.{Binding, unifier, clash, too_large, IsOutcome}
 use Rattle.unifier_run.specs.Overlaps.{Overlap}
 use Rattle.unifier_run.specs.Irreducible.{DoAllClash}
 use Rattle.caps.specs.Caps.{any}
 use Rattle.caps.specs.Evidence.{IsPairOutcome, IsPairLarge}
-use Rattle.certificates.specs.Derivations.{Derivation}
-use Rattle.certificates.specs.Judging.{Derives, IsFirstBad}
-use Rattle.certificates.specs.Reasons.{EvidenceReason, conflict_left, conflict_unifies, conflict_large, BadStep, first_reducible, second_reducible, unfeasible_unifies, unfeasible_large}
-use Rattle.certificates.specs.Sizes.{DoConditionsFit}
+use Rattle.certificates.specs.Prelude.{Derivation, Derives, IsFirstBad, EvidenceReason, conflict_left, conflict_unifies, conflict_large, BadStep, first_reducible, second_reducible}
+use Rattle.certificates.specs.Prelude.{unfeasible_unifies, unfeasible_large, DoConditionsFit}
 use Rattle.term_core.specs.View.{view}
 use Rattle.term_core.specs.declared.terms.Term.{Term}
 use Rattle.cert_model.specs.ReasonView.{evidence_reason_view}

@@ -3,8 +3,7 @@ use Rattle.std.specs.Prelude.{ℕ, ◌≡◌, ◌≢◌, ◌⊎◌, ◌+◌, Lis
 use Rattle.rewriting.specs.Rules.{System}
 use Rattle.unifier_run.specs.Overlaps as math
 use Rattle.unifier_run.specs.Overlaps.{triple, IsOverlapOf}
-use Rattle.certificates.specs.Certificates.{PairEntry}
-use Rattle.certificates.specs.Reasons.{EvidenceReason, Rejection, pair_large, too_many_pairs, pair_missing, pair_extra, evidence_fails}
+use Rattle.certificates.specs.Prelude.{PairEntry, EvidenceReason, Rejection, pair_large, too_many_pairs, pair_missing, pair_extra, evidence_fails}
 use Rattle.term_core.specs.declared.terms.NoMemory.{NoMemory as Wanting}
 use Rattle.cert_model.specs.ReasonView.{rejected_view}
 use Rattle.cert_model.specs.declared.reasons.Rejected as reasons

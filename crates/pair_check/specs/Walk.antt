@@ -1,7 +1,6 @@
 -- The overlaps that a walk over entries goes along.
 use Rattle.std.specs.Prelude.{List}
-use Rattle.rewriting.specs.Rules.{System}
-use Rattle.rewriting.specs.Lists.{IsAmong}
+use Rattle.rewriting.specs.Prelude.{System, IsAmong}
 use Rattle.unifier_run.specs.Overlaps.{Overlap, IsOverlapOf}
 
 -- each of them is an overlap of the system

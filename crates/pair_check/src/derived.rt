@@ -1,10 +1,8 @@
 //! Derivations under the conditions of an overlap: its sides derive one term, or a condition's left side two irreducible ones that do not unify.
 ghost use Rattle.std.specs.Prelude.{map};
 ghost use Rattle.rewriting.specs.Terms as math;
-ghost use Rattle.certificates.specs.Sizes.{DoConditionsFit, IsShort};
-ghost use Rattle.certificates.specs.Reasons.{join_left, join_right, unfeasible_first, unfeasible_second};
-ghost use Rattle.term_core.specs.View.{view};
-ghost use Rattle.term_core.specs.RuleView.{condition_view};
+ghost use Rattle.certificates.specs.Prelude.{DoConditionsFit, IsShort, join_left, join_right, unfeasible_first, unfeasible_second};
+ghost use Rattle.term_core.specs.Prelude.{view, condition_view};
 ghost use Rattle.cert_model.specs.DerivationView.{derivation_view};
 ghost use Rattle.critical_pairs.specs.View.{overlap_view};
 ghost use Rattle.refuter.specs.Answers.{RefutesAnswers};

@@ -3,8 +3,7 @@ use Rattle.std.proofs.Common.{ℕ, ◌≡◌, inl, inr, List, map, Option, None,
 use Rattle.rewriting.specs.Rules.{Condition, System}
 use Rattle.unifier_run.specs.Overlaps.{Overlap}
 use Rattle.certificates.specs.Evidence as math
-use Rattle.certificates.specs.Evidence.{InfeasibilityEvidence, by_automaton, infeasible_pair}
-use Rattle.certificates.specs.Judging.{hypothesis_at}
+use Rattle.certificates.specs.Prelude.{InfeasibilityEvidence, by_automaton, infeasible_pair, hypothesis_at}
 use Rattle.judged_evidence.specs.Evidence.{IsInfeasibilityJudged}
 use Rattle.valid_certificates.specs.Kinds.{Kind, ortho, quasi}
 use Rattle.valid_certificates.specs.PairEvidence.{IsAllowed, IsPairJudged}

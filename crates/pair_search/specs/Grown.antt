@@ -1,8 +1,7 @@
 -- What is remembered of what growth gave for a condition.
 use Rattle.std.specs.Prelude.{Option, None, Some, option_map}
 use Rattle.std.specs.Coded.{Coded, coded×, coded_option}
-use Rattle.rewriting.specs.Rules.{Condition, System}
-use Rattle.rewriting.specs.Codes.{coded_condition}
+use Rattle.rewriting.specs.Prelude.{Condition, System, coded_condition}
 use Rattle.certificates.specs.Evidence as math
 use Rattle.term_core.specs.RuleView.{condition_view}
 use Rattle.cert_model.specs.EvidenceView.{automaton_view}

@@ -1,8 +1,7 @@
 //! Automata that grow from conditions, remembered for the overlaps that follow with the same condition.
 ghost use Rattle.std.specs.Prelude.{◌≡◌, None, Some, IfOk, map, option_map};
 ghost use Rattle.unifier_run.specs.Overlaps.{IsOverlapOf};
-ghost use Rattle.certificates.specs.Evidence.{by_automaton, infeasible_pair};
-ghost use Rattle.certificates.specs.Judging.{hypothesis_at};
+ghost use Rattle.certificates.specs.Prelude.{by_automaton, infeasible_pair, hypothesis_at};
 ghost use Rattle.valid_certificates.specs.Kinds.{Kind};
 ghost use Rattle.term_core.specs.RuleView.{condition_view};
 ghost use Rattle.cert_model.specs.EvidenceView.{automaton_view, pair_evidence_view};

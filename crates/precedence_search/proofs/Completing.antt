@@ -4,13 +4,8 @@ use Rattle.std.proofs.lemmas.Bool.{both_ways, cases_Bool, cases_lt}
 use Rattle.std.proofs.lemmas.List.{length-append}
 use Rattle.std.proofs.lemmas.Option.{slice_get_within}
 use Rattle.general_lemmas.proofs.Places.{slice_get_shorter, slice_get_seam}
-use Rattle.rewriting.specs.Lists.{IsAmong}
+use Rattle.rewriting.specs.Prelude.{IsAmong, rule_at, EachRule, IsOver, AreOver, IsSystem, Term, var, app, Terms, nil, cons, Head, unraveled, heads}
 use Rattle.rewriting.specs.Rules as math
-use Rattle.rewriting.specs.Rules.{rule_at, EachRule}
-use Rattle.rewriting.specs.Signatures.{IsOver, AreOver}
-use Rattle.rewriting.specs.Systems.{IsSystem}
-use Rattle.rewriting.specs.Terms.{Term, var, app, Terms, nil, cons}
-use Rattle.rewriting.specs.Unraveling.{Head, unraveled, heads}
 use Rattle.rewriting.proofs.Laws.{well_formed}
 use Rattle.interpretations.proofs.Bound.{length-heads}
 use Rattle.path_orders.specs.Precedences.{Precedence, StandsAt, IsOrdered}

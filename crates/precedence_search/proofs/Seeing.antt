@@ -3,8 +3,7 @@ use Rattle.std.proofs.Common.{ℕ, zero, suc, ◌≡◌, ◌+◌, ◌-◌, map, 
 use Rattle.std.proofs.lemmas.List.{length-append, map-append}
 use Rattle.std.proofs.lemmas.Option.{slice_get_within}
 use Rattle.rewriting.specs.Rules as math
-use Rattle.rewriting.specs.Systems.{IsSystem}
-use Rattle.rewriting.specs.Unraveling.{Head, heads, unraveled}
+use Rattle.rewriting.specs.Prelude.{IsSystem, Head, heads, unraveled}
 use Rattle.term_core.specs.HeadView.{head_view}
 use Rattle.term_core.specs.declared.systems.Head as code
 use Rattle.cc_count.specs.Counts.{Counts}

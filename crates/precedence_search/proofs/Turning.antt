@@ -4,8 +4,7 @@ use Rattle.std.proofs.lemmas.Bool.{cases_lt, cases_eq}
 use Rattle.std.proofs.lemmas.List.{length-set, length-append, map-append}
 use Rattle.std.proofs.lemmas.Option.{slice_get_within}
 use Rattle.general_lemmas.proofs.Places.{slice_get_longer, slice_get_shorter, slice_get_seam}
-use Rattle.rewriting.specs.Lists.{AreDistinct}
-use Rattle.rewriting.specs.Unraveling.{Head}
+use Rattle.rewriting.specs.Prelude.{AreDistinct, Head}
 use Rattle.path_orders.specs.Precedences.{Precedence}
 use Rattle.lpo.specs.Places.{StandsIn, IsNewIn, placed, ArePlaces}
 use Rattle.term_core.specs.HeadView.{head_view}

@@ -1,8 +1,6 @@
 -- One visit after the other: what was paid, and where the walk ends.
 use Rattle.std.proofs.Common.{ℕ, suc, ◌≡◌, ◌+◌, ◌*◌, ◌<◌, ◌⊎◌, inl, List, [], Bool, length, sym, ap, ◌∙◌, subst, arith}
-use Rattle.rewriting.specs.Rules.{Rule, System}
-use Rattle.rewriting.specs.Systems.{IsSystem}
-use Rattle.rewriting.specs.Unraveling.{Head, heads, unraveled}
+use Rattle.rewriting.specs.Prelude.{Rule, System, IsSystem, Head, heads, unraveled}
 use Rattle.certificates.specs.Certificates.{precedence_measure}
 use Rattle.interpretations.specs.Size.{DoesUnravelingFit}
 use Rattle.cc_count.specs.Counts.{Counts, Spends}

@@ -3,9 +3,7 @@ use Rattle.std.proofs.Common.{ℕ, zero, suc, ◌≡◌, ◌+◌, ◌<◌, ◌�
 use Rattle.std.proofs.lemmas.Bool.{cases_lt}
 use Rattle.std.proofs.lemmas.List.{length-append, same_from_push}
 use Rattle.std.proofs.lemmas.Option.{slice_get_within}
-use Rattle.rewriting.specs.Lists.{IsAmong, AreDistinct, IsSorted}
-use Rattle.rewriting.specs.Rules.{System}
-use Rattle.rewriting.specs.Unraveling.{Head, heads}
+use Rattle.rewriting.specs.Prelude.{IsAmong, AreDistinct, IsSorted, System, Head, heads}
 use Rattle.rewriting.proofs.Lists.{among_left, among_right, among_either, among_middle, before_one, sorted_right, sorted_across}
 use Rattle.rewriting.proofs.Members.{place_among, among_place}
 use Rattle.certificates.specs.Certificates.{precedence_measure}

@@ -1,8 +1,6 @@
 -- Where a walk through the pruned list of precedences stands.
 use Rattle.std.specs.Prelude.{ℕ, suc, ◌≡◌, ◌+◌, ◌<◌, ◌≤◌, ◌⊎◌, List, [], ◌∷◌, ◌++◌, map, length, slice_get, Option, None, Some, Bool, true, false}
-use Rattle.rewriting.specs.Rules.{Rule, System}
-use Rattle.rewriting.specs.Systems.{IsSystem}
-use Rattle.rewriting.specs.Unraveling.{Head, heads, unraveled}
+use Rattle.rewriting.specs.Prelude.{Rule, System, IsSystem, Head, heads, unraveled}
 use Rattle.first_found.specs.Trees.{IsBarrenBelow}
 use Rattle.first_found.specs.Paths.{HasWalked}
 use Rattle.term_core.specs.HeadView.{head_view}

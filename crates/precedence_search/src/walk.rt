@@ -1,10 +1,8 @@
 //! The walk through the precedences, symbol by symbol.
 ghost use Rattle.std.specs.Prelude.{◌≡◌, ◌<◌, ◌^◌, ℕ, IfOk, OnOk, MatchBool, length, map};
-ghost use Rattle.rewriting.specs.Lists.{IsSorted};
+ghost use Rattle.rewriting.specs.Prelude.{IsSorted, heads};
 ghost use Rattle.rewriting.specs.Rules as math;
-ghost use Rattle.rewriting.specs.Unraveling.{heads};
-ghost use Rattle.term_core.specs.HeadView.{head_view};
-ghost use Rattle.term_core.specs.RuleView.{rule_view};
+ghost use Rattle.term_core.specs.Prelude.{head_view, rule_view};
 ghost use Rattle.cc_count.specs.Counts.{Spends};
 ghost use Rattle.unravel.specs.Answers.{IsUnraveled};
 ghost use Rattle.lpo.specs.Answers.{IsOf};

@@ -1,9 +1,7 @@
 -- The list of precedences has each precedence and nothing else, in order.
 use Rattle.std.proofs.Common.{ℕ, suc, ◌≡◌, ◌+◌, ◌<◌, ◌⊎◌, inl, inr, List, [], ◌∷◌, Some, slice_get, length, refl, ap, ◌∙◌, subst, arith}
 use Rattle.std.proofs.lemmas.Option.{slice_get_within}
-use Rattle.rewriting.specs.Lists.{IsAmong, AreDistinct, IsBeforeAll, IsSorted}
-use Rattle.rewriting.specs.Rules.{System}
-use Rattle.rewriting.specs.Unraveling.{Head, heads}
+use Rattle.rewriting.specs.Prelude.{IsAmong, AreDistinct, IsBeforeAll, IsSorted, System, Head, heads}
 use Rattle.rewriting.proofs.Lists.{before_each}
 use Rattle.rewriting.proofs.Members.{place_among, among_place, at_place, one_of_places}
 use Rattle.path_orders.proofs.Heads.{heads_distinct}

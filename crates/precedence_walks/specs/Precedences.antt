@@ -1,7 +1,6 @@
 -- All precedences of the symbols of an unraveled system.
 use Rattle.std.specs.Prelude.{ℕ, ◌≡◌, ◌<◌, List, Some, slice_get, length}
-use Rattle.rewriting.specs.Rules.{System}
-use Rattle.rewriting.specs.Unraveling.{Head, heads}
+use Rattle.rewriting.specs.Prelude.{System, Head, heads}
 use Rattle.certificates.specs.Certificates.{MeasureCertificate, precedence_measure}
 use Rattle.interpretations.specs.Judgement.{good}
 use Rattle.path_orders.specs.Precedences.{Precedence}

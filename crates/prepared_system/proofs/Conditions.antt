@@ -1,13 +1,9 @@
 -- The variables of conditions, and the instances of conditions behind others.
 use Rattle.std.proofs.Common.{ℕ, zero, suc, ◌≡◌, ◌<◌, true, List, [], ◌∷◌, ◌++◌, map, length, get_or, refl, ap, subst, arith}
 use Rattle.std.proofs.lemmas.Bool.{or_right, or_left}
-use Rattle.rewriting.specs.Substitutions.{Substitution}
-use Rattle.rewriting.specs.Variables.{occurs, occurs_in}
+use Rattle.rewriting.specs.Prelude.{Substitution, occurs, occurs_in, sides, condition_under, conditions_under}
 use Rattle.rewriting.specs.Rules as math
-use Rattle.rewriting.specs.Rules.{sides}
-use Rattle.rewriting.specs.Overlaps.{condition_under, conditions_under}
-use Rattle.term_core.specs.View.{view}
-use Rattle.term_core.specs.RuleView.{condition_view}
+use Rattle.term_core.specs.Prelude.{view, condition_view}
 use Rattle.term_core.specs.declared.systems.Cond.{Cond}
 
 pub left_occurs : (k : ℕ) (cs : List Cond) (i : ℕ) (c : Cond) → i < length cs → c ≡ get_or cs i c → occurs k (view c.left) ≡ true → occurs_in k (sides (map condition_view cs)) ≡ true

@@ -1,8 +1,7 @@
 -- The variables of a system's rules are few enough to be renamed.
 use Rattle.std.proofs.Common.{ℕ, zero, suc, ◌≡◌, ◌<◌, ◌≤◌, List, [], ◌∷◌, map, length, get_or, sym, subst, arith}
 use Rattle.rewriting.specs.Rules as math
-use Rattle.rewriting.specs.Signatures.{Signature}
-use Rattle.rewriting.specs.Systems.{terms_of_rule, rule_variables, IsRule, AreRules}
+use Rattle.rewriting.specs.Prelude.{Signature, terms_of_rule, rule_variables, IsRule, AreRules}
 use Rattle.rewriting.proofs.Variables.{variables_have_all}
 use Rattle.rewriting.proofs.Lists.{counted_below}
 use Rattle.term_core.specs.RuleView.{rule_view}

@@ -1,7 +1,6 @@
 -- The system that a `PreparedSystem` stands for, and what it keeps.
 use Rattle.std.specs.Prelude.{◌≡◌, map}
-use Rattle.rewriting.specs.Rules.{System}
-use Rattle.rewriting.specs.Systems.{IsSystem}
+use Rattle.rewriting.specs.Prelude.{System, IsSystem}
 use Rattle.term_core.specs.RuleView.{rule_view}
 use Rattle.prepared_system.specs.Renamed.{inner_rules, outer_rules}
 use Rattle.prepared_system.specs.declared.PreparedSystem.TheInside.{Inside}

@@ -1,11 +1,8 @@
 -- Rules with their variables renamed, and the rules of a system renamed apart.
 use Rattle.std.specs.Prelude.{ℕ, ◌≡◌, ◌<◌, ◌+◌, ◌*◌, ◌^◌, true, List, map}
 use Rattle.rewriting.specs.Terms as terms
-use Rattle.rewriting.specs.Substitutions.{Substitution, apply}
-use Rattle.rewriting.specs.Variables.{occurs_in}
-use Rattle.rewriting.specs.Unifiers.{even, odd}
+use Rattle.rewriting.specs.Prelude.{Substitution, apply, occurs_in, even, odd, conditions_under}
 use Rattle.rewriting.specs.Rules as math
-use Rattle.rewriting.specs.Overlaps.{conditions_under}
 
 -- a rule with its variables renamed
 abbrev pub rule_under : Substitution → math.Rule → math.Rule

@@ -1,8 +1,6 @@
 //! Rules with other variables.
 ghost use Rattle.std.specs.Prelude.{◌≡◌, ◌≤◌, IfOk, map};
-ghost use Rattle.rewriting.specs.Rules.{sides};
-ghost use Rattle.rewriting.specs.Systems.{terms_of_rule, AreRules};
-ghost use Rattle.rewriting.specs.Overlaps.{conditions_under};
+ghost use Rattle.rewriting.specs.Prelude.{sides, terms_of_rule, AreRules, conditions_under};
 ghost use Rattle.term_core.specs.RuleView.{condition_view, rule_view};
 ghost use Rattle.unification.specs.Answers.{renaming as by};
 ghost use Rattle.prepared_system.specs.Renamed.{rule_under, HasRoom};

@@ -1,12 +1,9 @@
 -- The three spaces of a system have a whole cost, where each measure is tried.
 use Rattle.std.proofs.Common.{ℕ, ◌≡◌, ◌+◌, ◌⊎◌, inl, inr, List, ◌++◌, map, length, refl}
-use Rattle.rewriting.specs.Rules.{System, EachRule}
-use Rattle.rewriting.specs.Terms.{Term}
-use Rattle.rewriting.specs.Positions.{Position}
+use Rattle.rewriting.specs.Prelude.{System, EachRule, Term, Position}
 use Rattle.unifier_run.specs.Overlaps.{Overlap, AreOverlaps, IsPairTooLarge, AreTooManyOverlaps}
 use Rattle.unifier_run.proofs.Total.{overlaps_total}
-use Rattle.certificates.specs.Blames.{IsInClass, IsBlamed}
-use Rattle.certificates.specs.Reasons.{Class, left_linear, type3, extended_oriented, right_stable, deterministic, Blame}
+use Rattle.certificates.specs.Prelude.{IsInClass, IsBlamed, Class, left_linear, type3, extended_oriented, right_stable, deterministic, Blame}
 use Rattle.certificates.proofs.Blames.{blamed_outside}
 use Rattle.certificates.proofs.ClassTotal.{class_total, sides_total, FirstSide}
 use Rattle.unifier_run.specs.Irreducible.{DoAllClash}

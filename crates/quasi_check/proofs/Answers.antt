@@ -2,8 +2,7 @@
 use Rattle.std.proofs.Common.{List, Ok, Err, Result}
 use Rattle.rewriting.specs.Rules.{System}
 use Rattle.interpretations.specs.Judgement.{Judgement, good}
-use Rattle.certificates.specs.Certificates.{PairEntry}
-use Rattle.certificates.specs.Reasons.{Rejection}
+use Rattle.certificates.specs.Prelude.{PairEntry, Rejection}
 use Rattle.cert_model.specs.ReasonView.{rejected_view}
 use Rattle.validity.specs.declared.CheckError.{CheckError}
 use Rattle.validity.specs.declared.CheckError.TheVariants.{Rejected, NoMemory}

@@ -1,9 +1,6 @@
 -- A valid certificate shows what confluence needs.
 use Rattle.std.proofs.Common.{List, Ok, Err, Result}
-use Rattle.rewriting.specs.Confluence.{IsConfluent}
-use Rattle.rewriting.specs.Descents.{AreDescentsBounded}
-use Rattle.rewriting.specs.Rules.{System}
-use Rattle.rewriting.specs.Systems.{IsWellFormed, IsSystem}
+use Rattle.rewriting.specs.Prelude.{IsConfluent, AreDescentsBounded, System, IsWellFormed, IsSystem}
 use Rattle.rewriting.proofs.Laws.{well_formed}
 use Rattle.unifier_run.specs.Run.{value}
 use Rattle.interpretations.specs.Judgement.{Judgement, good}

@@ -1,16 +1,12 @@
 -- Valid evidence settles a critical pair.
 use Rattle.std.proofs.Common.{◌≡◌, ℕ, zero, suc, inl, inr, List, [], ◌∷◌, None, Some, slice_get, ap, subst}
-use Rattle.rewriting.specs.NormalForms.{IsAbsolutelyIrreducible}
-use Rattle.rewriting.specs.Systems.{IsWellFormed}
+use Rattle.rewriting.specs.Prelude.{IsAbsolutelyIrreducible, IsWellFormed}
 use Rattle.rewriting.proofs.Common.{Term, nil, cons, IsOver, Signature, Condition, System, AreUnifiable}
 use Rattle.unifier_run.specs.Overlaps.{Overlap}
 use Rattle.unifier_run.specs.Run.{IsOutcome, clash}
 use Rattle.unifier_run.specs.Irreducible.{DoAllClash}
 use Rattle.unifier_run.proofs.General.{no_unifier}
-use Rattle.certificates.specs.Derivations.{Derivation}
-use Rattle.certificates.specs.Evidence.{PairEvidence, trivial_pair, infeasible_pair, conflicting_pair, joined_pair, unfeasible_pair}
-use Rattle.certificates.specs.Reasons.{not_allowed}
-use Rattle.certificates.specs.Soundness.{AreConditionsOver}
+use Rattle.certificates.specs.Prelude.{Derivation, PairEvidence, trivial_pair, infeasible_pair, conflicting_pair, joined_pair, unfeasible_pair, not_allowed, AreConditionsOver}
 use Rattle.certificates.proofs.Sound.{derivation_reaches}
 use Rattle.descent_theorem.specs.Evidence.{IsSettled, infeasible, joining, unfeasible}
 use Rattle.valid_certificates.specs.Kinds.{quasi}

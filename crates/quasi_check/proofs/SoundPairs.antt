@@ -1,7 +1,6 @@
 -- The critical pair under the unifier of a run is over the symbols.
 use Rattle.std.proofs.Common.{ℕ, List, [], ◌∷◌, ◌++◌, sym, subst}
-use Rattle.rewriting.specs.Systems.{Each, IsWellFormed}
-use Rattle.rewriting.specs.Overlaps.{IsPlace, CriticalPair, IsCriticalPair, conditions_under}
+use Rattle.rewriting.specs.Prelude.{Each, IsWellFormed, IsPlace, CriticalPair, IsCriticalPair, conditions_under}
 use Rattle.rewriting.proofs.Common.{Term, cons, Position, Substitution, apply, compose, Signature, IsOver, AreValuesOver, Condition, Rule, System, sides, even, odd}
 use Rattle.rewriting.proofs.Over.{IsOver-apply}
 use Rattle.rewriting.proofs.Unraveled.{replace_over, subterm_over}

@@ -3,8 +3,7 @@ use Rattle.std.proofs.Common.{◌≡◌, ◌⊎◌, inl, inr, ℕ, ◌+◌, ◌<
 use Rattle.std.proofs.lemmas.Bool.{false≢true}
 use Rattle.std.proofs.lemmas.List.{length-map}
 use Rattle.std.proofs.lemmas.Option.{slice_get-get_or, slice_get-map}
-use Rattle.rewriting.specs.Rules.{Condition, Rule, System, rule_at}
-use Rattle.rewriting.specs.Classes.{IsAt}
+use Rattle.rewriting.specs.Prelude.{Condition, Rule, System, rule_at, IsAt}
 use Rattle.unifier_run.specs.Irreducible.{DoAllClash}
 use Rattle.valid_certificates.specs.Confluence.{IsFirstReducible}
 use Rattle.term_core.specs.declared.systems.Cond.{Cond}

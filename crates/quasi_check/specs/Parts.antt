@@ -1,7 +1,6 @@
 -- What the parts of the check answer, in the order of judging.
 use Rattle.std.specs.Prelude.{ℕ, Result, Ok, Err}
-use Rattle.rewriting.specs.Rules.{System}
-use Rattle.rewriting.specs.Classes.{IsDeterministic}
+use Rattle.rewriting.specs.Prelude.{System, IsDeterministic}
 use Rattle.interpretations.specs.Judgement.{Judgement, good, not_good, unraveling_large}
 use Rattle.certificates.specs.Reasons.{deterministic, Blame, MeasureReason, Rejection, class_fails, not_irreducible, measure_fails, unraveling_large as large_unraveling}
 use Rattle.cert_model.specs.ReasonView.{rejected_view}

@@ -1,7 +1,6 @@
 -- What the walks over right sides of conditions answer.
 use Rattle.std.specs.Prelude.{ℕ, suc, ◌≡◌, ◌<◌, List, Option, None, Some}
-use Rattle.rewriting.specs.Rules.{Condition, System}
-use Rattle.rewriting.specs.Classes.{IsAt}
+use Rattle.rewriting.specs.Prelude.{Condition, System, IsAt}
 use Rattle.unifier_run.specs.Irreducible.{DoAllClash}
 use Rattle.valid_certificates.specs.Confluence.{AreRightSidesIrreducible, IsFirstReducible}
 use Rattle.quasi_check.specs.declared.sides.SidePlace.{SidePlace}

@@ -2,8 +2,7 @@
 use Rattle.std.proofs.Common.{ℕ, suc, ◌≡◌, ◌+◌, ◌-◌, ◌<◌, ◌≤◌, List, [], ◌∷◌, ◌++◌, map, length, ap, arith}
 use Rattle.std.specs.List.{range_with_len}
 use Rattle.std.proofs.lemmas.List.{length-map}
-use Rattle.rewriting.specs.Rules.{System}
-use Rattle.rewriting.specs.Systems.{IsSystem}
+use Rattle.rewriting.specs.Prelude.{System, IsSystem}
 use Rattle.unifier_run.specs.Overlaps.{IsOverlapOf}
 use Rattle.term_core.specs.RuleView.{condition_view}
 use Rattle.critical_pairs.specs.View.{overlap_view}

@@ -7,8 +7,7 @@ use Rattle.std.specs.Map.{lookup}
 use Rattle.std.specs.HashMap.{HashMap, get}
 use Rattle.indexmap.specs.IndexMap.{insert_entry}
 use Rattle.indexmap.proofs.CallerLemmas.{insert_entry-new}
-use Rattle.rewriting.specs.Terms.{Term, size}
-use Rattle.rewriting.specs.Tests.{is_same}
+use Rattle.rewriting.specs.Prelude.{Term, size, is_same}
 use Rattle.rewriting.proofs.Tests.{same_is, equal_same}
 use Rattle.term_core.specs.View.{view}
 use Rattle.reach_lists.specs.Solutions as math

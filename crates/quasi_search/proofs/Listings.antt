@@ -1,7 +1,6 @@
 -- Listings that were made, and those that could not be paid.
 use Rattle.std.proofs.Common.{ℕ, ◌≡◌, ◌<◌, List, [], ◌∷◌, Vec, Global, Option, None, Some, Result, Ok, refl, sym, subst}
-use Rattle.rewriting.specs.Terms.{Term, Fits}
-use Rattle.rewriting.specs.Rules.{Condition, System}
+use Rattle.rewriting.specs.Prelude.{Term, Fits, Condition, System}
 use Rattle.unifier_run.specs.Overlaps.{Overlap}
 use Rattle.cc_count.specs.Counts.{Counts, Spends}
 use Rattle.reach_lists.specs.Solutions as math

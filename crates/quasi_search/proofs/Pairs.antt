@@ -3,24 +3,19 @@ use Rattle.std.proofs.Common.{ℕ, zero, suc, ◌≡◌, ◌+◌, ◌-◌, ◌<�
 use Rattle.std.specs.Prelude.{Bool, IsTrue}
 use Rattle.std.proofs.Math.ListN.{drop_of_length-le}
 use Rattle.std.proofs.lemmas.List.{map-append, take_all}
-use Rattle.rewriting.specs.Lists.{IsAmong}
-use Rattle.rewriting.specs.Terms.{Terms, Fits, cons, nil}
-use Rattle.rewriting.specs.Rules.{Condition, System}
+use Rattle.rewriting.specs.Prelude.{IsAmong, Terms, Fits, cons, nil, Condition, System}
 use Rattle.unifier_run.specs.Run.{clash, IsOutcome}
 use Rattle.unifier_run.specs.Overlaps.{Overlap}
 use Rattle.unifier_run.proofs.Unique.{runs_same}
 use Rattle.unification.specs.Answers.{UnifyAnswers}
 use Rattle.unification.specs.declared.Unified.{Unified}
 use Rattle.unification.specs.declared.Unified.TheVariants.{Mgu, Clash, TooLarge}
-use Rattle.certificates.specs.Evidence.{unfeasible_pair}
-use Rattle.certificates.specs.Judging.{hypothesis_at}
-use Rattle.certificates.specs.Sizes.{DoConditionsFit}
+use Rattle.certificates.specs.Prelude.{unfeasible_pair, hypothesis_at, DoConditionsFit}
 use Rattle.cert_model.specs.EvidenceView.{pair_evidence_view}
 use Rattle.cert_model.specs.declared.evidence.PairEvidence.{PairEvidence}
 use Rattle.valid_certificates.specs.Kinds.{quasi}
 use Rattle.valid_certificates.specs.PairEvidence.{IsPairJudged}
-use Rattle.term_core.specs.View.{view}
-use Rattle.term_core.specs.RuleView.{condition_view}
+use Rattle.term_core.specs.Prelude.{view, condition_view}
 use Rattle.term_core.specs.declared.systems.Cond.{Cond}
 use Rattle.critical_pairs.specs.View.{overlap_view}
 use Rattle.critical_pairs.specs.declared.Overlap as listed

@@ -3,10 +3,8 @@ use Rattle.std.proofs.Common.{ℕ, ◌≡◌, ◌+◌, inl, inr, List, [], ◌�
 use Rattle.std.specs.Prelude.{false}
 use Rattle.std.proofs.lemmas.Bool.{false≢true, or_parts}
 use Rattle.std.proofs.lemmas.List.{map-append}
-use Rattle.rewriting.specs.Lists.{IsAmong}
+use Rattle.rewriting.specs.Prelude.{IsAmong, System, is_same}
 use Rattle.rewriting.proofs.Lists.{among_left, among_middle}
-use Rattle.rewriting.specs.Rules.{System}
-use Rattle.rewriting.specs.Tests.{is_same}
 use Rattle.rewriting.proofs.Tests.{equal_same}
 use Rattle.unifier_run.specs.Overlaps.{Overlap}
 use Rattle.certificates.specs.Evidence as math

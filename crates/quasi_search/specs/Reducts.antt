@@ -1,7 +1,6 @@
 -- Pairs of listed terms of the left side of a condition.
 use Rattle.std.specs.Prelude.{ℕ, ◌↔◌, List, ◌∷◌, map, Result, IsTrue}
-use Rattle.rewriting.specs.Terms.{Term}
-use Rattle.rewriting.specs.Rules.{System}
+use Rattle.rewriting.specs.Prelude.{Term, System}
 use Rattle.unifier_run.specs.Irreducible.{DoAllClash}
 use Rattle.unifier_run.specs.Overlaps.{Overlap}
 use Rattle.term_core.specs.declared.terms.NoMemory.{NoMemory}

@@ -2,8 +2,7 @@
 use Rattle.std.proofs.Common.{ℕ, ◌≡◌, ◌<◌, ◌≤◌, List, [], ◌∷◌, None, sym, ap, ◌∙◌, subst}
 use Rattle.rewriting.specs.Rules.{System}
 use Rattle.unifier_run.specs.Overlaps.{Overlap}
-use Rattle.certificates.specs.Evidence.{PairEvidence, infeasible_pair}
-use Rattle.certificates.specs.Certificates.{PairEntry}
+use Rattle.certificates.specs.Prelude.{PairEvidence, infeasible_pair, PairEntry}
 use Rattle.valid_certificates.specs.Kinds.{quasi}
 use Rattle.valid_certificates.specs.PairEvidence.{IsPairJudged}
 use Rattle.valid_certificates.specs.Entries.{AreSettled, triple_of}

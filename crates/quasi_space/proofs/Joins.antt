@@ -2,8 +2,7 @@
 use Rattle.std.proofs.Common.{◌≡◌, inl, inr, [], None, sym, ◌∙◌, subst}
 use Rattle.rewriting.specs.Rules.{System}
 use Rattle.unifier_run.specs.Overlaps.{Overlap}
-use Rattle.certificates.specs.Evidence.{joined_pair}
-use Rattle.certificates.specs.Judging.{Derives}
+use Rattle.certificates.specs.Prelude.{joined_pair, Derives}
 use Rattle.certificates.proofs.Unique.{derives_unique}
 use Rattle.valid_certificates.specs.Kinds.{quasi}
 use Rattle.valid_certificates.specs.PairEvidence.{IsPairJudged}

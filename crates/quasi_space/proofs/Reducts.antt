@@ -1,12 +1,10 @@
 -- Two listed terms of the left side of a condition show that it is never met where they are absolutely irreducible and clash.
 use Rattle.std.proofs.Common.{ℕ, ◌≡◌, inl, inr, Some, None, sym, subst}
-use Rattle.rewriting.specs.Terms.{Term, cons, nil}
-use Rattle.rewriting.specs.Rules.{Condition, System}
+use Rattle.rewriting.specs.Prelude.{Term, cons, nil, Condition, System}
 use Rattle.unifier_run.specs.Run.{clash, IsOutcome}
 use Rattle.unifier_run.specs.Irreducible.{DoAllClash}
 use Rattle.unifier_run.specs.Overlaps.{Overlap}
-use Rattle.certificates.specs.Evidence.{unfeasible_pair}
-use Rattle.certificates.specs.Judging.{Derives, hypothesis_at}
+use Rattle.certificates.specs.Prelude.{unfeasible_pair, Derives, hypothesis_at}
 use Rattle.certificates.proofs.Unique.{derives_unique}
 use Rattle.valid_certificates.specs.Kinds.{quasi}
 use Rattle.valid_certificates.specs.PairEvidence.{IsPairJudged, DerivesTwo}

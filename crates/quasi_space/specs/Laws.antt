@@ -1,14 +1,10 @@
 -- Laws of the space of certificates with a measure.
 use Rattle.std.specs.Prelude.{ℕ, ◌≡◌, ◌↔◌, None, Some}
-use Rattle.rewriting.specs.Lists.{IsAmong}
-use Rattle.rewriting.specs.Terms.{cons, nil}
-use Rattle.rewriting.specs.Rules.{Condition, System}
+use Rattle.rewriting.specs.Prelude.{IsAmong, cons, nil, Condition, System}
 use Rattle.unifier_run.specs.Run.{clash, IsOutcome}
 use Rattle.unifier_run.specs.Irreducible.{DoAllClash}
 use Rattle.unifier_run.specs.Overlaps.{Overlap}
-use Rattle.certificates.specs.Evidence.{joined_pair, unfeasible_pair}
-use Rattle.certificates.specs.Judging.{hypothesis_at}
-use Rattle.certificates.specs.Certificates.{Certificate}
+use Rattle.certificates.specs.Prelude.{joined_pair, unfeasible_pair, hypothesis_at, Certificate}
 use Rattle.cops_names.specs.NameTable.{NameTable}
 use Rattle.valid_certificates.specs.Kinds.{quasi}
 use Rattle.valid_certificates.specs.PairEvidence.{IsPairJudged}

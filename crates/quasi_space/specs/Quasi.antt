@@ -1,10 +1,8 @@
 -- The space of certificates with a measure: it has one certificate at most.
 use Rattle.std.specs.Prelude.{ℕ, ◌≡◌, ◌+◌, ◌⊎◌, List}
-use Rattle.rewriting.specs.Rules.{System}
-use Rattle.rewriting.specs.Classes.{IsDeterministic}
+use Rattle.rewriting.specs.Prelude.{System, IsDeterministic}
 use Rattle.unifier_run.specs.Overlaps.{Overlap, AreOverlaps}
-use Rattle.certificates.specs.Evidence.{PairEvidence}
-use Rattle.certificates.specs.Certificates.{PairEntry, MeasureCertificate, Certificate, quasi_certificate}
+use Rattle.certificates.specs.Prelude.{PairEvidence, PairEntry, MeasureCertificate, Certificate, quasi_certificate}
 use Rattle.cops_names.specs.NameTable.{NameTable}
 use Rattle.valid_certificates.specs.Confluence.{AreRightSidesIrreducible}
 use Rattle.first_found.specs.Items.{IsFirst, IsStopped, cost_of}

@@ -2,8 +2,7 @@
 use Rattle.std.specs.Prelude.{ℕ, suc, ◌≡◌, List, [], ◌∷◌, ◌++◌, map, flat_map, length, None}
 use Rattle.rewriting.specs.Rules.{Condition, System}
 use Rattle.unifier_run.specs.Overlaps.{Overlap}
-use Rattle.certificates.specs.Derivations.{Derivation}
-use Rattle.certificates.specs.Evidence.{InfeasibilityEvidence, PairEvidence, infeasible_pair, joined_pair, unfeasible_pair}
+use Rattle.certificates.specs.Prelude.{Derivation, InfeasibilityEvidence, PairEvidence, infeasible_pair, joined_pair, unfeasible_pair}
 use Rattle.valid_certificates.specs.Kinds.{quasi}
 use Rattle.valid_certificates.specs.PairEvidence.{IsPairJudged}
 use Rattle.reach_lists.specs.Solutions.{Reached}

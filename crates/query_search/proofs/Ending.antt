@@ -1,12 +1,9 @@
 -- How the search ends.
 use Rattle.std.proofs.Common.{ℕ, zero, suc, ◌≡◌, ◌+◌, ◌*◌, ◌^◌, ◌<◌, ◌≤◌, length, ◌++◌, List, [], ◌∷◌, filter, cond, Bool, true, false, Result, Ok, Err, refl, ap, ◌∙◌, subst, arith}
 use Rattle.std.specs.List.{range_with_len}
-use Rattle.rewriting.specs.Variables.{with_variables, with_variables_of, variables_of}
-use Rattle.rewriting.specs.Rules.{Condition, System, sides}
-use Rattle.rewriting.specs.Systems.{IsWellFormed}
+use Rattle.rewriting.specs.Prelude.{with_variables, with_variables_of, variables_of, Condition, System, sides, IsWellFormed}
 use Rattle.rewriting.proofs.Lengths.{variables_length}
-use Rattle.certificates.specs.Sizes.{DoConditionsFit}
-use Rattle.certificates.specs.Soundness.{AreConditionsOver}
+use Rattle.certificates.specs.Prelude.{DoConditionsFit, AreConditionsOver}
 use Rattle.term_core.specs.declared.terms.NoMemory.{NoMemory}
 use Rattle.cc_count.specs.Counts.{Counts, Spends}
 use Rattle.first_found.specs.Items.{cost_of}

@@ -2,8 +2,7 @@
 use Rattle.std.proofs.Common.{ℕ, suc, ◌≡◌, ◌+◌, ◌-◌, ◌<◌, List, [], ◌∷◌, ◌++◌, map, None, Some, ap, subst, arith}
 use Rattle.std.specs.List.{range_with_len}
 use Rattle.rewriting.specs.Rules.{Condition, System}
-use Rattle.certificates.specs.Evidence.{InfeasibilityEvidence}
-use Rattle.certificates.specs.Reasons.{EvidenceReason}
+use Rattle.certificates.specs.Prelude.{InfeasibilityEvidence, EvidenceReason}
 use Rattle.judged_evidence.specs.Evidence.{IsInfeasibilityJudged}
 use Rattle.judged_evidence.proofs.Judged.{evidence_once}
 use Rattle.first_found.specs.Items.{GivesNothing}

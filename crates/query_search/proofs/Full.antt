@@ -1,7 +1,6 @@
 -- Values that are tried.
 use Rattle.std.proofs.Common.{ℕ, ◌≡◌, ◌+◌, ◌<◌, List, [], ◌∷◌, Option, None, Some, Result, Ok, Err, refl, sym, ap, ◌∙◌, subst, arith}
-use Rattle.rewriting.specs.Substitutions.{Bindings}
-use Rattle.rewriting.specs.Rules.{Condition, System}
+use Rattle.rewriting.specs.Prelude.{Bindings, Condition, System}
 use Rattle.term_core.specs.declared.terms.NoMemory.{NoMemory}
 use Rattle.cc_count.specs.Counts.{Counts, Spends}
 use Rattle.cc_count.proofs.Spending.{spends_both}

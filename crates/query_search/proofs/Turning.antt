@@ -4,9 +4,7 @@ use Rattle.std.proofs.Math.Seq.{drop-cons, split_at}
 use Rattle.std.proofs.lemmas.List.{length-set, drop-set, drop_all, take-set, take-take, get_or_default, length-take-le, length-drop}
 use Rattle.std.specs.FinMap.{empty, insert}
 use Rattle.general_lemmas.proofs.Lists.{flat_map_same}
-use Rattle.rewriting.specs.Terms.{Term, var, app, nil}
-use Rattle.rewriting.specs.Substitutions.{Bindings}
-use Rattle.rewriting.specs.Rules.{Condition, System}
+use Rattle.rewriting.specs.Prelude.{Term, var, app, nil, Bindings, Condition, System}
 use Rattle.query_space.specs.Items.{try_values, value_items}
 use Rattle.query_space.specs.Variables.{open_variables}
 use Rattle.query_space.specs.Assignments.{constants, choices, assignments_from}

@@ -1,8 +1,7 @@
 -- Values for variables, each told by the number of its choice.
 use Rattle.std.specs.Prelude.{ℕ, suc, ◌≡◌, List, [], ◌∷◌, ◌++◌, Bool, true, false, get_or, drop, flat_map, map}
 use Rattle.std.specs.FinMap.{empty, insert}
-use Rattle.rewriting.specs.Terms.{Term, var, app, nil}
-use Rattle.rewriting.specs.Substitutions.{Bindings}
+use Rattle.rewriting.specs.Prelude.{Term, var, app, nil, Bindings}
 
 -- the constants with these numbers
 abbrev pub constants_of : List ℕ → List Term

@@ -10,11 +10,8 @@ mod reply;
 mod values;
 
 ghost use Rattle.std.specs.Prelude.{◌≡◌, ◌≤◌, ℕ, length, map};
-ghost use Rattle.rewriting.specs.Rules.{sides};
-ghost use Rattle.rewriting.specs.Variables.{variables_of};
-ghost use Rattle.rewriting.specs.Systems.{CountsFrom};
-ghost use Rattle.certificates.specs.Sizes.{DoConditionsFit};
-ghost use Rattle.certificates.specs.Soundness.{AreConditionsOver};
+ghost use Rattle.rewriting.specs.Prelude.{sides, variables_of, CountsFrom};
+ghost use Rattle.certificates.specs.Prelude.{DoConditionsFit, AreConditionsOver};
 ghost use Rattle.term_core.specs.RuleView.{condition_view};
 ghost use Rattle.cc_count.specs.Counts.{Spends};
 ghost use Rattle.query_search.specs.Answers.{SearchAnswers, IsTrueReply, IsEmptyReply, IsAnswer, HasAnswerWithin, WalkAnswers};

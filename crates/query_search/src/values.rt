@@ -1,11 +1,9 @@
 //! One assignment of values to the open variables: derivations under it that meet the conditions in turn.
 ghost use Rattle.std.specs.Prelude.{◌≡◌, ◌∷◌, [], IfOk, map, option_map};
 ghost use Rattle.std.specs.List.{range_with_len};
-ghost use Rattle.rewriting.specs.Rules.{sides};
-ghost use Rattle.rewriting.specs.Substitutions.{values_of};
+ghost use Rattle.rewriting.specs.Prelude.{sides, values_of};
 ghost use Rattle.certificates.specs.Sizes.{DoConditionsFit};
-ghost use Rattle.term_core.specs.View.{view};
-ghost use Rattle.term_core.specs.RuleView.{condition_view};
+ghost use Rattle.term_core.specs.Prelude.{view, condition_view};
 ghost use Rattle.reach.specs.SolutionView.{solution_view};
 ghost use Rattle.query_space.specs.Items as items;
 ghost use Rattle.query_space.specs.Variables.{past_all_variables};

@@ -1,9 +1,6 @@
 -- The answers that the space holds say what is true.
 use Rattle.std.proofs.Common.{◌≡◌, ◌⊎◌, inl, inr, List, map, length, refl, sym, subst}
-use Rattle.rewriting.specs.Lists.{IsAmong}
-use Rattle.rewriting.specs.Terms.{Term}
-use Rattle.rewriting.specs.Substitutions.{Bindings}
-use Rattle.rewriting.specs.Rules.{Condition, System}
+use Rattle.rewriting.specs.Prelude.{IsAmong, Term, Bindings, Condition, System}
 use Rattle.rewriting.proofs.Lists.{among_either, among_of_map}
 use Rattle.certificates.specs.Derivations.{Derivation}
 use Rattle.judged_evidence.proofs.Judged.{judged_infeasible}

@@ -1,11 +1,7 @@
 -- What is tried, in order, to answer a query: evidence that its conditions are never met, then values for its open variables.
 use Rattle.std.specs.Prelude.{ℕ, suc, ◌≡◌, List, [], ◌∷◌, ◌++◌, map, length, None}
-use Rattle.rewriting.specs.Lists.{IsAmong}
-use Rattle.rewriting.specs.Terms.{Term}
-use Rattle.rewriting.specs.Substitutions.{Bindings, values_of}
-use Rattle.rewriting.specs.Rules.{Condition, System}
-use Rattle.certificates.specs.Derivations.{Derivation}
-use Rattle.certificates.specs.Evidence.{InfeasibilityEvidence}
+use Rattle.rewriting.specs.Prelude.{IsAmong, Term, Bindings, values_of, Condition, System}
+use Rattle.certificates.specs.Prelude.{Derivation, InfeasibilityEvidence}
 use Rattle.judged_evidence.specs.Evidence.{IsInfeasibilityJudged}
 use Rattle.search_spaces.specs.Refuting.{Refuting, Tries, refutings}
 use Rattle.reach_lists.specs.Solutions.{Reached, Solution, solutions, asked}

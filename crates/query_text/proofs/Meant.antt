@@ -4,13 +4,10 @@ use Rattle.std.specs.Prelude.{if◌then◌else◌}
 use Rattle.std.specs.List.{position_or_len}
 use Rattle.std.specs.Str.{bytes_eq}
 use Rattle.file_text.specs.Syntax.{Phrase, Phrases, word, call, none, more, ConditionTree}
-use Rattle.rewriting.specs.Terms.{Term, var, app, Terms, nil, cons, size, size_all, depth, depth_all}
+use Rattle.rewriting.specs.Prelude.{Term, var, app, Terms, nil, cons, size, size_all, depth, depth_all, Condition, CountsFrom, Each}
 use Rattle.rewriting.specs.Variables as math
 use Rattle.rewriting.specs.Rules as rules
-use Rattle.rewriting.specs.Rules.{Condition}
-use Rattle.rewriting.specs.Systems.{CountsFrom, Each}
-use Rattle.certificates.specs.Soundness.{AreConditionsOver}
-use Rattle.certificates.specs.Sizes.{DoConditionsFit}
+use Rattle.certificates.specs.Prelude.{AreConditionsOver, DoConditionsFit}
 use Rattle.cops_names.specs.NameLists.{is_among, with_name}
 use Rattle.cops_names.proofs.Lists.{Extends, extends_refl, extends_trans, extends_position}
 use Rattle.cops_names.proofs.Sets.{place_with}

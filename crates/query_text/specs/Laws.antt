@@ -2,11 +2,8 @@
 use Rattle.std.specs.Prelude.{◌≡◌, ◌≤◌, ◌⊎◌, ℕ, List, map, length}
 use Rattle.file_text.specs.declared.Token.{Token}
 use Rattle.file_text.specs.Tokens.{Spells}
-use Rattle.rewriting.specs.Rules.{Condition, System, sides}
-use Rattle.rewriting.specs.Variables.{variables_of}
-use Rattle.rewriting.specs.Systems.{CountsFrom, Each}
-use Rattle.certificates.specs.Soundness.{AreConditionsOver}
-use Rattle.certificates.specs.Sizes.{DoConditionsFit}
+use Rattle.rewriting.specs.Prelude.{Condition, System, sides, variables_of, CountsFrom, Each}
+use Rattle.certificates.specs.Prelude.{AreConditionsOver, DoConditionsFit}
 use Rattle.cops_read.specs.Bounds.{most_conditions, most_variables}
 use Rattle.cops_read.specs.Limits.{IsSmall}
 use Rattle.query_text.specs.Grammar.{QueryTree}

@@ -2,9 +2,7 @@
 use Rattle.std.proofs.Common.{◌≡◌, ℕ, zero, suc, List, [], ◌∷◌, ◌++◌, length, map, flat_map, option_to_list, refl, sym, ap, ap₂, ◌∙◌, subst, arith}
 use Rattle.std.specs.FinMap.{empty}
 use Rattle.rewriting.specs.Terms as math
-use Rattle.rewriting.specs.Positions.{Position, positions, subterm}
-use Rattle.rewriting.specs.Rules.{Condition, Rule, System}
-use Rattle.rewriting.specs.Tests.{match_onto}
+use Rattle.rewriting.specs.Prelude.{Position, positions, subterm, Condition, Rule, System, match_onto}
 use Rattle.reach_lists.specs.Laws.{EachOf}
 use Rattle.reach_lists.specs.Sites.{Site, rule_site, rule_sites, hypothesis_sites, sites_of_part, sites_at, sites}
 use Rattle.reach_lists.specs.Solutions as lists

@@ -2,8 +2,7 @@
 use Rattle.std.proofs.Common.{◌≡◌, ℕ, suc, ◌+◌, ◌-◌, ◌*◌, ◌<◌, ◌≤◌, ◌⊎◌, inl, inr, Result, OnOk, List, [], ◌∷◌, ◌++◌, length, append_assoc, Option, None, Some, IfSome, IfNone, refl, sym, ap, ◌∙◌, Vec, Global, arith}
 use Rattle.std.specs.FinMap.{get}
 use Rattle.rewriting.specs.Terms as math
-use Rattle.rewriting.specs.Terms.{app, nil, cons, count, size, size_all, depth}
-use Rattle.rewriting.specs.Substitutions.{Bindings, apply, apply_all, values_of}
+use Rattle.rewriting.specs.Prelude.{app, nil, cons, count, size, size_all, depth, Bindings, apply, apply_all, values_of}
 use Rattle.rewriting.proofs.Tests.{depth_small}
 use Rattle.term_core.specs.View.{view, views}
 use Rattle.term_core.specs.declared.terms.Term.{Term}

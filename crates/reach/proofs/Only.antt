@@ -2,11 +2,7 @@
 use Rattle.std.proofs.Common.{◌≡◌, ℕ, ◌+◌, ◌-◌, ◌≤◌, inl, inr, ◌&&◌, nat_eq, Bool, true, false, cond, List, [], ◌∷◌, ◌++◌, flat_map, option_to_list, option_map, None, Result, Ok, Vec, Global, eqb-true, refl, sym, ap, ◌∙◌, append-nil, subst, subst₂, arith}
 use Rattle.std.proofs.lemmas.Bool.{and_from, cond-true}
 use Rattle.rewriting.specs.Terms as math
-use Rattle.rewriting.specs.Terms.{var, app}
-use Rattle.rewriting.specs.Matching.{Covers}
-use Rattle.rewriting.specs.Substitutions.{Bindings, apply, values_of}
-use Rattle.rewriting.specs.Rules.{Condition}
-use Rattle.rewriting.specs.Tests.{is_covered, is_fit, match_onto, match_all_onto}
+use Rattle.rewriting.specs.Prelude.{var, app, Covers, Bindings, apply, values_of, Condition, is_covered, is_fit, match_onto, match_all_onto}
 use Rattle.rewriting.proofs.Tests.{covers_is, fits_fit, depth_small}
 use Rattle.cc_count.specs.Counts.{Counts, Spends}
 use Rattle.cc_count.proofs.Spending.{spends_same}

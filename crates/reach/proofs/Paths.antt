@@ -1,9 +1,7 @@
 -- Paths that go on and come back.
 use Rattle.std.proofs.Common.{◌≡◌, ℕ, List, [], ◌∷◌, ◌++◌, map, length, take, drop, None, Some, option_map, sym, ap, ap₂, ◌∙◌, le_refl}
 use Rattle.std.proofs.lemmas.List.{take_all, take-append-le}
-use Rattle.rewriting.specs.Substitutions.{Bindings}
-use Rattle.rewriting.specs.Matching.{IsLeastMatch, HasNoMatch}
-use Rattle.rewriting.specs.Rules.{Condition}
+use Rattle.rewriting.specs.Prelude.{Bindings, IsLeastMatch, HasNoMatch, Condition, match_onto}
 use Rattle.matching.specs.Trails.{without, IsNoted}
 use Rattle.matching.proofs.Noted.{noted_back, noted_before}
 use Rattle.reach_lists.specs.Solutions as lists
@@ -15,7 +13,6 @@ use Rattle.reach.proofs.Solving.{solution_found, solution_missed}
 use Rattle.reach.proofs.Offered.{map_push}
 use Rattle.std.specs.FinMap.{empty}
 use Rattle.rewriting.specs.Terms as math
-use Rattle.rewriting.specs.Tests.{match_onto}
 use Rattle.rewriting.proofs.MatchedOnto.{least_found, none_found}
 use Rattle.reach_lists.specs.Lists.{unconditional}
 

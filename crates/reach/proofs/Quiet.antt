@@ -2,11 +2,7 @@
 use Rattle.std.proofs.Common.{◌≡◌, ℕ, zero, suc, ◌≤◌, true, nat_eq, eqb-true, vec_len, List, [], ◌∷◌, if◌then◌else◌, length, map, option_to_list, Option, None, Some, option_and_then, Vec, Global, refl, sym, ap, ◌∙◌, subst, arith}
 use Rattle.std.specs.FinMap.{empty}
 use Rattle.rewriting.specs.Terms as math
-use Rattle.rewriting.specs.Terms.{Terms, var, app, nil, cons}
-use Rattle.rewriting.specs.Positions.{Position, positions, subterm, argument, argument_of}
-use Rattle.rewriting.specs.Rules.{Condition, Rule, System, rule_at}
-use Rattle.rewriting.specs.Systems.{IsSystem}
-use Rattle.rewriting.specs.Tests.{match_onto, is_same}
+use Rattle.rewriting.specs.Prelude.{Terms, var, app, nil, cons, Position, positions, subterm, argument, argument_of, Condition, Rule, System, rule_at, IsSystem, match_onto, is_same}
 use Rattle.cc_count.specs.Counts.{Counts}
 use Rattle.cc_count.proofs.Spending.{spends_same}
 use Rattle.rule_index.specs.Roots.{rules_at}
@@ -15,8 +11,7 @@ use Rattle.reach_lists.specs.Sites.{Site, rule_site, hypothesis_site, rule_sites
 use Rattle.reach_lists.specs.Solutions as lists
 use Rattle.reach_lists.specs.Lists.{total, condition_list, condition_cost, successors, asked_from, asked_at, unconditional}
 use Rattle.reach_lists.proofs.Each.{each_append, each_map, each_any, each_flat_map, each_of_option, each_if}
-use Rattle.term_core.specs.RuleView.{rule_view, condition_view}
-use Rattle.term_core.specs.View.{view, views}
+use Rattle.term_core.specs.Prelude.{rule_view, condition_view, view, views}
 use Rattle.term_core.specs.declared.systems.Cond.{Cond}
 use Rattle.term_core.specs.declared.systems.Rule as program
 use Rattle.term_core.specs.declared.terms.Term.{Term}

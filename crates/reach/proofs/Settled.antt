@@ -3,11 +3,7 @@ use Rattle.std.proofs.Common.{◌≡◌, ℕ, true, List, [], ◌∷◌, ◌++�
 use Rattle.std.proofs.lemmas.Bool.{false≢true}
 use Rattle.std.specs.FinMap.{get}
 use Rattle.rewriting.specs.Terms as math
-use Rattle.rewriting.specs.Positions.{Position}
-use Rattle.rewriting.specs.Matching.{Covers, Extends}
-use Rattle.rewriting.specs.Substitutions.{Bindings, apply, values_of}
-use Rattle.rewriting.specs.Rules.{Condition, Rule}
-use Rattle.rewriting.specs.Tests.{is_covered, match_onto}
+use Rattle.rewriting.specs.Prelude.{Position, Covers, Extends, Bindings, apply, values_of, Condition, Rule, is_covered, match_onto}
 use Rattle.rewriting.proofs.Instances.{apply-agree}
 use Rattle.rewriting.proofs.MatchedOnto.{found_least}
 use Rattle.reach_lists.specs.Laws.{EachOf, IsSettled}

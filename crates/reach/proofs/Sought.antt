@@ -1,10 +1,9 @@
 -- The first of solutions that are followed, part by part.
 use Rattle.std.proofs.Common.{◌≡◌, ℕ, ◌+◌, ◌-◌, ◌≤◌, List, [], ◌∷◌, ◌++◌, flat_map, Option, None, Some, Result, Ok, Err, OnOk, refl, sym, ap, ap₂, ◌∙◌, arith}
 use Rattle.rewriting.specs.Terms as math
-use Rattle.rewriting.specs.Rules.{Condition}
+use Rattle.rewriting.specs.Prelude.{Condition, Bindings}
 use Rattle.cc_count.specs.Counts.{Counts, Spends}
 use Rattle.cc_count.proofs.Spending.{spends_none, spends_same}
-use Rattle.rewriting.specs.Substitutions.{Bindings}
 use Rattle.origins.specs.declared.Origin.{Origin}
 use Rattle.reach_lists.specs.Solutions.{Reached, Solution, starts, solutions, asked}
 use Rattle.reach_lists.specs.Lists.{total, reach_list, reach_cost, unconditional}

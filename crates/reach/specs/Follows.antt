@@ -1,8 +1,7 @@
 -- What following the solutions of conditions gives and asks for.
 use Rattle.std.specs.Prelude.{List, flat_map, option_to_list, Result}
 use Rattle.cc_count.specs.Counts.{Counts}
-use Rattle.rewriting.specs.Terms.{Term}
-use Rattle.rewriting.specs.Rules.{Condition}
+use Rattle.rewriting.specs.Prelude.{Term, Condition}
 use Rattle.reach_lists.specs.Lists.{total, at_site, asked_at, by_solution}
 use Rattle.reach_lists.specs.Sites.{Site}
 use Rattle.reach_lists.specs.Solutions.{Reached, Solution, extended}

@@ -1,7 +1,6 @@
 -- The solutions that a `Path` stands for.
 use Rattle.std.specs.Prelude.{◌≡◌, ◌≤◌, ◌⊎◌, None, Some, List, [], length, map, take, drop}
-use Rattle.rewriting.specs.Terms.{Term, var, app}
-use Rattle.rewriting.specs.Rules.{Condition}
+use Rattle.rewriting.specs.Prelude.{Term, var, app, Condition}
 use Rattle.matching.specs.Trails.{without}
 use Rattle.reach_lists.specs.Solutions as math
 use Rattle.origins.specs.OriginView.{origin_view}

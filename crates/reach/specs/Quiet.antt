@@ -1,7 +1,6 @@
 -- Terms whose steps ask for no list.
 use Rattle.std.specs.Prelude.{◌≡◌, [], Option, None, Some}
-use Rattle.rewriting.specs.Terms.{Term, Terms, var, app, nil, cons}
-use Rattle.rewriting.specs.Rules.{Rule, System, rule_at}
+use Rattle.rewriting.specs.Prelude.{Term, Terms, var, app, nil, cons, Rule, System, rule_at}
 use Rattle.rule_index.specs.Roots.{rules_at}
 use Rattle.reach_lists.specs.Laws.{EachOf}
 

@@ -1,8 +1,7 @@
 -- What seeking a first solution finds and asks for.
 use Rattle.std.specs.Prelude.{List, Option, flat_map, Result}
 use Rattle.cc_count.specs.Counts.{Counts}
-use Rattle.rewriting.specs.Terms.{Term}
-use Rattle.rewriting.specs.Rules.{Condition}
+use Rattle.rewriting.specs.Prelude.{Term, Condition}
 use Rattle.reach_lists.specs.Lists.{total}
 use Rattle.reach_lists.specs.Solutions as math
 use Rattle.reach_lists.specs.Paths.{followed, asked_on_paths}

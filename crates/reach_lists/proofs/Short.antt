@@ -1,13 +1,8 @@
 -- The derivations of listed terms are short.
 use Rattle.std.proofs.Common.{◌≡◌, ℕ, zero, suc, ◌≤◌, ◌<◌, ◌^◌, List, [], ◌∷◌, ◌++◌, flat_map, filter_map, option_to_list, option_map, Option, None, Some, refl, sym, subst, arith}
 use Rattle.std.proofs.lemmas.Bool.{leb-true}
-use Rattle.rewriting.specs.Terms.{Term, size}
-use Rattle.rewriting.specs.Positions.{Position, replace}
-use Rattle.rewriting.specs.Substitutions.{Bindings, apply, values_of}
-use Rattle.rewriting.specs.Rules.{Condition, System}
-use Rattle.certificates.specs.Derivations.{Derivation, no_steps, first_step, Step, by_rule, by_hypothesis, derivations_of}
-use Rattle.certificates.specs.Sizes.{step_count, AreStepsShort, IsStepShort, AreShort, IsShort}
-use Rattle.rewriting.specs.Tests.{is_covered, match_onto}
+use Rattle.rewriting.specs.Prelude.{Term, size, Position, replace, Bindings, apply, values_of, Condition, System, is_covered, match_onto}
+use Rattle.certificates.specs.Prelude.{Derivation, no_steps, first_step, Step, by_rule, by_hypothesis, derivations_of, step_count, AreStepsShort, IsStepShort, AreShort, IsShort}
 use Rattle.reach_lists.specs.Sites.{Site, rule_site, hypothesis_site, sites}
 use Rattle.reach_lists.specs.Solutions.{Reached, then_step, Solution, starts, extended, extensions, solutions}
 use Rattle.reach_lists.specs.Lists.{stepped, by_solution, unconditional, at_site, successors, breadth_first, condition_list}

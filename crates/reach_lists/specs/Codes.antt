@@ -2,9 +2,7 @@
 use Rattle.std.specs.Prelude.{◌≡◌, ℕ, List, [], ◌∷◌, refl}
 use Rattle.std.specs.Coded.{Coded, code_by, coded×, coded_ℕ, coded_list}
 use base.Stored.{coded_via}
-use Rattle.rewriting.specs.Terms.{Term}
-use Rattle.rewriting.specs.Positions.{Position}
-use Rattle.rewriting.specs.Codes.{coded_term}
+use Rattle.rewriting.specs.Prelude.{Term, Position, coded_term}
 use Rattle.certificates.specs.Derivations.{Derivation, no_steps, first_step, Step, by_rule, by_hypothesis, Derivations, no_derivations, first_derivation}
 use Rattle.reach_lists.specs.Solutions.{Reached}
 

@@ -1,10 +1,7 @@
 -- Laws of the lists.
 use Rattle.std.specs.Prelude.{◌≡◌, ◌⊎◌, ◌≤◌, ◌<◌, ◌^◌, ℕ, suc, true, false, List, [], ◌∷◌, ◌++◌, length, flat_map, drop}
-use Rattle.rewriting.specs.Terms.{Term, size}
-use Rattle.rewriting.specs.Rules.{Condition, System}
-use Rattle.certificates.specs.Derivations.{no_steps}
-use Rattle.certificates.specs.Judging.{Derives}
-use Rattle.certificates.specs.Sizes.{IsShort}
+use Rattle.rewriting.specs.Prelude.{Term, size, Condition, System}
+use Rattle.certificates.specs.Prelude.{no_steps, Derives, IsShort}
 use Rattle.reach_lists.specs.Solutions.{Reached}
 use Rattle.reach_lists.specs.Queue.{queued_terms, queue}
 use Rattle.reach_lists.specs.Lists.{is_listed, with_terms, successors, condition_list, reach_list, expanded, reach_cost}

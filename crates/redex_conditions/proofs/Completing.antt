@@ -6,19 +6,17 @@ use Rattle.std.proofs.lemmas.List.{length-map, drop_all}
 use Rattle.std.specs.Cmp.{nat_cmp_total}
 use Rattle.std.specs.FinMap.{get, insert, get-insert}
 use Rattle.general_lemmas.proofs.Places.{drop_read}
-use Rattle.rewriting.specs.Systems.{terms_of_rule, rule_variables}
-use Rattle.rewriting.specs.Overlaps.{conditions_under}
+use Rattle.rewriting.specs.Prelude.{terms_of_rule, rule_variables, conditions_under}
 use Rattle.rewriting.proofs.Common.{Term, var, Substitution, Bindings, values_of, occurs, occurs_in, Condition, System, sides, Signature}
 use Rattle.rewriting.proofs.Instances.{apply-agree}
 use Rattle.rewriting.proofs.Variables.{variables_have_all}
 use Rattle.rewriting.proofs.Lists.{counted_below}
 use Rattle.rewriting.proofs.Conditions.{length-conditions_under}
-use Rattle.certificates.specs.Sizes.{DoConditionsFit}
-use Rattle.term_core.specs.RuleView.{condition_view, rule_view}
+use Rattle.certificates.specs.Prelude.{DoConditionsFit, InfeasibilityEvidence}
+use Rattle.term_core.specs.Prelude.{condition_view, rule_view}
 use Rattle.term_core.specs.SystemView.{IsSound}
 use Rattle.term_core.specs.declared.systems.Cond as program_cond
 use Rattle.term_core.specs.declared.systems.Rule as program
-use Rattle.certificates.specs.Evidence.{InfeasibilityEvidence}
 use Rattle.certificates.proofs.Sizes.{conditions_fit}
 use Rattle.cert_model.specs.ReasonView.{evidence_reason_view}
 use Rattle.rewriting.proofs.Finite.{key_is, same_key}

@@ -2,8 +2,7 @@
 use Rattle.std.proofs.Common.{◌≡◌, true, Option, None, Some, is_some, refl, ap}
 use Rattle.std.proofs.lemmas.Bool.{false≢true}
 use Rattle.std.specs.FinMap.{empty}
-use Rattle.rewriting.specs.Substitutions.{Bindings, Matches, values_of}
-use Rattle.rewriting.specs.Tests.{match_onto}
+use Rattle.rewriting.specs.Prelude.{Bindings, Matches, values_of, match_onto}
 use Rattle.rewriting.proofs.Common.{Term}
 use Rattle.rewriting.proofs.Matched.{instance_matched}
 use Rattle.rewriting.proofs.Matching.{solved_instance}

@@ -1,11 +1,9 @@
 -- A term with its variables numbered, the rules of a system, and the redexes of two terms.
 use Rattle.std.proofs.Common.{◌≡◌, ◌⊎◌, inl, inr, ℕ, ◌≤◌, List, [], ◌∷◌, ◌++◌, map, length, get_or, sym, ap, ◌∙◌, subst, arith}
-use Rattle.rewriting.specs.Systems.{IsSystem, AreRules}
-use Rattle.rewriting.specs.Terms.{size}
+use Rattle.rewriting.specs.Prelude.{IsSystem, AreRules, size, IsAmong}
 use Rattle.rewriting.proofs.Common.{Term, System, apply, with_variables}
-use Rattle.rewriting.specs.Lists.{IsAmong}
 use Rattle.renumbering.specs.Rows.{naming}
-use Rattle.term_core.specs.RuleView.{rule_view, AreCounted}
+use Rattle.term_core.specs.Prelude.{rule_view, AreCounted}
 use Rattle.term_core.specs.SystemView.{AreSound}
 use Rattle.term_core.specs.declared.systems.Rule as program
 use Rattle.valid_certificates.specs.Peaks.{RedexPlace, IsRedex, IsEarlierRedex, AreRedexes}

@@ -1,10 +1,8 @@
 -- The rules that match a term, among those with its root.
 use Rattle.std.proofs.Common.{◌≡◌, inl, inr, ℕ, suc, ◌<◌, Bool, true, false, if◌then◌else◌, List, [], ◌∷◌, map, length, get_or, Option, None, Some, refl, sym, ap, ◌∙◌, subst, arith}
 use Rattle.std.proofs.lemmas.Bool.{false≢true}
-use Rattle.rewriting.specs.Substitutions.{Matches}
-use Rattle.rewriting.specs.Systems.{IsWellFormed}
+use Rattle.rewriting.specs.Prelude.{Matches, IsWellFormed, IsAmong, IsSorted}
 use Rattle.rewriting.proofs.Common.{Term, Terms, Position, var, app, IsVariable, Rule, System, rule_at}
-use Rattle.rewriting.specs.Lists.{IsAmong, IsSorted}
 use Rattle.rule_index.specs.Roots.{has_root, rules_with_root}
 use Rattle.rule_index.specs.Parts.{part}
 use Rattle.rule_index.proofs.Walks.{root_of, is_listed, ascending}

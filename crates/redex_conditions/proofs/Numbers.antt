@@ -4,19 +4,15 @@ use Rattle.std.specs.Ordering.{eq_by_cmp}
 use Rattle.std.specs.Cmp.{nat_cmp_total}
 use Rattle.std.specs.FinMap.{get, empty, entries, find, from_entries, get-entries, get-from_entries}
 use Rattle.std.proofs.lemmas.Bool.{or_right, or_left}
-use Rattle.rewriting.specs.Matching.{Solves, SolvesAll, IsLeastMatch}
-use Rattle.rewriting.specs.Overlaps.{conditions_under}
+use Rattle.rewriting.specs.Prelude.{Solves, SolvesAll, IsLeastMatch, conditions_under, AreDistinct}
 use Rattle.rewriting.proofs.Common.{Term, Terms, var, app, nil, cons, Position, argument, subterm, Substitution, Bindings, apply, apply_all, compose, occurs, occurs_in, Condition, Rule, System}
 use Rattle.rewriting.proofs.Instances.{apply-apply, apply-agree, or_cases}
 use Rattle.rewriting.proofs.Positions.{within}
 use Rattle.rewriting.proofs.Places.{subterm-apply}
-use Rattle.certificates.specs.Evidence.{InfeasibilityEvidence}
-use Rattle.certificates.specs.Judging.{RuleMatches}
-use Rattle.certificates.specs.Reasons.{EvidenceReason}
+use Rattle.certificates.specs.Prelude.{InfeasibilityEvidence, RuleMatches, EvidenceReason}
 use Rattle.rewriting.proofs.LeastMatches.{least_needs}
 use Rattle.matching.proofs.Least.{values_have, Inherits, nothing_bound}
 use Rattle.renumbering.specs.Spread.{spread, spreading}
-use Rattle.rewriting.specs.Lists.{AreDistinct}
 use Rattle.rewriting.proofs.Lists.{distinct_at}
 use Rattle.renumbering.specs.Rows.{naming}
 use Rattle.renumbering.proofs.Spreads.{spread_past, spread_one_to_one, odd_is_spread}

@@ -5,11 +5,7 @@ use Rattle.std.specs.FinMap.{empty}
 use Rattle.std.proofs.lemmas.List.{map-append, get_or_default}
 use Rattle.general_lemmas.proofs.Places.{drop_read}
 use Rattle.rewriting.specs.Terms as math
-use Rattle.rewriting.specs.Lists.{IsAmong}
-use Rattle.rewriting.specs.Positions.{Position, subterm}
-use Rattle.rewriting.specs.Rules.{Rule, System, rule_at}
-use Rattle.rewriting.specs.Substitutions.{Bindings}
-use Rattle.rewriting.specs.Matching.{IsLeastMatch}
+use Rattle.rewriting.specs.Prelude.{IsAmong, Position, subterm, Rule, System, rule_at, Bindings, IsLeastMatch}
 use Rattle.rewriting.proofs.Lists.{among_of_map}
 use Rattle.rule_index.specs.Roots.{rules_at}
 use Rattle.rule_index.specs.Parts.{Part, part, parts, IsNext}

@@ -1,8 +1,6 @@
 -- The list of redexes of a term is whole and sorted.
 use Rattle.std.proofs.Common.{◌≡◌, inl, inr, ℕ, [], Some, refl, sym, ◌∙◌, subst}
-use Rattle.rewriting.specs.Systems.{IsWellFormed}
-use Rattle.rewriting.specs.Positions.{Position, subterm}
-use Rattle.rewriting.specs.Lists.{IsAmong}
+use Rattle.rewriting.specs.Prelude.{IsWellFormed, Position, subterm, IsAmong}
 use Rattle.rewriting.proofs.Common.{Term, System}
 use Rattle.rule_index.specs.Roots.{rules_at}
 use Rattle.rule_index.specs.Parts.{Part, part, parts}

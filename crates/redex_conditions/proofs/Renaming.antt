@@ -1,19 +1,16 @@
 -- Conditions whose variables are renamed one to one have the same judgement.
 use Rattle.std.proofs.Common.{ℕ, ◌≡◌, inl, inr, List, [], ◌∷◌, Option, None, Some, refl, sym, ap, ◌∙◌, subst, subst₂}
-use Rattle.rewriting.specs.Terms.{Term, Terms, var, app, nil, cons}
-use Rattle.rewriting.specs.Substitutions.{apply, apply_all}
-use Rattle.rewriting.specs.Unifiers.{odd}
-use Rattle.rewriting.specs.Rules.{Condition, System, left_sides, right_sides}
-use Rattle.rewriting.specs.Overlaps.{conditions_under}
+use Rattle.rewriting.specs.Prelude.{Term, Terms, var, app, nil, cons, apply, apply_all, odd, Condition, System, left_sides, right_sides, conditions_under}
 use Rattle.unifier_run.specs.Run.{Outcome, unifier, clash, too_large, IsOutcome}
 use Rattle.unifier_run.proofs.Renamed.{names, stays, renamed_outcome, runs_with_names, fits_with_names, fits_without_names}
 use Rattle.unifier_run.proofs.Woven.{woven, all_woven_evens, all_woven_odds, woven_one_to_one}
 use Rattle.caps.specs.Caps.{Cap, Caps, any, all_filled, IsCapOf, AreCapsOf, IsCapLarge, AreCapsLarge}
 use Rattle.caps.specs.Evidence.{IsCapOutcome, JudgedByCaps}
 use Rattle.automata.proofs.Renamed.{by_automaton_to}
-use Rattle.certificates.specs.Evidence.{InfeasibilityEvidence, by_caps, by_automaton}
-use Rattle.certificates.specs.Reasons.{EvidenceReason, tcap_unifies, tcap_large, not_allowed, not_root, sides_differ, conflict_number, conflict_left, conflict_unifies, conflict_large, auto_number, auto_any, auto_misses, auto_wide, auto_not_closed, auto_wide_right, auto_reaches, join_left, join_right, join_differs, unfeasible_number, unfeasible_first, unfeasible_second, first_reducible, second_reducible, unfeasible_unifies, unfeasible_large}
-use Rattle.certificates.specs.Sizes.{DoConditionsFit}
+use Rattle.certificates.specs.Prelude.{InfeasibilityEvidence, by_caps, by_automaton, EvidenceReason, tcap_unifies, tcap_large, not_allowed, not_root, sides_differ, conflict_number}
+use Rattle.certificates.specs.Prelude.{conflict_left, conflict_unifies, conflict_large, auto_number, auto_any, auto_misses, auto_wide, auto_not_closed, auto_wide_right, auto_reaches}
+use Rattle.certificates.specs.Prelude.{join_left, join_right, join_differs, unfeasible_number, unfeasible_first, unfeasible_second, first_reducible, second_reducible, unfeasible_unifies}
+use Rattle.certificates.specs.Prelude.{unfeasible_large, DoConditionsFit}
 use Rattle.judged_evidence.specs.Evidence.{IsInfeasibilityJudged}
 use Rattle.judged_evidence.proofs.Judged.{infeasibility_total, evidence_once}
 use Rattle.redex_conditions.specs.Judged.{AreJudged}

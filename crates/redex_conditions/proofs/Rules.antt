@@ -4,7 +4,7 @@ use Rattle.std.specs.FinMap.{empty}
 use Rattle.rewriting.specs.Matching.{IsLeastMatch, HasNoMatch}
 use Rattle.rewriting.proofs.Common.{Term, Bindings, values_of, Rule, System, rule_at, Signature}
 use Rattle.rewriting.proofs.Matching.{solved_instance}
-use Rattle.term_core.specs.RuleView.{rule_view}
+use Rattle.term_core.specs.Prelude.{rule_view}
 use Rattle.term_core.specs.SystemView.{IsSound, AreSound}
 use Rattle.term_core.specs.declared.systems.Rule as program
 use Rattle.rewriting.proofs.Matched.{instance_matched}

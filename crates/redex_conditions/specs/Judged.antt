@@ -3,17 +3,9 @@ use Rattle.std.specs.Prelude.{ℕ, ◌≡◌, ◌+◌, ◌⊎◌, List, Option, 
 use Rattle.std.specs.FinMap.{get, empty}
 use Rattle.std.specs.Global.{Vec}
 use Rattle.rewriting.specs.Terms as math
-use Rattle.rewriting.specs.Terms.{Term, var}
-use Rattle.rewriting.specs.Substitutions.{Bindings, Substitution}
-use Rattle.rewriting.specs.Matching.{IsLeastMatch}
-use Rattle.rewriting.specs.Rules.{Condition, Rule, System, rule_at}
-use Rattle.rewriting.specs.Overlaps.{conditions_under}
-use Rattle.certificates.specs.Evidence.{InfeasibilityEvidence}
-use Rattle.certificates.specs.Judging.{RuleMatches}
-use Rattle.certificates.specs.Reasons.{EvidenceReason, tcap_large}
-use Rattle.certificates.specs.Sizes.{DoConditionsFit}
-use Rattle.rewriting.specs.Signatures.{Signature}
-use Rattle.term_core.specs.RuleView.{condition_view}
+use Rattle.rewriting.specs.Prelude.{Term, var, Bindings, Substitution, IsLeastMatch, Condition, Rule, System, rule_at, conditions_under, Signature}
+use Rattle.certificates.specs.Prelude.{InfeasibilityEvidence, RuleMatches, EvidenceReason, tcap_large, DoConditionsFit}
+use Rattle.term_core.specs.Prelude.{condition_view}
 use Rattle.term_core.specs.SystemView.{IsSound}
 use Rattle.term_core.specs.declared.systems.Rule as program
 use Rattle.term_core.specs.declared.systems.Cond.{Cond}

@@ -1,11 +1,7 @@
 -- The redexes of a term, in order.
 use Rattle.std.specs.Prelude.{ℕ, ◌≡◌, Bool, false, if◌then◌else◌, List, [], ◌∷◌, map, flat_map, Option, None, Some, is_some}
 use Rattle.std.specs.FinMap.{empty}
-use Rattle.rewriting.specs.Lists.{IsAmong, IsSorted}
-use Rattle.rewriting.specs.Terms.{Term}
-use Rattle.rewriting.specs.Positions.{Position}
-use Rattle.rewriting.specs.Rules.{Rule, System, rule_at}
-use Rattle.rewriting.specs.Tests.{match_onto}
+use Rattle.rewriting.specs.Prelude.{IsAmong, IsSorted, Term, Position, Rule, System, rule_at, match_onto}
 use Rattle.rule_index.specs.Roots.{rules_at}
 use Rattle.rule_index.specs.Parts.{Part, parts}
 use Rattle.valid_certificates.specs.Peaks.{RedexPlace, MatchesAt, IsEarlierRedex}

@@ -2,11 +2,9 @@
 ghost use Rattle.std.specs.Prelude.{◌≡◌, ◌<◌, ◌≤◌, ◌+◌, ◌^◌, ℕ, Some, OnOk, map};
 ghost use Rattle.std.specs.FinMap.{get};
 ghost use Rattle.rewriting.specs.Terms as math;
-ghost use Rattle.rewriting.specs.Substitutions.{values_of};
-ghost use Rattle.rewriting.specs.Overlaps.{condition_under, conditions_under};
+ghost use Rattle.rewriting.specs.Prelude.{values_of, condition_under, conditions_under};
 ghost use Rattle.certificates.specs.Sizes.{DoConditionsFit};
-ghost use Rattle.term_core.specs.View.{view};
-ghost use Rattle.term_core.specs.RuleView.{condition_view};
+ghost use Rattle.term_core.specs.Prelude.{view, condition_view};
 ghost use Rattle.redex_conditions.specs.Judged.{value_or_new, match_or_new, IsOfSystem, InstanceAnswers, InstancesAnswer, ConditionsAnswer};
 
 use std::alloc::Global;

@@ -3,8 +3,7 @@
 
 ghost use Rattle.std.specs.Prelude.{◌≡◌, ◌≤◌, Option, None, List, length, map};
 ghost use Rattle.rewriting.specs.Rules as math;
-ghost use Rattle.rewriting.specs.Systems.{IsWellFormed};
-ghost use Rattle.rewriting.specs.Infeasibility.{IsInfeasible};
+ghost use Rattle.rewriting.specs.Prelude.{IsWellFormed, IsInfeasible};
 ghost use Rattle.certificates.specs.Reasons as reasons;
 ghost use Rattle.certificates.specs.Sizes.{DoConditionsFit};
 ghost use Rattle.term_core.specs.RuleView.{condition_view};

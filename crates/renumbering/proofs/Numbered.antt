@@ -2,14 +2,11 @@
 use Rattle.std.proofs.Common.{◌≡◌, ℕ, zero, suc, ◌+◌, ◌<◌, ◌≤◌, ◌⊎◌, inl, inr, true, false, eqb-true, List, [], ◌∷◌, ◌++◌, length, get_or, slice_get, take, drop, Some, Vec, Global, refl, sym, ap, ap₂, ◌∙◌, subst, arith}
 use Rattle.std.proofs.lemmas.Option.{slice_get_within, get_or_from_slice_get}
 use Rattle.rewriting.specs.Terms as math
-use Rattle.rewriting.specs.Terms.{var, app, Terms, nil, cons}
-use Rattle.rewriting.specs.Variables.{occurs, occurs_in, with_variables, with_variables_of}
-use Rattle.rewriting.specs.Substitutions.{Substitution, apply, apply_all}
+use Rattle.rewriting.specs.Prelude.{var, app, Terms, nil, cons, occurs, occurs_in, with_variables, with_variables_of, Substitution, apply, apply_all, IsFront}
 use Rattle.rewriting.proofs.Instances.{or_cases, apply_all-agree}
 use Rattle.std.proofs.lemmas.Bool.{or_left, or_right}
 use Rattle.std.proofs.lemmas.List.{take_all}
 use Rattle.general_lemmas.proofs.Places.{take_read}
-use Rattle.rewriting.specs.Lists.{IsFront}
 use Rattle.renumbering.specs.Rows.{naming, IsNumbered}
 use Rattle.rewriting.proofs.Lists.{front_at, front_length}
 use Rattle.term_core.specs.View.{view, views}

@@ -2,8 +2,7 @@
 use Rattle.std.proofs.Common.{ℕ, ◌<◌, ◌≤◌, ◌^◌, ◌⊎◌, inl, inr, Bool, true, false, if◌then◌else◌, nat_eq, List, [], ◌∷◌, ◌++◌, length, sym, subst}
 use Rattle.std.specs.List.{IsDistinct, list_any}
 use Rattle.std.proofs.lemmas.Map.Steps.{length-le_from_distinct_below}
-use Rattle.rewriting.specs.Variables.{with_new}
-use Rattle.rewriting.specs.Lists.{IsAmong}
+use Rattle.rewriting.specs.Prelude.{with_new, IsAmong}
 use Rattle.rewriting.proofs.Lists.{among_either}
 use Rattle.rewriting.proofs.Variables.{among_of_any, new_distinct}
 use Rattle.renumbering.specs.Rows.{IsRow}

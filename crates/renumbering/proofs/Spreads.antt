@@ -1,13 +1,9 @@
 -- What the numbers of a row stand for.
 use Rattle.std.proofs.Common.{◌≡◌, ℕ, ◌+◌, ◌-◌, ◌*◌, ◌<◌, ◌≤◌, ◌⊎◌, inl, inr, Bool, true, if◌then◌else◌, List, length, get_or, sym, ap, ◌∙◌, arith}
 use Rattle.std.proofs.lemmas.Bool.{cases_lt, lt-ltb, le-ltb}
-use Rattle.rewriting.specs.Terms.{Term, var}
-use Rattle.rewriting.specs.Variables.{occurs}
-use Rattle.rewriting.specs.Substitutions.{apply, compose}
-use Rattle.rewriting.specs.Unifiers.{odd}
+use Rattle.rewriting.specs.Prelude.{Term, var, occurs, apply, compose, odd, AreDistinct}
 use Rattle.rewriting.proofs.Instances.{apply-apply, apply-agree}
 use Rattle.renumbering.specs.Spread.{spread, spreading}
-use Rattle.rewriting.specs.Lists.{AreDistinct}
 use Rattle.renumbering.specs.Rows.{naming}
 use Rattle.rewriting.proofs.Lists.{distinct_at}
 

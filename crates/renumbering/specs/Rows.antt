@@ -1,9 +1,6 @@
 -- Rows of variables, and terms with places of a row for their variables.
 use Rattle.std.specs.Prelude.{ℕ, ◌≡◌, ◌<◌, ◌^◌, true, List, length, get_or}
-use Rattle.rewriting.specs.Terms.{Term, var}
-use Rattle.rewriting.specs.Variables.{occurs}
-use Rattle.rewriting.specs.Substitutions.{Substitution, apply}
-use Rattle.rewriting.specs.Lists.{IsAmong, AreDistinct}
+use Rattle.rewriting.specs.Prelude.{Term, var, occurs, Substitution, apply, IsAmong, AreDistinct}
 
 -- no variable is twice in the row, and each has 32 bits; so each place in the row has 32 bits too
 pub record IsRow (xs : List ℕ) : Type 0 where

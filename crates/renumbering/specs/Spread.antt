@@ -1,7 +1,6 @@
 -- Variables numbered by first occurrence, and what the numbers stand for.
 use Rattle.std.specs.Prelude.{ℕ, ◌+◌, ◌-◌, ◌*◌, nat_lt, if◌then◌else◌, List, length, get_or}
-use Rattle.rewriting.specs.Terms.{var}
-use Rattle.rewriting.specs.Substitutions.{Substitution}
+use Rattle.rewriting.specs.Prelude.{var, Substitution}
 
 -- the number m of a row of variables stands for the odd number of its variable; the numbers past the row for 0, 2, 4, ..
 abbrev pub spread : List ℕ → ℕ → ℕ

@@ -4,12 +4,9 @@
 #![tactic(auto)]
 
 ghost use Rattle.std.specs.Prelude.{◌≡◌, ◌<◌, ℕ, true, [], Some, IfOk, OnOk, length, slice_get};
-ghost use Rattle.rewriting.specs.Variables.{occurs, with_new, with_variables};
-ghost use Rattle.rewriting.specs.Substitutions.{apply};
-ghost use Rattle.rewriting.specs.Unifiers.{odd};
+ghost use Rattle.rewriting.specs.Prelude.{occurs, with_new, with_variables, apply, odd, IsFront, AreDistinct};
 ghost use Rattle.term_core.specs.View.{view};
 ghost use Rattle.renumbering.specs.Spread.{spreading};
-ghost use Rattle.rewriting.specs.Lists.{IsFront, AreDistinct};
 ghost use Rattle.renumbering.specs.Rows.{IsRow, naming, IsNumbered};
 
 use indexmap::IndexSet;

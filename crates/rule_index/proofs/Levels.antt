@@ -2,8 +2,7 @@
 use Rattle.std.proofs.Common.{◌≡◌, ℕ, suc, ◌+◌, ◌≤◌, List, [], ◌∷◌, ◌++◌, map, flat_map, length, Option, option_to_list, Some, None, refl, sym, ap, ap₂, ◌∙◌, subst, subst₂, append_assoc, append-nil, arith}
 use Rattle.std.specs.Borrow.{Bor}
 use Rattle.std.proofs.lemmas.List.Concat.{flat_map-append}
-use Rattle.rewriting.specs.Terms.{Term, Terms, var, app, nil, cons, size_all}
-use Rattle.rewriting.specs.Positions.{Position, argument, subterm, positions, positions_from}
+use Rattle.rewriting.specs.Prelude.{Term, Terms, var, app, nil, cons, size_all, Position, argument, subterm, positions, positions_from}
 use Rattle.rewriting.proofs.Positions.{subterm-append}
 use Rattle.term_core.specs.View.{view, views}
 use Rattle.term_core.specs.declared.terms.Term as program

@@ -1,8 +1,7 @@
 -- The list that tells which left sides are linear, as it is made and read.
 use Rattle.std.proofs.Common.{ℕ, zero, suc, ◌≡◌, ◌↔◌, ◌-◌, ◌<◌, Bool, true, IsTrue, List, [], ◌∷◌, ◌++◌, map, length, take, get_or, Option, None, Some, IsSome, refl, sym, subst, arith, slice_get}
-use Rattle.rewriting.specs.Variables.{IsLinear}
+use Rattle.rewriting.specs.Prelude.{IsLinear, rule_at}
 use Rattle.rewriting.specs.Rules as math
-use Rattle.rewriting.specs.Rules.{rule_at}
 use Rattle.term_core.specs.RuleView.{rule_view}
 use Rattle.term_core.specs.declared.systems.Rule.{Rule}
 use Rattle.rule_index.specs.Linear.{TellLinear}

@@ -1,8 +1,6 @@
 -- Where the parts of a term stand.
 use Rattle.std.proofs.Common.{◌≡◌, ◌⊎◌, inl, inr, ℕ, suc, ◌≤◌, List, [], ◌∷◌, map, Option, None, Some, option_to_list, refl, sym, ap, ◌∙◌, subst, arith}
-use Rattle.rewriting.specs.Terms.{Term, Terms, var, app, nil, cons}
-use Rattle.rewriting.specs.Lists.{IsAmong, IsSorted}
-use Rattle.rewriting.specs.Positions.{Position, IsBefore, subterm, positions, positions_from}
+use Rattle.rewriting.specs.Prelude.{Term, Terms, var, app, nil, cons, IsAmong, IsSorted, Position, IsBefore, subterm, positions, positions_from}
 use Rattle.rewriting.proofs.Lists.{among_either, among_of_map, before_each, sorted_append, sorted_map}
 use Rattle.rewriting.proofs.Listed.{listed}
 use Rattle.rule_index.specs.Parts.{Part, part, part_at, parts}

@@ -1,10 +1,8 @@
 -- The left sides of a system's rules have roots among its symbols.
 use Rattle.std.proofs.Common.{◌≡◌, ℕ, List, [], ◌∷◌, length, sym, subst}
 use Rattle.std.proofs.lemmas.Option.{slice_get_within}
-use Rattle.rewriting.specs.Terms.{Term, var, app}
-use Rattle.rewriting.specs.Signatures.{Signature, IsOver}
+use Rattle.rewriting.specs.Prelude.{Term, var, app, Signature, IsOver, AreRules, IsSystem}
 use Rattle.rewriting.specs.Rules as math
-use Rattle.rewriting.specs.Systems.{AreRules, IsSystem}
 use Rattle.rule_index.specs.Index.{IsRootBelow, AreRootsBelow}
 
 root_below : (arities : Signature) (t : Term) → IsOver arities t → IsRootBelow (length arities) t

@@ -1,7 +1,6 @@
 -- The numbers of the rules with one root, walked in order.
 use Rattle.std.proofs.Common.{◌≡◌, ℕ, zero, suc, ◌+◌, ◌<◌, ◌≤◌, Bool, true, false, if◌then◌else◌, eq-eqb, List, [], ◌∷◌, length, get_or, slice_get, Some, refl, ap, subst, ◌∙◌, arith}
-use Rattle.rewriting.specs.Terms.{Term, Terms, app}
-use Rattle.rewriting.specs.Rules.{Rule, System, rule_at}
+use Rattle.rewriting.specs.Prelude.{Term, Terms, app, Rule, System, rule_at}
 use Rattle.rule_index.specs.Roots.{has_root, numbers_with_root, rules_with_root}
 
 -- a term with a root is that symbol over arguments, and the other way round

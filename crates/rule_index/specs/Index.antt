@@ -1,7 +1,6 @@
 -- An index of rules by root symbols, as a list for each symbol.
 use Rattle.std.specs.Prelude.{ℕ, ◌≡◌, ◌<◌, List, [], ◌∷◌, get_or}
-use Rattle.rewriting.specs.Terms.{Term, var, app}
-use Rattle.rewriting.specs.Rules.{Rule, System}
+use Rattle.rewriting.specs.Prelude.{Term, var, app, Rule, System}
 use Rattle.rule_index.specs.Roots.{rules_with_root}
 
 -- the numbers that stand at a symbol; past the last symbol there are none

@@ -1,8 +1,7 @@
 -- Where a walk stands: at each level the number of an argument, and those behind it.
 use Rattle.std.specs.Prelude.{ℕ, suc, ◌≡◌, ◌+◌, ◌≤◌, List, [], ◌∷◌, ◌++◌, map, Option, None, Some}
 use Rattle.std.specs.Borrow.{Bor}
-use Rattle.rewriting.specs.Terms.{Term, Terms, var, app, nil, cons, size, size_all}
-use Rattle.rewriting.specs.Positions.{Position}
+use Rattle.rewriting.specs.Prelude.{Term, Terms, var, app, nil, cons, size, size_all, Position}
 use Rattle.term_core.specs.View.{view, views}
 use Rattle.term_core.specs.declared.terms.Term as program
 use Rattle.rule_index.specs.Parts.{Part, part}

@@ -1,7 +1,6 @@
 -- Which left sides are linear.
 use Rattle.std.specs.Prelude.{◌↔◌, Bool, IsTrue, List, [], ◌∷◌}
-use Rattle.rewriting.specs.Variables.{IsLinear}
-use Rattle.rewriting.specs.Rules.{Rule}
+use Rattle.rewriting.specs.Prelude.{IsLinear, Rule}
 
 -- whether the left side of each rule is linear, in order
 abbrev pub TellLinear : List Rule → List Bool → Type 0

@@ -3,8 +3,7 @@ use Rattle.std.specs.Prelude.{◌≡◌, List, [], ◌∷◌, map, flat_map, opt
 use Rattle.std.specs.Borrow.{Bor}
 use Rattle.std.specs.Coded.{Coded, code_by, coded×, coded_ℕ, coded_list}
 use Rattle.rewriting.specs.Terms as math
-use Rattle.rewriting.specs.Positions.{Position, subterm, positions}
-use Rattle.rewriting.specs.Codes.{coded_term}
+use Rattle.rewriting.specs.Prelude.{Position, subterm, positions, coded_term}
 use Rattle.term_core.specs.View.{view}
 use Rattle.term_core.specs.declared.terms.Term.{Term}
 use Rattle.term_core.specs.declared.terms.NoMemory.{NoMemory}

@@ -1,7 +1,6 @@
 -- The rules of a system by the root symbol of their left sides.
 use Rattle.std.specs.Prelude.{ℕ, suc, Bool, false, nat_eq, if◌then◌else◌, List, [], ◌∷◌}
-use Rattle.rewriting.specs.Terms.{Term, var, app}
-use Rattle.rewriting.specs.Rules.{Rule, System}
+use Rattle.rewriting.specs.Prelude.{Term, var, app, Rule, System}
 
 -- whether the symbol is the term's root
 abbrev pub has_root : ℕ → Term → Bool

@@ -1,7 +1,6 @@
 -- The walk of the definitions that a `PartWalk` stands for.
 use Rattle.std.specs.Prelude.{◌≤◌, [], ◌++◌, List}
-use Rattle.rewriting.specs.Positions.{Position}
-use Rattle.rewriting.specs.Terms.{size, size_all}
+use Rattle.rewriting.specs.Prelude.{Position, size, size_all}
 use Rattle.term_core.specs.View.{view, views}
 use Rattle.rule_index.specs.Parts.{Part, Walk, walk}
 use Rattle.rule_index.specs.Levels.{parts_in, parts_among, later_parts, levels_of, AreLevels}

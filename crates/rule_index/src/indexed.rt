@@ -1,13 +1,10 @@
 //! A system and the index of its rules in one value, so that no question about the system makes an index of its own.
 ghost use Rattle.std.specs.Prelude.{◌≡◌, ◌↔◌, IfOk, IsTrue, IsSome, Some, map};
-ghost use Rattle.rewriting.specs.Variables.{IsLinear};
+ghost use Rattle.rewriting.specs.Prelude.{IsLinear, rule_at, IsSystem};
 ghost use Rattle.rewriting.specs.Rules as math;
-ghost use Rattle.rewriting.specs.Rules.{rule_at};
-ghost use Rattle.rewriting.specs.Systems.{IsSystem};
 ghost use Rattle.rule_index.specs.Roots.{rules_with_root, rules_at};
 ghost use Rattle.rule_index.specs.Linear.{TellLinear};
-ghost use Rattle.term_core.specs.View.{view};
-ghost use Rattle.term_core.specs.RuleView.{rule_view, AreCounted};
+ghost use Rattle.term_core.specs.Prelude.{view, rule_view, AreCounted};
 
 use crate::RuleIndex;
 use std::alloc::Global;

@@ -7,8 +7,7 @@ mod parts;
 ghost use Rattle.std.specs.Prelude.{◌≡◌, ◌<◌, ◌^◌, ◌++◌, ◌∷◌, ℕ, [], IfOk, OnOk, if◌then◌else◌, map, length};
 ghost use Rattle.rule_index.specs.Roots.{has_root, numbers_with_root};
 ghost use Rattle.rule_index.specs.Index.{listed, listed_at, IsIndexOf, IsRootBelow, AreRootsBelow};
-ghost use Rattle.term_core.specs.View.{view};
-ghost use Rattle.term_core.specs.RuleView.{rule_view};
+ghost use Rattle.term_core.specs.Prelude.{view, rule_view};
 
 pub use indexed::IndexedSystem;
 pub use parts::PartWalk;

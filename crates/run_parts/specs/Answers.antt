@@ -2,8 +2,7 @@
 use Rattle.std.specs.Prelude.{◌++◌, ℕ, List, codes}
 use Rattle.certificates.specs.Certificates.{Certificate}
 use Rattle.cops_names.specs.NameTable.{NameTable}
-use Rattle.cert_grammar.specs.CertificateText.{answer_line, certificate_text}
-use Rattle.cert_grammar.specs.Versions.{second_version}
+use Rattle.cert_grammar.specs.Prelude.{answer_line, certificate_text, second_version}
 use Rattle.cert_check.specs.declared.Verdict.{Verdict}
 use Rattle.cert_check.specs.declared.Verdict.TheVariants.{Yes, No}
 

@@ -2,8 +2,7 @@
 use Rattle.std.proofs.Common.{◌≡◌, Bool, IsTrue, List, ◌∷◌, map, sym, subst}
 use Rattle.rewriting.specs.Terms.{Fits}
 use Rattle.certificates.specs.Sizes.{DoConditionsFit}
-use Rattle.term_core.specs.View.{view}
-use Rattle.term_core.specs.RuleView.{condition_view}
+use Rattle.term_core.specs.Prelude.{view, condition_view}
 use Rattle.term_core.specs.declared.systems.Cond.{Cond}
 
 pub all_fit : (cs rest : List Cond) (c : Cond) (b : Bool) → cs ≡ c ∷ rest → Fits (view c.left) → Fits (view c.right) → (IsTrue b → DoConditionsFit (map condition_view rest))

@@ -3,8 +3,7 @@ use Rattle.std.proofs.Common.{◌≡◌, ℕ, zero, suc, ◌<◌, List, [], ◌�
 use Rattle.rewriting.specs.Terms.{Fits}
 use Rattle.certificates.specs.Sizes.{IsShort, DoConditionsFit}
 use Rattle.reach_lists.specs.Laws.{EachOf}
-use Rattle.term_core.specs.View.{view}
-use Rattle.term_core.specs.RuleView.{condition_view}
+use Rattle.term_core.specs.Prelude.{view, condition_view}
 use Rattle.term_core.specs.declared.systems.Cond.{Cond}
 use Rattle.cert_model.specs.DerivationView.{derivation_view}
 use Rattle.cert_model.specs.declared.derivations.Derivation.{Derivation}

@@ -3,8 +3,7 @@ ghost use Rattle.std.specs.Prelude.{map};
 ghost use Rattle.rewriting.specs.Terms as math;
 ghost use Rattle.certificates.specs.Sizes.{IsShort, DoConditionsFit};
 ghost use Rattle.reach_lists.specs.Laws.{EachOf};
-ghost use Rattle.term_core.specs.View.{view};
-ghost use Rattle.term_core.specs.RuleView.{condition_view};
+ghost use Rattle.term_core.specs.Prelude.{view, condition_view};
 ghost use Rattle.cert_model.specs.DerivationView.{derivation_view};
 
 use cert_model::Derivation;

@@ -3,9 +3,7 @@ use Rattle.std.proofs.Common.{ℕ, ◌≡◌, ◌<◌, ◌≤◌, List, sym, ap,
 use Rattle.rewriting.specs.Rules.{Condition, System}
 use Rattle.rewriting.proofs.Once.{same_some}
 use Rattle.unifier_run.specs.Overlaps.{Overlap}
-use Rattle.certificates.specs.Evidence.{InfeasibilityEvidence, by_automaton, PairEvidence, infeasible_pair}
-use Rattle.certificates.specs.Certificates.{PairEntry}
-use Rattle.certificates.specs.Judging.{hypothesis_at}
+use Rattle.certificates.specs.Prelude.{InfeasibilityEvidence, by_automaton, PairEvidence, infeasible_pair, PairEntry, hypothesis_at}
 use Rattle.valid_certificates.specs.Kinds.{Kind}
 use Rattle.first_found.specs.Items.{NoneGives, one}
 use Rattle.first_found.specs.Rows.{HasNone}

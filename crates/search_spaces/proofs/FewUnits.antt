@@ -3,11 +3,7 @@ use Rattle.std.proofs.Common.{ℕ, ◌≡◌, ◌+◌, ◌-◌, ◌*◌, ◌≤�
 use Rattle.std.specs.List.{range_with_len}
 use Rattle.std.proofs.lemmas.List.{length-append, length-map}
 use Rattle.std.proofs.lemmas.List.FromFn.{length-map-range_with_len, length-range_with_len}
-use Rattle.rewriting.specs.Lists.{IsAmong}
-use Rattle.rewriting.specs.Rules.{System, EachRule}
-use Rattle.rewriting.specs.Substitutions.{compose}
-use Rattle.rewriting.specs.Unifiers.{even, odd}
-use Rattle.rewriting.specs.Overlaps.{conditions_under}
+use Rattle.rewriting.specs.Prelude.{IsAmong, System, EachRule, compose, even, odd, conditions_under}
 use Rattle.rewriting.proofs.Conditions.{length-conditions_under}
 use Rattle.unifier_run.specs.Run.{value}
 use Rattle.unifier_run.specs.Overlaps.{Overlap, IsOverlapOf}

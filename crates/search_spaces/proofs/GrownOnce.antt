@@ -1,9 +1,6 @@
 -- From a term one automaton grows at most, and none where too many transitions are asked for.
 use Rattle.std.proofs.Common.{ℕ, suc, ◌≡◌, ◌<◌, ◌≤◌, ◌⊎◌, inl, inr, List, [], ◌∷◌, length, Option, None, Some, refl, sym, ◌∙◌, subst, arith}
-use Rattle.rewriting.specs.Lists.{IsAmong, IsBeforeAll, IsSorted}
-use Rattle.rewriting.specs.Positions.{IsBefore}
-use Rattle.rewriting.specs.Rules.{System}
-use Rattle.rewriting.specs.Terms.{Term}
+use Rattle.rewriting.specs.Prelude.{IsAmong, IsBeforeAll, IsSorted, IsBefore, System, Term}
 use Rattle.rewriting.proofs.Before.{before_not_same, before_not_both}
 use Rattle.rewriting.proofs.Lists.{before_one, sorted_once}
 use Rattle.rewriting.proofs.Members.{among_contained, contained_among}

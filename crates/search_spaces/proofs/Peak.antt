@@ -1,12 +1,10 @@
 -- What the peak space finds is valid, and where it finds nothing, none of its certificates is; what a search of it may answer.
 use Rattle.std.proofs.Common.{ℕ, ◌≡◌, ◌<◌, ◌≤◌, inl, inr, List, [], ◌∷◌, ◌++◌, map, refl, sym, ap, ◌∙◌, subst, arith}
-use Rattle.rewriting.specs.Lists.{IsAmong}
+use Rattle.rewriting.specs.Prelude.{IsAmong, System, Term}
 use Rattle.rewriting.proofs.Lists.{among_middle}
-use Rattle.rewriting.specs.Rules.{System}
 use Rattle.certificates.specs.Certificates.{Certificate}
 use Rattle.cops_names.specs.NameTable.{NameTable}
 use Rattle.valid_certificates.specs.Certificates.{IsValid}
-use Rattle.rewriting.specs.Terms.{Term}
 use Rattle.unifier_run.specs.Overlaps.{Overlap, AreOverlaps}
 use Rattle.valid_certificates.proofs.OneOverlaps.{overlaps_once}
 use Rattle.first_found.specs.Items.{NoneGives, GivesNothing, cost_of, IsFirst, IsStopped}

@@ -1,9 +1,7 @@
 -- An item of the peak space has one certificate at most.
 use Rattle.std.proofs.Common.{ℕ, ◌≡◌, refl, sym, ap, ◌∙◌, subst}
-use Rattle.rewriting.specs.Terms.{Term}
-use Rattle.rewriting.specs.Rules.{System, rule_at}
-use Rattle.certificates.specs.Evidence.{InfeasibilityEvidence}
-use Rattle.certificates.specs.Certificates.{Redex, Apartness, by_normal_forms, by_rigid_caps, Certificate, peak_certificate}
+use Rattle.rewriting.specs.Prelude.{Term, System, rule_at}
+use Rattle.certificates.specs.Prelude.{InfeasibilityEvidence, Redex, Apartness, by_normal_forms, by_rigid_caps, Certificate, peak_certificate}
 use Rattle.cops_names.specs.NameTable.{NameTable}
 use Rattle.valid_certificates.specs.Peaks.{RedexPlace, chosen}
 use Rattle.valid_certificates.proofs.OneAnswer.{conditions_once}

@@ -2,8 +2,7 @@
 use Rattle.std.specs.Prelude.{ℕ, ◌≡◌, List}
 use Rattle.rewriting.specs.Rules.{System}
 use Rattle.unifier_run.specs.Overlaps.{Overlap}
-use Rattle.certificates.specs.Evidence.{PairEvidence}
-use Rattle.certificates.specs.Certificates.{PairEntry}
+use Rattle.certificates.specs.Prelude.{PairEvidence, PairEntry}
 use Rattle.valid_certificates.specs.Kinds.{Kind}
 use Rattle.first_found.specs.Items.{IsFirst, IsStopped, cost_of, one}
 use Rattle.search_spaces.specs.PairItems.{PairItem, GivesEvidence}

@@ -1,7 +1,6 @@
 -- The automaton that grows from a term, where growth passes no limit.
 use Rattle.std.specs.Prelude.{ℕ, ◌≡◌, ◌≤◌, length, Some}
-use Rattle.rewriting.specs.Terms.{Term}
-use Rattle.rewriting.specs.Rules.{Rule, System, rule_at}
+use Rattle.rewriting.specs.Prelude.{Term, Rule, System, rule_at}
 use Rattle.certificates.specs.Evidence.{Automaton}
 use Rattle.automata.specs.Growth.{IsGrowthOf, AreStatesMany, IsTooWide}
 

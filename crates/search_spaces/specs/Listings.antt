@@ -1,7 +1,6 @@
 -- The terms that are reached from a term under hypotheses, each with a derivation, at a cost: in 5 steps, with condition depth 2.
 use Rattle.std.specs.Prelude.{ℕ, List, [], ◌∷◌, ◌++◌, map}
-use Rattle.rewriting.specs.Terms.{Term}
-use Rattle.rewriting.specs.Rules.{Condition, System}
+use Rattle.rewriting.specs.Prelude.{Term, Condition, System}
 use Rattle.reach_lists.specs.Solutions.{Reached}
 use Rattle.reach_lists.specs.Lists.{reach_list, reach_cost}
 

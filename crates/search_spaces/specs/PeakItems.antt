@@ -1,9 +1,7 @@
 -- What is tried, in order, to show that a system is not confluent.
 use Rattle.std.specs.Prelude.{ℕ, ◌≡◌, List, [], ◌∷◌, map, flat_map, length, Option, None, Some}
-use Rattle.rewriting.specs.Terms.{Term}
-use Rattle.rewriting.specs.Rules.{Condition, Rule, System, rule_at}
-use Rattle.certificates.specs.Evidence.{InfeasibilityEvidence}
-use Rattle.certificates.specs.Certificates.{Redex, Apartness, by_normal_forms, by_rigid_caps, Certificate, peak_certificate}
+use Rattle.rewriting.specs.Prelude.{Term, Condition, Rule, System, rule_at}
+use Rattle.certificates.specs.Prelude.{InfeasibilityEvidence, Redex, Apartness, by_normal_forms, by_rigid_caps, Certificate, peak_certificate}
 use Rattle.cops_names.specs.NameTable.{NameTable}
 use Rattle.valid_certificates.specs.Peaks.{RedexPlace, AreRedexes, AreConditionsAt, IsRedexJudged, chosen}
 use Rattle.valid_certificates.specs.Certificates.{IsValid}

@@ -2,8 +2,7 @@
 use Rattle.std.specs.Prelude.{ℕ, ◌≡◌, List, ◌∷◌, map, Some}
 use Rattle.std.specs.List.{range_with_len}
 use Rattle.rewriting.specs.Rules.{Condition, System}
-use Rattle.certificates.specs.Evidence.{Automaton, InfeasibilityEvidence, by_caps, by_automaton}
-use Rattle.certificates.specs.Judging.{hypothesis_at}
+use Rattle.certificates.specs.Prelude.{Automaton, InfeasibilityEvidence, by_caps, by_automaton, hypothesis_at}
 use Rattle.search_spaces.specs.Grown.{GrowsTo}
 
 -- caps, or the automaton that grows from the left side of the condition with a number

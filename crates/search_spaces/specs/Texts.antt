@@ -2,8 +2,7 @@
 use Rattle.std.specs.Prelude.{ℕ, ◌≤◌, length}
 use Rattle.certificates.specs.Certificates.{Certificate}
 use Rattle.cops_names.specs.NameTable.{NameTable}
-use Rattle.cert_grammar.specs.Versions.{second_version}
-use Rattle.cert_grammar.specs.CertificateText.{certificate_text, CanBeSpelt}
+use Rattle.cert_grammar.specs.Prelude.{second_version, certificate_text, CanBeSpelt}
 
 -- no text of a certificate is longer
 abbrev pub most_bytes : ℕ

@@ -1,7 +1,6 @@
 -- Systems in which the same terms are reached at every level.
 use Rattle.std.proofs.Common.{ℕ, sym, subst}
-use Rattle.rewriting.specs.Confluence.{IsConfluent, AreApart}
-use Rattle.rewriting.specs.Relations.{Commute}
+use Rattle.rewriting.specs.Prelude.{IsConfluent, AreApart, Commute}
 use Rattle.rewriting.proofs.Common.{Term, done, more, IsOver, System, Steps, Reaches}
 use Rattle.rewriting.proofs.Closures.{Star-one, Star-trans}
 use Rattle.rewriting.proofs.Levels.{reaches_of_steps}

@@ -1,7 +1,6 @@
 -- Good steps lead from join rules to fewer of them.
 use Rattle.std.proofs.Common.{◌≡◌, ℕ, zero, suc, ◌⊎◌, inl, inr, refl, sym, ap, ◌∙◌, subst, List, [], ◌∷◌, ◌++◌, map, length, take, drop, slice_get, Some}
-use Rattle.rewriting.specs.Infeasibility.{IsInfeasible}
-use Rattle.rewriting.specs.Systems.{IsWellFormed}
+use Rattle.rewriting.specs.Prelude.{IsInfeasible, IsWellFormed}
 use Rattle.rewriting.proofs.Common.{var, app, Condition, Rule, System}
 use Rattle.rewriting.proofs.Conditions.{no_feasible}
 use Rattle.join_systems.specs.Joined.{joined_condition, joined_rule, last_rule, joined, IsJoined}

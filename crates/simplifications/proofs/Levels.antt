@@ -1,8 +1,6 @@
 -- A good step keeps what is reached at every level.
 use Rattle.std.proofs.Common.{◌≡◌, ℕ, zero, suc, ◌⊎◌, inl, inr, refl, sym, ◌∙◌, subst, List, [], ◌∷◌, slice_get, Some}
-use Rattle.rewriting.specs.Infeasibility.{IsInfeasible}
-use Rattle.rewriting.specs.Lists.{IsAmong}
-use Rattle.rewriting.specs.Systems.{IsRuleOver, IsWellFormed}
+use Rattle.rewriting.specs.Prelude.{IsInfeasible, IsAmong, IsRuleOver, IsWellFormed}
 use Rattle.rewriting.proofs.Common.{Term, Star, done, IsOver, Condition, Rule, System, Meets}
 use Rattle.rewriting.proofs.Closures.{Star-trans, Star-one, Star-mono}
 use Rattle.rewriting.proofs.Conditions.{no_feasible}

@@ -1,18 +1,13 @@
 -- Each list of steps leads to one system, or fails at one step for one reason.
 use Rattle.std.proofs.Common.{◌≡◌, ℕ, zero, suc, ◌⊎◌, inl, inr, Bool, true, false, refl, sym, ap, ◌∙◌, subst, List, [], ◌∷◌, take, drop, slice_get, Option, Some, None}
 use Rattle.std.proofs.lemmas.Bool.{both_ways}
-use Rattle.rewriting.specs.Rules.{Condition, Rule, System, rule_at, right_sides, sides}
-use Rattle.rewriting.specs.Systems.{Each, terms_of_rule}
-use Rattle.rewriting.specs.Terms.{Term, var, app, Fits}
-use Rattle.rewriting.specs.Variables.{occurs, occurs_in}
+use Rattle.rewriting.specs.Prelude.{Condition, Rule, System, rule_at, right_sides, sides, Each, terms_of_rule, Term, var, app, Fits, occurs, occurs_in}
 use Rattle.rewriting.proofs.Equality.{all_fit}
 use Rattle.rewriting.proofs.Once.{same_some, some_or_none}
-use Rattle.certificates.specs.Evidence.{InfeasibilityEvidence}
-use Rattle.certificates.specs.Judging.{hypothesis_at}
+use Rattle.certificates.specs.Prelude.{InfeasibilityEvidence, hypothesis_at, Simplification, dropped, inlined, EvidenceReason, SimplificationReason, missing_rule, missing_condition}
+use Rattle.certificates.specs.Prelude.{not_inline, inlined_large, bad_evidence}
 use Rattle.judged_evidence.specs.Evidence.{IsInfeasibilityJudged}
 use Rattle.judged_evidence.proofs.Judged.{infeasibility_total, evidence_once}
-use Rattle.certificates.specs.Certificates.{Simplification, dropped, inlined}
-use Rattle.certificates.specs.Reasons.{EvidenceReason, SimplificationReason, missing_rule, missing_condition, not_inline, inlined_large, bad_evidence}
 use Rattle.simplifications.specs.Inlining.{Names, inlined_rule, numbered}
 use Rattle.simplifications.specs.Simplifying.{with_in_place, Simplifies, IsRefused, no_rule_to_drop, evidence_fails, no_rule_to_change, no_condition, names_nothing, result_large, AllSimplify, FailsFrom}
 use Rattle.simplifications.specs.Laws.{SimplificationsHaveOneAnswer}

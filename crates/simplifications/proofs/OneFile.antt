@@ -1,7 +1,6 @@
 -- Systems from files in which the same terms are reached at every level have one file's relation.
 use Rattle.std.proofs.Common.{ℕ, zero, suc, inl, inr, sym, subst}
-use Rattle.rewriting.specs.Signatures.{HasSymbolsBelow}
-use Rattle.rewriting.specs.Systems.{IsWellFormed}
+use Rattle.rewriting.specs.Prelude.{HasSymbolsBelow, IsWellFormed}
 use Rattle.rewriting.proofs.Common.{Term, done, more, IsOver, System, Reaches}
 use Rattle.rewriting.proofs.Laws.{keeps_over}
 use Rattle.rewriting.proofs.Over.{IsOver-apply, step_over}

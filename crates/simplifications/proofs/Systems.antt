@@ -1,7 +1,6 @@
 -- Good steps lead from systems as files give them to such systems, with fewer rules and conditions.
 use Rattle.std.proofs.Common.{◌≡◌, ℕ, zero, suc, ◌+◌, ◌*◌, ◌^◌, ◌≤◌, ◌<◌, Bool, true, false, sym, subst, List, [], ◌∷◌, ◌++◌, length, map, take, drop, slice_get, Some, nat_eq, if◌then◌else◌, arith}
-use Rattle.rewriting.specs.Systems.{Each, terms_of_rule, rule_variables, CountsFrom, IsRuleOver, IsRule, AreRules, condition_count, IsSystem}
-use Rattle.rewriting.specs.Terms.{Fits, size_all, count}
+use Rattle.rewriting.specs.Prelude.{Each, terms_of_rule, rule_variables, CountsFrom, IsRuleOver, IsRule, AreRules, condition_count, IsSystem, Fits, size_all, count}
 use Rattle.rewriting.proofs.Common.{Term, var, app, apply, Signature, IsOver, Condition, Rule, System, sides, variables_of}
 use Rattle.rewriting.proofs.Lengths.{variables_length}
 use Rattle.rewriting.proofs.Over.{IsOver-apply}

@@ -1,10 +1,7 @@
 -- Small systems, and what the definitions say of them. In each, f is 0, g is 1, h is 2, a is 3 and c, with two arguments, is 4.
 use Rattle.std.specs.Prelude.{ℕ, List, [], ◌∷◌}
-use Rattle.rewriting.specs.Terms.{Term, var, app, nil, cons}
-use Rattle.rewriting.specs.Signatures.{Signature}
-use Rattle.rewriting.specs.Rules.{Condition, System, system_of}
-use Rattle.certificates.specs.Certificates.{inlined}
-use Rattle.certificates.specs.Reasons.{not_inline}
+use Rattle.rewriting.specs.Prelude.{Term, var, app, nil, cons, Signature, Condition, System, system_of}
+use Rattle.certificates.specs.Prelude.{inlined, not_inline}
 use Rattle.simplifications.specs.Simplifying.{Simplifies, IsRefused}
 
 abbrev symbols : Signature

@@ -1,12 +1,6 @@
 -- A condition that only names a term, and a rule without it.
 use Rattle.std.specs.Prelude.{ℕ, suc, ◌≡◌, false, nat_eq, if◌then◌else◌, ◌++◌, map, take, drop}
-use Rattle.rewriting.specs.Terms.{Term, var}
-use Rattle.rewriting.specs.Substitutions.{Substitution, apply}
-use Rattle.rewriting.specs.Variables.{occurs, occurs_in}
-use Rattle.rewriting.specs.Rules.{Condition, Rule, right_sides, sides}
-use Rattle.rewriting.specs.Systems.{rule_variables}
-use Rattle.rewriting.specs.Overlaps.{conditions_under}
-use Rattle.rewriting.specs.Unraveling.{index_in}
+use Rattle.rewriting.specs.Prelude.{Term, var, Substitution, apply, occurs, occurs_in, Condition, Rule, right_sides, sides, rule_variables, conditions_under, index_in}
 
 -- the condition, behind n others of the rule, names its left side: its right side is a variable x that is not in the rule's
 -- left side, not in its own left side, in no condition before it and in no right side of one behind it

@@ -1,14 +1,8 @@
 -- What simplifications keep.
 use Rattle.std.specs.Prelude.{ℕ, ◌≡◌, ◌⊎◌, ◌↔◌, ◌<◌, ◌+◌, List, length}
-use Rattle.rewriting.specs.Relations.{Commute}
-use Rattle.rewriting.specs.Terms.{Term}
-use Rattle.rewriting.specs.Rules.{System}
-use Rattle.rewriting.specs.Systems.{IsSystem, IsWellFormed, condition_count}
-use Rattle.rewriting.specs.Reduction.{Steps, Reaches}
-use Rattle.rewriting.specs.Confluence.{IsConfluent, AreApart}
+use Rattle.rewriting.specs.Prelude.{Commute, Term, System, IsSystem, IsWellFormed, condition_count, Steps, Reaches, IsConfluent, AreApart}
 use Rattle.join_systems.specs.FileRelation.{IsFileTerm, FileReaches, IsFileConfluent, AreFileApart, IsFromFile}
-use Rattle.certificates.specs.Certificates.{Simplification}
-use Rattle.certificates.specs.Reasons.{SimplificationReason}
+use Rattle.certificates.specs.Prelude.{Simplification, SimplificationReason}
 use Rattle.simplifications.specs.Simplifying.{Simplifies, AllSimplify, FailsAt}
 
 -- the two systems have the same symbols, as many of them are the file's, and at every level the same terms are reached

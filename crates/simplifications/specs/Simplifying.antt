@@ -1,14 +1,10 @@
 -- What a step makes of a system, or why it is refused; and what a list of steps makes of it, each speaking of the system
 -- that those before it leave, or the first step that fails.
 use Rattle.std.specs.Prelude.{ℕ, zero, suc, ◌≡◌, ◌⊎◌, List, [], ◌∷◌, ◌++◌, take, drop, slice_get, Some, None}
-use Rattle.rewriting.specs.Terms.{Fits}
-use Rattle.rewriting.specs.Rules.{Condition, Rule, System, rule_at}
-use Rattle.rewriting.specs.Systems.{Each, terms_of_rule}
-use Rattle.certificates.specs.Evidence.{InfeasibilityEvidence}
-use Rattle.certificates.specs.Judging.{hypothesis_at}
+use Rattle.rewriting.specs.Prelude.{Fits, Condition, Rule, System, rule_at, Each, terms_of_rule}
+use Rattle.certificates.specs.Prelude.{InfeasibilityEvidence, hypothesis_at, Simplification, dropped, inlined, EvidenceReason, SimplificationReason, missing_rule, missing_condition}
+use Rattle.certificates.specs.Prelude.{not_inline, inlined_large, bad_evidence}
 use Rattle.judged_evidence.specs.Evidence.{IsInfeasibilityJudged}
-use Rattle.certificates.specs.Certificates.{Simplification, dropped, inlined}
-use Rattle.certificates.specs.Reasons.{EvidenceReason, SimplificationReason, missing_rule, missing_condition, not_inline, inlined_large, bad_evidence}
 use Rattle.simplifications.specs.Inlining.{Names, inlined_rule, numbered}
 
 -- the system with other rules in place of the one behind the first n; its symbols, and how many of them are the file's, stay

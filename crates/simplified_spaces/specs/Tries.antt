@@ -3,8 +3,7 @@
 use Rattle.std.specs.Prelude.{ℕ, suc, ◌≡◌, ◌+◌, ◌*◌, List, [], ◌∷◌, ◌++◌, map, length, Some}
 use Rattle.std.specs.List.{range_with_len}
 use Rattle.rewriting.specs.Rules.{Condition, Rule, System, rule_at}
-use Rattle.certificates.specs.Evidence.{InfeasibilityEvidence}
-use Rattle.certificates.specs.Certificates.{Simplification, dropped, inlined}
+use Rattle.certificates.specs.Prelude.{InfeasibilityEvidence, Simplification, dropped, inlined}
 use Rattle.simplifications.specs.Simplifying.{Simplifies}
 use Rattle.first_found.specs.Items.{cost_of}
 use Rattle.search_spaces.specs.Refuting.{Refuting, Tries, refutings}

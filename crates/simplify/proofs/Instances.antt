@@ -6,17 +6,12 @@ use Rattle.std.specs.FinMap.{get, insert, empty, get-insert, get-empty}
 use Rattle.std.proofs.lemmas.List.{length-map}
 use Rattle.general_lemmas.proofs.Places.{slice_get-map_read}
 use Rattle.rewriting.specs.Rules as math
-use Rattle.rewriting.specs.Rules.{sides}
-use Rattle.rewriting.specs.Substitutions.{Bindings, apply, values_of}
-use Rattle.rewriting.specs.Systems.{Each, terms_of_rule, rule_variables}
+use Rattle.rewriting.specs.Prelude.{sides, Bindings, apply, values_of, Each, terms_of_rule, rule_variables, Fits, var}
 use Rattle.rewriting.specs.Terms as terms
-use Rattle.rewriting.specs.Terms.{Fits, var}
 use Rattle.rewriting.proofs.Finite.{key_is, same_key}
 use Rattle.rewriting.proofs.Instances.{apply-agree}
 use Rattle.rewriting.proofs.Once.{same_some}
-use Rattle.term_core.specs.View.{view}
-use Rattle.term_core.specs.RuleView.{condition_view, rule_view}
-use Rattle.term_core.specs.SubstView.{ApplyAnswers}
+use Rattle.term_core.specs.Prelude.{view, condition_view, rule_view, ApplyAnswers}
 use Rattle.term_core.specs.declared.terms.Term.{Term}
 use Rattle.term_core.specs.declared.systems.Cond.{Cond}
 use Rattle.term_core.specs.declared.systems.Rule.{Rule}

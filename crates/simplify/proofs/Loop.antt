@@ -4,8 +4,7 @@ use Rattle.std.proofs.lemmas.List.{length-map}
 use Rattle.rewriting.specs.Rules.{System}
 use Rattle.simplifications.specs.Laws.{parts}
 use Rattle.simplifications.proofs.Systems.{shrink}
-use Rattle.certificates.specs.Certificates.{Simplification}
-use Rattle.certificates.specs.Reasons.{SimplificationReason}
+use Rattle.certificates.specs.Prelude.{Simplification, SimplificationReason}
 use Rattle.simplifications.specs.Simplifying.{Simplifies, IsRefused, AllSimplify, FailsFrom, FailsAt}
 
 -- what the rest of the steps does from here, all of them do from the start

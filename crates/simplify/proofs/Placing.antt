@@ -1,10 +1,7 @@
 -- Variables by their places in a row that grows.
 use Rattle.std.proofs.Common.{◌≡◌, ℕ, zero, suc, ◌<◌, ◌⊎◌, inl, inr, Bool, true, false, refl, sym, ap, ap₂, ◌∙◌, subst, List, [], ◌∷◌, ◌++◌, length, get_or, nat_eq, eqb-true, eq-eqb, append-nil, append_assoc, arith}
 use Rattle.std.proofs.lemmas.List.{length-map}
-use Rattle.rewriting.specs.Lists.{IsAmong, AreDistinct, IsFront}
-use Rattle.rewriting.specs.Overlaps.{conditions_under}
-use Rattle.rewriting.specs.Systems.{terms_of_rule, rule_variables}
-use Rattle.rewriting.specs.Unraveling.{index_in}
+use Rattle.rewriting.specs.Prelude.{IsAmong, AreDistinct, IsFront, conditions_under, terms_of_rule, rule_variables, index_in}
 use Rattle.rewriting.proofs.Common.{Term, Terms, var, app, nil, cons, apply, apply_all, compose, occurs, with_variables, with_variables_of, variables_of, Condition, Rule, sides}
 use Rattle.rewriting.proofs.Instances.{apply-apply, apply-agree}
 use Rattle.rewriting.proofs.Lists.{among_left, front_trans}

@@ -4,20 +4,14 @@ use Rattle.std.proofs.lemmas.Option.{slice_get_past}
 use Rattle.std.proofs.lemmas.List.{length-map}
 use Rattle.general_lemmas.proofs.Places.{slice_get-map_read}
 use Rattle.rewriting.specs.Rules as math
-use Rattle.rewriting.specs.Rules.{rule_at, sides}
-use Rattle.rewriting.specs.Systems.{Each, terms_of_rule, rule_variables, IsRule, IsSystem}
-use Rattle.rewriting.specs.Terms.{Fits}
+use Rattle.rewriting.specs.Prelude.{rule_at, sides, Each, terms_of_rule, rule_variables, IsRule, IsSystem, Fits}
 use Rattle.rewriting.proofs.Systems.{is_rule_at}
-use Rattle.certificates.specs.Evidence.{InfeasibilityEvidence}
-use Rattle.certificates.specs.Judging.{hypothesis_at}
-use Rattle.certificates.specs.Reasons.{EvidenceReason}
-use Rattle.certificates.specs.Sizes.{DoConditionsFit}
+use Rattle.certificates.specs.Prelude.{InfeasibilityEvidence, hypothesis_at, EvidenceReason, DoConditionsFit, dropped, inlined, missing_rule, missing_condition, not_inline, inlined_large}
+use Rattle.certificates.specs.Prelude.{bad_evidence}
 use Rattle.judged_evidence.specs.Evidence.{IsInfeasibilityJudged}
 use Rattle.term_core.specs.RuleView.{condition_view, rule_view}
 use Rattle.term_core.specs.declared.systems.Cond.{Cond}
 use Rattle.term_core.specs.declared.systems.Rule.{Rule}
-use Rattle.certificates.specs.Certificates.{dropped, inlined}
-use Rattle.certificates.specs.Reasons.{missing_rule, missing_condition, not_inline, inlined_large, bad_evidence}
 use Rattle.simplifications.specs.Inlining.{Names, inlined_rule, numbered}
 use Rattle.simplifications.specs.Simplifying.{with_in_place, Simplifies, IsRefused, no_rule_to_drop, evidence_fails, no_rule_to_change, no_condition, names_nothing, result_large}
 use Rattle.simplifications.proofs.Systems.{step_makes}

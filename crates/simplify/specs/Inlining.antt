@@ -1,9 +1,6 @@
 -- What inlining answers.
 use Rattle.std.specs.Prelude.{ℕ, ◌≡◌, ◌++◌, List, map, length, slice_get, Some, Result, Ok, Err}
-use Rattle.rewriting.specs.Rules.{Condition, Rule, sides}
-use Rattle.rewriting.specs.Substitutions.{Bindings, values_of}
-use Rattle.rewriting.specs.Systems.{Each, terms_of_rule, rule_variables}
-use Rattle.rewriting.specs.Terms.{Fits}
+use Rattle.rewriting.specs.Prelude.{Condition, Rule, sides, Bindings, values_of, Each, terms_of_rule, rule_variables, Fits}
 use Rattle.term_core.specs.RuleView.{rule_view}
 use Rattle.term_core.specs.declared.systems.Rule as program
 use Rattle.term_core.specs.declared.terms.TermError.{TermError}

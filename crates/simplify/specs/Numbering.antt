@@ -1,11 +1,6 @@
 -- Terms with places of a row for their variables, and rules whose first conditions are numbered so.
 use Rattle.std.specs.Prelude.{ℕ, ◌≡◌, true, List, [], ◌∷◌, ◌++◌}
-use Rattle.rewriting.specs.Terms.{Term, var, cons}
-use Rattle.rewriting.specs.Lists.{IsAmong, AreDistinct}
-use Rattle.rewriting.specs.Rules.{Condition, sides}
-use Rattle.rewriting.specs.Substitutions.{Substitution, apply}
-use Rattle.rewriting.specs.Unraveling.{index_in}
-use Rattle.rewriting.specs.Variables.{occurs, with_variables_of}
+use Rattle.rewriting.specs.Prelude.{Term, var, cons, IsAmong, AreDistinct, Condition, sides, Substitution, apply, index_in, occurs, with_variables_of}
 
 -- its place in the row, for each variable
 abbrev pub places : List ℕ → Substitution

@@ -1,8 +1,7 @@
 //! Rules without a condition that only names a term.
 ghost use Rattle.std.specs.Prelude.{◌≡◌, ◌<◌, ◌≤◌, length, map};
 ghost use Rattle.rewriting.specs.Terms as math;
-ghost use Rattle.rewriting.specs.Rules.{sides};
-ghost use Rattle.rewriting.specs.Systems.{Each, terms_of_rule};
+ghost use Rattle.rewriting.specs.Prelude.{sides, Each, terms_of_rule};
 ghost use Rattle.term_core.specs.RuleView.{condition_view, rule_view};
 ghost use Rattle.simplify.specs.Inlining.{CondsAnswers, InlinedAnswers};
 

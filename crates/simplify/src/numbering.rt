@@ -1,8 +1,7 @@
 //! Rules with their variables numbered anew.
 ghost use Rattle.std.specs.Prelude.{◌≡◌, ◌<◌, ◌^◌, ◌++◌, IfOk, OnOk, map, length};
 ghost use Rattle.rewriting.specs.Systems.{rule_variables};
-ghost use Rattle.term_core.specs.View.{view};
-ghost use Rattle.term_core.specs.RuleView.{condition_view, rule_view};
+ghost use Rattle.term_core.specs.Prelude.{view, condition_view, rule_view};
 ghost use Rattle.simplifications.specs.Inlining.{numbered as numbered_rule};
 ghost use Rattle.simplify.specs.Rules.{rule_of};
 ghost use Rattle.simplify.specs.Numbering.{AddsNumbered};

@@ -3,16 +3,11 @@ use Rattle.std.proofs.Common.{ℕ, zero, suc, ◌≡◌, ◌+◌, ◌*◌, ◌<�
 use Rattle.std.specs.Bool.{◌==◌}
 use Rattle.std.proofs.lemmas.List.{take_all, length-map}
 use Rattle.rewriting.specs.Rules as math
-use Rattle.rewriting.specs.Rules.{rule_at, sides}
-use Rattle.rewriting.specs.Systems.{Each, IsRule, IsSystem}
-use Rattle.rewriting.specs.Terms.{Fits}
+use Rattle.rewriting.specs.Prelude.{rule_at, sides, Each, IsRule, IsSystem, Fits}
 use Rattle.rewriting.proofs.Once.{same_some}
 use Rattle.rewriting.proofs.Systems.{is_rule_at}
 use Rattle.rewriting.proofs.Members.{at_place}
-use Rattle.certificates.specs.Certificates.{dropped, inlined}
-use Rattle.certificates.specs.Evidence.{Automaton, InfeasibilityEvidence, by_automaton}
-use Rattle.certificates.specs.Judging.{hypothesis_at}
-use Rattle.certificates.specs.Sizes.{DoConditionsFit}
+use Rattle.certificates.specs.Prelude.{dropped, inlined, Automaton, InfeasibilityEvidence, by_automaton, hypothesis_at, DoConditionsFit}
 use Rattle.cert_model.specs.CertificateView.{simp_view}
 use Rattle.first_found.specs.Items.{GivesNothing}
 use Rattle.judged_evidence.specs.Evidence.{IsInfeasibilityJudged}

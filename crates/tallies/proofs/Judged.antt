@@ -3,8 +3,7 @@ use Rattle.std.proofs.Common.{◌≡◌, ◌⊎◌, inl, inr, ℕ, suc, List, []
 use Rattle.rewriting.specs.Rules.{System}
 use Rattle.rewriting.proofs.Once.{IsOnce}
 use Rattle.unifier_run.specs.Overlaps.{Overlap, AreOverlaps}
-use Rattle.certificates.specs.Certificates.{PairEntry}
-use Rattle.certificates.specs.Reasons.{EvidenceReason, Rejection, evidence_fails}
+use Rattle.certificates.specs.Prelude.{PairEntry, EvidenceReason, Rejection, evidence_fails}
 use Rattle.valid_certificates.specs.Kinds.{Kind}
 use Rattle.valid_certificates.specs.PairEvidence.{IsPairJudged}
 use Rattle.valid_certificates.specs.Entries.{AreSettled, AreNotSettled, DoSettle, DoNotSettle, pair_is_large, pairs_are_many, entry_fails}

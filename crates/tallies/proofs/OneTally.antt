@@ -1,14 +1,12 @@
 -- Entries of a certificate have one tally at most.
 use Rattle.std.proofs.Common.{◌≡◌, ◌⊎◌, inl, inr, ℕ, List, [], ◌∷◌, None, refl, sym, ap, ◌∙◌, subst}
-use Rattle.rewriting.specs.Rules.{System}
-use Rattle.rewriting.specs.Classes.{IsDeterministic}
+use Rattle.rewriting.specs.Prelude.{System, IsDeterministic}
 use Rattle.rewriting.proofs.Once.{IsOnce, test_once, with_once, once_within}
 use Rattle.unifier_run.specs.Overlaps.{Triple, Overlap, AreOverlaps}
 use Rattle.interpretations.specs.Judgement.{Judgement, good, not_good, unraveling_large}
-use Rattle.certificates.specs.Derivations.{no_steps}
-use Rattle.certificates.specs.Evidence.{PairEvidence, trivial_pair, joined_pair}
-use Rattle.certificates.specs.Certificates.{PairEntry, linear_measure, ortho_certificate, quasi_certificate}
-use Rattle.certificates.specs.Reasons.{left_linear, type3, extended_oriented, right_stable, deterministic, Blame, Rejection, class_fails, not_irreducible, measure_fails, unraveling_large as large_unraveling, pair_large, pair_missing}
+use Rattle.certificates.specs.Prelude.{no_steps, PairEvidence, trivial_pair, joined_pair, PairEntry, linear_measure, ortho_certificate, quasi_certificate, left_linear, type3}
+use Rattle.certificates.specs.Prelude.{extended_oriented, right_stable, deterministic, Blame, Rejection, class_fails, not_irreducible, measure_fails, unraveling_large as large_unraveling}
+use Rattle.certificates.specs.Prelude.{pair_large, pair_missing}
 use Rattle.valid_certificates.specs.Kinds.{Kind, ortho, quasi}
 use Rattle.valid_certificates.specs.PairEvidence.{IsPairJudged, IsAllowed}
 use Rattle.valid_certificates.specs.Entries.{AreNotSettled, DoNotSettle, pair_is_large, pairs_are_many, entry_fails}

@@ -1,11 +1,9 @@
 -- Entries of a certificate have a tally.
 use Rattle.std.proofs.Common.{inl, inr, List}
-use Rattle.rewriting.specs.Rules.{System}
-use Rattle.rewriting.specs.Classes.{IsDeterministic}
+use Rattle.rewriting.specs.Prelude.{System, IsDeterministic}
 use Rattle.unifier_run.specs.Overlaps.{Overlap, AreOverlaps}
 use Rattle.interpretations.specs.Judgement.{good}
-use Rattle.certificates.specs.Certificates.{PairEntry, ortho_certificate, quasi_certificate}
-use Rattle.certificates.specs.Reasons.{Rejection}
+use Rattle.certificates.specs.Prelude.{PairEntry, ortho_certificate, quasi_certificate, Rejection}
 use Rattle.interpretations.specs.Judgement.{Judgement}
 use Rattle.valid_certificates.specs.Kinds.{Kind, ortho, quasi}
 use Rattle.valid_certificates.specs.Entries.{DoSettle, DoNotSettle, pair_is_large, pairs_are_many, entry_fails}

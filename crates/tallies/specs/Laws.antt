@@ -2,8 +2,7 @@
 use Rattle.std.specs.Prelude.{◌≡◌, List, [], ◌∷◌, ◌++◌, length}
 use Rattle.rewriting.specs.Rules.{System}
 use Rattle.unifier_run.specs.Overlaps.{Overlap, AreOverlaps}
-use Rattle.certificates.specs.Certificates.{PairEntry, MeasureCertificate}
-use Rattle.certificates.specs.Reasons.{Rejection, pair_missing, pair_extra}
+use Rattle.certificates.specs.Prelude.{PairEntry, MeasureCertificate, Rejection, pair_missing, pair_extra}
 use Rattle.valid_certificates.specs.Kinds.{Kind}
 use Rattle.valid_certificates.specs.Confluence.{IsValidOrtho, IsOrthoRejected, IsValidQuasi, IsQuasiRejected}
 use Rattle.valid_certificates.specs.Certificates.{IsMeasureJudged}

@@ -1,11 +1,9 @@
 -- What the entries of a certificate come to, taken one after the other.
 use Rattle.std.specs.Prelude.{ℕ, suc, ◌≡◌, ◌≢◌, ◌⊎◌, List, [], ◌∷◌, None, Some}
-use Rattle.rewriting.specs.Rules.{System}
-use Rattle.rewriting.specs.Classes.{IsDeterministic}
+use Rattle.rewriting.specs.Prelude.{System, IsDeterministic}
 use Rattle.unifier_run.specs.Overlaps.{Overlap, triple, AreOverlaps}
 use Rattle.interpretations.specs.Judgement.{Judgement, good}
-use Rattle.certificates.specs.Certificates.{PairEntry}
-use Rattle.certificates.specs.Reasons.{EvidenceReason, Rejection, pair_missing, pair_extra, evidence_fails}
+use Rattle.certificates.specs.Prelude.{PairEntry, EvidenceReason, Rejection, pair_missing, pair_extra, evidence_fails}
 use Rattle.valid_certificates.specs.Kinds.{Kind, ortho, quasi}
 use Rattle.valid_certificates.specs.PairEvidence.{IsPairJudged}
 use Rattle.valid_certificates.specs.Entries.{triple_of}

@@ -1,12 +1,8 @@
 -- Caps with holes from 2^31 on, and terms with numbers below for their variables.
 use Rattle.std.proofs.Common.{ℕ, suc, ◌≡◌, ◌+◌, ◌-◌, ◌*◌, ◌^◌, ◌<◌, ◌≤◌, inl, inr, Bool, true, false, nat_lt, if◌then◌else◌, List, [], ◌∷◌, length, get_or, refl, sym, ap, ap₂, ◌∙◌, subst, subst₂, arith}
 use Rattle.std.proofs.lemmas.Bool.{ltb-true, lt-ltb}
-use Rattle.rewriting.specs.Terms.{Term, Terms, var, app, nil, cons, count}
-use Rattle.rewriting.specs.Substitutions.{Substitution, apply, apply_all, compose}
-use Rattle.rewriting.specs.Unifiers.{even, odd}
-use Rattle.rewriting.specs.Rules.{Condition, System, left_sides, right_sides}
+use Rattle.rewriting.specs.Prelude.{Term, Terms, var, app, nil, cons, count, Substitution, apply, apply_all, compose, even, odd, Condition, System, left_sides, right_sides, AreDistinct}
 use Rattle.rewriting.proofs.Instances.{apply_all-apply_all, apply_all-agree}
-use Rattle.rewriting.specs.Lists.{AreDistinct}
 use Rattle.rewriting.proofs.Over.{count-apply}
 use Rattle.renumbering.specs.Rows.{naming}
 use Rattle.unifier_run.specs.Run.{Outcome, IsOutcome}

@@ -2,13 +2,10 @@
 use Rattle.std.proofs.Common.{ℕ, zero, suc, ◌≡◌, ◌+◌, ◌^◌, ◌<◌, ◌≤◌, inl, inr, true, List, [], ◌∷◌, ◌++◌, length, take, get_or, Vec, Global, Result, Ok, Err, refl, sym, ap, ap₂, ◌∙◌, subst, arith, add-one, eq-eqb}
 use Rattle.std.proofs.lemmas.List.{take_all}
 use Rattle.rewriting.specs.Terms as math
-use Rattle.rewriting.specs.Terms.{Terms, app, nil, cons, size, size_all, depth, depth_all, Fits}
-use Rattle.rewriting.specs.Substitutions.{Substitution}
-use Rattle.rewriting.specs.Variables.{occurs}
-use Rattle.rewriting.specs.Rules.{System}
+use Rattle.rewriting.specs.Prelude.{Terms, app, nil, cons, size, size_all, depth, depth_all, Fits, Substitution, occurs, System}
 use Rattle.unifier_run.specs.Run.{append}
 use Rattle.caps.specs.Caps.{Cap as MathCap, Caps, node, no_caps, caps, holes, holes_in, filled, all_filled, IsCapOf, AreCapsOf, IsCapLarge, AreCapsLarge}
-use Rattle.term_core.specs.View.{view, views}
+use Rattle.term_core.specs.Prelude.{view, views}
 use Rattle.term_core.specs.declared.terms.Term.{Term, Var, Fun}
 use Rattle.term_core.specs.declared.terms.NoMemory.{NoMemory}
 use Rattle.term_core.proofs.Views.{view-Fun, view-Var}

@@ -1,8 +1,6 @@
 -- Constants past the symbols of a cap.
 use Rattle.std.proofs.Common.{ℕ, ◌≡◌, ◌+◌, ◌≤◌, inl, inr, refl, sym, ap, ap₂, subst, arith}
-use Rattle.rewriting.specs.Terms.{Term, Terms, var, app, nil, cons}
-use Rattle.rewriting.specs.Substitutions.{Substitution}
-use Rattle.rewriting.specs.Rules.{System}
+use Rattle.rewriting.specs.Prelude.{Term, Terms, var, app, nil, cons, Substitution, System}
 use Rattle.caps.specs.Caps.{Cap, Caps, hole, kept, node, no_caps, caps, any, holes, filled, all_filled, past_symbols, past_symbols_of, past, constants, IsTop, IsCapOf, AreCapsOf}
 use Rattle.caps.proofs.Instances.{Keeps, KeepAll}
 use Rattle.caps.proofs.Steps.{cap_keeps, caps_keep}

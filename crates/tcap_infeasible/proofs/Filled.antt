@@ -3,10 +3,8 @@ use Rattle.std.proofs.Common.{ℕ, ◌≡◌, ◌+◌, ◌^◌, ◌<◌, ◌≤�
 use Rattle.std.proofs.Math.Dec.{leb}
 use Rattle.std.proofs.lemmas.Bool.Decides.{leb_tells}
 use Rattle.general_lemmas.proofs.Numbers.{one_at_most}
-use Rattle.rewriting.specs.Terms.{Term, var, nil, cons, Fits}
-use Rattle.rewriting.specs.Variables.{occurs, occurrences, occurrences_in, IsLinear}
+use Rattle.rewriting.specs.Prelude.{Term, var, nil, cons, Fits, occurs, occurrences, occurrences_in, IsLinear, System}
 use Rattle.rewriting.proofs.Variables.{IsLinearInParts, linear_in_parts, occurs-counted}
-use Rattle.rewriting.specs.Rules.{System}
 use Rattle.caps.specs.Caps.{Cap, Caps, hole, kept, node, no_caps, caps, holes, holes_in, filled, all_filled, constants, IsCapOf}
 use Rattle.unifier_run.specs.Run.{Outcome, IsOutcome}
 use Rattle.term_core.specs.View.{view}

@@ -2,10 +2,7 @@
 -- the run is larger than these, and the run clashes exactly where two symbols do.
 use Rattle.std.proofs.Common.{ℕ, ◌≡◌, ◌≢◌, inl, inr, ◌||◌, Bool, true, false, nat_eq, if◌then◌else◌, List, [], ◌∷◌, ◌++◌, Ok, refl, sym, ap, ap₂, ◌∙◌, subst, arith, eqb-true, eq-eqb}
 use Rattle.std.proofs.lemmas.Bool.{false≢true, or_right, or_left, or_parts, false_from_ne_true}
-use Rattle.rewriting.specs.Terms.{Term, Terms, var, app, nil, cons, count, Fits}
-use Rattle.rewriting.specs.Systems.{Each}
-use Rattle.rewriting.specs.Substitutions.{apply}
-use Rattle.rewriting.specs.Variables.{occurs, occurs_in}
+use Rattle.rewriting.specs.Prelude.{Term, Terms, var, app, nil, cons, count, Fits, Each, apply, occurs, occurs_in}
 use Rattle.rewriting.proofs.Instances.{apply-agree}
 use Rattle.rewriting.proofs.Variables.{IsLinearInParts, AreLinear}
 use Rattle.unifier_run.specs.Run.{Binding, value, extended, DoAllFit, Outcome, unifier, clash, append, Runs, no_equation, IsOutcome}

@@ -2,8 +2,7 @@
 use Rattle.std.proofs.Common.{ℕ, ◌≡◌, ◌+◌, ◌-◌, ◌^◌, ◌<◌, ◌≤◌, inl, inr, List, length, Some, refl, sym, ap, ap₂, ◌∙◌, subst, subst₂, arith, slice_get}
 use Rattle.std.proofs.lemmas.Option.{slice_get_within, get_or_from_slice_get}
 use Rattle.rewriting.specs.Terms as math
-use Rattle.rewriting.specs.Terms.{Terms, var, app, nil, cons}
-use Rattle.rewriting.specs.Rules.{System}
+use Rattle.rewriting.specs.Prelude.{Terms, var, app, nil, cons, System}
 use Rattle.caps.specs.Caps.{Cap as MathCap, Caps, kept, node, no_caps, caps, any, holes, holes_in, filled, all_filled, constants, IsTop, IsCapOf, AreCapsOf}
 use Rattle.tcap_infeasible.specs.Keys.{IsKeyed, AreKeyed}
 use Rattle.tcap_infeasible.specs.Thawing.{LiesOn, LieOn, thawed, all_thawed}

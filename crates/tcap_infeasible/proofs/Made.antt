@@ -1,9 +1,7 @@
 -- Rigid caps that were made before: they clash where the run for them does, in which their variables are constants.
 use Rattle.std.proofs.Common.{ℕ, suc, ◌≡◌, ◌+◌, ◌^◌, ◌<◌, ◌≤◌, ◌||◌, Bool, true, false, nat_eq, nat_lt, if◌then◌else◌, refl, sym, ap, ap₂, ◌∙◌, arith, eq-eqb, eqb-true}
 use Rattle.std.proofs.lemmas.Bool.{lt-ltb, ne_eqb}
-use Rattle.rewriting.specs.Terms.{Term, Terms, var, app, count}
-use Rattle.rewriting.specs.Substitutions.{Substitution}
-use Rattle.rewriting.specs.Rules.{System}
+use Rattle.rewriting.specs.Prelude.{Term, Terms, var, app, count, Substitution, System}
 use Rattle.unifier_run.specs.Run.{unifier, clash}
 use Rattle.caps.specs.Caps.{Cap, Caps, hole, kept, node, no_caps, caps, holes, filled, all_filled, past_symbols, past_symbols_of, constants}
 use Rattle.caps.specs.Evidence.{past_both}

@@ -1,11 +1,6 @@
 -- Caps under a renaming of the variables that stay, and of symbols past those of the system.
 use Rattle.std.proofs.Common.{ℕ, zero, suc, ◌≡◌, ◌+◌, ◌*◌, ◌<◌, ◌≤◌, inl, inr, List, length, Some, refl, sym, ap, ap₂, ◌∙◌, arith}
-use Rattle.rewriting.specs.Terms.{Term, Terms, var, app, nil, cons}
-use Rattle.rewriting.specs.Substitutions.{apply}
-use Rattle.rewriting.specs.Unifiers.{even, odd}
-use Rattle.rewriting.specs.Rules.{Rule, System, rule_at}
-use Rattle.rewriting.specs.Systems.{IsSystem}
-use Rattle.rewriting.specs.Lists.{AreDistinct}
+use Rattle.rewriting.specs.Prelude.{Term, Terms, var, app, nil, cons, apply, even, odd, Rule, System, rule_at, IsSystem, AreDistinct}
 use Rattle.rewriting.proofs.Systems.{is_rule_at}
 use Rattle.unifier_run.specs.Run.{Outcome, unifier, clash, too_large}
 use Rattle.unifier_run.specs.Overlaps.{IsOutcomeOf}

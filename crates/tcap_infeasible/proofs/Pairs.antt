@@ -1,12 +1,7 @@
 -- From the caps of two terms with holes in one row to caps with holes of their own.
 use Rattle.std.proofs.Common.{ℕ, zero, suc, ◌≡◌, ◌+◌, ◌-◌, ◌*◌, ◌^◌, ◌<◌, ◌≤◌, inl, inr, Bool, true, false, nat_lt, if◌then◌else◌, List, [], length, refl, sym, ap, ap₂, ◌∙◌, subst, subst₂, arith, length-append, Result, Ok, Err}
 use Rattle.std.proofs.lemmas.Bool.{ltb-true, lt-ltb}
-use Rattle.rewriting.specs.Terms.{Term, var, app, nil, cons, size, Fits}
-use Rattle.rewriting.specs.Substitutions.{apply, apply_all}
-use Rattle.rewriting.specs.Unifiers.{even, odd}
-use Rattle.rewriting.specs.Rules.{System}
-use Rattle.rewriting.specs.Systems.{IsSystem, IsWellFormed}
-use Rattle.rewriting.specs.Lists.{AreDistinct, IsFront}
+use Rattle.rewriting.specs.Prelude.{Term, var, app, nil, cons, size, Fits, apply, apply_all, even, odd, System, IsSystem, IsWellFormed, AreDistinct, IsFront}
 use Rattle.rewriting.proofs.Systems.{is_rule_at}
 use Rattle.unifier_run.specs.Run.{Binding, Outcome, unifier, clash, too_large, IsOutcome}
 use Rattle.unifier_run.proofs.Renamed.{renamed, all_renamed, renamed_outcome, stays, names, runs_with_names}

@@ -2,17 +2,13 @@
 use Rattle.std.proofs.Common.{ℕ, zero, suc, ◌≡◌, ◌+◌, ◌-◌, ◌<◌, ◌≤◌, ◌↔◌, Bool, false, true, IsTrue, IsSome, List, [], ◌∷◌, map, length, drop, get_or, Some, refl, sym, ap, ◌∙◌, subst, arith, slice_get, add-one}
 use Rattle.std.proofs.Math.Seq.{drop-cons}
 use Rattle.std.proofs.lemmas.List.{length-map}
-use Rattle.rewriting.specs.Terms.{Term, cons, nil, Fits}
-use Rattle.rewriting.specs.Variables.{occurs, IsLinear, IsDisjoint}
+use Rattle.rewriting.specs.Prelude.{Term, cons, nil, Fits, occurs, IsLinear, IsDisjoint, System, rule_at, IsSystem}
 use Rattle.rewriting.proofs.Instances.{or_cases}
 use Rattle.rewriting.specs.Rules as math
-use Rattle.rewriting.specs.Rules.{System, rule_at}
-use Rattle.rewriting.specs.Systems.{IsSystem}
 use Rattle.rewriting.proofs.Systems.{is_rule_at}
 use Rattle.unifier_run.specs.Run.{Outcome, clash, IsOutcome}
 use Rattle.caps.specs.Caps.{Cap, frozen}
-use Rattle.term_core.specs.View.{view}
-use Rattle.term_core.specs.RuleView.{rule_view}
+use Rattle.term_core.specs.Prelude.{view, rule_view}
 use Rattle.term_core.specs.declared.systems.Rule.{Rule}
 use Rattle.tcap_infeasible.specs.Frozen.{IsHeld}
 use Rattle.tcap_infeasible.proofs.Rebased.{HasLike, HasFirstLike, clash_like}

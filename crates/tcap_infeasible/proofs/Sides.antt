@@ -1,17 +1,13 @@
 -- The sides of conditions as lists of terms of the program.
 use Rattle.std.proofs.Common.{ℕ, zero, suc, ◌≡◌, ◌+◌, ◌*◌, ◌^◌, ◌<◌, ◌≤◌, List, [], ◌∷◌, ◌++◌, map, length, take, get_or, refl, sym, ap, ◌∙◌, subst, arith}
 use Rattle.std.proofs.lemmas.List.{length-map, take_all}
-use Rattle.rewriting.specs.Terms.{cons, size, size_all, Fits}
-use Rattle.rewriting.specs.Variables.{with_variables}
-use Rattle.rewriting.specs.Rules.{System, left_sides, right_sides}
+use Rattle.rewriting.specs.Prelude.{cons, size, size_all, Fits, with_variables, System, left_sides, right_sides, AreDistinct, IsFront}
 use Rattle.certificates.specs.Sizes.{DoConditionsFit}
-use Rattle.rewriting.specs.Lists.{AreDistinct, IsFront}
 use Rattle.renumbering.specs.Rows.{IsNumbered}
 use Rattle.rewriting.proofs.Lengths.{variables_length}
 use Rattle.renumbering.proofs.Numbered.{AreNumbered, numbered_more}
 use Rattle.caps.specs.Caps.{any, AreCapsOf, AreCapsLarge, IsCapLarge}
-use Rattle.term_core.specs.View.{view, views}
-use Rattle.term_core.specs.RuleView.{condition_view}
+use Rattle.term_core.specs.Prelude.{view, views, condition_view}
 use Rattle.term_core.specs.declared.systems.Cond.{Cond}
 use Rattle.term_core.specs.declared.terms.Term.{Term}
 use Rattle.tcap_infeasible.specs.declared.capping.Leaf.TheVariants.{Hole}

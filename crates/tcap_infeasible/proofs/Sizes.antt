@@ -1,7 +1,6 @@
 -- A cap is no larger than its term.
 use Rattle.std.proofs.Common.{ℕ, ◌+◌, ◌≤◌, inl, inr, sym, subst, arith}
-use Rattle.rewriting.specs.Terms.{Term, Terms, var, app, nil, cons, size, size_all, depth, depth_all}
-use Rattle.rewriting.specs.Rules.{System}
+use Rattle.rewriting.specs.Prelude.{Term, Terms, var, app, nil, cons, size, size_all, depth, depth_all, System}
 use Rattle.caps.specs.Caps.{Cap, Caps, node, holes, holes_in, filled, all_filled, IsTop, IsCapOf, AreCapsOf}
 use Rattle.tcap_infeasible.specs.declared.capping.Leaf.{Leaf}
 use Rattle.tcap_infeasible.specs.declared.capping.Leaf.TheVariants.{Hole, Kept}

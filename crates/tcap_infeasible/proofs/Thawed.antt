@@ -2,18 +2,14 @@
 use Rattle.std.proofs.Common.{ℕ, ◌≡◌, ◌+◌, ◌^◌, ◌<◌, ◌≤◌, ◌⊎◌, inl, inr, true, List, [], ◌∷◌, ◌++◌, length, drop, get_or, Vec, Global, Result, Ok, Err, refl, sym, ap, ap₂, ◌∙◌, subst, subst₂, arith}
 use Rattle.std.proofs.lemmas.Bool.{cases_lt}
 use Rattle.rewriting.specs.Terms as math
-use Rattle.rewriting.specs.Terms.{Terms, var, app, nil, cons, size}
-use Rattle.rewriting.specs.Variables.{occurs}
-use Rattle.rewriting.specs.Rules.{System}
-use Rattle.rewriting.specs.Systems.{IsSystem}
+use Rattle.rewriting.specs.Prelude.{Terms, var, app, nil, cons, size, occurs, System, IsSystem, apply}
 use Rattle.unifier_run.specs.Run.{append}
 use Rattle.unifier_run.proofs.Lists.{append-nil}
-use Rattle.rewriting.specs.Substitutions.{apply}
 use Rattle.caps.specs.Laws.{IsReductOf}
 use Rattle.caps.specs.Caps.{Cap as MathCap, any, kept, filled, constants, IsCapOf, IsCapLarge}
 use Rattle.caps.proofs.Reducts.{reducts_match}
 use Rattle.caps.proofs.Rigid.{rigid_reducts}
-use Rattle.term_core.specs.View.{view, views}
+use Rattle.term_core.specs.Prelude.{view, views}
 use Rattle.term_core.specs.declared.terms.Term.{Term, Fun}
 use Rattle.term_core.specs.declared.terms.NoMemory.{NoMemory}
 use Rattle.term_core.proofs.Views.{view-Fun}

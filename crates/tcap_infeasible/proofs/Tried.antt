@@ -2,13 +2,8 @@
 use Rattle.std.proofs.Common.{ℕ, zero, suc, ◌≡◌, ◌+◌, ◌-◌, ◌*◌, ◌^◌, ◌<◌, ◌≤◌, ◌⊎◌, inl, inr, Bool, true, false, nat_lt, if◌then◌else◌, List, [], ◌∷◌, length, drop, Some, refl, sym, ap, ap₂, ◌∙◌, subst, subst₂, arith, slice_get, eq-eqb, eqb-true}
 use Rattle.std.proofs.lemmas.Bool.{false≢true, ltb-true, lt-ltb, or_left}
 use Rattle.general_lemmas.proofs.Numbers.{le_or_next}
-use Rattle.rewriting.specs.Terms.{Term, Terms, var, app, nil, cons, IsVariable, Fits}
-use Rattle.rewriting.specs.Substitutions.{apply, apply_all}
-use Rattle.rewriting.specs.Unifiers.{even, odd}
-use Rattle.rewriting.specs.Variables.{occurs}
-use Rattle.rewriting.specs.Signatures.{Signature}
-use Rattle.rewriting.specs.Rules.{Rule, System, rule_at}
-use Rattle.rewriting.specs.Systems.{terms_of_rule, rule_variables, IsRule, IsSystem}
+use Rattle.rewriting.specs.Prelude.{Term, Terms, var, app, nil, cons, IsVariable, Fits, apply, apply_all, even, odd, occurs, Signature, Rule, System, rule_at, terms_of_rule, rule_variables}
+use Rattle.rewriting.specs.Prelude.{IsRule, IsSystem}
 use Rattle.rewriting.proofs.Variables.{variables_have_all}
 use Rattle.rewriting.proofs.Instances.{apply-agree}
 use Rattle.rewriting.proofs.Lists.{counted_below}

@@ -1,8 +1,7 @@
 -- What caps answer.
 use Rattle.std.specs.Prelude.{ℕ, ◌≡◌, Result, Ok, Err}
 use Rattle.rewriting.specs.Terms as math
-use Rattle.rewriting.specs.Rules.{System}
-use Rattle.rewriting.specs.Substitutions.{Substitution}
+use Rattle.rewriting.specs.Prelude.{System, Substitution}
 use Rattle.caps.specs.Caps.{Cap as MathCap, IsCapOf, IsCapLarge, filled}
 use Rattle.term_core.specs.View.{view}
 use Rattle.term_core.specs.declared.terms.NoMemory.{NoMemory}

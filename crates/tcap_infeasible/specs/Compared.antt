@@ -1,11 +1,7 @@
 -- What comparing the caps of two terms answers.
 use Rattle.std.specs.Prelude.{ℕ, ◌+◌, ◌^◌, ◌⊎◌, List, Result, Ok, Err}
 use Rattle.rewriting.specs.Terms as math
-use Rattle.rewriting.specs.Terms.{nil, cons}
-use Rattle.rewriting.specs.Substitutions.{Substitution, apply}
-use Rattle.rewriting.specs.Rules.{System}
-use Rattle.rewriting.specs.Reduction.{Reaches}
-use Rattle.rewriting.specs.Confluence.{AreApart}
+use Rattle.rewriting.specs.Prelude.{nil, cons, Substitution, apply, System, Reaches, AreApart}
 use Rattle.unifier_run.specs.Run.{Binding, Outcome, unifier, clash, too_large, IsOutcome}
 use Rattle.caps.specs.Caps.{Cap as MathCap, holes, filled, IsCapOf, IsCapLarge}
 use Rattle.caps.specs.Evidence.{IsPairOutcome, IsPairLarge}

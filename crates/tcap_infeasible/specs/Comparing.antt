@@ -1,11 +1,7 @@
 -- Both sides of conditions with their variables in numbers of their own: what comparing them answers.
 use Rattle.std.specs.Prelude.{ℕ, ◌≡◌, ◌≤◌, ◌<◌, ◌^◌, true, List, length, Option, Some, None, Result, Ok, Err}
 use Rattle.std.specs.Global.{Vec}
-use Rattle.rewriting.specs.Terms.{var, Terms}
-use Rattle.rewriting.specs.Substitutions.{apply_all}
-use Rattle.rewriting.specs.Variables.{occurs_in}
-use Rattle.rewriting.specs.Rules.{Condition, System, left_sides}
-use Rattle.rewriting.specs.Lists.{AreDistinct}
+use Rattle.rewriting.specs.Prelude.{var, Terms, apply_all, occurs_in, Condition, System, left_sides, AreDistinct}
 use Rattle.renumbering.specs.Rows.{naming}
 use Rattle.caps.specs.Caps.{Caps, any, all_filled, AreCapsOf, AreCapsLarge}
 use Rattle.term_core.specs.View.{views}

@@ -1,15 +1,12 @@
 -- What the parts of a cap answer: holes are numbered from n on, and variables that stay are constants.
 use Rattle.std.specs.Prelude.{ℕ, ◌≡◌, ◌+◌, ◌<◌, ◌≤◌, ◌^◌, true, List, length, Result, Ok, Err}
 use Rattle.rewriting.specs.Terms as math
-use Rattle.rewriting.specs.Terms.{Fits, Terms, var, nil, cons}
-use Rattle.rewriting.specs.Substitutions.{Substitution}
-use Rattle.rewriting.specs.Variables.{occurs}
-use Rattle.rewriting.specs.Rules.{System}
+use Rattle.rewriting.specs.Prelude.{Fits, Terms, var, nil, cons, Substitution, occurs, System}
 use Rattle.rule_index.specs.Roots.{has_root}
 use Rattle.unifier_run.specs.Run.{Binding, unifier, clash, too_large, IsOutcome}
 use Rattle.unifier_run.specs.Irreducible.{DoRulesClash, IsFirstRule}
 use Rattle.caps.specs.Caps.{Cap as MathCap, any, kept, holes, filled, past, constants, frozen, IsTop, IsCapOf, IsCapLarge}
-use Rattle.term_core.specs.View.{view}
+use Rattle.term_core.specs.Prelude.{view}
 use Rattle.term_core.specs.SystemView.{HasSymbolsBelow}
 use Rattle.term_core.specs.declared.terms.NoMemory.{NoMemory}
 use Rattle.tcap_infeasible.specs.declared.Cap.{Cap}

@@ -1,8 +1,6 @@
 -- Terms whose variables are places of a row, and whose symbols past the first n are n and more by a place of another.
 use Rattle.std.specs.Prelude.{ℕ, ◌≡◌, ◌+◌, ◌-◌, ◌<◌, ◌≤◌, ◌^◌, ◌⊎◌, List, length, Some, slice_get}
-use Rattle.rewriting.specs.Terms.{Term, var, app, Terms, nil, cons}
-use Rattle.rewriting.specs.Rules.{System}
-use Rattle.rewriting.specs.Lists.{AreDistinct}
+use Rattle.rewriting.specs.Prelude.{Term, var, app, Terms, nil, cons, System, AreDistinct}
 
 -- g is f for one of the first n symbols, else n and a place of what f is past them
 abbrev pub IsKey : ℕ → List ℕ → ℕ → ℕ → Type 0

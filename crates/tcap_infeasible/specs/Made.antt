@@ -1,8 +1,6 @@
 -- Rigid caps that were made before, and what comparing two of them answers.
 use Rattle.std.specs.Prelude.{ℕ, ◌≡◌, ◌<◌, Bool, true, false, List}
-use Rattle.rewriting.specs.Terms.{Term, var, Fits}
-use Rattle.rewriting.specs.Variables.{occurs}
-use Rattle.rewriting.specs.Rules.{System}
+use Rattle.rewriting.specs.Prelude.{Term, var, Fits, occurs, System}
 use Rattle.unifier_run.specs.Run.{Binding, unifier, clash}
 use Rattle.caps.specs.Caps.{Cap, kept, filled, IsCapOf}
 use Rattle.caps.specs.Evidence.{IsRigidOutcome}

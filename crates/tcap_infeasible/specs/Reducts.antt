@@ -1,9 +1,7 @@
 -- What caps say of reducts.
 use Rattle.std.specs.Prelude.{ℕ, Result, Ok, Err}
 use Rattle.rewriting.specs.Terms as math
-use Rattle.rewriting.specs.Substitutions.{Substitution, apply, Matches}
-use Rattle.rewriting.specs.Rules.{System}
-use Rattle.rewriting.specs.Reduction.{Reaches}
+use Rattle.rewriting.specs.Prelude.{Substitution, apply, Matches, System, Reaches}
 use Rattle.caps.specs.Laws.{IsReductOf}
 use Rattle.term_core.specs.View.{view}
 use Rattle.term_core.specs.declared.terms.NoMemory.{NoMemory}

@@ -1,8 +1,7 @@
 //! Caps with holes that are no variables of rules, so that left sides need no renaming.
 ghost use Rattle.std.specs.Prelude.{◌≡◌, ◌≤◌, ◌<◌, ◌+◌, ◌^◌, ℕ, IsTrue};
 ghost use Rattle.rewriting.specs.Terms as math;
-ghost use Rattle.rewriting.specs.Substitutions.{Substitution};
-ghost use Rattle.rewriting.specs.Variables.{IsLinear, IsDisjoint};
+ghost use Rattle.rewriting.specs.Prelude.{Substitution, IsLinear, IsDisjoint};
 ghost use Rattle.caps.specs.Caps.{Cap as MathCap, holes, filled, frozen};
 ghost use Rattle.term_core.specs.View.{view, views};
 ghost use Rattle.tcap_infeasible.specs.Clashes.{do_clash};

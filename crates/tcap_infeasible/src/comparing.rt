@@ -1,8 +1,7 @@
 //! Two terms compared by their caps: where these clash, the terms have no common reduct.
 ghost use Rattle.std.specs.Prelude.{◌≡◌, length};
 ghost use Rattle.rewriting.specs.Terms as math;
-ghost use Rattle.rewriting.specs.Rules.{System};
-ghost use Rattle.rewriting.specs.Systems.{IsSystem};
+ghost use Rattle.rewriting.specs.Prelude.{System, IsSystem};
 ghost use Rattle.caps.specs.Caps.{any, kept};
 ghost use Rattle.term_core.specs.View.{view};
 ghost use Rattle.tcap_infeasible.specs.Clashes.{do_clash};

@@ -3,8 +3,7 @@ ghost use Rattle.std.specs.Prelude.{◌≤◌, IfOk, length, map};
 ghost use Rattle.rewriting.specs.Rules.{right_sides};
 ghost use Rattle.caps.specs.Evidence.{JudgedByCaps};
 ghost use Rattle.certificates.specs.Sizes.{DoConditionsFit};
-ghost use Rattle.term_core.specs.View.{views};
-ghost use Rattle.term_core.specs.RuleView.{condition_view};
+ghost use Rattle.term_core.specs.Prelude.{views, condition_view};
 ghost use Rattle.tcap_infeasible.specs.Comparing.{LeftsAnswer, HaveRow};
 
 use crate::Cap;

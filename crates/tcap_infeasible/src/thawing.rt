@@ -1,9 +1,7 @@
 //! Caps and rigid caps of terms, with holes counted from a number of the caller's.
 ghost use Rattle.std.specs.Prelude.{◌≡◌, ◌≤◌, ◌<◌, ◌+◌, ◌^◌, ℕ, true, IfOk};
 ghost use Rattle.rewriting.specs.Terms as math;
-ghost use Rattle.rewriting.specs.Terms.{var};
-ghost use Rattle.rewriting.specs.Variables.{occurs};
-ghost use Rattle.rewriting.specs.Systems.{IsSystem};
+ghost use Rattle.rewriting.specs.Prelude.{var, occurs, IsSystem};
 ghost use Rattle.caps.specs.Caps.{any, kept};
 ghost use Rattle.term_core.specs.View.{view};
 ghost use Rattle.tcap_infeasible.specs.Answers.{CapAnswers};

@@ -1,7 +1,6 @@
 -- Arguments as lists.
 use Rattle.std.proofs.Common.{◌≡◌, ℕ, zero, suc, ◌<◌, List, [], ◌∷◌, ◌++◌, length, take, drop, None, refl, ap, arith}
-use Rattle.rewriting.specs.Terms.{Term, Terms, nil, cons, terms_of}
-use Rattle.rewriting.specs.Positions.{argument, with_argument}
+use Rattle.rewriting.specs.Prelude.{Term, Terms, nil, cons, terms_of, argument, with_argument}
 
 pub terms_of-injective : (ts us : List Term) → terms_of ts ≡ terms_of us → ts ≡ us
 terms_of-injective [] [] e = refl

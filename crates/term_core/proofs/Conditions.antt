@@ -1,7 +1,6 @@
 -- The sides of conditions, one condition after another.
 use Rattle.std.proofs.Common.{◌≡◌, ℕ, zero, suc, ◌+◌, ◌<◌, List, [], ◌∷◌, map, length, get_or, drop, ap, sym, arith, add-one}
-use Rattle.rewriting.specs.Terms.{cons}
-use Rattle.rewriting.specs.Rules.{sides}
+use Rattle.rewriting.specs.Prelude.{cons, sides}
 use Rattle.term_core.specs.View.{view}
 use Rattle.term_core.specs.RuleView.{condition_view}
 use Rattle.term_core.specs.declared.systems.Cond.{Cond}

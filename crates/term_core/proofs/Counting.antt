@@ -2,8 +2,7 @@
 use Rattle.std.proofs.Common.{◌≡◌, ℕ, zero, suc, ◌+◌, ◌-◌, ◌≤◌, ◌<◌, ◌⊎◌, inl, inr, Bool, true, false, List, [], ◌∷◌, map, length, get_or, set, replicate, refl, sym, ap, ap₂, ◌∙◌, arith, eq-eqb}
 use Rattle.std.proofs.lemmas.Bool.{ne_eqb}
 use Rattle.general_lemmas.proofs.Numbers.{le_or_lt}
-use Rattle.rewriting.specs.Terms.{var}
-use Rattle.rewriting.specs.Variables.{occurrences}
+use Rattle.rewriting.specs.Prelude.{var, occurrences}
 use Rattle.term_core.specs.Counting.{bit, with_counts, HasTwo}
 
 counts_same : (f : ℕ → ℕ) (k : ℕ) (ns : List ℕ) → ((j : ℕ) → k ≤ j → j < k + length ns → f j ≡ 0) → with_counts f k ns ≡ ns

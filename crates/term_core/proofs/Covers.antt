@@ -1,9 +1,7 @@
 -- Terms whose variables are bound, part by part.
 use Rattle.std.proofs.Common.{◌≡◌, ℕ, true, IsSome}
 use Rattle.std.specs.FinMap.{get}
-use Rattle.rewriting.specs.Terms.{Terms}
-use Rattle.rewriting.specs.Variables.{occurs_in}
-use Rattle.rewriting.specs.Substitutions.{Bindings}
+use Rattle.rewriting.specs.Prelude.{Terms, occurs_in, Bindings}
 
 -- every variable of some terms is bound
 abbrev pub CoversAll : Bindings → Terms → Type 0

@@ -1,8 +1,7 @@
 -- The instance of a term, argument by argument.
 use Rattle.std.proofs.Common.{◌≡◌, ℕ, suc, ◌≤◌, ◌<◌, ◌+◌, ◌-◌, ◌⊎◌, inl, inr, max, List, [], ◌∷◌, map, arith, Vec, Global, refl, sym, ap, ◌∙◌}
 use Rattle.rewriting.specs.Terms as math
-use Rattle.rewriting.specs.Terms.{app, cons, terms_of}
-use Rattle.rewriting.specs.Substitutions.{apply, apply_all}
+use Rattle.rewriting.specs.Prelude.{app, cons, terms_of, apply, apply_all}
 use Rattle.term_core.specs.View.{view, views}
 use Rattle.term_core.specs.declared.terms.Term.{Term, Fun}
 use Rattle.term_core.proofs.Views.{view-Fun}

@@ -2,11 +2,8 @@
 use Rattle.std.proofs.Common.{◌≡◌, ◌<◌, ◌≤◌, ◌+◌, ◌-◌, ◌^◌, ◌⊎◌, inl, inr, Option, None, IfSome, IfNone, is_some, IsTrue, ℕ, zero, suc, max, List, [], ◌∷◌, ◌++◌, append_assoc, map, length, take, drop, get_or, refl, sym, ap, ap₂, ◌∙◌, subst, arith, add-one, zero-add, Some}
 use Rattle.std.proofs.lemmas.List.{length-map}
 use Rattle.std.proofs.Math.Nat.{le-max_left, le-max_right, max-le}
-use Rattle.rewriting.specs.Terms.{size, depth}
+use Rattle.rewriting.specs.Prelude.{size, depth, System, system_of, Signature, IsSystem, condition_count, rule_variables}
 use Rattle.rewriting.specs.Rules as math
-use Rattle.rewriting.specs.Rules.{System, system_of}
-use Rattle.rewriting.specs.Signatures.{Signature}
-use Rattle.rewriting.specs.Systems.{IsSystem, condition_count, rule_variables}
 use Rattle.join_systems.specs.Joined.{joined, joined_rule, last_rule}
 use Rattle.join_systems.proofs.Sound.{rule_variables_stay, joined_is_system}
 use Rattle.term_core.proofs.Rules.{sound_rules}

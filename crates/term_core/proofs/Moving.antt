@@ -3,9 +3,7 @@ use Rattle.std.proofs.Common.{◌≡◌, ℕ, zero, suc, ◌+◌, ◌≤◌, ◌
 use Rattle.std.proofs.lemmas.Grind.{common_steps}
 use Rattle.std.specs.Prelude.{unwrap_or}
 use Rattle.std.specs.FinMap.{get}
-use Rattle.rewriting.specs.Terms.{Term, Terms, var, cons}
-use Rattle.rewriting.specs.Substitutions.{Bindings, apply, values_of}
-use Rattle.rewriting.specs.Variables.{occurrences, occurrences_in}
+use Rattle.rewriting.specs.Prelude.{Term, Terms, var, cons, Bindings, apply, values_of, occurrences, occurrences_in}
 use Rattle.rewriting.proofs.Instances.{apply-agree}
 use Rattle.rewriting.proofs.Variables.{occurs-counted}
 use Rattle.term_core.specs.View.{view}

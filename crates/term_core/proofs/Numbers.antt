@@ -3,9 +3,7 @@ use Rattle.std.proofs.Common.{◌≡◌, ℕ, zero, suc, ◌+◌, ◌<◌, ◌�
 use Rattle.std.proofs.lemmas.Bool.{ne_eqb}
 use Rattle.std.proofs.lemmas.List.{append-nil}
 use Rattle.std.specs.List.{list_any}
-use Rattle.rewriting.specs.Terms.{Term, Terms, var, app, nil, cons}
-use Rattle.rewriting.specs.Variables.{with_new, with_variables, with_variables_of}
-use Rattle.rewriting.specs.Systems.{CountsFrom}
+use Rattle.rewriting.specs.Prelude.{Term, Terms, var, app, nil, cons, with_new, with_variables, with_variables_of, CountsFrom}
 use Rattle.term_core.specs.Numbering.{numbers_from, AreFirst}
 
 pub length-numbers_from : (k n : ℕ) → length (numbers_from k n) ≡ n

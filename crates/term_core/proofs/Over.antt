@@ -1,8 +1,7 @@
 -- When a `Term` is over some symbols.
 use Rattle.std.proofs.Common.{◌≡◌, ◌<◌, ℕ, suc, List, [], ◌∷◌, length, Some, Vec, Global, refl, sym, ap, ◌∙◌, subst, slice_get, vec_len, ◌+◌, get_or, drop}
 use Rattle.general_lemmas.proofs.Places.{drop_read}
-use Rattle.rewriting.specs.Terms.{app, count, cons}
-use Rattle.rewriting.specs.Signatures.{IsOver, AreOver}
+use Rattle.rewriting.specs.Prelude.{app, count, cons, IsOver, AreOver}
 use Rattle.term_core.specs.View.{view, views}
 use Rattle.term_core.specs.SystemView.{HasSymbolsBelow, HaveSymbolsBelow}
 use Rattle.term_core.specs.declared.terms.Term.{Term, Fun}

@@ -1,7 +1,6 @@
 -- Rules that were found to be sound, one after another.
 use Rattle.std.proofs.Common.{◌≡◌, ℕ, zero, suc, ◌+◌, ◌<◌, ◌≤◌, List, [], ◌∷◌, length, take, get_or, sym, ap, subst, arith, add-one, zero-add, map, Result, Ok, Err, IsErrAnd}
-use Rattle.rewriting.specs.Signatures.{Signature}
-use Rattle.rewriting.specs.Systems.{AreRules}
+use Rattle.rewriting.specs.Prelude.{Signature, AreRules}
 use Rattle.term_core.specs.RuleView.{rule_view, AreCounted}
 use Rattle.term_core.specs.SystemView.{IsSound, AreSound, FirstAt}
 use Rattle.term_core.specs.declared.systems.Rule.{Rule}

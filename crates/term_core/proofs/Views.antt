@@ -5,8 +5,7 @@ use Rattle.std.proofs.Common.{append_assoc, add-one, length-drop}
 use Rattle.std.proofs.Math.Seq.{take-length}
 use Rattle.std.proofs.lemmas.Bool.{false≢true}
 use Rattle.rewriting.specs.Terms as math
-use Rattle.rewriting.specs.Terms.{var, app, terms_of}
-use Rattle.rewriting.specs.Positions.{argument, argument_of, with_argument, with_argument_of}
+use Rattle.rewriting.specs.Prelude.{var, app, terms_of, argument, argument_of, with_argument, with_argument_of}
 use Rattle.term_core.proofs.Arguments.{terms_of-injective, argument_past, argument_zero, with_argument-split}
 use Rattle.term_core.specs.View.{view, views}
 use Rattle.term_core.specs.declared.terms.Term.{Term, Var, Fun, the_lemmas}

@@ -8,3 +8,4 @@ pub mod Counting
 pub mod HeadView
 pub mod Noting
 pub mod JoinAnswers
+pub mod Prelude

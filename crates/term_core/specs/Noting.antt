@@ -3,9 +3,7 @@ use Rattle.std.specs.Prelude.{◌≡◌, ◌≤◌, ◌+◌, ◌⊎◌, ℕ, IsT
 use Rattle.std.specs.Ordering.{nat_cmp}
 use Rattle.std.specs.BTreeSet.{BTreeSet, contains}
 use Rattle.std.specs.FinMap.{get}
-use Rattle.rewriting.specs.Terms.{Term}
-use Rattle.rewriting.specs.Substitutions.{Bindings}
-use Rattle.rewriting.specs.Variables.{occurrences}
+use Rattle.rewriting.specs.Prelude.{Term, Bindings, occurrences}
 use Rattle.term_core.specs.Counting.{bit}
 
 -- the set has the variable

@@ -1,10 +1,8 @@
 -- The system that a `System` stands for, and what `make` answers.
 use Rattle.std.specs.Prelude.{◌≡◌, ◌+◌, ◌≤◌, ℕ, map, List, [], ◌∷◌, ◌++◌, length, Result, Ok, Err}
-use Rattle.rewriting.specs.Terms.{IsVariable, Fits}
-use Rattle.rewriting.specs.Signatures.{Signature, IsOver}
+use Rattle.rewriting.specs.Prelude.{IsVariable, Fits, Signature, IsOver, Each, terms_of_rule, rule_variables, IsRule, IsSystem}
 pub use Rattle.rewriting.specs.Signatures.{HasSymbolsBelow, HaveSymbolsBelow}
 use Rattle.rewriting.specs.Rules as math
-use Rattle.rewriting.specs.Systems.{Each, terms_of_rule, rule_variables, IsRule, IsSystem}
 use Rattle.term_core.specs.RuleView.{rule_view, AreCounted}
 use Rattle.term_core.specs.Numbering.{IsNumbered}
 use Rattle.term_core.specs.declared.systems.Rule.{Rule}

@@ -1,10 +1,6 @@
 //! Whether rules make a system: arities, left sides, the numbering of variables, and limits of size.
 ghost use Rattle.std.specs.Prelude.{◌≡◌, ◌<◌, ◌+◌, ◌^◌, ◌↔◌, ℕ, IsTrue, IfSome, IfNone, map, length, slice_get};
-ghost use Rattle.rewriting.specs.Terms.{IsVariable, Fits};
-ghost use Rattle.rewriting.specs.Signatures.{IsOver};
-ghost use Rattle.rewriting.specs.Rules.{sides};
-ghost use Rattle.rewriting.specs.Systems.{Each, rule_variables};
-ghost use Rattle.rewriting.specs.Variables.{with_new, with_variables, with_variables_of};
+ghost use Rattle.rewriting.specs.Prelude.{IsVariable, Fits, IsOver, sides, Each, rule_variables, with_new, with_variables, with_variables_of};
 ghost use Rattle.term_core.specs.View.{view};
 ghost use Rattle.term_core.specs.RuleView.{condition_view, rule_view};
 ghost use Rattle.term_core.specs.Numbering.{numbers_from, AreFirst, IsNumbered};

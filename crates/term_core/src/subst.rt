@@ -2,9 +2,7 @@
 ghost use Rattle.std.specs.Prelude.{◌≡◌, ◌+◌, ◌<◌, ◌≤◌, ◌⊎◌, ◌↔◌, ℕ, IfOk, OnOk, OnErr, IfSome, IfNone, IsTrue, option_map};
 ghost use Rattle.std.specs.FinMap as map;
 ghost use Rattle.rewriting.specs.Terms as math;
-ghost use Rattle.rewriting.specs.Terms.{var};
-ghost use Rattle.rewriting.specs.Substitutions.{apply, values_of};
-ghost use Rattle.rewriting.specs.Variables.{occurrences};
+ghost use Rattle.rewriting.specs.Prelude.{var, apply, values_of, occurrences};
 ghost use Rattle.term_core.specs.View.{view};
 ghost use Rattle.term_core.specs.Noting.{Has, Keeps};
 
@@ -21,8 +19,7 @@ pub struct Subst {
 }
 
 impl Model for Subst {
-    ghost use Rattle.rewriting.specs.Substitutions.{Bindings};
-    ghost use Rattle.rewriting.specs.Codes.{coded_bindings};
+    ghost use Rattle.rewriting.specs.Prelude.{Bindings, coded_bindings};
 
     ghost Value = { Bindings };
 

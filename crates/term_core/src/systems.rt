@@ -1,7 +1,6 @@
 //! Conditions, rules and conditional rewrite systems, and why rules make no system.
 ghost use Rattle.std.specs.Prelude.{◌≡◌, ◌<◌, ◌+◌, ◌^◌, OnOk, map, length};
-ghost use Rattle.rewriting.specs.Rules.{system_of};
-ghost use Rattle.rewriting.specs.Systems.{condition_count, IsSystem};
+ghost use Rattle.rewriting.specs.Prelude.{system_of, condition_count, IsSystem};
 ghost use Rattle.term_core.specs.RuleView.{rule_view, AreCounted};
 
 use crate::joins::JoinError;

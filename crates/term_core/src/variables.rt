@@ -1,7 +1,6 @@
 //! The variables of a term: in order of first occurrence, those that are repeated, and whether the term is linear.
 ghost use Rattle.std.specs.Prelude.{◌≡◌, ◌≤◌, ◌<◌, ◌+◌, ◌↔◌, ℕ, IfOk, OnOk, IfSome, IsTrue, false, map};
-ghost use Rattle.rewriting.specs.Variables.{with_new, with_variables, variables, occurrences, IsLinear};
-ghost use Rattle.rewriting.specs.Terms.{var};
+ghost use Rattle.rewriting.specs.Prelude.{with_new, with_variables, variables, occurrences, IsLinear, var};
 ghost use Rattle.term_core.specs.View.{view};
 ghost use Rattle.term_core.specs.Counting.{bit, with_counts, HasTwo, IsBelow};
 ghost use Rattle.term_core.specs.Noting.{Has, AreNoted};

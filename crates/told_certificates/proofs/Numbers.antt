@@ -2,11 +2,9 @@
 use Rattle.std.proofs.Common.{◌≡◌, ℕ, zero, suc, ◌<◌, List, [], ◌∷◌, map, length, get_or, Option, Some, None, is_some, IfSome, Bor, sym, subst, arith}
 use Rattle.std.proofs.Math.Dec.{ltb}
 use Rattle.std.proofs.lemmas.Bool.{ltb-true}
-use Rattle.rewriting.specs.Rules.{System}
-use Rattle.rewriting.specs.Systems.{AreRules, IsSystem}
-use Rattle.rewriting.specs.Signatures.{Signature}
+use Rattle.rewriting.specs.Prelude.{System, AreRules, IsSystem, Signature}
 use Rattle.term_core.specs.declared.systems.Rule as program
-use Rattle.term_core.specs.RuleView.{rule_view, AreCounted}
+use Rattle.term_core.specs.Prelude.{rule_view, AreCounted}
 use Rattle.term_core.specs.SystemView.{IsSound}
 use Rattle.redex_conditions.specs.Judged.{IsOfSystem}
 

@@ -5,7 +5,7 @@ use Rattle.std.specs.List.{filter}
 use Rattle.std.proofs.lemmas.Bool.{cases_lt}
 use Rattle.std.proofs.lemmas.Option.{get_or_from_slice_get, slice_get_within}
 use Rattle.std.proofs.lemmas.List.{take_all, get_or_default}
-use Rattle.rewriting.specs.Terms.{Term}
+use Rattle.rewriting.specs.Prelude.{Term, IsAmong}
 use Rattle.certificates.specs.Evidence.{Transition, Automaton}
 use Rattle.automata.specs.Runs.{Moves, Reach, at, RunsFrom0}
 use Rattle.automata.specs.Evidence.{IsAccepted}
@@ -13,7 +13,6 @@ use Rattle.cert_model.specs.EvidenceView.{transition_view}
 use Rattle.cert_model.specs.declared.evidence.Transition as cert
 use Rattle.number_sets.specs.Relation.{Relates}
 use Rattle.number_sets.specs.declared.rows.NumberRelation.{NumberRelation}
-use Rattle.rewriting.specs.Lists.{IsAmong}
 use Rattle.automaton_runs.specs.Counted.{Indexed, Finds}
 use Rattle.automaton_runs.specs.Counting.{chosen, symbol_key}
 use Rattle.automaton_runs.specs.Indexed.{pointed}

@@ -3,9 +3,7 @@ use Rattle.std.proofs.Common.{◌≡◌, ℕ, ◌+◌, List, [], ◌∷◌, ◌+
 use Rattle.std.specs.Prelude.{IfSome}
 use Rattle.std.specs.Borrow.{Bor}
 use Rattle.std.specs.Option.{option_copied}
-use Rattle.rewriting.specs.Terms.{Term, Terms, var, app, nil, cons}
-use Rattle.rewriting.specs.Variables.{variable_occurrences, variable_occurrences_of}
-use Rattle.rewriting.specs.Lists.{IsAmong}
+use Rattle.rewriting.specs.Prelude.{Term, Terms, var, app, nil, cons, variable_occurrences, variable_occurrences_of, IsAmong}
 use Rattle.rewriting.proofs.Lists.{among_left, among_right}
 use Rattle.automata.specs.Runs.{Moves, Reach, ReachAll, at}
 use Rattle.automata.specs.Closed.{state_of}

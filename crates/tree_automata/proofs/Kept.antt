@@ -1,9 +1,7 @@
 -- Right sides that are kept, and the first that is not.
 use Rattle.std.proofs.Common.{◌≡◌, ◌↔◌, ℕ, ◌<◌, List, Option, Some, None, refl, sym, subst, arith}
 use Rattle.std.specs.List.{All}
-use Rattle.rewriting.specs.Terms.{Term, var, app, Terms}
-use Rattle.rewriting.specs.Rules.{Rule}
-use Rattle.rewriting.specs.Variables.{variable_occurrences}
+use Rattle.rewriting.specs.Prelude.{Term, var, app, Terms, Rule, variable_occurrences}
 use Rattle.automata.specs.Runs.{ReachBy}
 use Rattle.automata.specs.Closed.{IsChoice, state_of, IsKept, IsRuleKept}
 use Rattle.number_sets.specs.Relation.{Relates}

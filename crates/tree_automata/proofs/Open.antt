@@ -5,21 +5,17 @@ use Rattle.std.proofs.lemmas.Bool.{cases_lt}
 use Rattle.std.proofs.lemmas.Option.{slice_get_within}
 use Rattle.std.proofs.lemmas.List.Elements.{All-head}
 use Rattle.rewriting.specs.Terms as math
-use Rattle.rewriting.specs.Rules.{Rule, System, rule_at}
-use Rattle.rewriting.specs.Variables.{variable_occurrences}
+use Rattle.rewriting.specs.Prelude.{Rule, System, rule_at, variable_occurrences, IsAmong, IsSystem}
 use Rattle.rewriting.proofs.Systems.{is_rule_at}
 use Rattle.certificates.specs.Evidence.{Transition, Automaton}
 use Rattle.automata.specs.Runs.{ReachBy}
 use Rattle.automata.specs.Closed.{IsChoice, state_of, Includes, IsKept, IsRuleKept, HasOver, IsClosed, IsFirstOpen, IsWide, IsFirstWide}
 use Rattle.automaton_runs.specs.Counted.{Indexed, Finds, under}
-use Rattle.rewriting.specs.Lists.{IsAmong}
 use Rattle.automaton_runs.specs.Counting.{chosen, target_key}
 use Rattle.tree_automata.specs.Open.{HaveSides, IsRuleClosed, AreClosed, IsOpenAt, HaveTwins}
 use Rattle.std.proofs.lemmas.List.{length-map}
 use Rattle.general_lemmas.proofs.Places.{slice_get-map_read}
-use Rattle.rewriting.specs.Systems.{IsSystem}
-use Rattle.term_core.specs.View.{view}
-use Rattle.term_core.specs.RuleView.{rule_view}
+use Rattle.term_core.specs.Prelude.{view, rule_view}
 use Rattle.term_core.specs.declared.systems.Rule as data_rule
 use Rattle.rewriting.proofs.Lists.{among_map, among_of_map}
 use Rattle.tree_automata.proofs.Lists.{in_front, place_in_front}

@@ -1,7 +1,6 @@
 -- Arrivals of a term by batches of choices, and the first arrival at which a property fails.
 use Rattle.std.specs.Prelude.{ℕ, ◌≡◌, ◌<◌, ◌⊎◌, ◌++◌, List, Option, None, Some, slice_get}
-use Rattle.rewriting.specs.Terms.{Term}
-use Rattle.rewriting.specs.Lists.{IsAmong}
+use Rattle.rewriting.specs.Prelude.{Term, IsAmong}
 use Rattle.automata.specs.Runs.{ReachBy}
 use Rattle.automata.specs.Closed.{IsChoice}
 use Rattle.number_sets.specs.Relation.{Relates, IsFirstPair}

@@ -1,11 +1,9 @@
 -- States that include others, and choices by which right sides are kept.
 use Rattle.automaton_runs.specs.Counted.{Indexed, Finds}
 use Rattle.std.specs.Prelude.{ℕ, ◌≡◌, ◌↔◌, ◌<◌, List, Some}
-use Rattle.rewriting.specs.Terms.{Term, var, app}
-use Rattle.rewriting.specs.Rules.{Rule, System, rule_at}
+use Rattle.rewriting.specs.Prelude.{Term, var, app, Rule, System, rule_at, IsAmong}
 use Rattle.automata.specs.Runs.{Reach, at}
 use Rattle.automata.specs.Closed.{Includes, state_of}
-use Rattle.rewriting.specs.Lists.{IsAmong}
 use Rattle.number_sets.specs.Relation.{Relates}
 use Rattle.number_sets.specs.declared.rows.NumberRelation.{NumberRelation}
 

@@ -1,13 +1,11 @@
 -- Rules at whose arrivals the right side is kept, and the first that is not.
 use Rattle.std.specs.Prelude.{ℕ, ◌≡◌, List, Option, None, Some}
-use Rattle.rewriting.specs.Rules.{Rule, System}
-use Rattle.certificates.specs.Evidence.{Transition, Automaton}
-use Rattle.certificates.specs.Reasons.{EvidenceReason, auto_wide, auto_not_closed}
+use Rattle.rewriting.specs.Prelude.{Rule, System, IsAmong}
+use Rattle.certificates.specs.Prelude.{Transition, Automaton, EvidenceReason, auto_wide, auto_not_closed}
 use Rattle.automata.specs.Runs.{ReachBy}
 use Rattle.automata.specs.Closed.{IsChoice, IsRuleKept, IsClosed, IsFirstOpen, AreNarrow, IsFirstWide}
 use Rattle.automaton_runs.specs.Counted.{Indexed, Finds}
 use Rattle.automaton_runs.specs.Arrivals.{IsArrivalBefore}
-use Rattle.rewriting.specs.Lists.{IsAmong}
 use Rattle.automaton_runs.specs.declared.runs.Arrival.{Arrival}
 
 -- no left side is wide, or the first rule whose left side is

@@ -1,12 +1,10 @@
 //! Closure of an automaton under the rules of a system: where a left side arrives at a state, the right side is kept there.
 ghost use Rattle.std.specs.Prelude.{◌≡◌, ◌↔◌, ◌+◌, ℕ, List, IfOk, IfSome, IsTrue, length, map};
-ghost use Rattle.rewriting.specs.Lists.{IsAmong};
+ghost use Rattle.rewriting.specs.Prelude.{IsAmong, variable_occurrences};
 ghost use Rattle.rewriting.specs.Terms as math;
-ghost use Rattle.rewriting.specs.Variables.{variable_occurrences};
 ghost use Rattle.automata.specs.Closed.{AreNarrow};
 ghost use Rattle.automata.specs.Evidence.{IsClosureJudged};
-ghost use Rattle.term_core.specs.View.{view};
-ghost use Rattle.term_core.specs.RuleView.{rule_view};
+ghost use Rattle.term_core.specs.Prelude.{view, rule_view};
 ghost use Rattle.cert_model.specs.EvidenceView.{automaton_view};
 ghost use Rattle.refuter.specs.Answers.{RefutesAnswers};
 ghost use Rattle.number_sets.specs.Relation.{Relates};

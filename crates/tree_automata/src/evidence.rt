@@ -3,8 +3,7 @@ ghost use Rattle.std.specs.Prelude.{◌≡◌, ◌≤◌, None, IsTrue, length, 
 ghost use Rattle.rewriting.specs.Terms as math;
 ghost use Rattle.certificates.specs.Sizes.{DoConditionsFit};
 ghost use Rattle.automata.specs.Evidence.{IsClosureJudged, IsConditionJudged, JudgedByAutomaton};
-ghost use Rattle.term_core.specs.View.{view};
-ghost use Rattle.term_core.specs.RuleView.{condition_view};
+ghost use Rattle.term_core.specs.Prelude.{view, condition_view};
 ghost use Rattle.cert_model.specs.EvidenceView.{automaton_view};
 ghost use Rattle.automaton_runs.specs.Counted.{under};
 ghost use Rattle.refuter.specs.Answers.{RefutesAnswers};

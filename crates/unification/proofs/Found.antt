@@ -3,10 +3,8 @@ use Rattle.std.proofs.Common.{ℕ, zero, suc, ◌≡◌, false, ◌+◌, ◌-◌
 use Rattle.std.proofs.lemmas.List.{drop_more}
 use Rattle.std.specs.FinMap.{insert, empty}
 use Rattle.rewriting.specs.Terms as math
-use Rattle.rewriting.specs.Terms.{var, Fits}
-use Rattle.rewriting.specs.Substitutions.{Substitution, apply}
+use Rattle.rewriting.specs.Prelude.{var, Fits, Substitution, apply, occurs}
 use Rattle.unifier_run.specs.Run.{Binding, value, extended, DoAllFit}
-use Rattle.rewriting.specs.Variables.{occurs}
 use Rattle.unifier_run.specs.Laws.{as_map}
 use Rattle.unifier_run.proofs.General.{IsSettled, settled_empty}
 use Rattle.term_core.specs.View.{view}

@@ -1,9 +1,7 @@
 -- What bound variables stand for keeps fitting where a new binding leaves the sizes.
 use Rattle.std.proofs.Common.{ℕ, suc, ◌≡◌, ◌+◌, ◌⊎◌, inl, inr, Bool, true, false, nat_eq, if◌then◌else◌, refl, sym, ap, ap₂, ◌∙◌, subst, subst₂, List, [], ◌∷◌, map, length, take, arith, eqb-true, eq-eqb}
 use Rattle.std.proofs.lemmas.Bool.{false≢true, or_right, or_left}
-use Rattle.rewriting.specs.Terms.{Term, Terms, var, app, nil, cons, size, size_all, depth, depth_all, Fits}
-use Rattle.rewriting.specs.Substitutions.{Substitution, apply, apply_all}
-use Rattle.rewriting.specs.Variables.{occurs, occurs_in}
+use Rattle.rewriting.specs.Prelude.{Term, Terms, var, app, nil, cons, size, size_all, depth, depth_all, Fits, Substitution, apply, apply_all, occurs, occurs_in}
 use Rattle.rewriting.proofs.Instances.{or_cases}
 use Rattle.rewriting.proofs.Lengths.{size_positive}
 use Rattle.unifier_run.specs.Run.{Binding, value, only, under, extended, DoAllFit}

@@ -1,9 +1,7 @@
 -- The cases of an equation whose sides are no bound variables.
 use Rattle.std.proofs.Common.{ℕ, ◌≡◌, ◌≢◌, inl, inr, ◌+◌, ◌<◌, List, length, Vec, Global, sym, ap, ◌∙◌, subst, subst₂, arith, Result, Ok, suc}
 use Rattle.rewriting.specs.Terms as math
-use Rattle.rewriting.specs.Terms.{var, app, Fits, size, size_all}
-use Rattle.rewriting.specs.Systems.{Each}
-use Rattle.rewriting.specs.Substitutions.{apply, apply_all}
+use Rattle.rewriting.specs.Prelude.{var, app, Fits, size, size_all, Each, apply, apply_all}
 use Rattle.unifier_run.specs.Run.{Binding, value, DoFit}
 use Rattle.unifier_run.proofs.Equal.{arguments_fit}
 use Rattle.term_core.specs.View.{view, views}

@@ -1,10 +1,7 @@
 -- Lists of terms as the program has them.
 use Rattle.std.proofs.Common.{ℕ, zero, suc, ◌≡◌, ◌+◌, ◌<◌, ◌≤◌, true, List, [], ◌∷◌, length, drop, get_or, ◌⊎◌, inl, inr, ◌^◌, Vec, Global, refl, sym, ap, ◌∙◌, subst, subst₂, arith}
 use Rattle.std.proofs.lemmas.Bool.{or_right, or_left}
-use Rattle.rewriting.specs.Terms.{nil, cons, Fits, size, size_all}
-use Rattle.rewriting.specs.Systems.{Each}
-use Rattle.rewriting.specs.Substitutions.{apply, apply_all}
-use Rattle.rewriting.specs.Variables.{occurs, occurs_in}
+use Rattle.rewriting.specs.Prelude.{nil, cons, Fits, size, size_all, Each, apply, apply_all, occurs, occurs_in}
 use Rattle.unifier_run.specs.Run.{Binding, value}
 use Rattle.term_core.specs.View.{view, views}
 use Rattle.term_core.specs.declared.terms.Term.{Term, Fun}

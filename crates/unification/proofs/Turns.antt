@@ -1,9 +1,7 @@
 -- Variables that are bound in turn, to terms that stay as they stand.
 use Rattle.std.proofs.Common.{ℕ, ◌≡◌, ◌≢◌, suc, ◌+◌, Bool, true, false, nat_eq, if◌then◌else◌, refl, sym, ap, ap₂, ◌∙◌, List, [], ◌∷◌, ◌++◌, map, length, arith, eqb-true, eq-eqb}
 use Rattle.std.proofs.lemmas.Bool.{false≢true}
-use Rattle.rewriting.specs.Terms.{Term, var}
-use Rattle.rewriting.specs.Substitutions.{Substitution, apply}
-use Rattle.rewriting.specs.Variables.{occurs}
+use Rattle.rewriting.specs.Prelude.{Term, var, Substitution, apply, occurs}
 use Rattle.unifier_run.specs.Run.{Binding, value, only, under, extended}
 use Rattle.unifier_run.proofs.Values.{value-extended, apply-extended}
 use Rattle.unifier_run.proofs.General.{Absorbs, IsSettled, absorbs_only, settled_fixed, settled_empty, untouched, absorbed, only-same}

@@ -2,9 +2,7 @@
 use Rattle.std.proofs.Common.{ℕ, zero, suc, ◌≡◌, ◌<◌, ◌≤◌, true, List, [], ◌∷◌, length, get_or, Vec, Global, sym, ap, ◌∙◌, subst, arith}
 use Rattle.std.proofs.lemmas.Bool.{or_right, or_left}
 use Rattle.rewriting.specs.Terms as math
-use Rattle.rewriting.specs.Terms.{app, size, size_all}
-use Rattle.rewriting.specs.Substitutions.{Substitution, apply, apply_all}
-use Rattle.rewriting.specs.Variables.{occurs, occurs_in}
+use Rattle.rewriting.specs.Prelude.{app, size, size_all, Substitution, apply, apply_all, occurs, occurs_in}
 use Rattle.term_core.specs.View.{view, views}
 use Rattle.term_core.specs.declared.terms.Term.{Term, Fun}
 use Rattle.term_core.proofs.Views.{view-Fun}

@@ -1,8 +1,7 @@
 -- What unification and renaming answer.
 use Rattle.std.specs.Prelude.{ℕ, ◌≡◌, ◌+◌, ◌*◌, List, Result, Ok, Err}
 use Rattle.rewriting.specs.Terms as math
-use Rattle.rewriting.specs.Substitutions.{Substitution, apply, apply_all, values_of}
-use Rattle.rewriting.specs.Unifiers.{IsMostGeneralOfAll}
+use Rattle.rewriting.specs.Prelude.{Substitution, apply, apply_all, values_of, IsMostGeneralOfAll}
 use Rattle.unifier_run.specs.Run.{Binding, unifier, clash, too_large, IsOutcome}
 use Rattle.unifier_run.specs.Laws.{as_map}
 use Rattle.term_core.specs.View.{view}

@@ -2,8 +2,7 @@
 //! run, with variables that may be bound themselves.
 ghost use Rattle.std.specs.Prelude.{◌≡◌, ◌≤◌, ◌<◌, ◌+◌, ◌↔◌, ◌⊎◌, IsTrue, IfOk, IfSome, IfNone, length, map, take};
 ghost use Rattle.rewriting.specs.Terms as math;
-ghost use Rattle.rewriting.specs.Substitutions.{apply};
-ghost use Rattle.rewriting.specs.Variables.{occurs as occurs_in_term};
+ghost use Rattle.rewriting.specs.Prelude.{apply, occurs as occurs_in_term};
 ghost use Rattle.unifier_run.specs.Run.{value, DoAllFit};
 ghost use Rattle.unifier_run.specs.Laws.{as_map};
 ghost use Rattle.term_core.specs.View.{view};

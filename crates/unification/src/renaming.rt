@@ -1,7 +1,6 @@
 //! Renaming terms: the variable `mul * k + add` for each variable k.
 ghost use Rattle.std.specs.Prelude.{◌≡◌, ◌≤◌, ◌<◌, ◌+◌, ◌*◌, ◌^◌, ℕ, true, IfOk};
-ghost use Rattle.rewriting.specs.Substitutions.{apply};
-ghost use Rattle.rewriting.specs.Variables.{occurs};
+ghost use Rattle.rewriting.specs.Prelude.{apply, occurs};
 ghost use Rattle.term_core.specs.View.{view};
 ghost use Rattle.unification.specs.Answers.{renaming, RenameAnswers};
 

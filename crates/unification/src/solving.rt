@@ -2,10 +2,8 @@
 //! like others, which binds nothing, and sides are measured only after a new binding.
 ghost use Rattle.std.specs.Prelude.{◌≡◌, ◌↔◌, false, IsTrue, OnOk, length};
 ghost use Rattle.rewriting.specs.Terms as math;
-ghost use Rattle.rewriting.specs.Systems.{Each};
-ghost use Rattle.rewriting.specs.Substitutions.{apply, apply_all};
+ghost use Rattle.rewriting.specs.Prelude.{Each, apply, apply_all, occurs};
 ghost use Rattle.unifier_run.specs.Run.{value, extended, DoFit, DoAllFit};
-ghost use Rattle.rewriting.specs.Variables.{occurs};
 ghost use Rattle.term_core.specs.View.{view, views};
 ghost use Rattle.unification.specs.Solving.{bindings, AreInTurn, IsGood, IsHead, SolveAnswers, BindAnswers};
 

@@ -1,7 +1,6 @@
 -- A run sees of its equations only what they are under the bindings.
 use Rattle.std.proofs.Common.{ℕ, ◌≡◌, ◌⊎◌, inl, inr, refl, sym, ap, ◌∙◌, subst, subst₂, List}
-use Rattle.rewriting.specs.Terms.{Term, Terms, nil, cons}
-use Rattle.rewriting.specs.Substitutions.{apply, apply_all}
+use Rattle.rewriting.specs.Prelude.{Term, Terms, nil, cons, apply, apply_all}
 use Rattle.unifier_run.specs.Run.{Binding, value, only, extended, Outcome, ends, goes_on, Takes, equal_sides, binding, arguments, append, Runs, no_equation, last_equation, next_equation}
 use Rattle.unifier_run.proofs.Values.{apply_all-extended}
 use Rattle.unifier_run.proofs.Lists.{apply_all-append}

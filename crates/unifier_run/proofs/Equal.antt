@@ -1,8 +1,6 @@
 -- Equal sides may be taken apart in place of being dropped.
 use Rattle.std.proofs.Common.{ℕ, ◌≡◌, ◌≤◌, refl, sym, ap, ◌∙◌, subst, List, arith}
-use Rattle.rewriting.specs.Terms.{Term, app, Terms, nil, cons, count, Fits, size_all, depth_all}
-use Rattle.rewriting.specs.Systems.{Each}
-use Rattle.rewriting.specs.Substitutions.{apply, apply_all}
+use Rattle.rewriting.specs.Prelude.{Term, app, Terms, nil, cons, count, Fits, size_all, depth_all, Each, apply, apply_all}
 use Rattle.rewriting.proofs.Equality.{same}
 use Rattle.rewriting.proofs.Over.{count-apply}
 use Rattle.rewriting.proofs.Instances.{inj_app}

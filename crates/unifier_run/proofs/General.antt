@@ -1,10 +1,7 @@
 -- The unifier of a run is most general, and where a run clashes there is no unifier.
 use Rattle.std.proofs.Common.{ℕ, ◌≡◌, ◌≢◌, suc, ◌≤◌, inl, inr, Bool, true, false, nat_eq, if◌then◌else◌, refl, sym, ap, ap₂, ◌∙◌, subst, arith, List, [], eqb-true, eq-eqb}
 use Rattle.std.proofs.lemmas.Bool.{or_parts}
-use Rattle.rewriting.specs.Terms.{Term, var, app, Terms, nil, cons, count, size, size_all}
-use Rattle.rewriting.specs.Substitutions.{Substitution, apply, apply_all}
-use Rattle.rewriting.specs.Variables.{occurs, occurs_in}
-use Rattle.rewriting.specs.Unifiers.{IsMostGeneralOfAll}
+use Rattle.rewriting.specs.Prelude.{Term, var, app, Terms, nil, cons, count, size, size_all, Substitution, apply, apply_all, occurs, occurs_in, IsMostGeneralOfAll}
 use Rattle.rewriting.proofs.Instances.{apply-apply, apply-agree, or_cases, inj_app, inj_symbol}
 use Rattle.rewriting.proofs.Over.{count-apply}
 use Rattle.unifier_run.specs.Run.{Binding, value, only, extended, Binds, DoRootsDiffer, HaveArguments, unifier, clash, ends, goes_on, Takes, equal_sides, occurs_inside, binding, roots_differ, arguments, append, Runs, no_equation, last_equation, next_equation}

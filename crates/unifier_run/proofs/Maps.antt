@@ -3,8 +3,7 @@ use Rattle.std.proofs.Common.{ℕ, ◌≡◌, Bool, true, false, cond, nat_eq, i
 use Rattle.std.specs.Ordering.{eq_by_cmp}
 use Rattle.std.specs.Cmp.{nat_cmp_total}
 use Rattle.std.specs.FinMap.{find, get-from_entries}
-use Rattle.rewriting.specs.Terms.{Term, var}
-use Rattle.rewriting.specs.Substitutions.{values_of}
+use Rattle.rewriting.specs.Prelude.{Term, var, values_of}
 use Rattle.rewriting.proofs.Finite.{key_is, same_key}
 use Rattle.unifier_run.specs.Run.{Binding, value}
 use Rattle.unifier_run.specs.Laws.{as_map}

@@ -5,9 +5,7 @@
 --   runs_with_names : Runs [] ts us o → Runs [] (apply_all (names rho) ts) (apply_all (names rho) us) (renamed_outcome rho stays o)
 use Rattle.std.proofs.Common.{ℕ, suc, ◌≡◌, inl, inr, ◌+◌, ◌≤◌, max, Bool, true, false, nat_eq, ◌||◌, if◌then◌else◌, List, [], ◌∷◌, ◌++◌, map, refl, sym, ap, ap₂, ◌∙◌, subst, subst₂, eqb-true, eq-eqb}
 use Rattle.std.proofs.lemmas.Bool.{false≢true}
-use Rattle.rewriting.specs.Terms.{Term, Terms, var, app, nil, cons, count, size, size_all, depth, depth_all, Fits}
-use Rattle.rewriting.specs.Substitutions.{Substitution, apply, apply_all}
-use Rattle.rewriting.specs.Variables.{occurs, occurs_in}
+use Rattle.rewriting.specs.Prelude.{Term, Terms, var, app, nil, cons, count, size, size_all, depth, depth_all, Fits, Substitution, apply, apply_all, occurs, occurs_in}
 use Rattle.unifier_run.specs.Run.{Binding, value, only, under, extended, DoFit, DoAllFit, Binds, DoRootsDiffer, HaveArguments, Outcome, unifier, clash, too_large, Turn, ends, goes_on, Takes, side_too_large, equal_sides, occurs_inside, binding, binding_too_large, roots_differ, arguments, append, Runs, no_equation, last_equation, next_equation}
 
 module _ (rho sigma : ℕ → ℕ) where

@@ -1,13 +1,9 @@
 -- The triples of a system are those of its places, in order.
 use Rattle.std.proofs.Common.{ℕ, zero, suc, ◌≡◌, ◌≢◌, ◌+◌, ◌<◌, ◌≤◌, ◌⊎◌, inl, inr, List, [], ◌∷◌, ◌++◌, length, Some, refl, sym, ap, ◌∙◌, subst, arith, slice_get, append_assoc}
-use Rattle.rewriting.specs.Terms.{Term, var, app, Terms, nil, cons, IsVariable}
-use Rattle.rewriting.specs.Positions.{Position, IsBefore, subterm, argument}
-use Rattle.rewriting.specs.Rules.{Rule, System, rule_at}
-use Rattle.rewriting.specs.Overlaps.{IsPlace, IsEarlierOverlap}
+use Rattle.rewriting.specs.Prelude.{Term, var, app, Terms, nil, cons, IsVariable, Position, IsBefore, subterm, argument, Rule, System, rule_at, IsPlace, IsEarlierOverlap, IsAmong}
 use Rattle.rewriting.proofs.Positions.{within}
 use Rattle.unifier_run.specs.Overlaps.{Triple}
 use Rattle.unifier_run.specs.Triples.{triples_at, counted, triples_below, triples_beside, triples_from, all_triples}
-use Rattle.rewriting.specs.Lists.{IsAmong}
 use Rattle.rewriting.proofs.Lists.{among_left, among_right, among_either, before_each, sorted_append}
 use Rattle.unifier_run.proofs.Triples.{AreEarlier, AreInOrder}
 

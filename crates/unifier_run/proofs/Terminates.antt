@@ -4,10 +4,7 @@ use Rattle.std.proofs.Common.{ℕ, zero, suc, ◌≡◌, ◌≢◌, ◌+◌, ◌
 use Rattle.std.proofs.lemmas.Bool.{or_right, or_left}
 use native.Mathlib.Decide.{ℕ_discrete}
 use Rattle.general_lemmas.proofs.Decisions.{dec_and}
-use Rattle.rewriting.specs.Terms.{Term, var, app, Terms, nil, cons, count, size, size_all}
-use Rattle.rewriting.specs.Substitutions.{apply, apply_all}
-use Rattle.rewriting.specs.Variables.{occurs, occurs_in}
-use Rattle.rewriting.specs.Lists.{IsAmong}
+use Rattle.rewriting.specs.Prelude.{Term, var, app, Terms, nil, cons, count, size, size_all, apply, apply_all, occurs, occurs_in, IsAmong}
 use Rattle.rewriting.proofs.Instances.{or_cases, inj_app}
 use Rattle.rewriting.proofs.Equality.{same, fits_decided}
 use Rattle.unifier_run.specs.Run.{Binding, value, only, extended, DoFit, DoAllFit, Binds, Outcome, unifier, clash, too_large, ends, goes_on, Takes, side_too_large, equal_sides, occurs_inside, binding, binding_too_large, roots_differ, arguments, append, Runs, no_equation, last_equation, next_equation}

@@ -4,15 +4,8 @@ use Rattle.std.proofs.Common.{ℕ, suc, ◌≡◌, ◌≢◌, ◌<◌, ◌≤◌
 use Rattle.std.proofs.lemmas.Bool.{or_right, or_left}
 use native.Mathlib.Decide.{dec_le}
 use Rattle.general_lemmas.proofs.Decisions.{dec_and}
-use Rattle.rewriting.specs.Terms.{Term, var, app, Terms, nil, cons, count, Fits, IsVariable}
-use Rattle.rewriting.specs.Positions.{Position, subterm}
-use Rattle.rewriting.specs.Substitutions.{apply, compose}
-use Rattle.rewriting.specs.Variables.{occurs_in, variables_of}
-use Rattle.rewriting.specs.Unifiers.{even, odd}
-use Rattle.rewriting.specs.Rules.{Rule, System, rule_at, sides}
-use Rattle.rewriting.specs.Systems.{Each}
-use Rattle.rewriting.specs.Overlaps.{IsPlace, IsEarlierOverlap, conditions_under, CriticalPair, IsCriticalPair}
-use Rattle.rewriting.specs.Lists.{IsAmong}
+use Rattle.rewriting.specs.Prelude.{Term, var, app, Terms, nil, cons, count, Fits, IsVariable, Position, subterm, apply, compose, occurs_in, variables_of, even, odd, Rule, System, rule_at}
+use Rattle.rewriting.specs.Prelude.{sides, Each, IsPlace, IsEarlierOverlap, conditions_under, CriticalPair, IsCriticalPair, IsAmong}
 use Rattle.rewriting.proofs.Variables.{variables_have_all}
 use Rattle.rewriting.proofs.Positions.{replaceable}
 use Rattle.rewriting.proofs.Places.{subterm-apply}

@@ -1,13 +1,9 @@
 -- The triples of two rules and a position in order, and the overlaps at a list of triples.
 use Rattle.std.proofs.Common.{ℕ, ◌≡◌, ◌⊎◌, inl, inr, List, [], ◌∷◌, ◌++◌, refl, sym, ap, ◌∙◌, subst, arith}
-use Rattle.rewriting.specs.Terms.{Term}
-use Rattle.rewriting.specs.Positions.{Position, IsBefore}
-use Rattle.rewriting.specs.Rules.{Rule, System}
+use Rattle.rewriting.specs.Prelude.{Term, Position, IsBefore, Rule, System, IsPlace, IsEarlierOverlap, IsAmong, IsBeforeAll, IsSorted}
 use Rattle.rewriting.proofs.Lists.{among_either, before_one, sorted_left, sorted_right, sorted_across}
-use Rattle.rewriting.specs.Overlaps.{IsPlace, IsEarlierOverlap}
 use Rattle.rewriting.proofs.Before.{before_not_same, before_not_both}
 use Rattle.unifier_run.specs.Run.{clash}
-use Rattle.rewriting.specs.Lists.{IsAmong, IsBeforeAll, IsSorted}
 use Rattle.unifier_run.specs.Triples.{DoesClash}
 use Rattle.unifier_run.specs.Overlaps.{Triple, Overlap, triple, ComesBefore, IsOutcomeOf, IsOverlapOf, AreOverlapsAt}
 

@@ -1,7 +1,6 @@
 -- Bindings as substitutions, and what a new one does.
 use Rattle.std.proofs.Common.{ℕ, ◌≡◌, Bool, true, false, nat_eq, if◌then◌else◌, List, [], ◌∷◌, refl, sym, ap, ap₂, ◌∙◌}
-use Rattle.rewriting.specs.Terms.{Term, var, app, Terms, nil, cons}
-use Rattle.rewriting.specs.Substitutions.{apply, apply_all, compose}
+use Rattle.rewriting.specs.Prelude.{Term, var, app, Terms, nil, cons, apply, apply_all, compose}
 use Rattle.rewriting.proofs.Instances.{apply-apply, apply_all-apply_all, apply-agree, apply_all-agree}
 use Rattle.unifier_run.specs.Run.{Binding, value, only, extended}
 

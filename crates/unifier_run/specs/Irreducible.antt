@@ -1,9 +1,7 @@
 -- The runs by which a term is judged to be absolutely irreducible: its subterms in preorder, each with the rules in order
 -- (after Avenhaus and Loria-Saenz 1994).
 use Rattle.std.specs.Prelude.{ℕ, ◌≡◌, ◌⊎◌, ◌<◌, Some}
-use Rattle.rewriting.specs.Terms.{Term, IsVariable}
-use Rattle.rewriting.specs.Positions.{Position, IsBefore, subterm}
-use Rattle.rewriting.specs.Rules.{Rule, System, rule_at}
+use Rattle.rewriting.specs.Prelude.{Term, IsVariable, Position, IsBefore, subterm, Rule, System, rule_at}
 use Rattle.unifier_run.specs.Run.{Outcome, clash}
 use Rattle.unifier_run.specs.Overlaps.{IsOutcomeOf}
 

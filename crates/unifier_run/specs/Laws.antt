@@ -1,9 +1,7 @@
 -- Laws of runs.
 use Rattle.std.specs.Prelude.{ℕ, ◌≡◌, List, map}
 use Rattle.std.specs.FinMap.{from_entries}
-use Rattle.rewriting.specs.Terms.{Term, Terms}
-use Rattle.rewriting.specs.Substitutions.{Substitution, apply, apply_all, Bindings, values_of}
-use Rattle.rewriting.specs.Unifiers.{IsMostGeneralOfAll}
+use Rattle.rewriting.specs.Prelude.{Term, Terms, Substitution, apply, apply_all, Bindings, values_of, IsMostGeneralOfAll}
 use Rattle.unifier_run.specs.Run.{Binding, value, Outcome, unifier, clash, IsOutcome}
 
 -- bindings as a finite map

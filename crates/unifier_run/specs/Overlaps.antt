@@ -1,15 +1,7 @@
 -- The list of a system's overlaps: a set of triples, sorted, each with its conditional critical pair under the unifier of
 -- the run (after Ohlebusch, Advanced Topics in Term Rewriting, chapter 7).
 use Rattle.std.specs.Prelude.{ℕ, ◌≡◌, ◌≤◌, ◌⊎◌, List, length}
-use Rattle.rewriting.specs.Lists.{IsAmong, IsSorted}
-use Rattle.rewriting.specs.Terms.{Term, nil, cons, Fits}
-use Rattle.rewriting.specs.Positions.{Position}
-use Rattle.rewriting.specs.Substitutions.{apply}
-use Rattle.rewriting.specs.Unifiers.{even, odd}
-use Rattle.rewriting.specs.Rules.{Rule, System, sides}
-use Rattle.rewriting.specs.Systems.{Each}
-use Rattle.rewriting.specs.Overlaps.{IsEarlierOverlap}
-use Rattle.rewriting.specs.Overlaps.{IsPlace, CriticalPair, IsCriticalPair}
+use Rattle.rewriting.specs.Prelude.{IsAmong, IsSorted, Term, nil, cons, Fits, Position, apply, even, odd, Rule, System, sides, Each, IsEarlierOverlap, IsPlace, CriticalPair, IsCriticalPair}
 use Rattle.unifier_run.specs.Run.{Binding, value, Outcome, unifier, clash, too_large, IsOutcome}
 
 -- an inner rule's number, a position, an outer rule's number

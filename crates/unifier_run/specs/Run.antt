@@ -1,9 +1,7 @@
 -- The run of unification: equations are solved one after the other, with limits on the size of terms
 -- (after Baader and Nipkow, Term Rewriting and All That, sections 4.5 and 4.6).
 use Rattle.std.specs.Prelude.{ℕ, ◌≡◌, ◌≢◌, ◌⊎◌, true, false, nat_eq, if◌then◌else◌, List, [], ◌∷◌, ◌++◌, map}
-use Rattle.rewriting.specs.Terms.{Term, var, app, Terms, nil, cons, count, Fits}
-use Rattle.rewriting.specs.Substitutions.{Substitution, apply}
-use Rattle.rewriting.specs.Variables.{occurs}
+use Rattle.rewriting.specs.Prelude.{Term, var, app, Terms, nil, cons, count, Fits, Substitution, apply, occurs}
 
 -- a variable with the term that it is bound to
 pub record Binding : Type 0 where

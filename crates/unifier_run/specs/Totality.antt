@@ -1,8 +1,6 @@
 -- Runs, trials and lists of overlaps: for each question there is an answer.
 use Rattle.std.specs.Prelude.{ℕ, ◌≡◌, ◌≢◌, ◌⊎◌, List}
-use Rattle.rewriting.specs.Terms.{Term, Terms, count}
-use Rattle.rewriting.specs.Positions.{Position}
-use Rattle.rewriting.specs.Rules.{System}
+use Rattle.rewriting.specs.Prelude.{Term, Terms, count, Position, System}
 use Rattle.unifier_run.specs.Run.{Outcome, clash, IsOutcome}
 use Rattle.unifier_run.specs.Overlaps.{Overlap, AreOverlaps, IsPairTooLarge, AreTooManyOverlaps}
 use Rattle.unifier_run.specs.Irreducible.{DoAllClash, IsFirstOutcome}

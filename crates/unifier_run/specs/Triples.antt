@@ -1,9 +1,6 @@
 -- All triples of a system in order: by the outer rule, the positions of its left side that are no variables, and the inner rule.
 use Rattle.std.specs.Prelude.{ℕ, zero, suc, List, [], ◌∷◌, ◌++◌, length}
-use Rattle.rewriting.specs.Terms.{Term, Terms, var, app, nil, cons}
-use Rattle.rewriting.specs.Positions.{Position}
-use Rattle.rewriting.specs.Rules.{Rule, System}
-use Rattle.rewriting.specs.Overlaps.{IsPlace}
+use Rattle.rewriting.specs.Prelude.{Term, Terms, var, app, nil, cons, Position, Rule, System, IsPlace}
 use Rattle.unifier_run.specs.Run.{clash}
 use Rattle.unifier_run.specs.Overlaps.{Triple, IsOutcomeOf}
 

@@ -3,15 +3,9 @@ use Rattle.std.proofs.Common.{◌≡◌, ℕ, suc, ◌+◌, ◌≤◌, max, refl
 use Rattle.std.proofs.lemmas.List.{take_rest}
 use Rattle.simplifications.proofs.Anew.{fits_renamed}
 use Rattle.rewriting.specs.Terms as math
-use Rattle.rewriting.specs.Terms.{Term, var, app, Terms, nil, cons, Fits}
-use Rattle.rewriting.specs.Substitutions.{apply, apply_all}
-use Rattle.rewriting.specs.Variables.{with_variables}
+use Rattle.rewriting.specs.Prelude.{Term, var, app, Terms, nil, cons, Fits, apply, apply_all, with_variables, sides, Each, DoSidesFit, numbered_anew, keeper, unraveled_from}
 use Rattle.rewriting.specs.Rules as rules
-use Rattle.rewriting.specs.Rules.{sides}
-use Rattle.rewriting.specs.Systems.{Each, DoSidesFit}
-use Rattle.rewriting.specs.Unraveling.{numbered_anew, keeper, unraveled_from}
-use Rattle.term_core.specs.RuleView.{rule_view, condition_view}
-use Rattle.term_core.specs.View.{view}
+use Rattle.term_core.specs.Prelude.{rule_view, condition_view, view}
 use Rattle.term_core.specs.declared.systems.Cond.{Cond}
 use Rattle.term_core.specs.declared.systems.Rule.{Rule}
 use Rattle.unravel.specs.declared.rules.RuleError.{RuleError}

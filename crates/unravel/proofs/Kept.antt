@@ -1,11 +1,8 @@
 -- Sizes of sides, places in a list, and variables one after the other.
 use Rattle.std.proofs.Common.{◌≡◌, ℕ, zero, suc, ◌+◌, ◌<◌, ◌≤◌, refl, ap, ◌∙◌, List, [], ◌∷◌, map, length, get_or, drop, nat_eq, if◌then◌else◌, arith, add-one}
 use Rattle.rewriting.specs.Terms as math
-use Rattle.rewriting.specs.Terms.{Term, var, app, cons, terms_of, Fits}
-use Rattle.rewriting.specs.Substitutions.{apply, apply_all}
-use Rattle.rewriting.specs.Variables.{with_new, with_variables, with_variables_of}
+use Rattle.rewriting.specs.Prelude.{Term, var, app, cons, terms_of, Fits, apply, apply_all, with_new, with_variables, with_variables_of, variable_terms, keeper, index_in}
 use Rattle.rewriting.proofs.Lengths.{variables_length}
-use Rattle.rewriting.specs.Unraveling.{variable_terms, keeper, index_in}
 
 size-variable_terms : (xs : List ℕ) → math.size_all (variable_terms xs) ≡ length xs
 size-variable_terms [] = refl

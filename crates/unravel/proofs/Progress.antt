@@ -2,11 +2,8 @@
 use Rattle.std.proofs.Common.{◌≡◌, ℕ, zero, suc, ◌+◌, ◌<◌, ◌≤◌, refl, sym, ap, ap₂, ◌∙◌, subst, List, [], ◌∷◌, ◌++◌, map, length, get_or, take, arith, append_assoc, append-nil, slice_get, Some, Ok, Err, Vec, Global}
 use Rattle.std.proofs.lemmas.List.{length-map, take_all}
 use Rattle.general_lemmas.proofs.Places.{slice_get-map_read}
-use Rattle.rewriting.specs.Terms.{Fits}
+use Rattle.rewriting.specs.Prelude.{Fits, Each, terms_of_rule, condition_count, AreRules, DoSidesFit, unraveled_rule, unraveled_rules, Signature}
 use Rattle.rewriting.specs.Rules as rules
-use Rattle.rewriting.specs.Systems.{Each, terms_of_rule, condition_count, AreRules, DoSidesFit}
-use Rattle.rewriting.specs.Unraveling.{unraveled_rule, unraveled_rules}
-use Rattle.rewriting.specs.Signatures.{Signature}
 use Rattle.term_core.specs.RuleView.{rule_view, condition_view, AreCounted}
 use Rattle.term_core.specs.declared.systems.Rule.{Rule}
 use Rattle.unravel.specs.declared.rules.RuleError.TheVariants as cause

@@ -1,20 +1,15 @@
 -- The unraveling of a system is again a system as files give it: its rules are over its symbols, numbered anew, and few.
 use Rattle.std.proofs.Common.{◌≡◌, ℕ, zero, suc, ◌+◌, ◌^◌, ◌<◌, refl, sym, ap, ap₂, ◌∙◌, subst, List, [], ◌∷◌, ◌++◌, map, length, arith, slice_get, Some, Result, Ok, Err, IfOk, OnOk, Vec, Global}
 use Rattle.std.proofs.lemmas.List.{length-append, length-map}
-use Rattle.rewriting.specs.Terms.{Term, nil, cons, Fits}
-use Rattle.rewriting.specs.Substitutions.{apply}
-use Rattle.rewriting.specs.Signatures.{Signature}
-use Rattle.rewriting.specs.Variables.{with_variables, variables, variables_of}
+use Rattle.rewriting.specs.Prelude.{Term, nil, cons, Fits, apply, Signature, with_variables, variables, variables_of, system_of, condition_count, rule_variables, IsRuleOver, IsWellFormed}
+use Rattle.rewriting.specs.Prelude.{IsRule, AreRules, IsSystem, DoSidesFit, unraveled, unraveled_from, unraveled_rule, unraveled_rules, numbered_anew, index_in, keeper, keeper_arities}
+use Rattle.rewriting.specs.Prelude.{all_keeper_arities, heads}
 use Rattle.rewriting.specs.Rules as rules
-use Rattle.rewriting.specs.Rules.{system_of}
-use Rattle.rewriting.specs.Systems.{condition_count, rule_variables, IsRuleOver, IsWellFormed, IsRule, AreRules, IsSystem, DoSidesFit}
-use Rattle.rewriting.specs.Unraveling.{unraveled, unraveled_from, unraveled_rule, unraveled_rules, numbered_anew, index_in, keeper, keeper_arities, all_keeper_arities, heads}
 use Rattle.interpretations.proofs.Bound.{length-heads}
 use Rattle.rewriting.proofs.Unraveled.{unraveled_well_formed}
 use Rattle.rewriting.proofs.Variables.{variables_have_all}
 use Rattle.simplifications.proofs.Anew.{numbered_counts, list_renamed, places_differ}
-use Rattle.term_core.specs.RuleView.{rule_view, AreCounted}
-use Rattle.term_core.specs.HeadView.{head_view}
+use Rattle.term_core.specs.Prelude.{rule_view, AreCounted, head_view}
 use Rattle.term_core.specs.declared.systems.Head.{Head}
 use Rattle.term_core.specs.declared.systems.Rule.{Rule}
 use Rattle.unravel.specs.declared.UnravelError.{UnravelError}

@@ -1,14 +1,10 @@
 -- The symbols of an unraveled system, put one behind another.
 use Rattle.std.proofs.Common.{◌≡◌, ℕ, zero, suc, ◌+◌, ◌<◌, ◌≤◌, sym, ap, ap₂, ◌∙◌, subst, List, [], ◌∷◌, ◌++◌, map, length, get_or, drop, arith, append_assoc, append-nil}
 use Rattle.std.proofs.lemmas.List.{length-map}
-use Rattle.rewriting.specs.Terms.{Fits}
+use Rattle.rewriting.specs.Prelude.{Fits, Signature, Each, terms_of_rule, AreRules, variables, Head, file, auxiliary, file_heads, condition_heads, auxiliary_heads, keeper_arities}
+use Rattle.rewriting.specs.Prelude.{all_keeper_arities}
 use Rattle.rewriting.specs.Rules as rules
-use Rattle.rewriting.specs.Signatures.{Signature}
-use Rattle.rewriting.specs.Systems.{Each, terms_of_rule, AreRules}
-use Rattle.rewriting.specs.Variables.{variables}
-use Rattle.rewriting.specs.Unraveling.{Head, file, auxiliary, file_heads, condition_heads, auxiliary_heads, keeper_arities, all_keeper_arities}
-use Rattle.term_core.specs.View.{view}
-use Rattle.term_core.specs.RuleView.{rule_view, condition_view}
+use Rattle.term_core.specs.Prelude.{view, rule_view, condition_view}
 use Rattle.term_core.specs.declared.systems.Rule.{Rule}
 use Rattle.unravel.specs.RuleAnswers.{AreRulesSmall, first_heads, rule_heads}
 

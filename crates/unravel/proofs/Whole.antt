@@ -1,12 +1,9 @@
 -- The unraveled system as a whole.
 use Rattle.std.proofs.Common.{◌≡◌, ℕ, zero, suc, ◌+◌, ◌<◌, sym, ap₂, ◌∙◌, subst, List, [], ◌∷◌, map, length, take, arith, slice_get, Some}
 use Rattle.rewriting.specs.Rules as rules
-use Rattle.rewriting.specs.Rules.{rule_at, system_of}
-use Rattle.rewriting.specs.Systems.{condition_count, DoSidesFit}
-use Rattle.rewriting.specs.Unraveling.{unraveled, heads, unraveled_rule, unraveled_rules}
+use Rattle.rewriting.specs.Prelude.{rule_at, system_of, condition_count, DoSidesFit, unraveled, heads, unraveled_rule, unraveled_rules}
 use Rattle.interpretations.specs.Size.{DoesRuleFit, DoesUnravelingFit, IsFirstTooLarge}
-use Rattle.term_core.specs.RuleView.{rule_view}
-use Rattle.term_core.specs.HeadView.{head_view}
+use Rattle.term_core.specs.Prelude.{rule_view, head_view}
 use Rattle.term_core.specs.declared.systems.Rule.{Rule}
 use Rattle.unravel.specs.declared.Unraveled.{Unraveled}
 use Rattle.unravel.specs.Answers.{IsUnraveled}

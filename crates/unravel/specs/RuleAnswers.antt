@@ -3,8 +3,7 @@ use Rattle.std.specs.Prelude.{ℕ, zero, suc, length, ◌≤◌, Vec, ◌≡◌,
 use Rattle.std.specs.Global.{Global}
 use Rattle.rewriting.specs.Terms as math
 use Rattle.rewriting.specs.Rules as rules
-use Rattle.rewriting.specs.Unraveling.{Head, file, auxiliary, numbered_anew, unraveled_rule, unraveled_rules}
-use Rattle.rewriting.specs.Systems.{Each, terms_of_rule, condition_count, DoSidesFit}
+use Rattle.rewriting.specs.Prelude.{Head, file, auxiliary, numbered_anew, unraveled_rule, unraveled_rules, Each, terms_of_rule, condition_count, DoSidesFit}
 use Rattle.term_core.specs.RuleView.{rule_view}
 use Rattle.term_core.specs.declared.systems.Rule.{Rule}
 use Rattle.term_core.specs.declared.terms.NoMemory as none

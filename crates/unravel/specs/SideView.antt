@@ -1,8 +1,7 @@
 -- The sides of the rules of an unraveled system that `Side` stands for.
 use Rattle.std.specs.Prelude.{ℕ, List}
 use Rattle.rewriting.specs.Terms as math
-use Rattle.rewriting.specs.Substitutions.{Substitution}
-use Rattle.rewriting.specs.Unraveling.{keeper, index_in}
+use Rattle.rewriting.specs.Prelude.{Substitution, keeper, index_in}
 use Rattle.term_core.specs.View.{view}
 use Rattle.unravel.specs.declared.sides.Side.{Side}
 use Rattle.unravel.specs.declared.sides.Side.TheVariants.{Plain, Kept}

@@ -1,12 +1,8 @@
 //! The rules of an unraveled system: for a rule with n conditions n + 1 rules, chained by its auxiliary symbols.
 ghost use Rattle.std.specs.Prelude.{◌≡◌, ◌<◌, ◌≤◌, ◌+◌, ◌^◌, [], IfOk, OnOk, map, length};
 ghost use Rattle.rewriting.specs.Terms as math;
-ghost use Rattle.rewriting.specs.Variables.{with_variables};
-ghost use Rattle.rewriting.specs.Rules.{sides};
-ghost use Rattle.rewriting.specs.Systems.{Each, terms_of_rule, rule_variables, condition_count, IsSystem};
-ghost use Rattle.rewriting.specs.Unraveling.{unraveled, unraveled_from, unraveled_rule};
-ghost use Rattle.term_core.specs.View.{view};
-ghost use Rattle.term_core.specs.RuleView.{condition_view, rule_view, AreCounted};
+ghost use Rattle.rewriting.specs.Prelude.{with_variables, sides, Each, terms_of_rule, rule_variables, condition_count, IsSystem, unraveled, unraveled_from, unraveled_rule};
+ghost use Rattle.term_core.specs.Prelude.{view, condition_view, rule_view, AreCounted};
 ghost use Rattle.unravel.specs.SideView.{side_view, DoesPartFit};
 ghost use Rattle.unravel.specs.RuleAnswers.{NumberedAnswers, PushAnswers, AppendAnswers, OneRuleAnswers, RulesAnswers, DoTermsFit};
 

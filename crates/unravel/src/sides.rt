@@ -1,9 +1,7 @@
 //! The sides of the rules of an unraveled system, before their variables are numbered anew.
 ghost use Rattle.std.specs.Prelude.{◌≡◌, ◌↔◌, ◌<◌, ◌^◌, ◌+◌, IsTrue, IfOk, OnOk, length};
 ghost use Rattle.rewriting.specs.Terms as math;
-ghost use Rattle.rewriting.specs.Substitutions.{apply, apply_all};
-ghost use Rattle.rewriting.specs.Variables.{with_new, with_variables, with_variables_of};
-ghost use Rattle.rewriting.specs.Unraveling.{index_in, variable_terms};
+ghost use Rattle.rewriting.specs.Prelude.{apply, apply_all, with_new, with_variables, with_variables_of, index_in, variable_terms};
 ghost use Rattle.term_core.specs.View.{view, views};
 ghost use Rattle.unravel.specs.SideView.{side_view, DoesPartFit, numbered};
 

@@ -1,13 +1,8 @@
 //! The symbols of an unraveled system: their arities, and of which rule and condition each auxiliary one is.
 ghost use Rattle.std.specs.Prelude.{◌≡◌, ◌<◌, ◌≤◌, ◌+◌, ◌*◌, ◌^◌, ◌++◌, IfOk, OnOk, map, length};
 ghost use Rattle.rewriting.specs.Terms as math;
-ghost use Rattle.rewriting.specs.Rules.{sides};
-ghost use Rattle.rewriting.specs.Systems.{Each, terms_of_rule};
-ghost use Rattle.rewriting.specs.Variables.{variables};
-ghost use Rattle.rewriting.specs.Unraveling.{keeper_arities, all_keeper_arities, auxiliary_heads, heads, unraveled};
-ghost use Rattle.term_core.specs.View.{view};
-ghost use Rattle.term_core.specs.HeadView.{head_view};
-ghost use Rattle.term_core.specs.RuleView.{condition_view, rule_view};
+ghost use Rattle.rewriting.specs.Prelude.{sides, Each, terms_of_rule, variables, keeper_arities, all_keeper_arities, auxiliary_heads, heads, unraveled};
+ghost use Rattle.term_core.specs.Prelude.{view, head_view, condition_view, rule_view};
 ghost use Rattle.unravel.specs.RuleAnswers.{AreRulesSmall, first_heads, rule_heads};
 
 use crate::rules::grown;

@@ -1,8 +1,6 @@
 -- A term that reaches two terms without a common reduct behind steps that simplify the system does so before them.
 use Rattle.std.proofs.Common.{subst, ℕ}
-use Rattle.rewriting.specs.Terms.{Term}
-use Rattle.rewriting.specs.Signatures.{Signature, IsOver, HasSymbolsBelow}
-use Rattle.rewriting.specs.Rules.{System}
+use Rattle.rewriting.specs.Prelude.{Term, Signature, IsOver, HasSymbolsBelow, System}
 use Rattle.join_systems.specs.FileRelation.{IsFileTerm}
 use Rattle.join_systems.proofs.Files.{files_are_apart}
 use Rattle.simplifications.specs.Laws.{AreSameByLevels}

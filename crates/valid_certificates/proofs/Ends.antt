@@ -2,8 +2,7 @@
 use Rattle.std.proofs.Common.{◌≡◌, [], refl, ap, ap₂, subst₂}
 use Rattle.rewriting.specs.Systems.{IsWellFormed}
 use Rattle.rewriting.proofs.Common.{Term, Terms, var, app, nil, cons, System, IsOver, Reaches, apply, apply_all}
-use Rattle.certificates.specs.Derivations.{Derivation}
-use Rattle.certificates.specs.Judging.{Derives}
+use Rattle.certificates.specs.Prelude.{Derivation, Derives}
 use Rattle.certificates.proofs.Sound.{derivation_reaches}
 
 -- the substitution that leaves each variable leaves each term

@@ -2,10 +2,7 @@
 use Rattle.std.proofs.Common.{◌≡◌, ◌⊎◌, inl, inr, ℕ, suc, List, [], ◌∷◌, Some, None, refl, sym, ap, ap₂, ◌∙◌, subst}
 use native.Mathlib.Decide.{ℕ_discrete}
 use Rattle.std.specs.FinMap.{empty}
-use Rattle.rewriting.specs.Lists.{IsAmong}
-use Rattle.rewriting.specs.Matching.{IsLeastMatch}
-use Rattle.rewriting.specs.Overlaps.{conditions_under}
-use Rattle.rewriting.specs.Terms.{Fits}
+use Rattle.rewriting.specs.Prelude.{IsAmong, IsLeastMatch, conditions_under, Fits}
 use Rattle.rewriting.proofs.Common.{Term, Position, Bindings, Condition, System}
 use Rattle.rewriting.proofs.Equality.{same}
 use Rattle.unifier_run.specs.Overlaps.{Triple, Overlap, triple, AreOverlaps}
@@ -15,11 +12,9 @@ use Rattle.caps.specs.Caps.{Cap, kept, IsCapLarge}
 use Rattle.caps.specs.Evidence.{IsPairOutcome}
 use Rattle.rewriting.proofs.Equality.{fits_decided}
 use Rattle.rewriting.proofs.Matched.{instance_matched}
-use Rattle.certificates.specs.Certificates.{PairEntry, Apartness, Peak, Redex, by_normal_forms, by_rigid_caps}
-use Rattle.certificates.specs.Evidence.{InfeasibilityEvidence, PairEvidence}
-use Rattle.certificates.specs.Reasons.{tcap_large, BadStep, Rejection, pair_large, too_many_pairs, pair_missing, pair_extra, evidence_fails, foreign, first_bad, second_bad, same_term, not_normal, redex_extra, redex_fails, caps_unify, caps_large}
-use Rattle.certificates.specs.Sizes.{DoConditionsFit}
-use Rattle.certificates.specs.Judging.{Derives, IsFirstBad}
+use Rattle.certificates.specs.Prelude.{PairEntry, Apartness, Peak, Redex, by_normal_forms, by_rigid_caps, InfeasibilityEvidence, PairEvidence, tcap_large, BadStep, Rejection, pair_large}
+use Rattle.certificates.specs.Prelude.{too_many_pairs, pair_missing, pair_extra, evidence_fails, foreign, first_bad, second_bad, same_term, not_normal, redex_extra, redex_fails, caps_unify}
+use Rattle.certificates.specs.Prelude.{caps_large, DoConditionsFit, Derives, IsFirstBad}
 use Rattle.certificates.proofs.DerivationTotal.{derivation_total}
 use Rattle.valid_certificates.specs.Kinds.{Kind}
 use Rattle.judged_evidence.specs.Evidence.{IsInfeasibilityJudged}

@@ -8,10 +8,10 @@ use Rattle.unifier_run.specs.Irreducible.{DoAllClash}
 use Rattle.unifier_run.proofs.Total.{outcome_of, all_clash_decided}
 use Rattle.caps.specs.Caps.{Cap, any, IsCapLarge}
 use Rattle.caps.specs.Evidence.{IsPairOutcome}
-use Rattle.certificates.specs.Derivations.{Derivation}
-use Rattle.certificates.specs.Evidence.{PairEvidence, trivial_pair, infeasible_pair, conflicting_pair, joined_pair, unfeasible_pair}
-use Rattle.certificates.specs.Judging.{Derives, IsFirstBad, hypothesis_at}
-use Rattle.certificates.specs.Reasons.{EvidenceReason, not_allowed, not_root, sides_differ, conflict_number, conflict_left, conflict_unifies, conflict_large, join_left, join_right, join_differs, unfeasible_number, unfeasible_first, unfeasible_second, first_reducible, second_reducible, unfeasible_unifies, unfeasible_large, BadStep}
+use Rattle.certificates.specs.Prelude.{Derivation, PairEvidence, trivial_pair, infeasible_pair, conflicting_pair, joined_pair, unfeasible_pair, Derives, IsFirstBad, hypothesis_at}
+use Rattle.certificates.specs.Prelude.{EvidenceReason, not_allowed, not_root, sides_differ, conflict_number, conflict_left, conflict_unifies, conflict_large, join_left, join_right}
+use Rattle.certificates.specs.Prelude.{join_differs, unfeasible_number, unfeasible_first, unfeasible_second, first_reducible, second_reducible, unfeasible_unifies, unfeasible_large}
+use Rattle.certificates.specs.Prelude.{BadStep}
 use Rattle.certificates.proofs.DerivationTotal.{derivation_total}
 use Rattle.valid_certificates.specs.Kinds.{Kind, ortho, quasi}
 use Rattle.judged_evidence.proofs.Judged.{infeasibility_total}

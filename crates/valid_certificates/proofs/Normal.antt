@@ -1,10 +1,7 @@
 -- Where the conditions of each redex are infeasible, a term has no step.
 use Rattle.std.proofs.Common.{◌≡◌, ◌≢◌, ◌⊎◌, inl, inr, ℕ, zero, suc, true, List, [], ◌∷◌, Option, Some, None, unwrap_or, nat_cmp, refl, sym, ap, ◌∙◌, subst, subst₂}
 use Rattle.std.specs.FinMap.{get, empty, get-empty}
-use Rattle.rewriting.specs.Confluence.{AreApart}
-use Rattle.rewriting.specs.Infeasibility.{IsInfeasible}
-use Rattle.rewriting.specs.NormalForms.{IsIrreducible}
-use Rattle.rewriting.specs.Overlaps.{conditions_under}
+use Rattle.rewriting.specs.Prelude.{AreApart, IsInfeasible, IsIrreducible, conditions_under}
 use Rattle.rewriting.proofs.Common.{Relation, Star, done, more, Term, var, Position, subterm, Substitution, Bindings, apply, values_of, occurs, Condition, Rule, System, Meets, Contraction, Step, Steps, Rewrites}
 use Rattle.rewriting.proofs.Instances.{apply-apply, apply-agree, apply-agree_back}
 use Rattle.rewriting.proofs.Levels.{level, Meets-mono, levels_of_steps}

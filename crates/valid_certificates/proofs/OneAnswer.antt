@@ -6,11 +6,8 @@ use Rattle.unifier_run.specs.Run.{Binding, Outcome, unifier, clash, too_large}
 use Rattle.caps.specs.Caps.{kept}
 use Rattle.caps.proofs.Unique.{one_outcome}
 use Rattle.caps.specs.Evidence.{IsRigidOutcome, AreRigidCapsLarge}
-use Rattle.certificates.specs.Certificates.{Apartness, Peak, Redex, by_normal_forms, by_rigid_caps}
-use Rattle.certificates.specs.Evidence.{InfeasibilityEvidence}
-use Rattle.certificates.specs.Judging.{Derives, IsFirstBad}
-use Rattle.certificates.specs.Sizes.{DoConditionsFit}
-use Rattle.certificates.specs.Reasons.{EvidenceReason, BadStep, StepReason, Rejection, first_bad, second_bad, redex_fails}
+use Rattle.certificates.specs.Prelude.{Apartness, Peak, Redex, by_normal_forms, by_rigid_caps, InfeasibilityEvidence, Derives, IsFirstBad, DoConditionsFit, EvidenceReason, BadStep}
+use Rattle.certificates.specs.Prelude.{StepReason, Rejection, first_bad, second_bad, redex_fails}
 use Rattle.certificates.proofs.Unique.{matches_unique, derives_unique}
 use Rattle.certificates.proofs.Outcomes.{never_both as ends_or_fails, fails_unique}
 use Rattle.judged_evidence.specs.Evidence.{IsInfeasibilityJudged}

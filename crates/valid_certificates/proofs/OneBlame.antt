@@ -1,14 +1,10 @@
 -- The blame for a class is one, and where there is one the class does not hold.
 use Rattle.std.proofs.Common.{ℕ, suc, ◌≡◌, inl, inr, ◌<◌, refl, sym, ap, ap₂, ◌∙◌, subst, false, List, [], ◌∷◌, ◌++◌, Option, Some, None}
-use Rattle.rewriting.specs.Lists.{IsAmong, AreDistinct}
-use Rattle.rewriting.specs.Terms.{Term, cons}
-use Rattle.rewriting.specs.Rules.{Condition, Rule, System, rule_at, sides, EachRule}
-use Rattle.rewriting.specs.Variables.{occurs_in}
-use Rattle.rewriting.specs.Classes.{IsAt, known}
+use Rattle.rewriting.specs.Prelude.{IsAmong, AreDistinct, Term, cons, Condition, Rule, System, rule_at, sides, EachRule, occurs_in, IsAt, known}
 use Rattle.rewriting.proofs.Lists.{among_middle, distinct_middle}
 use Rattle.rewriting.proofs.Conditions.{Order, is_smaller, is_equal, is_greater, order}
-use Rattle.certificates.specs.Reasons.{Class, left_linear, type3, extended_oriented, right_stable, deterministic, Blame}
-use Rattle.certificates.specs.Blames.{IsFirstVariable, IsFirstRepeated, IsOld, IsType3Blame, IsUnstable, IsRightStableBlame, IsDeterministicBlame, IsUndetermined, IsInClass, IsRuleBlamed}
+use Rattle.certificates.specs.Prelude.{Class, left_linear, type3, extended_oriented, right_stable, deterministic, Blame, IsFirstVariable, IsFirstRepeated, IsOld, IsType3Blame, IsUnstable}
+use Rattle.certificates.specs.Prelude.{IsRightStableBlame, IsDeterministicBlame, IsUndetermined, IsInClass, IsRuleBlamed}
 use Rattle.certificates.proofs.Blames.{not_type3, fresh_not_old, stable_or_blamed, known_or_blamed, outside, blamed_outside}
 use Rattle.valid_certificates.specs.Confluence.{IsBlameOf}
 

@@ -1,13 +1,13 @@
 -- A certificate is valid, or rejected for one reason.
 use Rattle.std.proofs.Common.{◌≡◌, ◌⊎◌, inl, inr, ℕ, suc, ◌<◌, List, [], ◌∷◌, Some, None, refl, sym, ap, ap₂, ◌∙◌, subst}
-use Rattle.rewriting.specs.Rules.{System, EachRule}
-use Rattle.rewriting.specs.Classes.{IsLeftLinear, IsType3, IsExtendedOriented, IsRightStable, IsDeterministic}
+use Rattle.rewriting.specs.Prelude.{System, EachRule, IsLeftLinear, IsType3, IsExtendedOriented, IsRightStable, IsDeterministic}
 use Rattle.rewriting.proofs.Conditions.{Order, is_smaller, is_equal, is_greater, order}
 use Rattle.unifier_run.specs.Overlaps.{Triple, Overlap}
 use Rattle.interpretations.specs.Judgement.{Judgement, good, not_good, unraveling_large}
-use Rattle.certificates.specs.Certificates.{PairEntry, MeasureCertificate, linear_measure, precedence_measure, Simplification, Certificate, ortho_certificate, quasi_certificate, peak_certificate, simplified_certificate}
-use Rattle.certificates.specs.Reasons.{EvidenceReason, Class, left_linear, type3, extended_oriented, right_stable, deterministic, Blame, MeasureReason, Rejection, class_fails, not_irreducible, measure_fails, unraveling_large as large_unraveling, pair_large, evidence_fails, simplification_fails}
-use Rattle.certificates.specs.Blames.{IsInClass}
+use Rattle.certificates.specs.Prelude.{PairEntry, MeasureCertificate, linear_measure, precedence_measure, Simplification, Certificate, ortho_certificate, quasi_certificate}
+use Rattle.certificates.specs.Prelude.{peak_certificate, simplified_certificate, EvidenceReason, Class, left_linear, type3, extended_oriented, right_stable, deterministic, Blame}
+use Rattle.certificates.specs.Prelude.{MeasureReason, Rejection, class_fails, not_irreducible, measure_fails, unraveling_large as large_unraveling, pair_large, evidence_fails}
+use Rattle.certificates.specs.Prelude.{simplification_fails, IsInClass}
 use Rattle.path_orders.proofs.OneJudgement.{judgement_once as precedence_once}
 use Rattle.valid_certificates.specs.Kinds.{Kind}
 use Rattle.valid_certificates.specs.Kinds.{ortho, quasi}

@@ -1,7 +1,6 @@
 -- The evidence for an overlap has one judgement.
 use Rattle.std.proofs.Common.{◌≡◌, ◌≢◌, ◌⊎◌, inl, inr, ℕ, List, [], Option, Some, None, refl, sym, ap₂, ◌∙◌}
-use Rattle.rewriting.specs.Terms.{Term, nil, cons}
-use Rattle.rewriting.specs.Rules.{Condition, System}
+use Rattle.rewriting.specs.Prelude.{Term, nil, cons, Condition, System}
 use Rattle.unifier_run.specs.Run.{Outcome, unifier, clash, too_large, IsOutcome}
 use Rattle.unifier_run.specs.Overlaps.{Overlap}
 use Rattle.unifier_run.specs.Irreducible.{DoAllClash}
@@ -9,10 +8,10 @@ use Rattle.unifier_run.proofs.Unique.{runs_same}
 use Rattle.caps.specs.Caps.{any, IsCapLarge}
 use Rattle.caps.specs.Evidence.{IsPairOutcome, IsPairLarge}
 use Rattle.caps.proofs.Unique.{one_outcome}
-use Rattle.certificates.specs.Derivations.{Derivation}
-use Rattle.certificates.specs.Evidence.{PairEvidence, trivial_pair, infeasible_pair, conflicting_pair, joined_pair, unfeasible_pair}
-use Rattle.certificates.specs.Judging.{Derives, IsFirstBad, hypothesis_at}
-use Rattle.certificates.specs.Reasons.{EvidenceReason, not_allowed, not_root, sides_differ, conflict_number, conflict_left, conflict_unifies, conflict_large, BadStep, StepReason, join_left, join_right, join_differs, unfeasible_number, unfeasible_first, unfeasible_second, first_reducible, second_reducible, unfeasible_unifies, unfeasible_large}
+use Rattle.certificates.specs.Prelude.{Derivation, PairEvidence, trivial_pair, infeasible_pair, conflicting_pair, joined_pair, unfeasible_pair, Derives, IsFirstBad, hypothesis_at}
+use Rattle.certificates.specs.Prelude.{EvidenceReason, not_allowed, not_root, sides_differ, conflict_number, conflict_left, conflict_unifies, conflict_large, BadStep, StepReason, join_left}
+use Rattle.certificates.specs.Prelude.{join_right, join_differs, unfeasible_number, unfeasible_first, unfeasible_second, first_reducible, second_reducible, unfeasible_unifies}
+use Rattle.certificates.specs.Prelude.{unfeasible_large}
 use Rattle.certificates.proofs.Unique.{derives_unique}
 use Rattle.certificates.proofs.Outcomes.{never_both, fails_unique}
 use Rattle.valid_certificates.specs.Kinds.{Kind}

@@ -1,8 +1,6 @@
 -- The list of redexes is one.
 use Rattle.std.proofs.Common.{◌≡◌, inl, inr, List, subst, arith}
-use Rattle.rewriting.specs.Positions.{IsBefore}
-use Rattle.rewriting.specs.Rules.{System}
-use Rattle.rewriting.specs.Terms.{Term}
+use Rattle.rewriting.specs.Prelude.{IsBefore, System, Term}
 use Rattle.rewriting.proofs.Before.{before_not_same, before_not_both}
 use Rattle.rewriting.proofs.Lists.{sorted_once}
 use Rattle.valid_certificates.specs.Peaks.{RedexPlace, IsEarlierRedex, AreRedexes}

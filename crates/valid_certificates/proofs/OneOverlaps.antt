@@ -2,17 +2,12 @@
 use Rattle.std.proofs.Common.{◌≡◌, ◌⊎◌, inl, inr, ℕ, suc, ◌≤◌, List, [], ◌∷◌, ◌++◌, length, Option, Some, refl, sym, ap, ap₂, ◌∙◌, subst, subst₂, arith}
 use Rattle.std.proofs.lemmas.List.{length-append}
 use Rattle.caps.proofs.Unique.{unifier_no_clash, large_no_clash, unifier_or_large}
-use Rattle.rewriting.specs.Terms.{Term}
-use Rattle.rewriting.specs.Positions.{Position, IsBefore, subterm, replace}
-use Rattle.rewriting.specs.Substitutions.{apply}
-use Rattle.rewriting.specs.Unifiers.{even, odd}
-use Rattle.rewriting.specs.Rules.{Condition, Rule, System, rule_at}
-use Rattle.rewriting.specs.Overlaps.{IsPlace, IsEarlierOverlap, CriticalPair, IsCriticalPair}
+use Rattle.rewriting.specs.Prelude.{Term, Position, IsBefore, subterm, replace, apply, even, odd, Condition, Rule, System, rule_at, IsPlace, IsEarlierOverlap, CriticalPair, IsCriticalPair}
+use Rattle.rewriting.specs.Prelude.{IsAmong, IsBeforeAll, IsSorted}
 use Rattle.rewriting.proofs.Lists.{among_either, before_one, sorted_append, sorted_once}
 use Rattle.rewriting.proofs.Conditions.{Order, is_smaller, is_equal, is_greater, order}
 use Rattle.rewriting.proofs.Before.{Ordered, comes_first, is_same, comes_last, order_positions, before_before}
 use Rattle.unifier_run.specs.Run.{Binding, value, Outcome, unifier, clash, too_large}
-use Rattle.rewriting.specs.Lists.{IsAmong, IsBeforeAll, IsSorted}
 use Rattle.unifier_run.specs.Overlaps.{Triple, Overlap, triple, ComesBefore, IsOutcomeOf, DoesPairFit, IsOverlapOf, IsTooLargeAt, AreOverlapsAt, AreOverlaps, IsPairTooLarge, AreTooManyOverlaps}
 use Rattle.unifier_run.proofs.Unique.{runs_same}
 use Rattle.unifier_run.proofs.Triples.{earlier_not_same, earlier_not_both}

@@ -1,8 +1,6 @@
 -- Two terms have a list of redexes: of all places those where a rule matches, each put before the first that is not earlier.
 use Rattle.std.proofs.Common.{◌≡◌, ◌⊎◌, inl, inr, ℕ, zero, suc, ◌+◌, List, [], ◌∷◌, ◌++◌, map, slice_get, Option, Some, None, refl, sym, ap, ap₂, ◌∙◌, subst, arith}
-use Rattle.rewriting.specs.Lists.{IsAmong, IsBeforeAll, IsSorted}
-use Rattle.rewriting.specs.Positions.{IsBefore, positions}
-use Rattle.rewriting.specs.Substitutions.{Matches}
+use Rattle.rewriting.specs.Prelude.{IsAmong, IsBeforeAll, IsSorted, IsBefore, positions, Matches}
 use Rattle.rewriting.proofs.Common.{Term, Position, subterm, Rule, System, rule_at}
 use Rattle.rewriting.proofs.Conditions.{Order, is_smaller, is_equal, is_greater, order}
 use Rattle.rewriting.proofs.Before.{Ordered, comes_first, is_same, comes_last, order_positions, before_before}

@@ -1,14 +1,11 @@
 -- Where a certificate settles all overlaps, each overlap is listed with its critical pair, and has valid evidence.
 use Rattle.std.proofs.Common.{◌≡◌, ◌⊎◌, inl, inr, ℕ, List, [], ◌∷◌, Option, Some, None, sym, ap, ◌∙◌, subst, length}
-use Rattle.rewriting.specs.Positions.{Position, subterm}
-use Rattle.rewriting.specs.Overlaps.{IsOverlap, IsCriticalPair}
+use Rattle.rewriting.specs.Prelude.{Position, subterm, IsOverlap, IsCriticalPair, IsAmong}
 use Rattle.rewriting.proofs.Common.{nil, cons, System, rule_at, apply, even, odd}
 use Rattle.unifier_run.specs.Run.{Binding, value, unifier, clash}
-use Rattle.rewriting.specs.Lists.{IsAmong}
 use Rattle.unifier_run.specs.Overlaps.{Overlap, triple, IsOutcomeOf, DoesPairFit, IsOverlapOf}
 use Rattle.unifier_run.proofs.General.{no_unifier}
-use Rattle.certificates.specs.Certificates.{PairEntry}
-use Rattle.certificates.specs.Evidence.{PairEvidence}
+use Rattle.certificates.specs.Prelude.{PairEntry, PairEvidence}
 use Rattle.valid_certificates.specs.Kinds.{Kind}
 use Rattle.valid_certificates.specs.PairEvidence.{IsPairJudged}
 use Rattle.valid_certificates.specs.Entries.{AreSettled, DoSettle}

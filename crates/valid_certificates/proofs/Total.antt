@@ -1,14 +1,13 @@
 -- Every certificate is valid, or rejected for a reason.
 use Rattle.std.proofs.Common.{◌≡◌, ◌⊎◌, inl, inr, ℕ, suc, List, refl}
-use Rattle.rewriting.specs.Classes.{IsLeftLinear, IsType3, IsExtendedOriented, IsDeterministic}
-use Rattle.rewriting.specs.Rules.{System, EachRule}
+use Rattle.rewriting.specs.Prelude.{IsLeftLinear, IsType3, IsExtendedOriented, IsDeterministic, System, EachRule}
 use Rattle.unifier_run.specs.Irreducible.{DoAllClash}
 use Rattle.unifier_run.proofs.Total.{all_clash_decided}
 use Rattle.interpretations.specs.Judgement.{Judgement, good, not_good, unraveling_large}
 use Rattle.interpretations.proofs.Total.{interpretation_total}
-use Rattle.certificates.specs.Blames.{IsInClass, IsBlamed}
-use Rattle.certificates.specs.Certificates.{PairEntry, Simplification, MeasureCertificate, linear_measure, precedence_measure, Certificate, ortho_certificate, quasi_certificate, peak_certificate, simplified_certificate}
-use Rattle.certificates.specs.Reasons.{Class, left_linear, type3, extended_oriented, right_stable, deterministic, Blame, class_fails, not_irreducible, measure_fails, unraveling_large as large_unraveling, SimplificationReason, simplification_fails}
+use Rattle.certificates.specs.Prelude.{IsInClass, IsBlamed, PairEntry, Simplification, MeasureCertificate, linear_measure, precedence_measure, Certificate, ortho_certificate}
+use Rattle.certificates.specs.Prelude.{quasi_certificate, peak_certificate, simplified_certificate, Class, left_linear, type3, extended_oriented, right_stable, deterministic, Blame}
+use Rattle.certificates.specs.Prelude.{class_fails, not_irreducible, measure_fails, unraveling_large as large_unraveling, SimplificationReason, simplification_fails}
 use Rattle.certificates.proofs.ClassTotal.{FirstSide, class_total, sides_total}
 use Rattle.caps.proofs.Total.{pair_total as caps_of_two}
 use Rattle.path_orders.proofs.Decided.{precedence_total}

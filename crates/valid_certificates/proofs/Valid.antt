@@ -1,17 +1,12 @@
 -- What a valid peak shows.
 use Rattle.std.proofs.Common.{◌≡◌, inl, inr, List, [], ◌∷◌, Some, None, refl, sym, subst, subst₂}
-use Rattle.rewriting.specs.Lists.{IsAmong}
-use Rattle.rewriting.specs.Confluence.{IsConfluent, AreApart}
-use Rattle.rewriting.specs.Systems.{IsWellFormed}
+use Rattle.rewriting.specs.Prelude.{IsAmong, IsConfluent, AreApart, IsWellFormed, Reaches}
 use Rattle.rewriting.proofs.Common.{Term, System, IsOver}
-use Rattle.rewriting.specs.Reduction.{Reaches}
 use Rattle.rewriting.proofs.Laws.{keeps_over}
 use Rattle.join_systems.specs.FileRelation.{IsFileTerm, IsFileConfluent}
 use Rattle.join_systems.proofs.Files.{files_are_apart}
 use Rattle.caps.proofs.Rigid.{rigid_apart}
-use Rattle.certificates.specs.Certificates.{Apartness, Peak, Redex, by_normal_forms, by_rigid_caps}
-use Rattle.certificates.specs.Evidence.{InfeasibilityEvidence}
-use Rattle.certificates.specs.Reasons.{tcap_large}
+use Rattle.certificates.specs.Prelude.{Apartness, Peak, Redex, by_normal_forms, by_rigid_caps, InfeasibilityEvidence, tcap_large}
 use Rattle.certificates.proofs.Unique.{derives_unique}
 use Rattle.judged_evidence.proofs.Judged.{judged_infeasible}
 use Rattle.valid_certificates.specs.Peaks.{RedexPlace, AreRedexes, chosen, IsRedexJudged, AreRefuted, AreShownApart, LeadsTo, HasFileSymbols, IsValidPeak}

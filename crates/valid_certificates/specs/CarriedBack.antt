@@ -1,8 +1,6 @@
 -- What steps that simplify a system carry back to it.
 use Rattle.std.specs.Prelude.{◌≡◌, List}
-use Rattle.rewriting.specs.Terms.{Term}
-use Rattle.rewriting.specs.Rules.{System}
-use Rattle.rewriting.specs.Systems.{IsWellFormed}
+use Rattle.rewriting.specs.Prelude.{Term, System, IsWellFormed}
 use Rattle.certificates.specs.Certificates.{Peak, Simplification, Certificate, ortho_certificate, quasi_certificate, peak_certificate, simplified_certificate}
 use Rattle.simplifications.specs.Simplifying.{AllSimplify}
 use Rattle.valid_certificates.specs.Peaks.{LeadsTo}

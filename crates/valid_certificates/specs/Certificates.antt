@@ -4,8 +4,8 @@ use Rattle.rewriting.specs.Rules.{System}
 use Rattle.interpretations.specs.Judgement.{Judgement}
 use Rattle.interpretations.specs.Judged as linear
 use Rattle.path_orders.specs.Judged as path
-use Rattle.certificates.specs.Certificates.{Simplification, MeasureCertificate, linear_measure, precedence_measure, Certificate, ortho_certificate, quasi_certificate, peak_certificate, simplified_certificate}
-use Rattle.certificates.specs.Reasons.{SimplificationReason, Rejection, simplification_fails}
+use Rattle.certificates.specs.Prelude.{Simplification, MeasureCertificate, linear_measure, precedence_measure, Certificate, ortho_certificate, quasi_certificate, peak_certificate}
+use Rattle.certificates.specs.Prelude.{simplified_certificate, SimplificationReason, Rejection, simplification_fails}
 use Rattle.simplifications.specs.Simplifying.{AllSimplify, FailsAt}
 use Rattle.valid_certificates.specs.Confluence.{IsValidOrtho, IsOrthoRejected, IsValidQuasi, IsQuasiRejected}
 use Rattle.valid_certificates.specs.Peaks.{IsValidPeak, IsPeakRejected}

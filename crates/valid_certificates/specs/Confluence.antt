@@ -1,12 +1,10 @@
 -- Certificates that show that a system is confluent, and why one is rejected.
 use Rattle.std.specs.Prelude.{ℕ, ◌≡◌, ◌⊎◌, ◌<◌, suc, List, Some}
-use Rattle.rewriting.specs.Rules.{Condition, Rule, System, rule_at}
-use Rattle.rewriting.specs.Classes.{IsAt, IsLeftLinear, IsType3, IsExtendedOriented, IsRightStable, IsDeterministic}
+use Rattle.rewriting.specs.Prelude.{Condition, Rule, System, rule_at, IsAt, IsLeftLinear, IsType3, IsExtendedOriented, IsRightStable, IsDeterministic}
 use Rattle.unifier_run.specs.Irreducible.{DoAllClash}
 use Rattle.interpretations.specs.Judgement.{Judgement, good, not_good, unraveling_large}
-use Rattle.certificates.specs.Certificates.{PairEntry}
-use Rattle.certificates.specs.Reasons.{Class, left_linear, type3, extended_oriented, right_stable, deterministic, Blame, MeasureReason, Rejection, class_fails, not_irreducible, measure_fails, unraveling_large as large_unraveling}
-use Rattle.certificates.specs.Blames.{IsBlamed}
+use Rattle.certificates.specs.Prelude.{PairEntry, Class, left_linear, type3, extended_oriented, right_stable, deterministic, Blame, MeasureReason, Rejection, class_fails, not_irreducible}
+use Rattle.certificates.specs.Prelude.{measure_fails, unraveling_large as large_unraveling, IsBlamed}
 use Rattle.valid_certificates.specs.Kinds.{ortho, quasi}
 use Rattle.valid_certificates.specs.Entries.{DoSettle, DoNotSettle}
 

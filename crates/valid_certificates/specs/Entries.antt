@@ -1,12 +1,9 @@
 -- The entries of a certificate: one for each overlap of the system, in order, with valid evidence.
 use Rattle.std.specs.Prelude.{ℕ, suc, ◌≡◌, ◌≢◌, ◌⊎◌, List, [], ◌∷◌, None, Some}
-use Rattle.rewriting.specs.Positions.{Position}
-use Rattle.rewriting.specs.Rules.{System}
+use Rattle.rewriting.specs.Prelude.{Position, System}
 use Rattle.unifier_run.specs.Overlaps.{Triple, Overlap, triple, AreOverlaps, IsPairTooLarge, AreTooManyOverlaps}
-use Rattle.certificates.specs.Certificates.{PairEntry}
-use Rattle.certificates.specs.Evidence.{PairEvidence, trivial_pair, infeasible_pair, conflicting_pair, joined_pair, unfeasible_pair}
-use Rattle.certificates.specs.Sizes.{IsShort}
-use Rattle.certificates.specs.Reasons.{EvidenceReason, Rejection, pair_large, too_many_pairs, pair_missing, pair_extra, evidence_fails}
+use Rattle.certificates.specs.Prelude.{PairEntry, PairEvidence, trivial_pair, infeasible_pair, conflicting_pair, joined_pair, unfeasible_pair, IsShort, EvidenceReason, Rejection}
+use Rattle.certificates.specs.Prelude.{pair_large, too_many_pairs, pair_missing, pair_extra, evidence_fails}
 use Rattle.valid_certificates.specs.Kinds.{Kind}
 use Rattle.valid_certificates.specs.PairEvidence.{IsPairJudged}
 

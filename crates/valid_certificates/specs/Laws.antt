@@ -1,14 +1,8 @@
 -- What a valid peak shows, and that a certificate is either valid or rejected for one reason, and never both.
 use Rattle.std.specs.Prelude.{◌≡◌, ◌⊎◌}
-use Rattle.rewriting.specs.Terms.{Term}
-use Rattle.rewriting.specs.Signatures.{IsOver}
-use Rattle.rewriting.specs.Rules.{System}
-use Rattle.rewriting.specs.Systems.{IsWellFormed}
-use Rattle.rewriting.specs.Reduction.{Reaches}
-use Rattle.rewriting.specs.Confluence.{IsConfluent, AreApart}
+use Rattle.rewriting.specs.Prelude.{Term, IsOver, System, IsWellFormed, Reaches, IsConfluent, AreApart}
 use Rattle.join_systems.specs.FileRelation.{IsFileTerm, FileReaches, IsFileConfluent, AreFileApart}
-use Rattle.certificates.specs.Certificates.{Peak, Certificate}
-use Rattle.certificates.specs.Reasons.{Rejection}
+use Rattle.certificates.specs.Prelude.{Peak, Certificate, Rejection}
 use Rattle.valid_certificates.specs.Peaks.{LeadsTo, IsValidPeak}
 use Rattle.valid_certificates.specs.Certificates.{IsValid, IsRejected}
 

@@ -1,16 +1,14 @@
 -- When evidence for an overlap is valid, and why it is not. Conditions are numbered from 1, those of the inner rule first.
 use Rattle.std.specs.Prelude.{ℕ, ◌≡◌, ◌≢◌, ◌⊎◌, List, [], Option, None, Some, take, drop}
-use Rattle.rewriting.specs.Terms.{Term, nil, cons}
-use Rattle.rewriting.specs.Rules.{Condition, System}
+use Rattle.rewriting.specs.Prelude.{Term, nil, cons, Condition, System}
 use Rattle.unifier_run.specs.Run.{Binding, Outcome, unifier, clash, too_large, IsOutcome}
 use Rattle.unifier_run.specs.Overlaps.{Overlap}
 use Rattle.unifier_run.specs.Irreducible.{DoAllClash}
 use Rattle.caps.specs.Caps.{any}
 use Rattle.caps.specs.Evidence.{IsPairOutcome, IsPairLarge}
-use Rattle.certificates.specs.Derivations.{Derivation}
-use Rattle.certificates.specs.Evidence.{PairEvidence, trivial_pair, infeasible_pair, conflicting_pair, joined_pair, unfeasible_pair}
-use Rattle.certificates.specs.Judging.{Derives, IsFirstBad, hypothesis_at}
-use Rattle.certificates.specs.Reasons.{EvidenceReason, not_allowed, not_root, sides_differ, conflict_number, conflict_left, conflict_unifies, conflict_large, join_left, join_right, join_differs, unfeasible_number, unfeasible_first, unfeasible_second, first_reducible, second_reducible, unfeasible_unifies, unfeasible_large}
+use Rattle.certificates.specs.Prelude.{Derivation, PairEvidence, trivial_pair, infeasible_pair, conflicting_pair, joined_pair, unfeasible_pair, Derives, IsFirstBad, hypothesis_at}
+use Rattle.certificates.specs.Prelude.{EvidenceReason, not_allowed, not_root, sides_differ, conflict_number, conflict_left, conflict_unifies, conflict_large, join_left, join_right}
+use Rattle.certificates.specs.Prelude.{join_differs, unfeasible_number, unfeasible_first, unfeasible_second, first_reducible, second_reducible, unfeasible_unifies, unfeasible_large}
 use Rattle.valid_certificates.specs.Kinds.{Kind, ortho, quasi}
 use Rattle.judged_evidence.specs.Evidence.{IsInfeasibilityJudged}
 

@@ -1,21 +1,12 @@
 -- Peaks that show that a system is not confluent, and why a peak is rejected.
 use Rattle.std.specs.Prelude.{ℕ, suc, ◌≡◌, ◌≢◌, ◌⊎◌, ◌<◌, nat_eq, if◌then◌else◌, List, [], ◌∷◌, Option, None, Some}
 use Rattle.std.specs.FinMap.{get}
-use Rattle.rewriting.specs.Lists.{IsAmong, IsSorted}
-use Rattle.rewriting.specs.Terms.{Term}
-use Rattle.rewriting.specs.Positions.{Position, subterm, IsBefore}
-use Rattle.rewriting.specs.Substitutions.{Substitution, Bindings, apply, Matches}
-use Rattle.rewriting.specs.Unifiers.{even, odd}
-use Rattle.rewriting.specs.Signatures.{HasSymbolsBelow}
-use Rattle.rewriting.specs.Rules.{Condition, Rule, System, rule_at}
-use Rattle.rewriting.specs.Overlaps.{conditions_under}
+use Rattle.rewriting.specs.Prelude.{IsAmong, IsSorted, Term, Position, subterm, IsBefore, Substitution, Bindings, apply, Matches, even, odd, HasSymbolsBelow, Condition, Rule, System}
+use Rattle.rewriting.specs.Prelude.{rule_at, conditions_under}
 use Rattle.unifier_run.specs.Run.{Binding, unifier, clash}
 use Rattle.caps.specs.Evidence.{IsRigidOutcome, AreRigidCapsLarge}
-use Rattle.certificates.specs.Evidence.{InfeasibilityEvidence}
-use Rattle.certificates.specs.Certificates.{Apartness, Peak, Redex, by_normal_forms, by_rigid_caps}
-use Rattle.certificates.specs.Judging.{Derives, IsFirstBad, RuleMatches}
-use Rattle.certificates.specs.Sizes.{DoConditionsFit}
-use Rattle.certificates.specs.Reasons.{EvidenceReason, tcap_large, BadStep, Rejection, foreign, first_bad, second_bad, same_term, not_normal, redex_extra, redex_fails, caps_unify, caps_large}
+use Rattle.certificates.specs.Prelude.{InfeasibilityEvidence, Apartness, Peak, Redex, by_normal_forms, by_rigid_caps, Derives, IsFirstBad, RuleMatches, DoConditionsFit, EvidenceReason}
+use Rattle.certificates.specs.Prelude.{tcap_large, BadStep, Rejection, foreign, first_bad, second_bad, same_term, not_normal, redex_extra, redex_fails, caps_unify, caps_large}
 use Rattle.judged_evidence.specs.Evidence.{IsInfeasibilityJudged}
 
 -- the left side of the rule with a number matches at the position

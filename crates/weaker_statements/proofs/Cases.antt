@@ -1,7 +1,6 @@
 -- The cases in which the weaker statements hold.
 use Rattle.std.proofs.Common.{refl, arith}
-use Rattle.rewriting.specs.Relations.{done}
-use Rattle.rewriting.specs.Examples.{constant}
+use Rattle.rewriting.specs.Prelude.{done, constant}
 use Rattle.measure.proofs.NoRules.{no_rules_bound}
 use Rattle.level_theorem.proofs.Counterexamples.{forked_apart}
 use Rattle.join_systems.specs.FileRelation.{IsFileTerm}

@@ -1,8 +1,6 @@
 -- A way to judge systems that keeps the law of bounds, and calls a system good and bad at once.
 use Rattle.std.specs.Prelude.{◌≡◌, []}
-use Rattle.rewriting.specs.Rules.{System, system_of}
-use Rattle.rewriting.specs.Systems.{IsWellFormed}
-use Rattle.rewriting.specs.Descents.{AreDescentsBounded}
+use Rattle.rewriting.specs.Prelude.{System, system_of, IsWellFormed, AreDescentsBounded}
 use Rattle.certificates.specs.Reasons.{smaller_constant}
 use Rattle.interpretations.specs.Judgement.{Judgement, good, not_good, unraveling_large}
 

@@ -1,9 +1,6 @@
 -- A peak of which the weaker statement is true: that some two terms which its start reaches have no common reduct.
-use Rattle.rewriting.specs.Terms.{Term}
-use Rattle.rewriting.specs.Rules.{System}
-use Rattle.rewriting.specs.Examples.{constant}
-use Rattle.certificates.specs.Derivations.{no_steps}
-use Rattle.certificates.specs.Certificates.{Peak, by_rigid_caps}
+use Rattle.rewriting.specs.Prelude.{Term, System, constant}
+use Rattle.certificates.specs.Prelude.{no_steps, Peak, by_rigid_caps}
 use Rattle.level_theorem.specs.Example.{forked}
 use Rattle.valid_certificates.specs.Laws.{IsUnjoinable, ReachesApart}
 

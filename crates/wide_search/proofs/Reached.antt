@@ -1,7 +1,6 @@
 -- What is known of lists of eight steps.
 use Rattle.std.proofs.Common.{◌≡◌, ◌∙◌, List, [], sym, subst}
-use Rattle.rewriting.specs.Terms.{Term, Fits}
-use Rattle.rewriting.specs.Rules.{Condition, System}
+use Rattle.rewriting.specs.Prelude.{Term, Fits, Condition, System}
 use Rattle.certificates.specs.Judging.{Derives}
 use Rattle.reach_lists.specs.Solutions.{Reached}
 use Rattle.reach_lists.specs.Lists.{reach_list, successors, condition_list}

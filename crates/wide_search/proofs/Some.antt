@@ -2,9 +2,7 @@
 use Rattle.std.proofs.Common.{◌≡◌, ◌∙◌, List, [], ◌∷◌, ◌++◌, sym, ap, subst, append_assoc, append-nil}
 use Rattle.std.specs.Prelude.{false}
 use Rattle.std.proofs.lemmas.Bool.{or_parts, or_from}
-use Rattle.rewriting.specs.Terms.{Term}
-use Rattle.rewriting.specs.Rules.{System}
-use Rattle.rewriting.specs.Tests.{is_same}
+use Rattle.rewriting.specs.Prelude.{Term, System, is_same}
 use Rattle.certificates.specs.Judging.{Derives}
 use Rattle.reach_lists.specs.Lists.{is_listed}
 use Rattle.reach_lists.specs.Laws.{EachOf, IsWithoutRepetition}

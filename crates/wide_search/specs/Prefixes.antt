@@ -1,7 +1,6 @@
 -- The first entries to which a walk through interpretations comes.
 use Rattle.std.specs.Prelude.{◌≡◌, ◌<◌, [], ◌∷◌, ◌++◌, length, Result, Ok, Err}
-use Rattle.rewriting.specs.Rules.{System}
-use Rattle.rewriting.specs.Unraveling.{heads}
+use Rattle.rewriting.specs.Prelude.{System, heads}
 use Rattle.certificates.specs.Certificates.{LinearEntry}
 use Rattle.interpretations.specs.Linear.{Interpretation}
 use Rattle.measure_grid.specs.Dead.{IsDead}

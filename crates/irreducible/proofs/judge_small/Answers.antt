@@ -1,6 +1,5 @@
 use Rattle.std.proofs.Common.{◌∙◌, ◌+◌, ◌*◌, refl, sym, subst}
-use Rattle.rewriting.specs.Terms.{Fits}
-use Rattle.rewriting.specs.Unifiers.{odd}
+use Rattle.rewriting.specs.Prelude.{Fits, odd}
 use Rattle.rewriting.proofs.Instances.{apply-agree}
 use Rattle.unifier_run.proofs.Renamed.{fits_with_names}
 use Rattle.term_core.specs.View.{view}

@@ -1,7 +1,6 @@
 use Rattle.std.proofs.Common.{rules, ◌≡◌, ◌≤◌, ◌<◌, ◌^◌, map, length, sym, ap, ◌∙◌, subst₂, arith}
 use Rattle.std.proofs.lemmas.List.{length-map}
-use Rattle.rewriting.specs.Rules.{sides}
-use Rattle.rewriting.specs.Variables.{variables_of}
+use Rattle.rewriting.specs.Prelude.{sides, variables_of}
 use Rattle.rewriting.proofs.Laws.{well_formed}
 use Rattle.term_core.specs.RuleView.{condition_view}
 use Rattle.query_space.specs.Variables.{past_all_variables}

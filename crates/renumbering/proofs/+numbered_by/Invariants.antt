@@ -1,7 +1,6 @@
 use Rattle.std.proofs.Common.{◌≡◌, take, drop}
-use Rattle.rewriting.specs.Variables.{with_variables_of}
+use Rattle.rewriting.specs.Prelude.{with_variables_of, IsFront}
 use Rattle.term_core.specs.View.{views}
-use Rattle.rewriting.specs.Lists.{IsFront}
 use Rattle.renumbering.specs.Rows.{IsRow}
 use Rattle.renumbering.proofs.Numbered.{AreNumbered}
 use Rattle.renumbering.proofs.+numbered_by.Given as goal

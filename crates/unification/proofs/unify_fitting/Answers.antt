@@ -1,6 +1,5 @@
 use Rattle.std.proofs.Common.{sym, ap, subst}
-use Rattle.rewriting.specs.Terms.{Fits}
-use Rattle.rewriting.specs.Substitutions.{apply}
+use Rattle.rewriting.specs.Prelude.{Fits, apply}
 use Rattle.unifier_run.specs.Run.{value}
 use Rattle.unifier_run.proofs.Values.{apply_nothing}
 use Rattle.term_core.specs.View.{view}

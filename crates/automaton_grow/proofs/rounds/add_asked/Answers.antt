@@ -2,8 +2,7 @@ use Rattle.std.proofs.Common.{◌++◌, ◌∙◌, map, ap, subst}
 use Rattle.std.specs.Prelude.{Contains}
 use Rattle.automata.specs.Closed.{state_of}
 use Rattle.automata.specs.Growth.{grown}
-use Rattle.term_core.specs.View.{view}
-use Rattle.term_core.specs.RuleView.{rule_view}
+use Rattle.term_core.specs.Prelude.{view, rule_view}
 use Rattle.term_core.proofs.Views.{view-Var, view-Fun}
 use Rattle.cert_model.specs.EvidenceView.{transition_view}
 use Rattle.automaton_grow.specs.Growing.{twins, AddAnswers}

@@ -1,7 +1,6 @@
 use Rattle.std.proofs.Common.{◌≤◌, ◌^◌, length, map, subst, sym, arith}
 use Rattle.rewriting.specs.Variables.{variable_occurrences}
-use Rattle.term_core.specs.View.{view}
-use Rattle.term_core.specs.RuleView.{rule_view}
+use Rattle.term_core.specs.Prelude.{view, rule_view}
 use Rattle.cert_model.specs.EvidenceView.{transition_view, automaton_view}
 use Rattle.automaton_runs.specs.Counted.{Indexed}
 use Rattle.automaton_runs.specs.Arrivals.{arrival_view, AreArrivals}

@@ -1,6 +1,5 @@
 use Rattle.std.proofs.Common.{◌≡◌, map, length, subst, sym, arith}
-use Rattle.term_core.specs.View.{view}
-use Rattle.term_core.specs.RuleView.{rule_view}
+use Rattle.term_core.specs.Prelude.{view, rule_view}
 use Rattle.cert_model.specs.EvidenceView.{transition_view}
 use Rattle.automata.specs.Growth.{HasStates}
 use Rattle.automaton_grow.proofs.States.{room_at}

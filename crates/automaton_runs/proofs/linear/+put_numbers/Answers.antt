@@ -1,7 +1,6 @@
 use Rattle.std.proofs.Common.{◌≡◌, ◌+◌, ◌<◌, ◌∙◌, ℕ, List, ap, sym, subst, arith, length, take}
 use Rattle.std.proofs.lemmas.List.{take_all}
-use Rattle.rewriting.specs.Terms.{size}
-use Rattle.rewriting.specs.Variables.{variable_occurrences, variable_occurrences_of}
+use Rattle.rewriting.specs.Prelude.{size, variable_occurrences, variable_occurrences_of}
 use Rattle.term_core.specs.View.{view, views}
 use Rattle.term_core.specs.declared.terms.Term.{Term}
 use Rattle.automaton_runs.specs.Linear.{linear_all}

@@ -1,6 +1,5 @@
 use Rattle.std.proofs.Common.{◌≡◌, ◌+◌, length, take}
-use Rattle.rewriting.specs.Variables.{variable_occurrences_of}
-use Rattle.rewriting.specs.Terms.{size}
+use Rattle.rewriting.specs.Prelude.{variable_occurrences_of, size}
 use Rattle.term_core.specs.View.{view, views}
 use Rattle.automaton_runs.specs.Linear.{linear_all}
 use Rattle.automaton_runs.proofs.linear.+put_numbers.Given as goal

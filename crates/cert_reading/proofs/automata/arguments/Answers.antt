@@ -1,10 +1,7 @@
 use Rattle.std.proofs.Common.{◌≡◌, ◌<◌, ◌+◌, None, ◌∙◌, suc, refl, sym, ap, length, List, ℕ, [], ◌∷◌, ◌++◌, codes, arith}
 use Rattle.std.proofs.lemmas.List.{length_push}
-use Rattle.cert_grammar.specs.Words.{name_of}
+use Rattle.cert_grammar.specs.Prelude.{name_of, is_number, has_arity, fixed, behind, states_marks, space, between, states_behind, argument_state, further_states, head_closed}
 use Rattle.cops_names.specs.NameTable.{arity_at}
-use Rattle.cert_grammar.specs.Marks.{is_number, has_arity, fixed, behind}
-use Rattle.cert_grammar.specs.CertificateMarks.{states_marks}
-use Rattle.cert_grammar.specs.Items.{space, between, states_behind, argument_state, further_states, head_closed}
 use Rattle.cert_grammar.proofs.Views.{first_pushed}
 use Rattle.cert_words.proofs.Walking.{then_reads, as_reads, as_marks, open_before}
 use Rattle.cert_words.proofs.Stepping.{arity_met}

@@ -1,7 +1,5 @@
 use Rattle.std.proofs.Common.{refl, ap, List, [], ◌∷◌, length, codes}
-use Rattle.cert_grammar.specs.Marks.{Mark, has_arity, fixed, symbol, behind}
-use Rattle.cert_grammar.specs.CertificateMarks.{state, states_marks}
-use Rattle.cert_grammar.specs.Items.{space, line, between, transitions_left, transitions_of, states_behind, target}
+use Rattle.cert_grammar.specs.Prelude.{Mark, has_arity, fixed, symbol, behind, state, states_marks, space, line, between, transitions_left, transitions_of, states_behind, target}
 use Rattle.cert_words.proofs.Walking.{then_reads, as_marks, framed}
 use Rattle.cert_reading.proofs.AutomatonMarks.{head_first}
 use Rattle.cert_reading.proofs.automata.transition.Goals as goal

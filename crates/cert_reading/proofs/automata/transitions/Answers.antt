@@ -1,8 +1,7 @@
 use Rattle.std.proofs.Common.{◌+◌, ◌-◌, ◌∙◌, refl, sym, ap, length, map, arith}
 use Rattle.std.proofs.lemmas.List.{length_push, length-map}
 use Rattle.cert_model.specs.EvidenceView.{transition_view}
-use Rattle.cert_grammar.specs.CertificateMarks.{transitions_marks}
-use Rattle.cert_grammar.specs.Items.{transitions_of}
+use Rattle.cert_grammar.specs.Prelude.{transitions_marks, transitions_of}
 use Rattle.cert_words.proofs.Walking.{then_reads, then_nothing, as_reads, as_marks, already, open_before}
 use Rattle.cert_words.proofs.Stepping.{some_now}
 use Rattle.cert_reading.proofs.AutomatonMarks.{plain_push, transitions_push, transitions_next, transitions_end}

@@ -1,7 +1,5 @@
 use Rattle.std.proofs.Common.{[], ◌∷◌, codes, refl, arith}
-use Rattle.cert_grammar.specs.Marks.{fixed}
-use Rattle.cert_grammar.specs.WordMarks.{number}
-use Rattle.cert_grammar.specs.Items.{space, line, between, any_number, derivations_left, evidence}
+use Rattle.cert_grammar.specs.Prelude.{fixed, number, space, line, between, any_number, derivations_left, evidence}
 use Rattle.cert_sharing.proofs.UseMarks.{counts_still}
 use Rattle.cert_words.proofs.Walking.{then_reads, framed}
 use Rattle.cert_words.proofs.Choosing.{chosen_at}

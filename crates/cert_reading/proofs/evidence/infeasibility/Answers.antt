@@ -1,7 +1,5 @@
 use Rattle.std.proofs.Common.{[], ◌∷◌, codes, refl}
-use Rattle.cert_grammar.specs.Marks.{fixed}
-use Rattle.cert_grammar.specs.WordMarks.{number}
-use Rattle.cert_grammar.specs.Items.{between, any_number, infeasibility}
+use Rattle.cert_grammar.specs.Prelude.{fixed, number, between, any_number, infeasibility}
 use Rattle.cert_sharing.proofs.UseMarks.{counts_still}
 use Rattle.cert_words.proofs.Walking.{then_reads, framed}
 use Rattle.cert_reading.specs.Uses.{version_by, automata_by, use_between, use_item}

@@ -1,6 +1,5 @@
 use Rattle.std.proofs.Common.{◌∙◌, ◌≡◌, ℕ, List, [], ◌∷◌, None, false, true, codes, refl}
-use Rattle.cert_grammar.specs.Items.{Item, Lead, leads, line, between, body}
-use Rattle.cert_grammar.specs.FirstRefusal.{is_there, first_there}
+use Rattle.cert_grammar.specs.Prelude.{Item, Lead, leads, line, between, body, is_there, first_there}
 use Rattle.cert_words.proofs.Stepping.{first_one, first_two, first_three}
 use Rattle.cert_reading.specs.declared.headings.Kind.TheVariants.{Ortho, Quasi, Peak}
 use Rattle.cert_reading.specs.Headings.{item_by}

@@ -1,6 +1,5 @@
 use Rattle.std.proofs.Common.{refl, ap}
-use Rattle.cert_grammar.specs.Items.{leads, body}
-use Rattle.cert_grammar.specs.Sharing.{Shared}
+use Rattle.cert_grammar.specs.Prelude.{leads, body, Shared}
 use Rattle.cert_words.specs.Words.{told}
 use Rattle.cert_words.proofs.Walking.{front_same, stopped}
 use Rattle.cert_words.proofs.Stepping.{none_now, stuck_among, stuck_stops}

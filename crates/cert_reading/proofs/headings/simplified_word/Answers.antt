@@ -1,8 +1,5 @@
 use Rattle.std.proofs.Common.{◌≡◌, ◌∙◌, ℕ, List, [], ◌∷◌, false, codes, refl, ap}
-use Rattle.cert_grammar.specs.Versions.{second_version}
-use Rattle.cert_grammar.specs.Items.{Item, Lead, leads, simplified, simplification_count, body}
-use Rattle.cert_grammar.specs.FirstRefusal.{is_there, first_there}
-use Rattle.cert_grammar.specs.Sharing.{Shared}
+use Rattle.cert_grammar.specs.Prelude.{second_version, Item, Lead, leads, simplified, simplification_count, body, is_there, first_there, Shared}
 use Rattle.cert_words.specs.Words.{told}
 use Rattle.cert_words.proofs.Walking.{front_same, stopped}
 use Rattle.cert_words.proofs.Stepping.{none_now, first_one, text_run, stuck_among, stuck_stops, go}

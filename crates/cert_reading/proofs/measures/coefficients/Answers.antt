@@ -1,7 +1,6 @@
 use Rattle.std.proofs.Common.{◌≡◌, ◌+◌, ◌∙◌, ℕ, suc, refl, sym, ap, length, [], ◌∷◌, arith}
 use Rattle.std.proofs.lemmas.List.{length_push}
-use Rattle.cert_grammar.specs.CertificateMarks.{coefficients_marks}
-use Rattle.cert_grammar.specs.Items.{coefficients_behind, coefficient}
+use Rattle.cert_grammar.specs.Prelude.{coefficients_marks, coefficients_behind, coefficient}
 use Rattle.cert_words.proofs.Walking.{then_reads, as_reads}
 use Rattle.cert_reading.proofs.ListMarks.{coefficients_push}
 use Rattle.cert_reading.proofs.measures.coefficients.Goals as goal

@@ -1,8 +1,7 @@
 use Rattle.std.proofs.Common.{◌≡◌, ◌+◌, ◌∙◌, ℕ, suc, refl, sym, ap, map, length, [], ◌∷◌, arith}
 use Rattle.std.proofs.lemmas.List.{length_push, append-nil, length-map}
 use Rattle.cert_model.specs.CertificateView.{linear_entry_view}
-use Rattle.cert_grammar.specs.CertificateMarks.{entries_marks}
-use Rattle.cert_grammar.specs.Items.{entries_from}
+use Rattle.cert_grammar.specs.Prelude.{entries_marks, entries_from}
 use Rattle.cert_words.proofs.Walking.{open_before}
 use Rattle.cert_words.proofs.Stepping.{none_now, some_now}
 use Rattle.cert_reading.proofs.Stopping.{then_where, as_where, then_nothing_where, already_where, low_where, low_unopened}

@@ -1,8 +1,6 @@
 use Rattle.std.proofs.Common.{◌-◌, suc, [], ◌∷◌, map, length}
 use Rattle.cert_model.specs.CertificateView.{linear_entry_view}
-use Rattle.cert_grammar.specs.Versions.{Version}
-use Rattle.cert_grammar.specs.CertificateMarks.{entries_marks}
-use Rattle.cert_grammar.specs.Items.{entries_from}
+use Rattle.cert_grammar.specs.Prelude.{Version, entries_marks, entries_from}
 use Rattle.cert_reading.specs.Stops.{ReadsWhere, WithinOpening}
 use Rattle.cert_reading.proofs.measures.entries.Given as goal
 

@@ -1,6 +1,5 @@
 use Rattle.std.proofs.Common.{codes, [], ◌∷◌, refl}
-use Rattle.cert_grammar.specs.Marks.{entries, is_few}
-use Rattle.cert_grammar.specs.Items.{keyword, pair_or_end, space, between, any_number}
+use Rattle.cert_grammar.specs.Prelude.{entries, is_few, keyword, pair_or_end, space, between, any_number}
 use Rattle.cert_words.proofs.Stepping.{none_now, first_one, first_two, keyword_run, keyword_stop, stuck_among, counted_there, counted_out, go, stop}
 use Rattle.cert_reading.proofs.Stopping.{word_where}
 use Rattle.cert_reading.proofs.Opening.{when_false, none_of_entries, none_refused}

@@ -1,6 +1,5 @@
 use Rattle.std.proofs.Common.{[], ◌∷◌, refl}
-use Rattle.cert_grammar.specs.Versions.{first_version}
-use Rattle.cert_grammar.specs.Items.{measure}
+use Rattle.cert_grammar.specs.Prelude.{first_version, measure}
 use Rattle.cert_reading.proofs.Stopping.{then_where, word_where}
 use Rattle.cert_reading.proofs.Opening.{other_item, linear_line}
 use Rattle.cert_reading.proofs.Chosen.{one_choice}

@@ -1,8 +1,6 @@
 use Rattle.std.proofs.Common.{sym, subst, [], ◌∷◌}
 use Rattle.cert_model.specs.CertificateView.{measure_view}
-use Rattle.cert_grammar.specs.Versions.{HasMeasure}
-use Rattle.cert_grammar.specs.CertificateMarks.{measure_marks}
-use Rattle.cert_grammar.specs.Items.{measure}
+use Rattle.cert_grammar.specs.Prelude.{HasMeasure, measure_marks, measure}
 use Rattle.cert_reading.specs.declared.uses.Uses.{Uses}
 use Rattle.cert_reading.specs.Headings.{behind_measure}
 use Rattle.cert_reading.specs.Stops.{ReadsWhere, WithinOpening}

@@ -1,7 +1,6 @@
 use Rattle.std.proofs.Common.{suc, sym, [], refl}
 use Rattle.std.proofs.lemmas.List.{append-nil}
-use Rattle.cert_grammar.specs.Versions.{second_version}
-use Rattle.cert_grammar.specs.Items.{heads_from, between, line}
+use Rattle.cert_grammar.specs.Prelude.{second_version, heads_from, between, line}
 use Rattle.cert_words.proofs.Walking.{open_before}
 use Rattle.cert_reading.proofs.Stopping.{then_where, as_marks_where, low_where, low_unopened}
 use Rattle.cert_reading.proofs.Opening.{head_at}

@@ -1,9 +1,7 @@
 use Rattle.std.proofs.Common.{◌≡◌, ◌+◌, ◌∙◌, ℕ, suc, refl, sym, ap, map, length, [], ◌∷◌, arith}
 use Rattle.std.proofs.lemmas.List.{length_push, append-nil, length-map}
 use Rattle.cert_model.specs.CertificateView.{head_view}
-use Rattle.cert_grammar.specs.Versions.{second_version}
-use Rattle.cert_grammar.specs.CertificateMarks.{heads_marks}
-use Rattle.cert_grammar.specs.Items.{heads_from}
+use Rattle.cert_grammar.specs.Prelude.{second_version, heads_marks, heads_from}
 use Rattle.cert_words.proofs.Walking.{open_before}
 use Rattle.cert_words.proofs.Stepping.{none_now, some_now}
 use Rattle.cert_reading.proofs.Stopping.{then_where, as_where, then_nothing_where, already_where, low_where, low_unopened}

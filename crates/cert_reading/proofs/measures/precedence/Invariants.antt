@@ -1,8 +1,6 @@
 use Rattle.std.proofs.Common.{◌-◌, suc, [], ◌∷◌, map, length}
 use Rattle.cert_model.specs.CertificateView.{head_view}
-use Rattle.cert_grammar.specs.Versions.{second_version}
-use Rattle.cert_grammar.specs.CertificateMarks.{heads_marks}
-use Rattle.cert_grammar.specs.Items.{heads_from}
+use Rattle.cert_grammar.specs.Prelude.{second_version, heads_marks, heads_from}
 use Rattle.cert_reading.specs.Stops.{ReadsWhere, WithinOpening}
 use Rattle.cert_reading.proofs.measures.precedence.Given as goal
 

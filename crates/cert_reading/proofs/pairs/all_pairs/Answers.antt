@@ -1,8 +1,7 @@
 use Rattle.std.proofs.Common.{◌≡◌, ◌+◌, ◌∙◌, ℕ, suc, refl, sym, ap, map, length, [], ◌∷◌, arith}
 use Rattle.std.proofs.lemmas.List.{length_push}
 use Rattle.cert_model.specs.CertificateView.{pair_entry_view}
-use Rattle.cert_grammar.specs.CertificateMarks.{pairs_marks}
-use Rattle.cert_grammar.specs.Items.{pairs_from}
+use Rattle.cert_grammar.specs.Prelude.{pairs_marks, pairs_from}
 use Rattle.cert_sharing.proofs.UseMarks.{counts_still}
 use Rattle.cert_reading.specs.Stops.{Anywhere}
 use Rattle.cert_reading.specs.Uses.{version_by, automata_by, uses_by}

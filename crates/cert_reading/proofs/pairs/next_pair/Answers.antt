@@ -1,13 +1,9 @@
 use Rattle.std.proofs.Common.{suc, arith, [], ◌∷◌, codes, sym, refl}
 use Rattle.std.proofs.lemmas.List.{append-nil}
 use Rattle.cert_model.specs.CertificateView.{pair_entry_view}
-use Rattle.cert_grammar.specs.Words.{name_of}
-use Rattle.cert_grammar.specs.Marks.{pairs, is_few, fixed, word}
-use Rattle.cert_grammar.specs.WordMarks.{number, position}
+use Rattle.cert_grammar.specs.Prelude.{name_of, pairs, is_few, fixed, word, number, position, space, between, any_number, any_position, evidence, pairs_from, used_by_pairs}
 use Rattle.cert_grammar.specs.Items as Items
-use Rattle.cert_grammar.specs.Items.{space, between, any_number, any_position, evidence, pairs_from}
 use Rattle.cert_sharing.proofs.UseMarks.{counts_still, places_still, numbers_of, counts_pairs}
-use Rattle.cert_grammar.specs.Versions.{used_by_pairs}
 use Rattle.cert_words.proofs.Walking.{then_reads, framed, open_before}
 use Rattle.cert_reading.specs.Uses.{version_by, automata_by, uses_by}
 use Rattle.cert_reading.proofs.Stopping.{then_where, as_marks_where, word_where, word_behind, low_where, low_entry, first_entry, line_entry, pair_later}

@@ -1,6 +1,5 @@
 use Rattle.std.proofs.Common.{[], ◌∷◌, codes, refl}
-use Rattle.cert_grammar.specs.Items.{last_line, between, line, apart, redexes_from}
-use Rattle.cert_grammar.specs.Marks.{fixed}
+use Rattle.cert_grammar.specs.Prelude.{last_line, between, line, apart, redexes_from, fixed}
 use Rattle.cert_sharing.proofs.UseMarks.{counts_still}
 use Rattle.cert_words.proofs.Walking.{then_reads}
 use Rattle.cert_reading.specs.Uses.{version_by, automata_by}

@@ -1,11 +1,7 @@
 use Rattle.std.proofs.Common.{suc, [], ◌∷◌, codes, sym, refl}
 use Rattle.std.proofs.lemmas.List.{append-nil}
 use Rattle.cert_model.specs.CertificateView.{redex_view}
-use Rattle.cert_grammar.specs.Words.{name_of}
-use Rattle.cert_grammar.specs.Versions.{used_by_redexes}
-use Rattle.cert_grammar.specs.Marks.{redexes, is_few, fixed, word}
-use Rattle.cert_grammar.specs.WordMarks.{number, position}
-use Rattle.cert_grammar.specs.Items.{space, line, between, any_number, any_position, infeasibility, redexes_from}
+use Rattle.cert_grammar.specs.Prelude.{name_of, used_by_redexes, redexes, is_few, fixed, word, number, position, space, line, between, any_number, any_position, infeasibility, redexes_from}
 use Rattle.cert_sharing.proofs.UseMarks.{counts_still, places_still, numbers_of, counts_redexes}
 use Rattle.cert_words.proofs.Walking.{then_reads, as_marks, framed, open_before}
 use Rattle.cert_reading.specs.Uses.{version_by, automata_by, uses_by}

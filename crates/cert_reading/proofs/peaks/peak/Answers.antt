@@ -3,11 +3,7 @@ use Rattle.cert_laws.proofs.PathSkeletons.{start_text}
 use Rattle.cert_model.specs.DerivationView.{derivation_view}
 use Rattle.cert_model.specs.CertificateView.{apart_view}
 use Rattle.term_core.specs.View.{view}
-use Rattle.cert_grammar.specs.Words.{name_of}
-use Rattle.cert_grammar.specs.Marks.{Mark, fixed}
-use Rattle.cert_grammar.specs.WordMarks.{term_marks, derivation_marks}
-use Rattle.cert_grammar.specs.CertificateMarks.{closing, apart_marks}
-use Rattle.cert_grammar.specs.Items.{node, derivations_left, apart, start_line}
+use Rattle.cert_grammar.specs.Prelude.{name_of, Mark, fixed, term_marks, derivation_marks, closing, apart_marks, node, derivations_left, apart, start_line}
 use Rattle.cert_sharing.proofs.UseMarks.{AreStill, counts_still, still_both, term_still, derivation_still}
 use Rattle.cert_words.proofs.Walking.{then_reads, as_marks, framed}
 use Rattle.cert_reading.specs.Uses.{version_by, automata_by, uses_by}

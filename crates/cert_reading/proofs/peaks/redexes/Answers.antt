@@ -1,8 +1,7 @@
 use Rattle.std.proofs.Common.{◌≡◌, ◌+◌, ◌∙◌, ℕ, suc, refl, sym, ap, map, length, [], ◌∷◌, arith}
 use Rattle.std.proofs.lemmas.List.{length_push}
 use Rattle.cert_model.specs.CertificateView.{redex_view}
-use Rattle.cert_grammar.specs.CertificateMarks.{redexes_marks}
-use Rattle.cert_grammar.specs.Items.{redexes_from}
+use Rattle.cert_grammar.specs.Prelude.{redexes_marks, redexes_from}
 use Rattle.cert_sharing.proofs.UseMarks.{counts_still}
 use Rattle.cert_words.proofs.Walking.{then_reads, then_nothing, as_reads, already, open_before}
 use Rattle.cert_words.proofs.Stepping.{none_now, some_now}

@@ -1,8 +1,7 @@
 use Rattle.std.proofs.Common.{◌≡◌, ◌+◌, ◌-◌, ◌∙◌, [], None, refl, sym, ap, length, map, arith}
 use Rattle.std.proofs.lemmas.List.{length_push, length-map}
 use Rattle.cert_model.specs.EvidenceView.{automaton_view}
-use Rattle.cert_grammar.specs.CertificateMarks.{automata_marks}
-use Rattle.cert_grammar.specs.Items.{behind_automata}
+use Rattle.cert_grammar.specs.Prelude.{automata_marks, behind_automata}
 use Rattle.cert_words.proofs.Walking.{open_before}
 use Rattle.cert_words.proofs.Stepping.{some_now}
 use Rattle.cert_reading.proofs.Stopping.{then_where, then_nothing_where, as_where, as_marks_where, already_where, open_before_where, low_where}

@@ -1,9 +1,6 @@
 use Rattle.std.proofs.Common.{ℕ, [], ◌∷◌, None, codes, refl, sym, ap, map}
 use Rattle.cert_model.specs.EvidenceView.{automaton_view}
-use Rattle.cert_grammar.specs.Marks.{fixed, shared_automata}
-use Rattle.cert_grammar.specs.WordMarks.{number_for}
-use Rattle.cert_grammar.specs.CertificateMarks.{automata_marks}
-use Rattle.cert_grammar.specs.Items.{line, between, shared_line, shared_count, behind_automata}
+use Rattle.cert_grammar.specs.Prelude.{fixed, shared_automata, number_for, automata_marks, line, between, shared_line, shared_count, behind_automata}
 use Rattle.cert_reading.proofs.Stopping.{then_where, as_marks_where, word_where, low_where}
 use Rattle.cert_reading.proofs.SharedPlaces.{line_place, count_place, above_automata}
 use Rattle.cert_reading.proofs.SharedKnown.{known_now}

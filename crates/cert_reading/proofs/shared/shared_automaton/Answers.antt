@@ -1,8 +1,6 @@
 use Rattle.std.proofs.Common.{[], ◌∷◌, refl}
 use Rattle.cert_model.specs.EvidenceView.{automaton_view}
-use Rattle.cert_grammar.specs.Words.{name_of}
-use Rattle.cert_grammar.specs.CertificateMarks.{automaton_marks}
-use Rattle.cert_grammar.specs.Items.{space, between, state_count, automata_left, automaton_end, behind_automata}
+use Rattle.cert_grammar.specs.Prelude.{name_of, automaton_marks, space, between, state_count, automata_left, automaton_end, behind_automata}
 use Rattle.cert_words.proofs.Walking.{then_reads, framed}
 use Rattle.cert_words.proofs.Stepping.{none_now, some_now}
 use Rattle.cert_reading.proofs.Stopping.{then_where, already_where, word_where, low_where, sealed_where}

@@ -2,10 +2,7 @@ use Rattle.std.proofs.Common.{◌≡◌, ◌+◌, ◌-◌, ◌∙◌, [], None, 
 use Rattle.std.proofs.lemmas.List.{length_push, length-map}
 use Rattle.cert_model.specs.EvidenceView.{automaton_view}
 use Rattle.cert_model.specs.CertificateView.{simp_view}
-use Rattle.cert_grammar.specs.Versions.{second_version, by_number}
-use Rattle.cert_grammar.specs.SharedText.{number_in}
-use Rattle.cert_grammar.specs.CertificateMarks.{simplifications_marks}
-use Rattle.cert_grammar.specs.Items.{simplifications_of}
+use Rattle.cert_grammar.specs.Prelude.{second_version, by_number, number_in, simplifications_marks, simplifications_of}
 use Rattle.cert_sharing.proofs.UseMarks.{counts_still}
 use Rattle.cert_words.proofs.Walking.{then_reads, then_nothing, as_reads, as_marks, already, open_before}
 use Rattle.cert_words.proofs.Stepping.{some_now}

@@ -1,10 +1,7 @@
 use Rattle.std.proofs.Common.{◌≡◌, ◌-◌, None, map, length}
 use Rattle.cert_model.specs.EvidenceView.{automaton_view}
 use Rattle.cert_model.specs.CertificateView.{simp_view}
-use Rattle.cert_grammar.specs.Versions.{second_version, by_number}
-use Rattle.cert_grammar.specs.SharedText.{number_in}
-use Rattle.cert_grammar.specs.CertificateMarks.{simplifications_marks}
-use Rattle.cert_grammar.specs.Items.{simplifications_of}
+use Rattle.cert_grammar.specs.Prelude.{second_version, by_number, number_in, simplifications_marks, simplifications_of}
 use Rattle.cert_words.specs.Walks.{Reads}
 use Rattle.cert_reading.specs.Plain.{StepsUse}
 use Rattle.cert_reading.specs.Uses.{AreShared}

@@ -3,11 +3,8 @@ use Rattle.std.proofs.lemmas.List.{length_push, length-map}
 use Rattle.rewriting.specs.Terms.{Term, app, size, size_all, terms_of}
 use Rattle.term_core.specs.View.{view, views}
 use Rattle.term_core.proofs.Views.{view-Var, view-Fun}
-use Rattle.cert_grammar.specs.Words.{name_of}
+use Rattle.cert_grammar.specs.Prelude.{name_of, is_number, fixed, term_marks, with_next, node, name_behind, term_behind, term_closed, next_argument, symbol_end}
 use Rattle.cops_names.specs.NameTable.{arity_at}
-use Rattle.cert_grammar.specs.Marks.{is_number, fixed}
-use Rattle.cert_grammar.specs.WordMarks.{term_marks}
-use Rattle.cert_grammar.specs.Items.{with_next, node, name_behind, term_behind, term_closed, next_argument, symbol_end}
 use Rattle.cert_grammar.proofs.Views.{seen_push}
 use Rattle.cert_words.specs.Nodes.{inner_marks}
 use Rattle.cert_words.specs.Walks.{Reads}

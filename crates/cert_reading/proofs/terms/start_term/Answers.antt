@@ -4,10 +4,7 @@ use Rattle.rewriting.specs.Terms.{Term, app}
 use Rattle.term_core.specs.View.{view, views}
 use Rattle.term_core.proofs.Views.{view-Var, view-Fun}
 use Rattle.cops_names.specs.NameTable.{arity_at}
-use Rattle.cert_grammar.specs.Words.{name_of}
-use Rattle.cert_grammar.specs.Marks.{is_number, fixed}
-use Rattle.cert_grammar.specs.WordMarks.{term_marks}
-use Rattle.cert_grammar.specs.Items.{line, between, node, name_behind, term_behind, term_closed}
+use Rattle.cert_grammar.specs.Prelude.{name_of, is_number, fixed, term_marks, line, between, node, name_behind, term_behind, term_closed}
 use Rattle.cert_words.proofs.Walking.{then_reads, as_marks, open_before}
 use Rattle.cert_words.proofs.Stepping.{none_now, some_now, arity_met}
 use Rattle.cert_reading.proofs.TermMarks.{symbol_closed}

@@ -1,9 +1,7 @@
 use Rattle.std.proofs.Common.{◌≤◌, ℕ, [], ◌∷◌, codes, map, refl, sym, ap, subst}
 use Rattle.std.proofs.lemmas.List.{length-map}
 use Rattle.cert_model.specs.EvidenceView.{automaton_view}
-use Rattle.cert_grammar.specs.Marks.{fixed}
-use Rattle.cert_grammar.specs.CertificateMarks.{use_mark, use_marks}
-use Rattle.cert_grammar.specs.Items.{space, line, between, states_line, shared_use}
+use Rattle.cert_grammar.specs.Prelude.{fixed, use_mark, use_marks, space, line, between, states_line, shared_use}
 use Rattle.cert_words.specs.Walks.{Reads}
 use Rattle.cert_words.proofs.Walking.{then_reads, then_nothing, as_marks, framed}
 use Rattle.cert_reading.specs.declared.uses.Uses.{Uses}

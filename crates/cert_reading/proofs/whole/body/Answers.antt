@@ -1,7 +1,6 @@
 use Rattle.std.proofs.Common.{List, [], ◌∷◌, ◌++◌, ap}
 use Rattle.cert_model.specs.CertificateView.{certificate_view}
-use Rattle.cert_grammar.specs.Marks.{Mark}
-use Rattle.cert_grammar.specs.CertificateMarks.{closing}
+use Rattle.cert_grammar.specs.Prelude.{Mark, closing}
 use Rattle.cert_sharing.proofs.UseMarks.{counts_still}
 use Rattle.cert_reading.specs.Headings.{kind_mark}
 use Rattle.cert_reading.specs.Uses.{version_by, automata_by, uses_by}

@@ -1,12 +1,7 @@
 use Rattle.std.proofs.Common.{map, Bool, [], ◌∷◌, ◌++◌, codes, refl, sym, ap, subst, append_assoc}
 use Rattle.cert_model.specs.EvidenceView.{automaton_view}
 use Rattle.cert_model.specs.CertificateView.{certificate_view}
-use Rattle.cert_grammar.specs.Versions.{first_version, second_version, in_full, by_number}
-use Rattle.cert_grammar.specs.SharedText.{number_in}
-use Rattle.cert_grammar.specs.Marks.{fixed}
-use Rattle.cert_grammar.specs.CertificateMarks.{answer_marks, body_marks, closing}
-use Rattle.cert_grammar.specs.Items.{opening, simplified}
-use Rattle.cert_grammar.specs.Sharing.{Shared}
+use Rattle.cert_grammar.specs.Prelude.{first_version, second_version, in_full, by_number, number_in, fixed, answer_marks, body_marks, closing, opening, simplified, Shared}
 use Rattle.cert_sharing.proofs.UseMarks.{counts_still}
 use Rattle.cert_reading.specs.Headings.{behind_version, first_marks}
 use Rattle.cert_reading.specs.Shared.{shared_marks}

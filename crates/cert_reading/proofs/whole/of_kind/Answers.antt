@@ -1,10 +1,7 @@
 use Rattle.std.proofs.Common.{◌∙◌, List, map, [], ◌∷◌, ◌++◌, codes, refl, sym, ap, subst, append_assoc}
 use Rattle.cert_model.specs.CertificateView.{pair_entry_view, measure_view, certificate_view}
 use Rattle.certificates.specs.Certificates as math
-use Rattle.cert_grammar.specs.Words.{name_of}
-use Rattle.cert_grammar.specs.Marks.{Mark, fixed}
-use Rattle.cert_grammar.specs.CertificateMarks.{measure_marks, pairs_marks, closing}
-use Rattle.cert_grammar.specs.Items.{between, line, pairs_from, measure, start_line}
+use Rattle.cert_grammar.specs.Prelude.{name_of, Mark, fixed, measure_marks, pairs_marks, closing, between, line, pairs_from, measure, start_line}
 use Rattle.cert_model.specs.declared.model.Certificate as code
 use Rattle.cert_model.proofs.CertificateViews.{ortho_shown, quasi_shown, peak_shown}
 use Rattle.cert_sharing.proofs.UseMarks.{counts_still, measure_still}

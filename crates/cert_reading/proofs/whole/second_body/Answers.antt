@@ -2,13 +2,9 @@ use Rattle.std.proofs.Common.{◌∙◌, ℕ, suc, List, map, length, [], ◌∷
 use Rattle.cert_model.specs.EvidenceView.{automaton_view}
 use Rattle.cert_model.specs.CertificateView.{simp_view, certificate_view}
 use Rattle.certificates.specs.Certificates as math
-use Rattle.cert_grammar.specs.Words.{largest}
-use Rattle.cert_grammar.specs.Versions.{second_version, by_number}
-use Rattle.cert_grammar.specs.SharedText.{number_in}
-use Rattle.cert_grammar.specs.Marks.{Mark, fixed, word, in_range, is_few, simplifications}
+use Rattle.cert_grammar.specs.Prelude.{largest, second_version, by_number, number_in, Mark, fixed, word, in_range, is_few, simplifications, simplifications_marks, body_marks, closing}
+use Rattle.cert_grammar.specs.Prelude.{between, line, simplification_count, simplifications_of, body}
 use Rattle.cert_grammar.specs.WordMarks.{numeral}
-use Rattle.cert_grammar.specs.CertificateMarks.{simplifications_marks, body_marks, closing}
-use Rattle.cert_grammar.specs.Items.{between, line, simplification_count, simplifications_of, body}
 use Rattle.cert_sharing.proofs.UseMarks.{counts_still}
 use Rattle.cert_words.proofs.Walking.{then_reads, framed, open_before}
 use Rattle.cert_reading.specs.Headings.{kind_mark}

@@ -1,7 +1,6 @@
 use Rattle.std.proofs.Common.{[], refl, sym, length, subst}
 use Rattle.cert_model.specs.CertificateView.{measure_view, peak_view}
-use Rattle.cert_grammar.specs.Versions.{Version, HasMeasure}
-use Rattle.cert_grammar.specs.Items.{between, line}
+use Rattle.cert_grammar.specs.Prelude.{Version, HasMeasure, between, line}
 use Rattle.cert_reading.specs.declared.headings.Kind.TheVariants.{Ortho, Quasi, Peak}
 use Rattle.cert_reading.specs.Uses.{version_by, automata_by}
 use Rattle.cert_text.specs.ReadingView.{version_with, shared_in}

@@ -1,8 +1,7 @@
 use Rattle.std.proofs.Common.{map, [], ◌∷◌, ◌∙◌, length, Some, None, refl, sym, ap, subst}
 use Rattle.cert_model.specs.EvidenceView.{automaton_view}
 use Rattle.cert_model.specs.CertificateView.{simp_view}
-use Rattle.cert_grammar.specs.Versions.{second_version}
-use Rattle.cert_grammar.specs.Items.{between, line, simplification_count, simplifications_of}
+use Rattle.cert_grammar.specs.Prelude.{second_version, between, line, simplification_count, simplifications_of}
 use Rattle.cert_words.proofs.Walking.{then_reads, framed}
 use Rattle.cert_reading.specs.Uses.{AreShared}
 use Rattle.cert_text.specs.declared.opening.Opened.{Opened}

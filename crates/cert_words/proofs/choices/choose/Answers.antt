@@ -1,6 +1,5 @@
 use Rattle.std.proofs.Common.{◌∙◌, List, length, map, refl, sym, ap, subst}
-use Rattle.cert_grammar.specs.Items.{Lead}
-use Rattle.cert_grammar.specs.FirstRefusal.{longest}
+use Rattle.cert_grammar.specs.Prelude.{Lead, longest}
 use Rattle.cert_words.specs.Words.{bare}
 use Rattle.cert_words.specs.Choices.{lead_of, Missed, IsFirst}
 use Rattle.cert_words.proofs.Walking.{stays}

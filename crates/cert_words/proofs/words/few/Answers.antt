@@ -1,7 +1,5 @@
 use Rattle.std.proofs.Common.{suc, [], ◌∷◌, sym}
-use Rattle.cert_grammar.specs.Scans.{value}
-use Rattle.cert_grammar.specs.Words.{largest}
-use Rattle.cert_grammar.specs.Marks.{is_few}
+use Rattle.cert_grammar.specs.Prelude.{value, largest, is_few}
 use Rattle.cert_words.specs.Words.{counted_view}
 use Rattle.cert_words.proofs.Stepping.{none_now, first_one, stuck_one, number_run, number_stop, out_of_range, too_many_there, few_there, go, stop}
 use Rattle.cert_words.proofs.words.few.Goals as goal

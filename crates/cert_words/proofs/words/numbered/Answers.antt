@@ -1,7 +1,5 @@
 use Rattle.std.proofs.Common.{suc, [], ◌∷◌}
-use Rattle.cert_grammar.specs.Scans.{value}
-use Rattle.cert_grammar.specs.Words.{largest}
-use Rattle.cert_grammar.specs.Marks.{is_few}
+use Rattle.cert_grammar.specs.Prelude.{value, largest, is_few}
 use Rattle.cert_words.specs.Words.{counted_view}
 use Rattle.cert_words.proofs.Stepping.{none_now, first_one, stuck_one, number_run, number_stop, out_of_range, in_range_then, counted_there, counted_out, as_counted, go, stop}
 use Rattle.cert_words.proofs.words.numbered.Goals as goal

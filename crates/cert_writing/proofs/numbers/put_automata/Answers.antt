@@ -1,7 +1,6 @@
 use Rattle.std.proofs.Common.{refl}
 use Rattle.cert_model.specs.EvidenceView.{automaton_view}
-use Rattle.cert_grammar.specs.EvidenceText.{automaton_text}
-use Rattle.cert_grammar.specs.CertificateText.{automata_text}
+use Rattle.cert_grammar.specs.Prelude.{automaton_text, automata_text}
 use Rattle.cert_writing.specs.SharedAutomata.{seen}
 use Rattle.cert_writing.proofs.Writing.{next_lent}
 use Rattle.cert_writing.proofs.numbers.put_automata.Goals as goal

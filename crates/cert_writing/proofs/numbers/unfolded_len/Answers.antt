@@ -1,8 +1,7 @@
 use Rattle.std.proofs.Common.{ℕ, List, length, min, ap, ◌∙◌}
 use Rattle.certificates.specs.Evidence.{Automaton}
 use Rattle.cert_model.specs.CertificateView.{certificate_view}
-use Rattle.cert_grammar.specs.CertificateText.{automata_text}
-use Rattle.cert_grammar.specs.Versions.{automata_of}
+use Rattle.cert_grammar.specs.Prelude.{automata_text, automata_of}
 use Rattle.cert_writing.specs.SharedAutomata.{seen}
 use Rattle.cert_writing.specs.Written.{greatest}
 use Rattle.cert_writing.proofs.SharedTexts.{counted_all, unfolded_is}

@@ -2,8 +2,7 @@ use Rattle.std.proofs.Common.{◌≡◌, ℕ, List, ◌++◌, Bor, decimal, code
 use Rattle.certificates.specs.Evidence.{Automaton}
 use Rattle.cops_names.specs.NameTable.{NameTable}
 use Rattle.cert_model.specs.EvidenceView.{automaton_view}
-use Rattle.cert_grammar.specs.EvidenceText.{automaton_text, use_text}
-use Rattle.cert_grammar.specs.SharedText.{place_among}
+use Rattle.cert_grammar.specs.Prelude.{automaton_text, use_text, place_among}
 use Rattle.cert_writing.specs.declared.written_evidence.Uses.{Uses}
 use Rattle.cert_writing.specs.declared.written_evidence.Uses.TheVariants.{ByNumber}
 use Rattle.cert_writing.specs.WrittenUses.{uses_view}

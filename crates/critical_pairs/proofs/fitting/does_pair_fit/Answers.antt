@@ -1,10 +1,6 @@
 use Rattle.std.proofs.Common.{◌↔◌, IsTrue, sym, ◌∙◌, subst, map, refl}
 use Rattle.std.proofs.lemmas.Bool.{false≢true}
-use Rattle.rewriting.specs.Terms.{Fits}
-use Rattle.rewriting.specs.Substitutions.{values_of}
-use Rattle.rewriting.specs.Rules.{sides}
-use Rattle.rewriting.specs.Systems.{Each}
-use Rattle.rewriting.specs.Overlaps.{conditions_under}
+use Rattle.rewriting.specs.Prelude.{Fits, values_of, sides, Each, conditions_under}
 use Rattle.term_core.specs.RuleView.{condition_view}
 use Rattle.critical_pairs.proofs.Measures.{whole_fits, inner_of, outer_of}
 use Rattle.critical_pairs.proofs.fitting.does_pair_fit.Goals as goal

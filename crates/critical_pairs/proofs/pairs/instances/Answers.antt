@@ -1,11 +1,7 @@
 use Rattle.std.proofs.Common.{◌≡◌, ◌∙◌, ◌+◌, ◌++◌, ◌∷◌, [], sym, ap, ap₂, map, subst, take, append_assoc}
 use Rattle.std.proofs.lemmas.List.{map-append}
 use Rattle.general_lemmas.proofs.Places.{map-take_read}
-use Rattle.rewriting.specs.Terms.{Fits}
-use Rattle.rewriting.specs.Substitutions.{values_of}
-use Rattle.rewriting.specs.Rules.{sides}
-use Rattle.rewriting.specs.Systems.{Each}
-use Rattle.rewriting.specs.Overlaps.{condition_under, conditions_under}
+use Rattle.rewriting.specs.Prelude.{Fits, values_of, sides, Each, condition_under, conditions_under}
 use Rattle.term_core.specs.RuleView.{condition_view}
 use Rattle.prepared_system.proofs.Conditions.{under-append}
 use Rattle.critical_pairs.proofs.Conditions.{both_fit, fit_append}

@@ -1,9 +1,5 @@
 use Rattle.std.proofs.Common.{◌≡◌, ◌++◌, take, map}
-use Rattle.rewriting.specs.Terms.{Fits}
-use Rattle.rewriting.specs.Substitutions.{values_of}
-use Rattle.rewriting.specs.Rules.{sides}
-use Rattle.rewriting.specs.Systems.{Each}
-use Rattle.rewriting.specs.Overlaps.{conditions_under}
+use Rattle.rewriting.specs.Prelude.{Fits, values_of, sides, Each, conditions_under}
 use Rattle.term_core.specs.RuleView.{condition_view}
 use Rattle.critical_pairs.proofs.pairs.instances.Given as goal
 

@@ -1,6 +1,5 @@
 use Rattle.std.proofs.Common.{◌≡◌, subst, Err}
-use Rattle.rewriting.specs.Substitutions.{values_of}
-use Rattle.rewriting.specs.Unifiers.{even, odd}
+use Rattle.rewriting.specs.Prelude.{values_of, even, odd}
 use Rattle.term_core.specs.RuleView.{rule_view}
 use Rattle.critical_pairs.specs.Building.{PairAnswers}
 use Rattle.prepared_system.specs.Renamed.{rule_under}

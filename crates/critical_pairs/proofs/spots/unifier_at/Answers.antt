@@ -1,7 +1,5 @@
 use Rattle.std.proofs.Common.{◌≡◌, ap, subst, Ok}
-use Rattle.rewriting.specs.Terms.{cons, nil}
-use Rattle.rewriting.specs.Substitutions.{apply}
-use Rattle.rewriting.specs.Unifiers.{even, odd}
+use Rattle.rewriting.specs.Prelude.{cons, nil, apply, even, odd}
 use Rattle.term_core.specs.View.{view}
 use Rattle.unification.specs.Answers.{UnifyAnswers}
 use Rattle.critical_pairs.proofs.Runs.{low_renamed, part_renamed, has_part, refused_there}

@@ -1,6 +1,5 @@
 use Rattle.std.proofs.Common.{◌≡◌, drop, map}
-use Rattle.rewriting.specs.Variables.{occurs_in}
-use Rattle.rewriting.specs.Rules.{right_sides}
+use Rattle.rewriting.specs.Prelude.{occurs_in, right_sides}
 use Rattle.term_core.specs.RuleView.{condition_view}
 use Rattle.ctrs_classes.proofs.regions.occurs_right.Given as goal
 

@@ -1,6 +1,5 @@
 use Rattle.std.proofs.Common.{inr, add-one}
-use Rattle.rewriting.specs.Classes.{known}
-use Rattle.rewriting.specs.Variables.{IsWithin}
+use Rattle.rewriting.specs.Prelude.{known, IsWithin}
 use Rattle.term_core.specs.RuleView.{condition_view, rule_view}
 use Rattle.ctrs_classes.proofs.Prefixes.{cond_at, good_next, good_all, conditions_length}
 use Rattle.ctrs_classes.proofs.rules.deterministic_fault.Goals as goal

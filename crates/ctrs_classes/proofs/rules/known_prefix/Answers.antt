@@ -1,6 +1,5 @@
 use Rattle.std.proofs.Common.{◌≡◌, ap, length, arith}
-use Rattle.rewriting.specs.Classes.{known}
-use Rattle.rewriting.specs.Variables.{IsWithin}
+use Rattle.rewriting.specs.Prelude.{known, IsWithin}
 use Rattle.term_core.specs.RuleView.{rule_view}
 use Rattle.ctrs_classes.proofs.Prefixes.{cond_at, good_next, stops_here, goes_through}
 use Rattle.ctrs_classes.proofs.rules.known_prefix.Goals as goal

@@ -1,7 +1,5 @@
 use Rattle.std.proofs.Common.{ℕ, ◌<◌}
-use Rattle.rewriting.specs.Rules.{Condition}
-use Rattle.rewriting.specs.Classes.{IsAt, known}
-use Rattle.rewriting.specs.Variables.{IsWithin}
+use Rattle.rewriting.specs.Prelude.{Condition, IsAt, known, IsWithin}
 use Rattle.term_core.specs.RuleView.{rule_view}
 use Rattle.ctrs_classes.proofs.rules.known_prefix.Given as goal
 

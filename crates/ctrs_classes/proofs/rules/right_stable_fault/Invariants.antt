@@ -1,6 +1,5 @@
 use Rattle.std.proofs.Common.{ℕ, ◌<◌}
-use Rattle.rewriting.specs.Rules.{Condition}
-use Rattle.rewriting.specs.Classes.{IsAt, IsStable}
+use Rattle.rewriting.specs.Prelude.{Condition, IsAt, IsStable}
 use Rattle.term_core.specs.RuleView.{rule_view}
 use Rattle.certificates.specs.Blames.{IsFresh}
 use Rattle.ctrs_classes.proofs.rules.right_stable_fault.Given as goal

@@ -1,11 +1,8 @@
 use Rattle.std.proofs.Common.{◌≡◌, ◌+◌, [], map, refl, sym, ap, ◌∙◌, subst, subst₂, arith}
-use Rattle.certificates.specs.Derivations.{derivation_of, derivations_of}
-use Rattle.certificates.specs.Judging.{Derives, StepsTo, StepFails, AreMet, FailsFrom, FailFrom}
-use Rattle.certificates.specs.Sizes.{step_count, AreStepsShort}
-use Rattle.certificates.specs.Reasons.{no_such_rule, no_redex, wrong_count, condition_fails}
+use Rattle.certificates.specs.Prelude.{derivation_of, derivations_of, Derives, StepsTo, StepFails, AreMet, FailsFrom, FailFrom, step_count, AreStepsShort, no_such_rule, no_redex}
+use Rattle.certificates.specs.Prelude.{wrong_count, condition_fails}
 use Rattle.rewriting.specs.Matching.{IsLeastMatch, HasNoMatch}
-use Rattle.term_core.specs.View.{view}
-use Rattle.term_core.specs.RuleView.{condition_view, rule_view}
+use Rattle.term_core.specs.Prelude.{view, condition_view, rule_view}
 use Rattle.cert_model.specs.DerivationView.{derivation_view, step_view}
 use Rattle.derivation.specs.Judged.{IsCounted, IsMatch, IsUnmatchedAt, IsContracted, HasNoContractum, HasSizeAt, IsInstance, HasNoInstance}
 use Rattle.derivation.proofs.Judging.{judged_here, judged_passed, judged_map, judged_below}

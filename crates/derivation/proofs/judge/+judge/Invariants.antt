@@ -1,8 +1,6 @@
 use Rattle.std.proofs.Common.{◌≡◌, ◌+◌, ◌<◌, ◌^◌, length, map, drop}
-use Rattle.certificates.specs.Derivations.{derivation_of, derivations_of}
-use Rattle.certificates.specs.Sizes.{AreStepsShort, AreShort, DoConditionsFit}
-use Rattle.term_core.specs.View.{view}
-use Rattle.term_core.specs.RuleView.{condition_view}
+use Rattle.certificates.specs.Prelude.{derivation_of, derivations_of, AreStepsShort, AreShort, DoConditionsFit}
+use Rattle.term_core.specs.Prelude.{view, condition_view}
 use Rattle.cert_model.specs.DerivationView.{derivation_view, step_view}
 use Rattle.derivation.specs.Judged.{IsCounted}
 use Rattle.derivation.proofs.Loops.{Running, Meeting}

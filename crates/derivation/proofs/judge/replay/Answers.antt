@@ -2,8 +2,7 @@ use Rattle.std.proofs.Common.{map, subst}
 use Rattle.certificates.specs.Judging.{Derives}
 use Rattle.certificates.proofs.Sound.{derivation_over, derivation_reaches}
 use Rattle.rewriting.proofs.Laws.{well_formed}
-use Rattle.term_core.specs.View.{view}
-use Rattle.term_core.specs.RuleView.{condition_view}
+use Rattle.term_core.specs.Prelude.{view, condition_view}
 use Rattle.cert_model.specs.DerivationView.{derivation_view}
 use Rattle.derivation.proofs.judge.replay.Goals as goal
 

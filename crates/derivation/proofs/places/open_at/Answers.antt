@@ -1,7 +1,6 @@
 use Rattle.std.proofs.Common.{◌≡◌, Some, sym, subst, arith}
-use Rattle.rewriting.specs.Terms.{var}
+use Rattle.rewriting.specs.Prelude.{var, replace}
 use Rattle.term_core.specs.View.{view}
-use Rattle.rewriting.specs.Positions.{replace}
 use Rattle.term_core.proofs.Views.{view-Var}
 use Rattle.term_core.proofs.Instances.{size_some, depth_some}
 use Rattle.certificates.proofs.Growth.{subterm_fits, subterm_smaller, size_replace, replaced_fits}

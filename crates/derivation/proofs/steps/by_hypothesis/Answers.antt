@@ -1,8 +1,6 @@
 use Rattle.std.proofs.Common.{map}
-use Rattle.certificates.specs.Judging.{HypothesisStep, HypothesisFails}
-use Rattle.certificates.specs.Reasons.{no_such_hypothesis, no_redex, too_large}
-use Rattle.term_core.specs.View.{view}
-use Rattle.term_core.specs.RuleView.{condition_view}
+use Rattle.certificates.specs.Prelude.{HypothesisStep, HypothesisFails, no_such_hypothesis, no_redex, too_large}
+use Rattle.term_core.specs.Prelude.{view, condition_view}
 use Rattle.derivation.specs.Judged.{IsCounted}
 use Rattle.derivation.proofs.Judging.{judged_empty}
 use Rattle.derivation.proofs.Contracting.{hypothesis_absent, hypothesis_elsewhere, hypothesis_large}

@@ -1,7 +1,6 @@
 use Rattle.std.proofs.Common.{None, map, refl, sym, ap, ◌∙◌, subst}
-use Rattle.term_core.specs.View.{view}
+use Rattle.term_core.specs.Prelude.{view, condition_view}
 use Rattle.term_core.proofs.Views.{view-Var}
-use Rattle.term_core.specs.RuleView.{condition_view}
 use Rattle.cert_model.specs.EvidenceView.{automaton_view}
 use Rattle.evidence_offers.specs.Growth.{MayGive}
 use Rattle.evidence_offers.proofs.Growing.{condition_fits, gives_none, gives_none_for, gives_shown}

@@ -1,7 +1,6 @@
 use Rattle.std.proofs.Common.{sym, ap, subst, ◌∙◌, arith}
 use Rattle.term_core.proofs.Views.{view-Var, views-drop}
-use Rattle.rewriting.specs.Terms.{var}
-use Rattle.rewriting.specs.Matching.{IsLeastMatch}
+use Rattle.rewriting.specs.Prelude.{var, IsLeastMatch}
 use Rattle.term_core.specs.View.{view}
 use Rattle.rewriting.proofs.LeastMatches.{bound_least}
 use Rattle.matching.proofs.Progress.{advance, lengths_differ}

@@ -1,6 +1,5 @@
 use Rattle.std.proofs.Common.{drop, map, ◌↔◌}
-use Rattle.term_core.specs.View.{view}
-use Rattle.term_core.specs.RuleView.{rule_view}
+use Rattle.term_core.specs.Prelude.{view, rule_view}
 use Rattle.matching.specs.Lists.{HaveNoInstance}
 use Rattle.matching.proofs.normal.rules_match_nowhere.Given as goal
 

@@ -1,8 +1,7 @@
 use Rattle.std.proofs.Common.{◌≡◌, ◌+◌, drop, get_or, sym, ap, subst, ◌∙◌, arith}
 use Rattle.std.proofs.lemmas.List.{drop-set-lt, length-set}
 use Rattle.term_core.proofs.Views.{view-Var, views-drop}
-use Rattle.rewriting.specs.Terms.{var}
-use Rattle.rewriting.specs.Matching.{IsLeastMatch}
+use Rattle.rewriting.specs.Prelude.{var, IsLeastMatch}
 use Rattle.term_core.specs.View.{view, views}
 use Rattle.rewriting.proofs.LeastMatches.{bound_least}
 use Rattle.matching.proofs.Progress.{Progress, advance, lengths_differ}

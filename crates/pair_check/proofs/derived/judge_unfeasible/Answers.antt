@@ -1,7 +1,6 @@
 use Rattle.std.proofs.Common.{◌≡◌, Some, map, sym, subst}
 use Rattle.certificates.specs.Judging.{hypothesis_at}
-use Rattle.term_core.specs.View.{view}
-use Rattle.term_core.specs.RuleView.{condition_view}
+use Rattle.term_core.specs.Prelude.{view, condition_view}
 use Rattle.term_core.proofs.Rules.{handed_on}
 use Rattle.cert_model.specs.DerivationView.{derivation_view}
 use Rattle.critical_pairs.specs.View.{overlap_view}

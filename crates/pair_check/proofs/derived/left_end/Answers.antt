@@ -1,7 +1,6 @@
 use Rattle.std.proofs.Common.{refl, map, subst}
 use Rattle.certificates.specs.Judging.{IsFirstBad}
-use Rattle.term_core.specs.View.{view}
-use Rattle.term_core.specs.RuleView.{condition_view}
+use Rattle.term_core.specs.Prelude.{view, condition_view}
 use Rattle.cert_model.specs.DerivationView.{derivation_view}
 use Rattle.cert_model.specs.ReasonView.{bad_step_view}
 use Rattle.pair_check.proofs.derived.left_end.Goals as goal

@@ -2,8 +2,7 @@ use Rattle.std.proofs.Common.{◌≡◌, ◌-◌, ◌<◌, Some, slice_get, leng
 use Rattle.std.proofs.lemmas.List.{length-map}
 use Rattle.std.proofs.lemmas.Option.{slice_get_within}
 use Rattle.rewriting.specs.Lists.{IsAmong}
-use Rattle.term_core.specs.HeadView.{head_view}
-use Rattle.term_core.specs.RuleView.{rule_view}
+use Rattle.term_core.specs.Prelude.{head_view, rule_view}
 use Rattle.lpo.specs.Listed.{ListedAnswers}
 use Rattle.lpo.specs.Rules.{DeadAnswers}
 use Rattle.lpo.proofs.Noting.{listed_at}

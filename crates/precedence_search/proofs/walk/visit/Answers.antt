@@ -1,7 +1,6 @@
 use Rattle.std.proofs.Common.{◌≡◌, refl, map, length, arith}
 use Rattle.std.proofs.lemmas.List.{length-map}
-use Rattle.term_core.specs.HeadView.{head_view}
-use Rattle.term_core.specs.RuleView.{rule_view}
+use Rattle.term_core.specs.Prelude.{head_view, rule_view}
 use Rattle.precedence_search.proofs.Seeing.{barren_paid, good_paid, fewer, is_whole, sees_good}
 use Rattle.precedence_search.proofs.walk.visit.Goals as goal
 

@@ -2,10 +2,9 @@ use Rattle.std.proofs.Common.{◌≡◌, ◌+◌, ◌-◌, List, [], true, false
 use Rattle.std.proofs.lemmas.List.{length-map}
 use Rattle.interpretations.proofs.Bound.{few_heads}
 use Rattle.rewriting.specs.Unraveling.{Head}
-use Rattle.term_core.specs.HeadView.{head_view}
+use Rattle.term_core.specs.Prelude.{head_view, rule_view}
 use Rattle.cc_count.specs.Counts.{Counts}
 use Rattle.lpo.specs.Places.{ArePlaces}
-use Rattle.term_core.specs.RuleView.{rule_view}
 use Rattle.lpo.proofs.HeadOrder.{sorted_heads}
 use Rattle.precedence_search.proofs.Visits.{alive_before, at_start, fewer_left, first_good, goes, none_good, paid_down, paid_on, smaller, sound_of, still_kept, stopped, unspent}
 use Rattle.precedence_search.proofs.walk.walk_precedences.Goals as goal

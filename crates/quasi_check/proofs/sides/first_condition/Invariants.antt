@@ -1,6 +1,5 @@
 use Rattle.std.proofs.Common.{ℕ, ◌<◌, map}
-use Rattle.rewriting.specs.Rules.{Condition}
-use Rattle.rewriting.specs.Classes.{IsAt}
+use Rattle.rewriting.specs.Prelude.{Condition, IsAt}
 use Rattle.unifier_run.specs.Irreducible.{DoAllClash}
 use Rattle.term_core.specs.RuleView.{condition_view}
 use Rattle.quasi_check.proofs.sides.first_condition.Given as goal

@@ -1,8 +1,7 @@
 use Rattle.cc_count.proofs.Spending.{kept_on}
 use Rattle.std.proofs.Common.{◌≡◌, ◌∙◌, map, Ok, sym, ap, subst}
 use Rattle.rewriting.specs.Lists.{IsAmong}
-use Rattle.term_core.specs.View.{view}
-use Rattle.term_core.specs.RuleView.{condition_view}
+use Rattle.term_core.specs.Prelude.{view, condition_view}
 use Rattle.critical_pairs.specs.View.{overlap_view}
 use Rattle.pair_check.proofs.Ready.{ready}
 use Rattle.reach_lists.specs.Laws.{EachOf}

@@ -1,7 +1,6 @@
 use Rattle.cc_count.proofs.Spending.{kept_on}
 use Rattle.std.proofs.Common.{◌+◌, ◌<◌, ◌≡◌, Ok, get_or, length, map, ap, arith, subst}
-use Rattle.term_core.specs.View.{view}
-use Rattle.term_core.specs.RuleView.{condition_view}
+use Rattle.term_core.specs.Prelude.{view, condition_view}
 use Rattle.critical_pairs.specs.View.{overlap_view}
 use Rattle.pair_search.specs.Answers.{WalkAnswers}
 use Rattle.pair_search.proofs.Composed.{goes_on, ends, finishes}

@@ -1,6 +1,5 @@
 use Rattle.std.proofs.Common.{sym, ap, ◌∙◌, subst, map}
-use Rattle.rewriting.specs.Overlaps.{conditions_under}
-use Rattle.rewriting.specs.Substitutions.{values_of}
+use Rattle.rewriting.specs.Prelude.{conditions_under, values_of}
 use Rattle.certificates.specs.Sizes.{DoConditionsFit}
 use Rattle.term_core.specs.RuleView.{condition_view}
 use Rattle.redex_conditions.proofs.Completing.{rule_fits, completed_conditions}

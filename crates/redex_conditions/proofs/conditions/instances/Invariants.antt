@@ -1,6 +1,5 @@
 use Rattle.std.proofs.Common.{◌≡◌, ◌↔◌, ◌++◌, map, drop}
-use Rattle.rewriting.specs.Substitutions.{values_of}
-use Rattle.rewriting.specs.Overlaps.{conditions_under}
+use Rattle.rewriting.specs.Prelude.{values_of, conditions_under}
 use Rattle.certificates.specs.Sizes.{DoConditionsFit}
 use Rattle.term_core.specs.RuleView.{condition_view}
 use Rattle.redex_conditions.proofs.conditions.instances.Given as goal

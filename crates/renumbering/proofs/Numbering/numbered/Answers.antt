@@ -1,6 +1,5 @@
 use Rattle.std.proofs.Common.{◌≡◌, Result, Ok, Err, IfOk}
-use Rattle.rewriting.specs.Substitutions.{apply}
-use Rattle.rewriting.specs.Unifiers.{odd}
+use Rattle.rewriting.specs.Prelude.{apply, odd}
 use Rattle.term_core.specs.View.{view}
 use Rattle.renumbering.specs.Spread.{spreading}
 use Rattle.renumbering.proofs.Spreads.{odd_is_spread}

@@ -1,9 +1,6 @@
 use Rattle.std.proofs.Common.{◌-◌, ◌+◌, ◌++◌, ◌<◌, ◌^◌, Ok, Err, sym, ap₂, ◌∙◌, subst, subst₂, length, map, take, drop, List}
-use Rattle.rewriting.specs.Rules.{sides}
-use Rattle.rewriting.specs.Systems.{Each, rule_variables}
-use Rattle.rewriting.specs.Terms.{Fits}
-use Rattle.term_core.specs.View.{view}
-use Rattle.term_core.specs.RuleView.{condition_view}
+use Rattle.rewriting.specs.Prelude.{sides, Each, rule_variables, Fits}
+use Rattle.term_core.specs.Prelude.{view, condition_view}
 use Rattle.term_core.specs.declared.systems.Cond.{Cond}
 use Rattle.simplifications.specs.Inlining.{numbered}
 use Rattle.simplify.specs.Rules.{rule_of}

@@ -1,10 +1,7 @@
 use Rattle.std.proofs.Common.{◌≡◌, ◌-◌, length, sym, ap, ◌∙◌, ◌+◌, map, take, drop}
 use Rattle.general_lemmas.proofs.Places.{slice_get-map_read}
-use Rattle.rewriting.specs.Rules.{right_sides, sides}
-use Rattle.rewriting.specs.Terms.{var}
-use Rattle.rewriting.specs.Variables.{occurs_in}
-use Rattle.term_core.specs.View.{view}
-use Rattle.term_core.specs.RuleView.{condition_view, rule_view}
+use Rattle.rewriting.specs.Prelude.{right_sides, sides, var, occurs_in}
+use Rattle.term_core.specs.Prelude.{view, condition_view, rule_view}
 use Rattle.term_core.proofs.Views.{view-Var, view-Fun}
 use Rattle.simplify.proofs.Slices.{front_view, rest_view}
 use Rattle.simplify.proofs.Naming.{no_variable, in_left, in_own, in_front, in_rest, names_it, no_fun}

@@ -1,9 +1,7 @@
 use Rattle.std.proofs.Common.{◌≡◌, ℕ, List, [], ◌++◌, map, length, sym, ap, ◌∙◌, arith}
-use Rattle.term_core.specs.View.{view}
-use Rattle.term_core.specs.RuleView.{condition_view}
+use Rattle.term_core.specs.Prelude.{view, condition_view}
 use Rattle.term_core.specs.declared.systems.Cond.{Cond}
-use Rattle.rewriting.specs.Variables.{with_variables}
-use Rattle.rewriting.specs.Systems.{rule_variables}
+use Rattle.rewriting.specs.Prelude.{with_variables, rule_variables}
 use Rattle.simplify.specs.Rules.{rule_of}
 use Rattle.simplify.specs.Numbering.{Progress}
 use Rattle.simplify.proofs.Placing.{placed, begun, both_added, finished, row_counted}

@@ -1,7 +1,6 @@
 use Rattle.std.proofs.Common.{List, map, take, sym, subst, subst₂}
 use Rattle.general_lemmas.proofs.Places.{map-take_read}
-use Rattle.term_core.specs.View.{view}
-use Rattle.term_core.specs.RuleView.{condition_view}
+use Rattle.term_core.specs.Prelude.{view, condition_view}
 use Rattle.rewriting.specs.Rules.{Condition}
 use Rattle.simplify.specs.Numbering.{AddsNumbered}
 use Rattle.simplify.proofs.Placing.{placed, adds_none, adds_more}

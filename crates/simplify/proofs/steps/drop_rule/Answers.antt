@@ -1,13 +1,11 @@
 use Rattle.std.proofs.Common.{sym, ap, ◌∙◌, subst, length, map, Err, arith}
-use Rattle.certificates.specs.Sizes.{DoConditionsFit}
+use Rattle.certificates.specs.Prelude.{DoConditionsFit, dropped, bad_evidence}
 use Rattle.cert_model.specs.EvidenceView.{inf_evidence_view}
 use Rattle.term_core.specs.RuleView.{condition_view}
 use Rattle.term_core.specs.declared.systems.Rule.{Rule}
 use Rattle.judged_evidence.specs.Evidence.{IsInfeasibilityJudged}
 use Rattle.cert_model.specs.ReasonView.{evidence_reason_view}
 use Rattle.refuter.specs.Answers.{RefutesAnswers}
-use Rattle.certificates.specs.Certificates.{dropped}
-use Rattle.certificates.specs.Reasons.{bad_evidence}
 use Rattle.simplifications.specs.Simplifying.{IsRefused}
 use Rattle.simplify.proofs.Replaced.{no_drop, few_here, conds_fit, good_drop, bad_drop}
 use Rattle.simplify.proofs.steps.drop_rule.Goals as goal

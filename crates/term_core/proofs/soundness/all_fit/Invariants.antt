@@ -1,7 +1,5 @@
 use Rattle.std.proofs.Common.{drop, map, ◌↔◌}
-use Rattle.rewriting.specs.Rules.{sides}
-use Rattle.rewriting.specs.Systems.{Each}
-use Rattle.rewriting.specs.Terms.{Fits}
+use Rattle.rewriting.specs.Prelude.{sides, Each, Fits}
 use Rattle.term_core.specs.RuleView.{condition_view}
 use Rattle.term_core.proofs.soundness.all_fit.Given as goal
 

@@ -1,6 +1,5 @@
 use Rattle.std.proofs.Common.{drop, map, ◌↔◌}
-use Rattle.rewriting.specs.Rules.{sides}
-use Rattle.rewriting.specs.Systems.{Each}
+use Rattle.rewriting.specs.Prelude.{sides, Each}
 use Rattle.term_core.specs.SystemView.{HasSymbolsBelow}
 use Rattle.term_core.specs.RuleView.{condition_view}
 use Rattle.term_core.proofs.soundness.have_symbols_below.Given as goal

@@ -1,6 +1,5 @@
 use Rattle.std.proofs.Common.{◌≡◌, ◌<◌, ◌^◌, drop, map}
-use Rattle.rewriting.specs.Rules.{sides}
-use Rattle.rewriting.specs.Variables.{with_variables_of}
+use Rattle.rewriting.specs.Prelude.{sides, with_variables_of}
 use Rattle.term_core.specs.RuleView.{condition_view}
 use Rattle.term_core.specs.Numbering.{numbers_from}
 use Rattle.term_core.proofs.soundness.known_after_all.Given as goal

@@ -1,7 +1,5 @@
 use Rattle.std.proofs.Common.{map, ap, sym}
-use Rattle.rewriting.specs.Terms.{cons}
-use Rattle.rewriting.specs.Rules.{sides}
-use Rattle.rewriting.specs.Variables.{with_variables_of}
+use Rattle.rewriting.specs.Prelude.{cons, sides, with_variables_of}
 use Rattle.term_core.specs.View.{view}
 use Rattle.term_core.specs.RuleView.{condition_view}
 use Rattle.term_core.proofs.Numbers.{stuck_at, none_holds}

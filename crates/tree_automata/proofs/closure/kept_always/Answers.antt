@@ -1,7 +1,6 @@
 use Rattle.std.proofs.Common.{◌≡◌, ◌∙◌, ℕ, List, Some, length, take, slice_get, ap, sym, subst}
 use Rattle.std.proofs.lemmas.Bool.{false≢true}
-use Rattle.rewriting.specs.Lists.{IsAmong}
-use Rattle.rewriting.specs.Variables.{variable_occurrences}
+use Rattle.rewriting.specs.Prelude.{IsAmong, variable_occurrences}
 use Rattle.term_core.specs.View.{view}
 use Rattle.automaton_runs.specs.Choices.{Batch}
 use Rattle.automaton_runs.specs.Reached.{AreWhere}

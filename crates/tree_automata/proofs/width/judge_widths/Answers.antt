@@ -1,8 +1,7 @@
 use Rattle.std.proofs.Common.{◌+◌, ◌∙◌, ℕ, refl, ap}
 use Rattle.rewriting.specs.Rules.{Rule}
 use Rattle.automata.specs.Closed.{IsWide}
-use Rattle.term_core.specs.View.{view}
-use Rattle.term_core.specs.RuleView.{rule_view}
+use Rattle.term_core.specs.Prelude.{view, rule_view}
 use Rattle.cert_model.specs.EvidenceView.{automaton_view}
 use Rattle.tree_automata.proofs.Listed.{wide_by, narrow_by}
 use Rattle.tree_automata.proofs.Open.{rule_stands, rules_past, first_wide_of, each_more, each_all}

@@ -1,6 +1,5 @@
 use Rattle.std.proofs.Common.{◌≡◌, take, map}
-use Rattle.rewriting.specs.Terms.{size}
-use Rattle.rewriting.specs.Substitutions.{apply}
+use Rattle.rewriting.specs.Prelude.{size, apply}
 use Rattle.unifier_run.specs.Run.{value}
 use Rattle.term_core.specs.View.{view}
 use Rattle.unification.specs.Solving.{bindings}

@@ -1,7 +1,5 @@
 use Rattle.std.proofs.Common.{◌<◌, sym, ap, ◌∙◌, subst}
-use Rattle.rewriting.specs.Terms.{size}
-use Rattle.rewriting.specs.Substitutions.{apply, apply_all}
-use Rattle.rewriting.specs.Variables.{occurs, occurs_in}
+use Rattle.rewriting.specs.Prelude.{size, apply, apply_all, occurs, occurs_in}
 use Rattle.unifier_run.specs.Run.{value}
 use Rattle.term_core.specs.View.{view}
 use Rattle.unification.specs.Solving.{bindings}

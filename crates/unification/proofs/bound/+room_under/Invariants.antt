@@ -1,6 +1,5 @@
 use Rattle.std.proofs.Common.{◌≡◌, ◌≤◌, ◌+◌, ◌-◌, max, drop}
-use Rattle.rewriting.specs.Terms.{size_all, depth_all}
-use Rattle.rewriting.specs.Substitutions.{apply_all}
+use Rattle.rewriting.specs.Prelude.{size_all, depth_all, apply_all}
 use Rattle.unifier_run.specs.Run.{value}
 use Rattle.term_core.specs.View.{views}
 use Rattle.unification.specs.Solving.{bindings}

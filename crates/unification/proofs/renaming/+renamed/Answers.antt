@@ -1,7 +1,6 @@
 use Rattle.std.proofs.Common.{ap, ◌∙◌, map, subst, ◌<◌}
 use Rattle.std.proofs.lemmas.List.{take_all}
-use Rattle.rewriting.specs.Terms.{size}
-use Rattle.rewriting.specs.Substitutions.{apply}
+use Rattle.rewriting.specs.Prelude.{size, apply}
 use Rattle.term_core.specs.View.{view}
 use Rattle.term_core.proofs.Instances.{apply-Fun}
 use Rattle.unification.specs.Answers.{renaming}

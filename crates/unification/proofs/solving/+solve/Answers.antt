@@ -1,8 +1,6 @@
 use Rattle.std.proofs.Common.{List, ◌≡◌, sym, ap, ◌∙◌, length, subst, subst₂, ◌<◌, ◌+◌, ◌^◌, IsTrue}
 use Rattle.std.proofs.lemmas.Bool.{false≢true}
-use Rattle.rewriting.specs.Terms.{Fits, size, size_all}
-use Rattle.rewriting.specs.Systems.{Each}
-use Rattle.rewriting.specs.Substitutions.{apply, apply_all}
+use Rattle.rewriting.specs.Prelude.{Fits, size, size_all, Each, apply, apply_all}
 use Rattle.unifier_run.specs.Run.{value, DoFit}
 use Rattle.term_core.specs.View.{view, views}
 use Rattle.term_core.specs.declared.terms.Term.{Term}

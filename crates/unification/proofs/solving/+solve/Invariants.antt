@@ -1,6 +1,5 @@
 use Rattle.std.proofs.Common.{◌+◌, drop, length}
-use Rattle.rewriting.specs.Terms.{size, size_all}
-use Rattle.rewriting.specs.Substitutions.{apply, apply_all}
+use Rattle.rewriting.specs.Prelude.{size, size_all, apply, apply_all}
 use Rattle.unifier_run.specs.Run.{value}
 use Rattle.term_core.specs.View.{view, views}
 use Rattle.unification.specs.Solving.{bindings, AreInTurn}

@@ -1,8 +1,6 @@
 use Rattle.std.proofs.Common.{◌≡◌, ◌≤◌, ◌⊎◌, map, IsTrue, ap, ◌∙◌, sym, subst, subst₂, length, take}
 use Rattle.std.proofs.lemmas.Bool.{false≢true}
-use Rattle.rewriting.specs.Terms.{size}
-use Rattle.rewriting.specs.Substitutions.{apply}
-use Rattle.rewriting.specs.Variables.{occurs}
+use Rattle.rewriting.specs.Prelude.{size, apply, occurs}
 use Rattle.unifier_run.specs.Run.{value, DoAllFit}
 use Rattle.term_core.specs.View.{view}
 use Rattle.unification.specs.Solving.{shared, bindings, IsNewTo}

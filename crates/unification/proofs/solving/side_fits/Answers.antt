@@ -1,6 +1,5 @@
 use Rattle.std.proofs.Common.{ap, ◌∙◌, sym, subst, refl}
-use Rattle.rewriting.specs.Terms.{Fits}
-use Rattle.rewriting.specs.Substitutions.{apply}
+use Rattle.rewriting.specs.Prelude.{Fits, apply}
 use Rattle.unifier_run.specs.Run.{value}
 use Rattle.term_core.specs.View.{view}
 use Rattle.term_core.proofs.Views.{view-Var}

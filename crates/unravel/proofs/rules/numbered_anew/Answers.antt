@@ -1,10 +1,6 @@
 use Rattle.std.proofs.Common.{◌≡◌, ◌∙◌, ℕ, List, length, map, sym, ap, subst}
-use Rattle.rewriting.specs.Terms.{cons}
-use Rattle.rewriting.specs.Substitutions.{apply}
-use Rattle.rewriting.specs.Variables.{variables_of}
-use Rattle.rewriting.specs.Rules.{sides}
-use Rattle.term_core.specs.View.{view}
-use Rattle.term_core.specs.RuleView.{condition_view}
+use Rattle.rewriting.specs.Prelude.{cons, apply, variables_of, sides}
+use Rattle.term_core.specs.Prelude.{view, condition_view}
 use Rattle.term_core.specs.declared.systems.Cond.{Cond}
 use Rattle.unravel.specs.SideView.{side_view, numbered}
 use Rattle.unravel.proofs.Sound.{counted_anew}

@@ -1,6 +1,5 @@
 use Rattle.std.proofs.Common.{◌≡◌, drop}
-use Rattle.rewriting.specs.Variables.{with_variables, with_variables_of}
-use Rattle.rewriting.specs.Unraveling.{variable_terms}
+use Rattle.rewriting.specs.Prelude.{with_variables, with_variables_of, variable_terms}
 use Rattle.term_core.specs.View.{view}
 use Rattle.unravel.proofs.sides.add_kept.Given as goal
 

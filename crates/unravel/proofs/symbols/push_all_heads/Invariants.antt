@@ -1,7 +1,6 @@
 use Rattle.std.proofs.Common.{◌≡◌, ◌+◌, ◌++◌, map, drop}
 use Rattle.rewriting.specs.Unraveling.{auxiliary_heads}
-use Rattle.term_core.specs.HeadView.{head_view}
-use Rattle.term_core.specs.RuleView.{rule_view}
+use Rattle.term_core.specs.Prelude.{head_view, rule_view}
 use Rattle.unravel.proofs.symbols.push_all_heads.Given as goal
 
 abbrev pub invariant-loop-i : goal.invariant-loop-i

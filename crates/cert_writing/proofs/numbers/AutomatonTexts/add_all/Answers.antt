@@ -1,7 +1,6 @@
 use Rattle.std.proofs.Common.{refl, ◌∙◌}
 use Rattle.cert_model.specs.EvidenceView.{automaton_view}
-use Rattle.cert_grammar.specs.EvidenceText.{automaton_text}
-use Rattle.cert_grammar.specs.SharedText.{texts_of}
+use Rattle.cert_grammar.specs.Prelude.{automaton_text, texts_of}
 use Rattle.cert_writing.specs.SharedAutomata.{seen}
 use Rattle.cert_writing.proofs.SharedTexts.{texts_next}
 use Rattle.cert_writing.proofs.numbers.AutomatonTexts.add_all.Goals as goal

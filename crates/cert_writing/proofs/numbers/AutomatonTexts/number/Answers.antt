@@ -1,7 +1,6 @@
 use Rattle.std.proofs.Common.{ℕ, List, ◌+◌, ap, ◌∙◌, sym}
 use Rattle.cert_model.specs.EvidenceView.{automaton_view}
-use Rattle.cert_grammar.specs.EvidenceText.{automaton_text}
-use Rattle.cert_grammar.specs.SharedText.{place_among}
+use Rattle.cert_grammar.specs.Prelude.{automaton_text, place_among}
 use Rattle.cert_writing.proofs.SharedTexts.{texts, found_at, not_there}
 use Rattle.cert_writing.proofs.numbers.AutomatonTexts.number.Goals as goal
 

@@ -1,8 +1,7 @@
 use Rattle.std.proofs.Common.{ℕ, List, [], ap, sym, ◌∙◌}
 use Rattle.certificates.specs.Evidence.{Automaton}
 use Rattle.cert_model.specs.CertificateView.{certificate_view}
-use Rattle.cert_grammar.specs.SharedText.{texts_of}
-use Rattle.cert_grammar.specs.Versions.{automata_of}
+use Rattle.cert_grammar.specs.Prelude.{texts_of, automata_of}
 use Rattle.cert_writing.specs.SharedAutomata.{seen, with_texts}
 use Rattle.cert_writing.proofs.SharedTexts.{new_texts}
 use Rattle.cert_writing.proofs.numbers.AutomatonTexts.of.Goals as goal

@@ -1,8 +1,7 @@
 use Rattle.std.proofs.Common.{◌≡◌, ◌+◌, map, length, ap, ◌∙◌, subst, arith}
 use Rattle.std.proofs.lemmas.List.{length-map}
 use Rattle.rewriting.specs.Unraveling.{heads}
-use Rattle.term_core.specs.HeadView.{head_view}
-use Rattle.term_core.specs.RuleView.{rule_view}
+use Rattle.term_core.specs.Prelude.{head_view, rule_view}
 use Rattle.grid_search.specs.Needed.{DoNeedBelow, numbers_needing}
 use Rattle.grid_search.proofs.Needed.{unraveled_need}
 use Rattle.grid_search.proofs.prefix.PrefixJudge.new.Goals as goal

@@ -1,7 +1,6 @@
 use Rattle.std.proofs.Common.{◌≡◌, Some, map, sym, subst}
 use Rattle.rewriting.specs.Rules.{rule_at}
-use Rattle.term_core.specs.View.{view}
-use Rattle.term_core.specs.RuleView.{rule_view}
+use Rattle.term_core.specs.Prelude.{view, rule_view}
 use Rattle.term_core.specs.SystemView.{IsSound}
 use Rattle.cert_model.specs.CertificateView.{redex_view}
 use Rattle.cert_model.specs.EvidenceView.{inf_evidence_view}

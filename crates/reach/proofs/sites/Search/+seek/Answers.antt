@@ -2,8 +2,7 @@ use Rattle.std.proofs.Common.{◌≡◌, Err, option_map, ◌∷◌, length, map
 use Rattle.std.proofs.lemmas.Slice.{between_to_end}
 use Rattle.cc_count.specs.Counts.{Spends}
 use Rattle.reach_lists.specs.Lists.{total}
-use Rattle.term_core.specs.View.{view}
-use Rattle.term_core.specs.RuleView.{condition_view}
+use Rattle.term_core.specs.Prelude.{view, condition_view}
 use Rattle.reach.specs.Costs.{Costs}
 use Rattle.reach.specs.EntryView.{entry_view, table_view}
 use Rattle.reach.specs.PathView.{path_view}

@@ -1,6 +1,5 @@
 use Rattle.std.proofs.Common.{◌≡◌, ◌↔◌, ◌-◌, ◌<◌, IsTrue, IsSome, Some, sym, subst}
-use Rattle.rewriting.specs.Variables.{IsLinear}
-use Rattle.rewriting.specs.Rules.{rule_at}
+use Rattle.rewriting.specs.Prelude.{IsLinear, rule_at}
 use Rattle.rule_index.proofs.Linear.{told_of, place_told}
 use Rattle.rule_index.proofs.indexed.IndexedSystem.is_left_linear.Goals as goal
 

@@ -1,7 +1,6 @@
 use Rattle.std.proofs.Common.{◌∙◌, length, map, ap, sym, subst, inr, Ok}
 use Rattle.unifier_run.specs.Run.{unifier, clash, too_large}
-use Rattle.term_core.specs.View.{views}
-use Rattle.term_core.specs.RuleView.{condition_view}
+use Rattle.term_core.specs.Prelude.{views, condition_view}
 use Rattle.unification.specs.Answers.{UnifyAnswers}
 use Rattle.rewriting.specs.Rules.{right_sides}
 use Rattle.tcap_infeasible.specs.Comparing.{LeftsAnswer, HaveRow}
